@@ -1,8 +1,17 @@
 //! What every layer of ddc stands on: lists of bytes, numbers as text, and the outside.
 //!
-//! Public sources of its rules: docs/reference/outside.md and docs/reference/command-line.md.
+//! Its rules for people: docs/reference/outside.md and docs/reference/command-line.md.
 #![tactic(auto)]
 
 mod byte_list;
+mod difference;
+mod failed_call;
+mod memory;
+mod numbers;
+mod outside;
 
 pub use byte_list::{Bytes, OutOfMemory};
+pub use difference::first_difference;
+pub use memory::MemShelf;
+pub use numbers::put_decimal;
+pub use outside::{LoadFail, Loaded, Operation, PutFail, Shelf, Sink};
