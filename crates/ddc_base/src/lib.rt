@@ -12,6 +12,6 @@ mod outside;
 
 pub use byte_list::{Bytes, OutOfMemory};
 pub use difference::first_difference;
-pub use memory::MemShelf;
+pub use memory::{MemShelf, MemSink};
 pub use numbers::put_decimal;
 pub use outside::{LoadFail, Loaded, Operation, PutFail, Shelf, Sink};
