@@ -36,14 +36,17 @@ differs-inside a b i in_a in_b differs front =
 
 -- two lists of which exactly one has ended after an equal front
 pub differs-at_end : (a b : List ℕ) (i : ℕ) → i ≡ min (length a) (length b) → length a ≢ length b → take i a ≡ take i b → IsFirstDifference a b i
-differs-at_end a b i at_end lengths front = record { same_before = front; differs_there = λ same.
-    elim (dec_le (length a) i) [
-      | yes a_ended ↦
-          let at_a = slice_get_past a i a_ended in
-          let at_b = slice_get-get_or b i 0 (omega arith) in
-          cc
-      | no a_goes_on ↦
-          let at_a = slice_get-get_or a i 0 (omega arith) in
-          let at_b = slice_get_past b i (omega arith) in
-          cc
-    ] }
+differs-at_end a b i at_end lengths front = record {
+  same_before = front;
+  differs_there = λ same.
+      elim (dec_le (length a) i) [
+        | yes a_ended ↦
+            let at_a = slice_get_past a i a_ended in
+            let at_b = slice_get-get_or b i 0 (omega arith) in
+            cc
+        | no a_goes_on ↦
+            let at_a = slice_get-get_or a i 0 (omega arith) in
+            let at_b = slice_get_past b i (omega arith) in
+            cc
+      ];
+}

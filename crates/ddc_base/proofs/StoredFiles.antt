@@ -33,9 +33,9 @@ bytes_eq-swapped x y =
 pub files_of-insert : (m n : Texts) (name content : List ℕ) → tree.UpdatesBy string_cmp (λ k. slice_cmp nat_cmp name (string_bytes k)) m n (Some content) → files_of n.entries ≡ finite.insert (files_of m.entries) name content
 files_of-insert m n name content updates =
     finite.same_map nat_list_cmp_total (finite.slice_cmp-IsAntisymmetric finite.nat_cmp-IsAntisymmetric) _ _ (λ q.
-        get-files_of n q ∙ btree_map_updates_text name m n (Some content) updates q ∙ sym (
-            finite.get-insert nat_list_cmp_total (files_of m.entries) name content q ∙
-            ap (λ (r : Option (List ℕ)). cond (is_eq (slice_cmp nat_cmp q name)) (Some content) r) (get-files_of m q) ∙
-            ap (λ (b : Bool). cond b (Some content) (tree.get_by_text m q)) (is_eq-slice_cmp q name ∙ bytes_eq-swapped q name)))
+    get-files_of n q ∙ btree_map_updates_text name m n (Some content) updates q ∙ sym (
+    finite.get-insert nat_list_cmp_total (files_of m.entries) name content q ∙
+    ap (λ (r : Option (List ℕ)). cond (is_eq (slice_cmp nat_cmp q name)) (Some content) r) (get-files_of m q) ∙
+    ap (λ (b : Bool). cond b (Some content) (tree.get_by_text m q)) (is_eq-slice_cmp q name ∙ bytes_eq-swapped q name)))
 
 pub ruleset stored = (get-files_of, files_of-insert)

@@ -21,10 +21,10 @@ shelf_view a = record { files = files_of a.files.entries; loads = a.loads; faili
 abbrev pub shelf_code : Coded MemoryShelf
 shelf_code =
     code_by (Files × (ℕ × (List ℕ × (ℕ × Option (Operation × List ℕ)))))
-        (coded× (finite.code (coded_list coded_ℕ) (coded_list coded_ℕ)) (coded× coded_ℕ (coded× (coded_list coded_ℕ) (coded× coded_ℕ (coded_option (coded× operation.the_row.coded (coded_list coded_ℕ)))))))
-        (λ s. (s.files, (s.loads, (s.failing_loads, (s.faults, s.last_failed)))))
-        (λ p. record { files = p.0; loads = p.1.0; failing_loads = p.1.1.0; faults = p.1.1.1.0; last_failed = p.1.1.1.1 })
-        (λ _. refl)
+    (coded× (finite.code (coded_list coded_ℕ) (coded_list coded_ℕ)) (coded× coded_ℕ (coded× (coded_list coded_ℕ) (coded× coded_ℕ (coded_option (coded× operation.the_row.coded (coded_list coded_ℕ)))))))
+    (λ s. (s.files, (s.loads, (s.failing_loads, (s.faults, s.last_failed)))))
+    (λ p. record { files = p.0; loads = p.1.0; failing_loads = p.1.1.0; faults = p.1.1.1.0; last_failed = p.1.1.1.1 })
+    (λ _. refl)
 
 abbrev pub sink_view : sink.Inside → MemorySink
 sink_view a = record { written = a.written; puts = a.puts; failing_puts = a.failing_puts.items; faults = a.faults }

@@ -6,12 +6,14 @@
 mod byte_list;
 mod difference;
 mod failed_call;
+mod host;
 mod memory;
 mod numbers;
 mod outside;
 
 pub use byte_list::{Bytes, OutOfMemory};
 pub use difference::first_difference;
+pub use host::{DirShelf, StdSink};
 pub use memory::{MemShelf, MemSink};
 pub use numbers::put_decimal;
 pub use outside::{LoadFail, Loaded, Operation, PutFail, Shelf, Sink};

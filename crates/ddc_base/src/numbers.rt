@@ -1,8 +1,7 @@
 ghost use Rattle.std.specs.Prelude.{◌≡◌, ◌++◌, OnOk, OnErr, decimal};
 
-use itoa::Buffer;
-
 use crate::byte_list::{Bytes, OutOfMemory};
+use itoa::Buffer;
 
 /// Adds a number's decimal digits at the end: `0`, or digits that do not begin with `0`.
 ///
