@@ -7,6 +7,10 @@
 ghost use Rattle.std.specs.Prelude.{◌≡◌};
 ghost use Rattle.rv64_table.specs.Table.{table};
 
+mod lookup;
+
+pub use lookup::row_of;
+
 /// The shape of an instruction word: which of its bits are fixed, and which fields the others hold.
 #[derive(Clone, Copy, PartialEq, Eq, Debug)]
 pub enum Form {
