@@ -1,9 +1,9 @@
 -- The row of a word, by its opcode and then by its fields.
-use Rattle.std.proofs.Common.{◌≡◌, ℕ, ◌+◌, ◌-◌, ◌*◌, ◌/◌, ◌%◌, ◌^◌, ◌<◌, Bool, true, false, ◌&&◌, cond, List, [], ◌∷◌, refl, sym, ap, ◌∙◌, arith, Some, ⊎_elim}
-use Rattle.std.specs.Prelude.{◌==◌, bit_and, find, filter, option_map}
+use Rattle.std.proofs.Common.{◌≡◌, ℕ, ◌/◌, ◌%◌, ◌^◌, ◌<◌, Bool, true, false, ◌&&◌, cond, List, [], ◌∷◌, refl, sym, ap, ◌∙◌, arith, Some}
+use Rattle.std.specs.Prelude.{◌==◌, bit_and, find, option_map}
 use Rattle.std.specs.List.{list_all}
 use Rattle.std.proofs.lemmas.Nat.{and_mask, shr_below}
-use Rattle.std.proofs.lemmas.Bool.{and_parts, cases_Bool, eqb-true}
+use Rattle.std.proofs.lemmas.Bool.{and_parts, eqb-true}
 use Rattle.std.proofs.lemmas.Bool.Decides.{nat_tests}
 use Rattle.rv64_table.specs.declared.Row.{Row}
 use Rattle.rv64_table.specs.declared.Form.{Form}
@@ -26,7 +26,7 @@ fits-form form w v h p =
     let funct7 : bit_and (w / 2 ^ 25) 127 ≡ w / 2 ^ 25 = and-fixed 7 (w / 2 ^ 25) (omega arith) in
     let funct6 = test-high 1 6 (w / 2 ^ 25) (v / 2 ^ 25) (shr_below w 7 25 h) in
     elim form as (λ f. has_fields f ≡ true → (bit_and w (mask_of f) == v) ≡ ((w % 2 ^ 7 == v % 2 ^ 7) && fits_fields f v (w / 2 ^ 12 % 2 ^ 3) (w / 2 ^ 25))) [
-        R ↦ λ _. rw test-fields (simp (opcode, funct3, funct7, test-free))
+      | R ↦ λ _. rw test-fields (simp (opcode, funct3, funct7, test-free))
       | I ↦ λ _. rw test-fields (simp (opcode, funct3, test-free))
       | H ↦ λ _. rw test-fields (simp (opcode, funct3, funct6, test-free))
       | K ↦ λ _. rw test-fields (simp (opcode, funct3, funct7, test-free))
@@ -74,9 +74,9 @@ find-fields w (r ∷ rows) b h =
     let test : fits r w ≡ fits_fields r.form r.want (w / 2 ^ 12 % 2 ^ 3) (w / 2 ^ 25) = rw (mask, fits-form r.form w r.want b parts.0, same.1) in
     let rest = find-fields w rows b plain.1 in
     rw test (elim (fits_fields r.form r.want (w / 2 ^ 12 % 2 ^ 3) (w / 2 ^ 25))
-      as (λ t. option_map (λ s. s.op) (cond t (Some r) (find (λ s. fits s w) rows))
-        ≡ option_map (λ s. s.op) (cond t (Some r) (find (λ s. fits_fields s.form s.want (w / 2 ^ 12 % 2 ^ 3) (w / 2 ^ 25)) rows)))
-      [ true ↦ refl | false ↦ rest ])
+    as (λ t. option_map (λ s. s.op) (cond t (Some r) (find (λ s. fits s w) rows))
+    ≡ option_map (λ s. s.op) (cond t (Some r) (find (λ s. fits_fields s.form s.want (w / 2 ^ 12 % 2 ^ 3) (w / 2 ^ 25)) rows)))
+    [ true ↦ refl | false ↦ rest ])
 
 -- the row of a word is among the rows of its opcode
 pub row-rows_of : (w opcode : ℕ) → bit_and w 127 ≡ opcode → row_for w ≡ find (λ r. fits r w) (rows_of opcode table)

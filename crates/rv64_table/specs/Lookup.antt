@@ -1,8 +1,8 @@
 -- How the code finds a row: by the opcode, and then by funct3 and funct7 alone.
-use Rattle.std.specs.Prelude.{ℕ, ◌+◌, ◌/◌, ◌%◌, ◌^◌, Bool, true, false, ◌&&◌, ◌==◌, List, Option, option_map, find, filter}
+use Rattle.std.specs.Prelude.{ℕ, ◌/◌, ◌%◌, ◌^◌, Bool, ◌&&◌, ◌==◌, List, Option, option_map, find, filter}
 use Rattle.rv64_table.specs.declared.Row.{Row}
 use Rattle.rv64_table.specs.declared.Form.{Form}
-use Rattle.rv64_table.specs.declared.Form.TheVariants.{R, I, H, K, S, B, U, J, E}
+use Rattle.rv64_table.specs.declared.Form.TheVariants.{R, H, K, U, J}
 use Rattle.rv64_table.specs.declared.Op.{Op}
 
 -- the rows of an opcode

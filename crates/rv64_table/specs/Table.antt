@@ -1,7 +1,9 @@
 -- The table of instructions, and the row of a word.
 -- The source: RISC-V Unprivileged ISA, "RV32/64G Instruction Set Listings", the tables RV32I, RV64I, RV32M and RV64M.
 -- docs/reference/instructions.md says the same for readers.
-use Rattle.std.specs.Prelude.{ℕ, ◌+◌, ◌*◌, ◌^◌, ◌≡◌, Bool, ◌==◌, List, [], ◌∷◌, Option, option_map, find, bit_and}
+use Rattle.std.specs.Prelude.{ℕ, ◌+◌, ◌*◌, ◌^◌, ◌≡◌, Bool, ◌==◌, IsTrue, List, [], ◌∷◌, Option, Some, find, slice_get, bit_and}
+use denote.Enum.Declared.{tag_of}
+use Rattle.rv64_table.specs.contracts.Op.{the_type}
 use Rattle.rv64_table.specs.declared.Row.{Row}
 use Rattle.rv64_table.specs.declared.Form.{Form}
 use Rattle.rv64_table.specs.declared.Form.TheVariants.{R, I, H, K, S, B, U, J, E}
@@ -106,3 +108,25 @@ fits r word = bit_and word r.mask == r.want
 -- the row of a word: the row of the table with word & mask = want, if there is one
 abbrev pub row_for : ℕ → Option Row
 row_for word = find (λ r. fits r word) table
+
+-- the number of an operation, as the cast `op as u32` gives it
+abbrev pub number : Op → ℕ
+number op = tag_of the_type op
+
+-- the row of an operation
+abbrev pub row_with : Op → Option Row
+row_with op = find (λ r. number r.op == number op) table
+
+-- a row that a word fits is the row of the word
+abbrev pub FitsItsRow : Type 0
+FitsItsRow = (word i : ℕ) (r : Row) → slice_get table i ≡ Some r → IsTrue (fits r word) → row_for word ≡ Some r
+
+-- no word fits two rows: where a word fits the rows at two places, the places are one
+abbrev pub Apart : Type 0
+Apart =
+    (word i j : ℕ) (r s : Row)
+    → slice_get table i ≡ Some r
+    → slice_get table j ≡ Some s
+    → IsTrue (fits r word)
+    → IsTrue (fits s word)
+    → i ≡ j

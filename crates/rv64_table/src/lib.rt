@@ -7,6 +7,7 @@
 ghost use Rattle.std.specs.Prelude.{◌≡◌};
 ghost use Rattle.rv64_table.specs.Table.{table};
 
+pub mod laws;
 mod lookup;
 
 pub use lookup::row_of;
@@ -104,6 +105,20 @@ pub enum Op {
     Remuw,
 }
 
+impl Op {
+    ghost use Rattle.std.specs.Prelude.{Some};
+    ghost use Rattle.rv64_table.specs.Table.{row_with};
+
+    /// The row of this operation.
+    pub fn row(self) -> Row
+        ensures table { row_with self ≡ Some result }
+        ensures op { result.op ≡ self }
+    {
+        let rows = listed();
+        rows[self as usize]
+    }
+}
+
 /// A row of the table: the words with `word & mask == want` are those of the operation `op`.
 #[derive(Clone, Copy, PartialEq, Eq, Debug)]
 pub struct Row {
@@ -124,7 +139,7 @@ macro_rules! table {
 }
 
 /// The table, by the masks and values of the words themselves.
-const ROWS: [Row; 65] = table! {
+static ROWS: [Row; 65] = table! {
     U 0x0000_007F 0x0000_0037 Lui
     U 0x0000_007F 0x0000_0017 Auipc
     J 0x0000_007F 0x0000_006F Jal
@@ -192,10 +207,16 @@ const ROWS: [Row; 65] = table! {
     R 0xFE00_707F 0x0200_703B Remuw
 };
 
-/// The table, row by row in the standard's order.
 #[tactic(auto, unfolding(crate::specs::Table::table))]
+fn listed() -> &'static [Row; 65]
+    ensures { result.now ≡ table }
+{
+    &ROWS
+}
+
+/// The table, row by row in the standard's order.
 pub fn rows() -> [Row; 65]
     ensures { result ≡ table }
 {
-    ROWS
+    *listed()
 }

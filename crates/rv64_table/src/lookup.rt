@@ -7,17 +7,29 @@ ghost use Rattle.rv64_table.specs.Lookup.{pick, rows_of};
 use crate::Op;
 
 const OPCODE_LUI: u32 = 0x37;
+
 const OPCODE_AUIPC: u32 = 0x17;
+
 const OPCODE_JAL: u32 = 0x6F;
+
 const OPCODE_JALR: u32 = 0x67;
+
 const OPCODE_BRANCH: u32 = 0x63;
+
 const OPCODE_LOAD: u32 = 0x03;
+
 const OPCODE_STORE: u32 = 0x23;
+
 const OPCODE_OP_IMM: u32 = 0x13;
+
 const OPCODE_OP: u32 = 0x33;
+
 const OPCODE_MISC_MEM: u32 = 0x0F;
+
 const OPCODE_SYSTEM: u32 = 0x73;
+
 const OPCODE_OP_IMM_32: u32 = 0x1B;
+
 const OPCODE_OP_32: u32 = 0x3B;
 
 /// The operation whose row has these bits: `word & mask == want`. None where the word has no row.
@@ -193,5 +205,33 @@ fn system(word: u32) -> Option<Op>
         0x0000_0073 => Some(Op::Ecall),
         0x0010_0073 => Some(Op::Ebreak),
         _ => None,
+    }
+}
+
+#[cfg(test)]
+mod tests {
+    use super::*;
+    use crate::{laws, rows};
+
+    /// Words as the GNU assembler makes them.
+    #[test]
+    fn rows_of_assembled_words(rt: HostRuntime) {
+        laws::no_word_fits_two_rows();
+        laws::a_fitting_row_is_the_row();
+        for (word, want) in [
+            (0x4020_8fb3, Op::Sub),
+            (0x43f3_5293, Op::Srai),
+            (0x41f3_529b, Op::Sraiw),
+            (0x0ff0_000f, Op::Fence),
+            (0x0010_0073, Op::Ebreak),
+            (0x02c5_f53b, Op::Remuw),
+            (0xffff_f0b7, Op::Lui),
+        ] {
+            assert_eq!(rt; row_of(word), Some(want), "at {word:08x}");
+            let row = want.row();
+            assert_eq!(rt; word & row.mask, row.want, "at {word:08x}");
+            assert_eq!(rt; rows()[want as usize], row);
+        }
+        assert_eq!(rt; row_of(0xffff_ffff), None);
     }
 }
