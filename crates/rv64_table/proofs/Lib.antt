@@ -1,0 +1,4 @@
+pub mod Masks
+pub mod OpRows
+pub mod Apart
+pub mod RowsByField
