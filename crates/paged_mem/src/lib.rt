@@ -1,0 +1,8 @@
+//! The guest's memory: bytes at the mapped addresses, in whole pages of 4,096 bytes below 2^38.
+//!
+//! Rules and their public sources: docs/reference/memory.md.
+#![tactic(auto)]
+
+mod ram;
+
+pub use ram::{PageView, Ram, StoreRefusal, Width};
