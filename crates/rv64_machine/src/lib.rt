@@ -1,0 +1,4 @@
+//! The RV64IM hart: one step of it over a memory.
+#![tactic(auto)]
+
+pub mod arithmetic;
