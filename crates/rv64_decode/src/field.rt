@@ -1,6 +1,6 @@
 //! Bit ranges of a word, and the registers and the immediate that a form holds in them.
 
-ghost use Rattle.std.specs.Prelude.{◌≡◌, ◌+◌, ◌-◌, ◌*◌, ◌^◌, ◌<◌, ◌≤◌};
+ghost use Rattle.std.specs.Prelude.{if◌then◌else◌, ◌≡◌, ◌+◌, ◌-◌, ◌*◌, ◌^◌, ◌<◌, ◌≤◌};
 ghost use Rattle.rv64_decode.specs.Fields as fields;
 
 use rv64_table::Form;
@@ -17,14 +17,18 @@ pub fn bits(word: u32, high: u32, low: u32) -> u32
     (word >> low) & ((1 << width) - 1)
 }
 
-/// The register that bits high..low of a word name.
-pub fn register(word: u32, high: u32, low: u32) -> u8
+/// The register that bits high..low of a word name, 0 where the word names none there.
+pub fn register(named: bool, word: u32, high: u32, low: u32) -> u8
     requires five { high ≡ low + 4 }
     requires within { high < 32 }
-    ensures value { result ≡ fields.bits word high low }
+    ensures value { result ≡ (if named then fields.bits word high low else 0) }
     ensures below { result < 32 }
 {
-    bits(word, high, low) as u8
+    if named {
+        bits(word, high, low) as u8
+    } else {
+        0
+    }
 }
 
 /// The number that so many bits are in two's complement.
@@ -34,11 +38,10 @@ pub fn signed(width: u32, number: u32) -> i64
     requires below { number < 2 ^ width }
     ensures { result ≡ fields.signed width number }
 {
-    let whole = 1i64 << width;
-    if i64::from(number) < whole / 2 {
+    if number < 1 << (width - 1) {
         i64::from(number)
     } else {
-        i64::from(number) - whole
+        i64::from(number) - (1 << width)
     }
 }
 

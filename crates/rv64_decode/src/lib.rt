@@ -8,7 +8,6 @@ mod field;
 mod reading;
 
 pub use reading::decode;
-
 use rv64_table::Op;
 
 /// An instruction: its operation and its fields. A field that the operation's form lacks is 0.

@@ -18,9 +18,9 @@ pub fn decode(word: u32) -> Option<Inst>
     let form = op.row().form;
     Some(Inst {
         op,
-        rd: if has_rd(form) { register(word, 11, 7) } else { 0 },
-        rs1: if has_rs1(form) { register(word, 19, 15) } else { 0 },
-        rs2: if has_rs2(form) { register(word, 24, 20) } else { 0 },
+        rd: register(has_rd(form), word, 11, 7),
+        rs1: register(has_rs1(form), word, 19, 15),
+        rs2: register(has_rs2(form), word, 24, 20),
         imm: immediate(form, word),
     })
 }

@@ -1,6 +1,6 @@
 -- The places of rows in the table.
 use Rattle.std.proofs.Common.{◌≡◌, ℕ, ◌+◌, zero, suc, Bool, true, false, ◌&&◌, cond, List, [], ◌∷◌, Some, refl, sym, ap, ◌∙◌, arith, ⊎_elim, slice_index_or}
-use Rattle.std.specs.Prelude.{◌==◌, find, slice_get}
+use Rattle.std.specs.Prelude.{◌==◌, Option, None, find, slice_get, option_map}
 use Rattle.std.specs.List.{list_all}
 use Rattle.std.proofs.lemmas.Bool.{and_parts, eqb-true, cases_Bool}
 use Rattle.rv64_table.specs.declared.Row.{Row}
@@ -25,9 +25,9 @@ pub find-listed : (test : Row → Bool) (rows : List Row) (r : Row) → find tes
 find-listed test [] r e = cc
 find-listed test (x ∷ rows) r e = ⊎_elim
     (λ yes. let found = rw yes at e in let same : x ≡ r = cc in
-      record { place = zero; at = ap Some same; passes = rw (← same) yes })
+    record { place = zero; at = ap Some same; passes = rw (← same) yes })
     (λ no. let found = find-listed test rows r (rw no at e) in
-      record { place = suc found.place; at = found.at; passes = found.passes })
+    record { place = suc found.place; at = found.at; passes = found.passes })
     (cases_Bool (test x))
 
 -- the rows have the numbers from here on
@@ -60,3 +60,12 @@ row_with-listed i r e =
 -- so is the row of a word
 pub row_with-row_for : (w : ℕ) (r : Row) → row_for w ≡ Some r → row_with r.op ≡ Some r
 row_with-row_for w r e = let found = find-listed (λ s. fits s w) table r e in row_with-listed found.place r found.at
+
+-- the row of a word of which the operation is known
+found-op : (w : ℕ) (op : Op) (r : Row) (found : Option Row) → row_for w ≡ found → option_map (λ s. s.op) found ≡ Some op → row_with op ≡ Some r
+    → found ≡ Some r
+found-op w op r None f e t = cc
+found-op w op r (Some s) f e t = let own : row_with s.op ≡ Some s = row_with-row_for w s f in let same : s.op ≡ op = cc in let table : row_with s.op ≡ Some r = rw same t in cc
+
+pub row_for-op : (w : ℕ) (op : Op) (r : Row) → option_map (λ s. s.op) (row_for w) ≡ Some op → row_with op ≡ Some r → row_for w ≡ Some r
+row_for-op w op r e t = found-op w op r (row_for w) refl e t
