@@ -4,6 +4,10 @@
 //! Instruction Set", the sections "Base Instruction Formats" and "Immediate Encoding Variants".
 #![tactic(auto)]
 
+mod field;
+mod reading;
+
+pub use reading::decode;
 use rv64_table::Op;
 
 /// An instruction: its operation and its fields. A field that the operation's form lacks is 0.

@@ -5,6 +5,7 @@ use Rattle.std.specs.List.{list_all}
 use Rattle.std.proofs.lemmas.Nat.{and_comm, and_assoc}
 use Rattle.std.proofs.lemmas.Bool.{and_parts, eqb-true, eq-eqb, cases_order, false_from_ne_true}
 use Rattle.rv64_table.specs.declared.Row.{Row}
+use Rattle.rv64_table.proofs.Places.{list_all-at}
 use Rattle.rv64_table.specs.Table.{fits, row_for, table}
 
 -- the wanted values of two rows differ where both masks are set
@@ -23,12 +24,6 @@ both_fit w r s fr fs =
     let es : bit_and w s.mask ≡ s.want = eqb-true _ _ fs in
     let same : bit_and r.want s.mask ≡ bit_and s.want r.mask = rw (← er, ← es) (and_assoc s.mask w r.mask ∙ ap (bit_and w) (and_comm r.mask s.mask) ∙ sym (and_assoc r.mask w s.mask)) in
     ap not (eq-eqb _ _ same)
-
--- a test that all pass holds of the one at a place
-list_all-at : (p : Row → Bool) (rows : List Row) (i : ℕ) (s : Row) → list_all p rows ≡ true → slice_get rows i ≡ Some s → p s ≡ true
-list_all-at p [] i s h e = cc
-list_all-at p (r ∷ rows) zero s h e = let same : r ≡ s = cc in rw (← same) ((and_parts (p r) (list_all p rows) h).0)
-list_all-at p (r ∷ rows) (suc i) s h e = list_all-at p rows i s ((and_parts (p r) (list_all p rows) h).1) e
 
 -- no word fits a row and a later one
 apart-below : (w : ℕ) (rows : List Row) (i j : ℕ) (r s : Row) → all_differ rows ≡ true → i < j → slice_get rows i ≡ Some r → slice_get rows j ≡ Some s
