@@ -1,1 +1,3 @@
 pub mod Arithmetic
+pub mod Hart
+pub mod Meaning

@@ -1,7 +1,11 @@
 //! What the rows of the table compute, at 64 and at 32 bits.
-ghost use Rattle.std.specs.Prelude.{◌≡◌, ◌<◌, pos};
+ghost use Rattle.std.specs.Prelude.{◌≡◌, ◌%◌, ◌*◌, ◌^◌, ◌<◌, pos};
+ghost use Rattle.paged_mem.specs.Ram.{count_of};
+ghost use Rattle.rv64_machine.specs.Meaning.{even, less};
 ghost use Rattle.rv64_decode.specs.Fields.{signed};
 ghost use Rattle.rv64_machine.specs.Arithmetic.{difference, flag, floored, high_product, low_word, product, quotient, quotient_unsigned, remainder, remainder_unsigned, shifted_left, shifted_right, shifted_right_signed, sign_extended, sum, wrapped};
+
+use paged_mem::Width;
 
 pub fn low_word(a: u64) -> u32
     ensures { result ≡ low_word a }
@@ -25,6 +29,18 @@ pub fn flag(test: bool) -> u64
     ensures { result ≡ flag test }
 {
     if test { 1 } else { 0 }
+}
+
+pub fn even(a: u64) -> u64
+    ensures { result ≡ even a }
+{
+    a - a % 2
+}
+
+pub fn is_less(a: u64, b: u64) -> bool
+    ensures { result ≡ less a b }
+{
+    a.cast_signed() < b.cast_signed()
 }
 
 pub fn sum(a: u64, b: u64) -> u64
@@ -51,46 +67,40 @@ pub fn difference_word(a: u32, b: u32) -> u32
     a.wrapping_sub(b)
 }
 
-pub fn shifted_left(a: u64, count: u32) -> u64
-    requires { count < 64 }
-    ensures { result ≡ shifted_left 64 a count }
+pub fn shifted_left(a: u64, b: u64) -> u64
+    ensures { result ≡ shifted_left 64 a (b % 64) }
 {
-    a.wrapping_shl(count)
+    a.wrapping_shl((b % 64) as u32)
 }
 
-pub fn shifted_left_word(a: u32, count: u32) -> u32
-    requires { count < 32 }
-    ensures { result ≡ shifted_left 32 a count }
+pub fn shifted_left_word(a: u32, b: u64) -> u32
+    ensures { result ≡ shifted_left 32 a (b % 32) }
 {
-    a.wrapping_shl(count)
+    a.wrapping_shl((b % 32) as u32)
 }
 
-pub fn shifted_right(a: u64, count: u32) -> u64
-    requires { count < 64 }
-    ensures { result ≡ shifted_right a count }
+pub fn shifted_right(a: u64, b: u64) -> u64
+    ensures { result ≡ shifted_right a (b % 64) }
 {
-    a >> count
+    a >> (b % 64)
 }
 
-pub fn shifted_right_word(a: u32, count: u32) -> u32
-    requires { count < 32 }
-    ensures { result ≡ shifted_right a count }
+pub fn shifted_right_word(a: u32, b: u64) -> u32
+    ensures { result ≡ shifted_right a (b % 32) }
 {
-    a >> count
+    a >> (b % 32)
 }
 
-pub fn shifted_right_signed(a: u64, count: u32) -> u64
-    requires { count < 64 }
-    ensures { result ≡ shifted_right_signed 64 a count }
+pub fn shifted_right_signed(a: u64, b: u64) -> u64
+    ensures { result ≡ shifted_right_signed 64 a (b % 64) }
 {
-    (a.cast_signed() >> count).cast_unsigned()
+    (a.cast_signed() >> (b % 64)).cast_unsigned()
 }
 
-pub fn shifted_right_signed_word(a: u32, count: u32) -> u32
-    requires { count < 32 }
-    ensures { result ≡ shifted_right_signed 32 a count }
+pub fn shifted_right_signed_word(a: u32, b: u64) -> u32
+    ensures { result ≡ shifted_right_signed 32 a (b % 32) }
 {
-    (a.cast_signed() >> count).cast_unsigned()
+    (a.cast_signed() >> (b % 32)).cast_unsigned()
 }
 
 pub fn product(a: u64, b: u64) -> u64
@@ -177,3 +187,27 @@ pub fn remainder_unsigned_word(a: u32, b: u32) -> u32
     if b == 0 { a } else { a % b }
 }
 
+
+pub fn widened(width: Width, n: u64) -> u64
+    requires { n < 2 ^ (8 * count_of width) }
+    ensures { result ≡ sign_extended (8 * count_of width) n }
+{
+    match width {
+        Width::W1 => extended_byte(n as u8),
+        Width::W2 => extended_half(n as u16),
+        Width::W4 => extended(n as u32),
+        Width::W8 => n,
+    }
+}
+
+pub fn extended_byte(n: u8) -> u64
+    ensures { result ≡ sign_extended 8 n }
+{
+    i64::from(n.cast_signed()).cast_unsigned()
+}
+
+pub fn extended_half(n: u16) -> u64
+    ensures { result ≡ sign_extended 16 n }
+{
+    i64::from(n.cast_signed()).cast_unsigned()
+}
