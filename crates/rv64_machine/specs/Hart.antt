@@ -1,5 +1,5 @@
 -- A hart and one act of it (docs/reference/machine.md).
-use Rattle.std.specs.Prelude.{◌≡◌, ℕ, ◌+◌, ◌*◌, ◌%◌, ◌^◌, ◌==◌, Bool, true, false, if◌then◌else◌, IsTrue, List, slice_index, slice_set, Option, None, Some, option_map, option_and_then, refl}
+use Rattle.std.specs.Prelude.{◌≡◌, ℕ, ◌*◌, ◌%◌, ◌==◌, Bool, true, false, if◌then◌else◌, IsTrue, List, slice_index, slice_set, Option, None, Some, option_map, option_and_then, refl}
 use Rattle.std.specs.Coded.{Coded, code_by, coded×, coded_ℕ, coded_list}
 use Rattle.std.specs.FinMap as map
 use Rattle.paged_mem.specs.Memory.{Memory, maps, reads, writes}
@@ -25,9 +25,9 @@ pub record HartState : Type 0 where
 abbrev pub code : Coded HartState
 code =
     code_by (List ℕ × (ℕ × Memory)) (coded× (coded_list coded_ℕ) (coded× coded_ℕ (map.code coded_ℕ coded_ℕ)))
-        (λ h. (h.registers, (h.pc, h.memory)))
-        (λ p. record { registers = p.0; pc = p.1.0; memory = p.1.1 })
-        (λ _. refl)
+    (λ h. (h.registers, (h.pc, h.memory)))
+    (λ p. record { registers = p.0; pc = p.1.0; memory = p.1.1 })
+    (λ _. refl)
 
 -- one act: the hart goes on in a state, calls the system, or traps; both of the latter leave the state
 pub data Act : Type 0 where

@@ -142,13 +142,23 @@ pub fn high_unsigned(a: u64, b: u64) -> u64
 pub fn quotient(a: u64, b: u64) -> u64
     ensures { result ≡ quotient 64 a b }
 {
-    if b == 0 { return u64::MAX; } a.cast_signed().wrapping_div(b.cast_signed()).cast_unsigned()
+    if b == 0 {
+        return u64::MAX;
+    }
+    a.cast_signed()
+        .wrapping_div(b.cast_signed())
+        .cast_unsigned()
 }
 
 pub fn remainder(a: u64, b: u64) -> u64
     ensures { result ≡ remainder 64 a b }
 {
-    if b == 0 { return a; } a.cast_signed().wrapping_rem(b.cast_signed()).cast_unsigned()
+    if b == 0 {
+        return a;
+    }
+    a.cast_signed()
+        .wrapping_rem(b.cast_signed())
+        .cast_unsigned()
 }
 
 pub fn quotient_unsigned(a: u64, b: u64) -> u64
@@ -166,13 +176,23 @@ pub fn remainder_unsigned(a: u64, b: u64) -> u64
 pub fn quotient_word(a: u32, b: u32) -> u32
     ensures { result ≡ quotient 32 a b }
 {
-    if b == 0 { return u32::MAX; } a.cast_signed().wrapping_div(b.cast_signed()).cast_unsigned()
+    if b == 0 {
+        return u32::MAX;
+    }
+    a.cast_signed()
+        .wrapping_div(b.cast_signed())
+        .cast_unsigned()
 }
 
 pub fn remainder_word(a: u32, b: u32) -> u32
     ensures { result ≡ remainder 32 a b }
 {
-    if b == 0 { return a; } a.cast_signed().wrapping_rem(b.cast_signed()).cast_unsigned()
+    if b == 0 {
+        return a;
+    }
+    a.cast_signed()
+        .wrapping_rem(b.cast_signed())
+        .cast_unsigned()
 }
 
 pub fn quotient_unsigned_word(a: u32, b: u32) -> u32
@@ -186,7 +206,6 @@ pub fn remainder_unsigned_word(a: u32, b: u32) -> u32
 {
     if b == 0 { a } else { a % b }
 }
-
 
 pub fn widened(width: Width, n: u64) -> u64
     requires { n < 2 ^ (8 * count_of width) }

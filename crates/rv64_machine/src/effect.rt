@@ -3,10 +3,11 @@ ghost use Rattle.rv64_machine.specs.Arithmetic.{wrapped};
 ghost use Rattle.rv64_machine.specs.Meaning.{meaning};
 
 use crate::arithmetic::{
-    difference, difference_word, even, extended, flag, high_signed, high_signed_unsigned, high_unsigned, is_less, low_word,
-    pattern, product, product_word, quotient, quotient_unsigned, quotient_unsigned_word, quotient_word, remainder,
-    remainder_unsigned, remainder_unsigned_word, remainder_word, shifted_left, shifted_left_word, shifted_right,
-    shifted_right_signed, shifted_right_signed_word, shifted_right_word, sum, sum_word,
+    difference, difference_word, even, extended, flag, high_signed, high_signed_unsigned,
+    high_unsigned, is_less, low_word, pattern, product, product_word, quotient, quotient_unsigned,
+    quotient_unsigned_word, quotient_word, remainder, remainder_unsigned, remainder_unsigned_word,
+    remainder_word, shifted_left, shifted_left_word, shifted_right, shifted_right_signed,
+    shifted_right_signed_word, shifted_right_word, sum, sum_word,
 };
 use paged_mem::Width;
 use rv64_table::Op;

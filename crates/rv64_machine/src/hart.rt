@@ -5,15 +5,11 @@ ghost use Rattle.rv64_machine.specs.Hart.{carried, Ends, following, HartState, S
 ghost use Rattle.std.specs.Borrow.{Lends, sem};
 ghost use Rattle.rv64_machine.specs.contracts.hart.Hart.{the_row};
 
-
-
-
 use crate::answer::{Cause, StepEnd};
 use crate::arithmetic::{sum, widened};
 use crate::effect::{Effect, effect_of};
 use paged_mem::{Ram, StoreRefusal, Width};
 use rv64_decode::decode;
-
 use std::marker::Model;
 
 /// A hart of RV64IM with its memory.
@@ -112,7 +108,13 @@ impl<R: Ram> Hart<R> {
         let Some(inst) = decode(word) else {
             return StepEnd::Trap(Cause::Illegal(word));
         };
-        let effect = effect_of(inst.op, self.reg(inst.rs1), self.reg(inst.rs2), inst.imm, self.pc);
+        let effect = effect_of(
+            inst.op,
+            self.reg(inst.rs1),
+            self.reg(inst.rs2),
+            inst.imm,
+            self.pc,
+        );
         self.carry_out(inst.rd, effect)
     }
 
