@@ -3,6 +3,9 @@
 //! Rules and their public sources: docs/reference/memory.md.
 #![tactic(auto)]
 
+mod gaps;
+mod mapping;
+mod pages;
 mod ram;
 
 pub use ram::{PageView, Ram, StoreRefusal, Width};
