@@ -1,8 +1,8 @@
 -- A hart and one act of it (docs/reference/machine.md).
-use Rattle.std.specs.Prelude.{◌≡◌, ℕ, ◌*◌, ◌%◌, ◌==◌, Bool, true, false, if◌then◌else◌, IsTrue, List, slice_index, slice_set, Option, None, Some, option_map, option_and_then, refl}
+use Rattle.std.specs.Prelude.{◌≡◌, ℕ, ◌*◌, ◌%◌, ◌==◌, Bool, true, false, if◌then◌else◌, IsTrue, length, List, slice_index, slice_set, Option, None, Some, option_map, option_and_then, refl}
 use Rattle.std.specs.Coded.{Coded, code_by, coded×, coded_ℕ, coded_list}
 use Rattle.std.specs.FinMap as map
-use Rattle.paged_mem.specs.Memory.{Memory, maps, reads, writes}
+use Rattle.paged_mem.specs.Memory.{IsWhole, Memory, maps, reads, writes}
 use Rattle.paged_mem.specs.Ram.{count_of}
 use Rattle.rv64_decode.specs.declared.Inst.{Inst}
 use Rattle.rv64_decode.specs.Decode.{decoded}
@@ -20,6 +20,13 @@ pub record HartState : Type 0 where
   pub registers : List ℕ
   pub pc : ℕ
   pub memory : Memory
+
+-- the states that a hart can be in: 32 registers of which x0 is 0, and a pc at a multiple of 4
+pub record IsHart (hart : HartState) : Type 0 where
+  pub count : length hart.registers ≡ 32
+  pub zero : slice_index hart.registers 0 ≡ 0
+  pub aligned : hart.pc % 4 ≡ 0
+  pub whole : IsWhole hart.memory
 
 -- a state is stored as its three parts
 abbrev pub code : Coded HartState

@@ -1,7 +1,8 @@
 ghost use Rattle.std.specs.Prelude.{◌≡◌, ℕ, ◌+◌, ◌*◌, ◌%◌, ◌^◌, ◌<◌, replicate, slice_index};
 ghost use Rattle.paged_mem.specs.Ram.{count_of};
 ghost use Rattle.rv64_machine.specs.Arithmetic.{sign_extended};
-ghost use Rattle.rv64_machine.specs.Hart.{carried, Ends, following, HartState, Steps, with_register};
+ghost use Rattle.rv64_machine.specs.Hart.{carried, Ends, following, HartState, IsHart, Steps, with_register};
+ghost use Rattle.std.specs.FinMap.{contains_key};
 ghost use Rattle.std.specs.Borrow.{Lends, sem};
 ghost use Rattle.rv64_machine.specs.contracts.hart.Hart.{the_row};
 
@@ -21,7 +22,7 @@ pub struct Hart<R: Ram> {
 }
 
 impl<R: Ram> Model for Hart<R> {
-    ghost use Rattle.std.specs.Prelude.{◌≡◌, ◌%◌, slice_index};
+    ghost use Rattle.std.specs.Prelude.{◌≡◌, ◌%◌, length, slice_index};
     ghost use Rattle.rv64_machine.specs.Hart.{HartState, code};
 
     ghost Value = { HartState };
@@ -30,7 +31,8 @@ impl<R: Ram> Model for Hart<R> {
 
     ghost view = { λ h. record { registers = h.registers; pc = h.pc; memory = R.bytes h.ram } };
 
-    ghost invariant = { λ h. (slice_index h.registers 0 ≡ 0) × (h.pc % 4 ≡ 0) };
+    ghost invariant = { λ h.
+        (length h.registers ≡ 32) × (slice_index h.registers 0 ≡ 0) × (h.pc % 4 ≡ 0) };
 }
 
 impl<R: Ram> Hart<R> {
@@ -67,7 +69,7 @@ impl<R: Ram> Hart<R> {
     /// The address of the next instruction.
     pub fn pc(&self) -> u64
         ensures value { result ≡ self.now.pc }
-        ensures aligned { result % 4 ≡ 0 }
+        ensures hart { IsHart self.now }
     {
         self.pc
     }
@@ -96,9 +98,21 @@ impl<R: Ram> Hart<R> {
         self.pass();
     }
 
-    /// One step.
-    #[tactic(auto, unfolding(crate::specs::Hart::act, crate::specs::Hart::effect_at))]
+    /// One step: fetches the four bytes at the pc and carries out their instruction.
+    ///
+    /// Want of memory can come only in a store that would go on, and like every answer but `Done` it
+    /// leaves the hart as it was.
     pub fn step(&mut self) -> StepEnd
+        ensures act { Steps self.old result self.new }
+        // No step maps or unmaps an address.
+        ensures mapping { (address : ℕ)
+            → contains_key self.new.memory address ≡ contains_key self.old.memory address }
+    {
+        self.advance()
+    }
+
+    #[tactic(auto, unfolding(crate::specs::Hart::act, crate::specs::Hart::effect_at))]
+    fn advance(&mut self) -> StepEnd
         ensures { Steps self.old result self.new }
     {
         let Some(word) = self.ram.load(self.pc, Width::W4) else {
