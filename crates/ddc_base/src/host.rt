@@ -43,10 +43,20 @@ fn read_file<R: Files>(rt: &R, alloc: Global, path: &str, limit: u64) -> io::Res
         Err(error) if error.kind() == ErrorKind::NotFound => return Ok(Loaded::Absent),
         Err(error) => return Err(error),
     };
-    let most = limit.saturating_add(1);
-    let expected = file.metadata()?.len().saturating_add(1).min(most);
-    let mut content = Vec::with_capacity(alloc, usize::try_from(expected).unwrap_or(0))?;
-    file.take(most).read_to_end(&mut content)?;
+    let metadata = file.metadata()?;
+    let expected = if metadata.is_file() {
+        metadata.len()
+    } else {
+        0
+    };
+    if expected > limit {
+        return Ok(Loaded::TooLong);
+    }
+    // One more byte than is expected, so that the end is met without growing.
+    let capacity = usize::try_from(expected.saturating_add(1)).unwrap_or(0);
+    let mut content = Vec::with_capacity(alloc, capacity)?;
+    file.take(limit.saturating_add(1))
+        .read_to_end(&mut content)?;
     if content.len() as u64 > limit {
         return Ok(Loaded::TooLong);
     }
