@@ -6,6 +6,8 @@ mod command;
 mod commands;
 mod status;
 mod stop;
+#[cfg(test)]
+mod tests;
 mod texts;
 mod top_call;
 mod words;
