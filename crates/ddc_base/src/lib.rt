@@ -10,6 +10,8 @@ mod host;
 mod memory;
 mod numbers;
 mod outside;
+#[cfg(test)]
+mod tests;
 
 pub use byte_list::{Bytes, OutOfMemory};
 pub use difference::first_difference;
