@@ -1,7 +1,10 @@
 pub mod Mapped
 pub mod Maps
 pub mod Moves
+pub mod Numbers
 pub mod Places
 pub mod Rooms
+pub mod Runs
+pub mod Seen
 pub mod Spans
 pub mod Views

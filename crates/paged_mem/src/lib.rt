@@ -3,9 +3,11 @@
 //! Rules and their public sources: docs/reference/memory.md.
 #![tactic(auto)]
 
+mod flat;
 mod gaps;
 mod mapping;
 mod pages;
 mod ram;
 
+pub use flat::FlatRam;
 pub use ram::{PageView, Ram, StoreRefusal, Width};
