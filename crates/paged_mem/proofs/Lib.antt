@@ -1,5 +1,6 @@
 pub mod Mapped
 pub mod Maps
+pub mod MemoryLaws
 pub mod Moves
 pub mod Numbers
 pub mod Places

@@ -18,7 +18,7 @@ pub length-zeros : (count : ℕ) → length (zeros count) ≡ count
 unfolding zeros
 length-zeros count = length-replicate count 0
 
-get_or-zeros : (count i : ℕ) → i < count → get_or (zeros count) i 0 ≡ 0
+pub get_or-zeros : (count i : ℕ) → i < count → get_or (zeros count) i 0 ≡ 0
 unfolding zeros
 get_or-zeros count i below = get_or-replicate count i 0 0 below
 

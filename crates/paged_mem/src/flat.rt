@@ -29,8 +29,8 @@ impl Model for FlatRam {
     ghost coded = { held_code };
 
     ghost view = { λ ram. record {
-        bytes = memory_of ram.pages.items ram.bytes.items;
-        whole = IsWhole-memory_of ram.pages.items ram.bytes.items ram.sound
+      bytes = memory_of ram.pages.items ram.bytes.items;
+      whole = IsWhole-memory_of ram.pages.items ram.bytes.items ram.sound;
     } };
 }
 

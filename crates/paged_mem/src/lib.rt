@@ -5,6 +5,7 @@
 
 mod flat;
 mod gaps;
+pub mod laws;
 mod mapping;
 mod pages;
 mod ram;

@@ -6,4 +6,4 @@ pub returns : goal.returns
 returns c =
     c.is_some.ensures
     ∙ sym (maps_seen c.self.inside.pages.items c.self.inside.bytes.items c.deref.result.now c.args.self.now.bytes c.self.inside.sound
-      c.deref.ensures.value (ap (λ held. held.bytes) c.self.view_is) c.args.at c.args.count c.span.result c.span.ensures)
+    c.deref.ensures.value (ap (λ held. held.bytes) c.self.view_is) c.args.at c.args.count c.span.result c.span.ensures)

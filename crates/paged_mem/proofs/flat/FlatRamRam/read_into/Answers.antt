@@ -5,17 +5,17 @@ use Rattle.paged_mem.proofs.flat.FlatRamRam.read_into.Goals as goal
 pub returns-in-None-clause-answer : goal.returns-in-None-clause-answer
 returns-in-None-clause-answer c =
     sym (maps_seen c.self.inside.pages.items c.self.inside.bytes.items c.deref.result.now c.args.self.now.bytes c.self.inside.sound
-      c.deref.ensures.value (ap (λ held. held.bytes) c.self.view_is) c.args.at (length c.args.out.now) None c.in-None.ensures)
+    c.deref.ensures.value (ap (λ held. held.bytes) c.self.view_is) c.args.at (length c.args.out.now) None c.in-None.ensures)
 
 pub returns-in-None-clause-moved : goal.returns-in-None-clause-moved
 returns-in-None-clause-moved c =
     sym (ap (λ o. unwrap_or o c.args.out.now) (no_bytes_seen c.self.inside.pages.items c.self.inside.bytes.items c.deref.result.now c.args.self.now.bytes c.self.inside.sound
-      c.deref.ensures.value (ap (λ held. held.bytes) c.self.view_is) c.args.at (length c.args.out.now) c.in-None.ensures))
+    c.deref.ensures.value (ap (λ held. held.bytes) c.self.view_is) c.args.at (length c.args.out.now) c.in-None.ensures))
 
 pub returns-in-Some-clause-answer : goal.returns-in-Some-clause-answer
 returns-in-Some-clause-answer c =
     sym (maps_seen c.self.inside.pages.items c.self.inside.bytes.items c.deref.result.now c.args.self.now.bytes c.self.inside.sound
-      c.deref.ensures.value (ap (λ held. held.bytes) c.self.view_is) c.args.at (length c.args.out.now) (Some c.in-Some.start) c.in-Some.ensures)
+    c.deref.ensures.value (ap (λ held. held.bytes) c.self.view_is) c.args.at (length c.args.out.now) (Some c.in-Some.start) c.in-Some.ensures)
 
 pub returns-in-Some-clause-moved : goal.returns-in-Some-clause-moved
 returns-in-Some-clause-moved c =
