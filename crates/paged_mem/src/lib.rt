@@ -12,3 +12,6 @@ mod ram;
 
 pub use flat::FlatRam;
 pub use ram::{PageView, Ram, StoreRefusal, Width};
+
+#[cfg(test)]
+mod tests;
