@@ -1,0 +1,43 @@
+//! The program ddc: it hands its words and the host's files and output to the top call, and ends with its status.
+#![tactic(auto)]
+
+use std::env;
+use std::io::ErrorKind;
+use std::process::ExitCode;
+
+use ddc_app::{Status, run};
+use ddc_base::{DirShelf, OutOfMemory, StdSink};
+
+/// The words of the command line without the program's own name. They are none where a word is not UTF-8.
+fn command_line(rt: &HostRuntime) -> Result<Vec<String>, OutOfMemory> {
+    let alloc = rt.alloc();
+    let mut words = Vec::new(alloc);
+    match env::args(rt) {
+        Ok(all) => {
+            for word in all.skip(1) {
+                words.push(word)?;
+            }
+            Ok(words)
+        }
+        Err(error) if error.kind() == ErrorKind::OutOfMemory => Err(OutOfMemory),
+        Err(_) => Ok(words),
+    }
+}
+
+/// Runs the words over the host's files and standard output.
+fn run_on_host(rt: &HostRuntime) -> Result<Status, OutOfMemory> {
+    let alloc = rt.alloc();
+    let owned = command_line(rt)?;
+    let mut words = Vec::with_capacity(alloc, owned.len())?;
+    for word in &owned {
+        words.push(word.as_str())?;
+    }
+    let mut shelf = DirShelf::new(rt);
+    let mut out = StdSink::new(rt);
+    Ok(run(alloc, words.as_slice(), &mut shelf, &mut out))
+}
+
+fn main(rt: HostRuntime) -> ExitCode {
+    let status = run_on_host(&rt).unwrap_or(Status::OutOfMemory);
+    ExitCode::from(status as u8)
+}

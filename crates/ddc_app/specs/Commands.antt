@@ -1,0 +1,10 @@
+-- The commands by their first word. docs/reference/command-line.md says the same for people.
+use Rattle.std.specs.Prelude.{ℕ, List, [], ◌∷◌, bytes_eq, codes, if◌then◌else◌}
+use Rattle.ddc_app.specs.Plan.{Plan}
+use Rattle.ddc_app.specs.Words.{usage}
+use Rattle.ddc_app.specs.Hex0.{hex0_plan}
+
+-- what a command line does
+abbrev pub plan_of : List (List ℕ) → Plan
+plan_of [] = usage
+plan_of (command ∷ words) = if bytes_eq command (codes "hex0") then hex0_plan words else usage

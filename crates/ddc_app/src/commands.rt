@@ -1,0 +1,2 @@
+//! The commands, a module for each.
+pub(crate) mod hex0;

@@ -1,0 +1,18 @@
+/// How a call ended; the program's exit status is its number. docs/reference/command-line.md says when each comes.
+#[derive(Clone, Copy, Debug, PartialEq, Eq)]
+pub enum Status {
+    /// The question is answered with yes, or the work is done.
+    Yes = 0,
+    /// The words are no command line of ddc.
+    Usage = 2,
+    /// The two sides of a comparison differ.
+    Differs = 3,
+    /// A needed file is not held, or has more bytes than are allowed.
+    FileRefused = 10,
+    /// The shelf failed in this call.
+    ShelfFault = 11,
+    /// The sink failed in this call.
+    OutFault = 12,
+    /// There was not enough memory.
+    OutOfMemory = 13,
+}

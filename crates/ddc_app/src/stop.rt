@@ -1,0 +1,22 @@
+ghost use Rattle.std.specs.Prelude.{◌≡◌};
+ghost use Rattle.ddc_app.specs.declared.stop.Stop.TheVariants.{OutOfMemory};
+
+use crate::answer::Answer;
+
+/// What ends a command before its end.
+#[derive(Debug, Drop)]
+pub(crate) enum Stop {
+    /// The answer is fixed already.
+    Answered(Answer),
+    /// The shelf failed; the text names the call.
+    ShelfFault(String),
+    OutOfMemory,
+}
+
+impl From<ddc_base::OutOfMemory> for Stop {
+    ghost from_gives = { λ _ stop. stop ≡ OutOfMemory };
+
+    fn from(_error: ddc_base::OutOfMemory) -> Stop {
+        Stop::OutOfMemory
+    }
+}

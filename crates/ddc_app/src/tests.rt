@@ -1,0 +1,71 @@
+use super::*;
+use ddc_base::{MemShelf, MemSink, OutOfMemory, Shelf, Sink};
+use std::alloc::Global;
+use std::test::Fail;
+
+/// A shelf with the files of the worked examples.
+fn worked_shelf(alloc: Global) -> Result<MemShelf, OutOfMemory> {
+    let mut shelf = MemShelf::new(alloc);
+    shelf.set("commented", b"# a\n7F 4\n5;x")?;
+    shelf.set("pair", &[0x7F, 0x45])?;
+    shelf.set("empty", b"")?;
+    shelf.set("zero", &[0])?;
+    Ok(shelf)
+}
+
+#[test]
+fn worked_examples(rt: HostRuntime) -> Result<(), Fail> {
+    let alloc = rt.alloc();
+    let mut shelf = worked_shelf(alloc)?;
+    let table: [(&[&str], Status, &str); 9] = [
+        (&["hex0", "commented", "pair"], Status::Yes, "equal 2\n"),
+        (&["hex0", "empty", "empty"], Status::Yes, "equal 0\n"),
+        (
+            &["hex0", "empty", "zero"],
+            Status::Differs,
+            "differs 0 0 1\n",
+        ),
+        (
+            &["hex0", "commented", "zero"],
+            Status::Differs,
+            "differs 0 2 1\n",
+        ),
+        (
+            &["hex0", "none", "pair"],
+            Status::FileRefused,
+            "file refused none absent\n",
+        ),
+        (&["hex0", "commented"], Status::Usage, "usage\n"),
+        (&["hex0", "comm\0ented", "pair"], Status::Usage, "usage\n"),
+        (&["hex1", "commented", "pair"], Status::Usage, "usage\n"),
+        (&[], Status::Usage, "usage\n"),
+    ];
+    for (words, status, text) in table {
+        let mut out = MemSink::new(alloc);
+        assert_eq!(rt; run(alloc, words, &mut shelf, &mut out), status);
+        assert_eq!(rt; out.written(), text.as_bytes());
+    }
+    Ok(())
+}
+
+#[test]
+fn faults_of_the_outside(rt: HostRuntime) -> Result<(), Fail> {
+    let alloc = rt.alloc();
+    let words = ["hex0", "commented", "pair"];
+    let mut shelf = worked_shelf(alloc)?;
+    shelf.fail_load(1)?;
+    shelf.fail_load(3)?;
+    let table: [(u64, Status, &str); 4] = [
+        (0, Status::ShelfFault, "shelf fault commented\n"),
+        (0, Status::ShelfFault, "shelf fault pair\n"),
+        (0, Status::Yes, "equal 2\n"),
+        (1, Status::OutFault, "equa"),
+    ];
+    for (failing_put, status, text) in table {
+        let mut out = MemSink::new(alloc);
+        out.fail_put(failing_put)?;
+        assert_eq!(rt; run(alloc, &words, &mut shelf, &mut out), status);
+        assert_eq!(rt; out.written(), text.as_bytes());
+    }
+    Ok(())
+}
