@@ -1,10 +1,9 @@
 -- The run of mapped pages that a row of pages is.
-use Rattle.std.proofs.Common.{◌≡◌, ◌≢◌, ℕ, ◌+◌, ◌-◌, ◌*◌, ◌/◌, ◌%◌, ◌^◌, ◌<◌, ◌≤◌, true, Option, None, Some, List, length, get_or, refl, sym, ap, ◌∙◌, arith}
+use Rattle.std.proofs.Common.{◌≡◌, ℕ, ◌+◌, ◌-◌, ◌*◌, ◌/◌, ◌%◌, ◌<◌, ◌≤◌, None, Some, List, length, get_or, ap, ◌∙◌, arith}
 use Rattle.std.specs.Option.{option_map}
 use Rattle.std.specs.FinMap.{get}
-use Rattle.paged_mem.specs.Memory.{Memory, maps}
 use Rattle.paged_mem.specs.Ram.{IsRun}
-use Rattle.paged_mem.specs.Flat.{memory_of, place, slot, IsSound, IsRank, IsRowAt, Spans}
+use Rattle.paged_mem.specs.Flat.{memory_of, place, slot, IsSound, IsRank, IsRowAt}
 use Rattle.paged_mem.specs.Held.{get-memory_of}
 use Rattle.paged_mem.proofs.Places.{place-at, place-none, place-rank, never_falls}
 use Rattle.paged_mem.proofs.Views.{maps-span}

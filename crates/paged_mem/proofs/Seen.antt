@@ -1,9 +1,9 @@
 -- What a `FlatRam` answers from what its slices show: `shown` and `held` are its pages and bytes as they were lent.
-use Rattle.std.proofs.Common.{◌≡◌, ℕ, ◌+◌, ◌*◌, ◌/◌, ◌%◌, ◌<◌, ◌≤◌, Bool, true, false, Option, None, Some, is_some, unwrap_or, List, ◌++◌, length, take, drop, refl, sym, ap, subst, ◌∙◌, arith, rules}
+use Rattle.std.proofs.Common.{◌≡◌, ℕ, Option, None, Some, is_some, unwrap_or, List, length, take, drop, sym, ap, subst, ◌∙◌, arith}
 use Rattle.std.specs.Option.{option_map}
 use Rattle.paged_mem.specs.Memory.{Memory, maps, bytes_at, reads, number_of, with_bytes}
-use Rattle.paged_mem.specs.Flat.{memory_of, place, IsSound, Spans, overwritten, number_at}
-use Rattle.paged_mem.proofs.Views.{maps-span, bytes_at-span, bytes_at-no_span, memory_of-overwritten, length-overwritten}
+use Rattle.paged_mem.specs.Flat.{memory_of, IsSound, Spans, overwritten, number_at}
+use Rattle.paged_mem.proofs.Views.{maps-span, bytes_at-span, bytes_at-no_span, memory_of-overwritten}
 use Rattle.paged_mem.proofs.Numbers.{number_of-take}
 
 module _ (pages bytes shown : List ℕ) (m : Memory) (sound : IsSound pages bytes) (same : shown ≡ pages) (is : memory_of pages bytes ≡ m) (at count : ℕ) where

@@ -43,21 +43,42 @@ fn check_numbers<R: Ram>(rt: &impl Abort, ram: &mut R) {
         assert_eq!(rt; ram.load(at, width), want, "a load at {at}");
     }
     let refused = ram.store(0x2ffd, Width::W4, 0xffff_ffff);
-    assert_eq!(rt; refused, Err(StoreRefusal::Unmapped), "its last byte alone is unmapped");
-    assert_eq!(rt; ram.load(0x2ffc, Width::W4), Some(0), "nothing was written in part");
+    assert_eq!(rt;
+        refused,
+        Err(StoreRefusal::Unmapped),
+        "its last byte alone is unmapped"
+    );
+    assert_eq!(rt;
+        ram.load(0x2ffc, Width::W4),
+        Some(0),
+        "nothing was written in part"
+    );
     assert!(rt; ram.store(0x1000, Width::W2, 0x12_3456).is_ok());
-    assert_eq!(rt; ram.load(0x1000, Width::W4), Some(0x3456), "the low bytes alone");
+    assert_eq!(rt;
+        ram.load(0x1000, Width::W4),
+        Some(0x3456),
+        "the low bytes alone"
+    );
 }
 
 fn check_bytes<R: Ram>(rt: &impl Abort, ram: &mut R) {
     assert!(rt; ram.write_from(0x2ffe, b"ab").is_ok());
-    assert_eq!(rt; ram.write_from(0x2ffe, b"xyz"), Err(StoreRefusal::Unmapped), "past the last page");
+    assert_eq!(rt;
+        ram.write_from(0x2ffe, b"xyz"),
+        Err(StoreRefusal::Unmapped),
+        "past the last page"
+    );
     let mut out = [1, 2, 3];
     assert!(rt; ram.read_into(0x2ffd, &mut out));
     assert!(rt; out == [0, b'a', b'b']);
     assert!(rt; !ram.read_into(0x2ffe, &mut out));
     assert!(rt; out == [0, b'a', b'b'], "as it was");
-    let areas = [(0x1000, 8192, true), (0x1000, 8193, false), (0x0fff, 1, false), (0xffff_ffff_ffff_ffff, 0, true)];
+    let areas = [
+        (0x1000, 8192, true),
+        (0x1000, 8193, false),
+        (0x0fff, 1, false),
+        (0xffff_ffff_ffff_ffff, 0, true),
+    ];
     for (at, count, want) in areas {
         assert_eq!(rt; ram.mapped(at, count), want, "{count} bytes from {at}");
     }

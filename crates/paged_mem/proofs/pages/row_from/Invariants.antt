@@ -1,5 +1,4 @@
 use Rattle.std.proofs.Common.{◌≡◌, ℕ, ◌+◌, ◌-◌, ◌<◌, ◌≤◌, length, get_or}
-use Rattle.paged_mem.specs.Flat.{IsRank}
 use Rattle.paged_mem.proofs.pages.row_from.Given as goal
 
 abbrev pub invariant-loop-count : goal.invariant-loop-count

@@ -1,4 +1,4 @@
-use Rattle.std.proofs.Common.{ap, ◌∙◌, refl}
+use Rattle.std.proofs.Common.{ap}
 use Rattle.paged_mem.specs.Flat.{memory_of}
 use Rattle.paged_mem.proofs.flat.FlatRamRam.empty.Goals as goal
 

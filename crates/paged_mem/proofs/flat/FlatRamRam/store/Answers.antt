@@ -1,4 +1,4 @@
-use Rattle.std.proofs.Common.{◌≡◌, ◌≤◌, ap, subst, sym, ◌∙◌, take, arith}
+use Rattle.std.proofs.Common.{◌≡◌, ap, subst, ◌∙◌, take, arith}
 use Rattle.paged_mem.specs.Memory.{bytes_of}
 use Rattle.paged_mem.specs.Ram.{count_of, Writes}
 use Rattle.paged_mem.proofs.Numbers.{take-to_le_bytes, count_of_at_most}

@@ -1,4 +1,4 @@
-use Rattle.std.proofs.Common.{refl, sym, ap, ◌∙◌, length, None, Some}
+use Rattle.std.proofs.Common.{refl, ap, length, None, Some}
 use Rattle.paged_mem.proofs.Seen.{maps_seen, written}
 use Rattle.paged_mem.proofs.flat.FlatRamRam.write_from.Goals as goal
 
