@@ -1,15 +1,14 @@
 -- The memory after pages in a row are put between others, or taken away from between them.
-use Rattle.std.proofs.Common.{◌≡◌, ◌≢◌, ℕ, zero, suc, ◌+◌, ◌-◌, ◌*◌, ◌/◌, ◌%◌, ◌^◌, ◌<◌, ◌≤◌, Option, None, Some, is_some, List, [], ◌∷◌, ◌++◌, length, get_or, take, drop, replicate, refl, sym, ap, ◌∙◌, subst, arith, rules, ◌⊎◌, inl, inr, length-append, length-take, length-drop}
+use Rattle.std.proofs.Common.{◌≡◌, ℕ, ◌+◌, ◌-◌, ◌*◌, ◌/◌, ◌%◌, ◌<◌, ◌≤◌, Option, None, Some, is_some, List, ◌++◌, length, get_or, replicate, refl, sym, ap, ◌∙◌, arith, ◌⊎◌, inl, inr, length-append}
 use Rattle.std.specs.Option.{option_map}
 use Rattle.std.specs.List.{range_with_len}
-use Rattle.std.specs.FinMap.{get, contains_key}
-use Rattle.std.proofs.lemmas.Bool.{cases_eq, cases_lt}
-use Rattle.std.proofs.lemmas.Option.{none-some, same_Some}
-use Rattle.std.proofs.lemmas.List.{places, get_or-replicate, length-replicate}
-use Rattle.std.proofs.lemmas.List.FromFn.{length-range_with_len, get_or-range_with_len}
-use Rattle.paged_mem.specs.Memory.{Memory, IsFree, with_bytes, without, zeros}
-use Rattle.paged_mem.specs.Flat.{memory_of, place, slot, Rises, IsLow, IsRank, IsSound}
-use Rattle.paged_mem.specs.Held.{place-some, get-memory_of, contains-memory_of, get-with_bytes, get-with_bytes_below, get-with_bytes_above}
+use Rattle.std.specs.FinMap.{get}
+use Rattle.std.proofs.lemmas.Bool.{cases_lt}
+use Rattle.std.proofs.lemmas.List.{get_or-replicate, length-replicate}
+use Rattle.std.proofs.lemmas.List.FromFn.{length-range_with_len}
+use Rattle.paged_mem.specs.Memory.{IsFree, with_bytes, without, zeros}
+use Rattle.paged_mem.specs.Flat.{memory_of, place, Rises}
+use Rattle.paged_mem.specs.Held.{get-memory_of, contains-memory_of, get-with_bytes, get-with_bytes_below, get-with_bytes_above}
 use Rattle.paged_mem.proofs.Maps.{same_memory, get-without, get-without_other}
 use Rattle.paged_mem.proofs.Places.{place-none}
 use Rattle.paged_mem.proofs.Rooms.{place-range, place-range_none, place-front, get_front, get_back, at_front, at_middle, at_back, at_end}
@@ -18,7 +17,7 @@ pub length-zeros : (count : ℕ) → length (zeros count) ≡ count
 unfolding zeros
 length-zeros count = length-replicate count 0
 
-get_or-zeros : (count i : ℕ) → i < count → get_or (zeros count) i 0 ≡ 0
+pub get_or-zeros : (count i : ℕ) → i < count → get_or (zeros count) i 0 ≡ 0
 unfolding zeros
 get_or-zeros count i below = get_or-replicate count i 0 0 below
 

@@ -1,17 +1,15 @@
 -- That pages stay sound, and what their memory is, when pages are mapped at their rank or taken away.
-use Rattle.std.proofs.Common.{◌≡◌, ◌≢◌, ℕ, zero, suc, ◌+◌, ◌-◌, ◌*◌, ◌/◌, ◌%◌, ◌^◌, ◌<◌, ◌≤◌, Bool, true, false, Option, None, Some, is_some, IsSome, add-zero, List, [], ◌∷◌, ◌++◌, length, get_or, take, drop, replicate, refl, sym, ap, ◌∙◌, subst, arith, rules, ◌⊎◌, inl, inr, length-append, length-take, length-drop}
+use Rattle.std.proofs.Common.{◌≡◌, ◌≢◌, ℕ, ◌+◌, ◌-◌, ◌*◌, ◌/◌, ◌%◌, ◌^◌, ◌<◌, ◌≤◌, true, Option, None, Some, is_some, IsSome, add-zero, List, ◌++◌, length, get_or, take, drop, replicate, refl, sym, ap, ◌∙◌, subst, arith, ◌⊎◌, inl, inr, length-append, length-take, length-drop}
 use Rattle.std.specs.List.{range_with_len}
-use Rattle.std.specs.FinMap.{get, contains_key}
 use Rattle.std.proofs.lemmas.Bool.{cases_eq, cases_lt, cases_order}
-use Rattle.std.proofs.lemmas.Option.{none-some, same_Some}
 use Rattle.std.proofs.lemmas.Grind.{same_number_lists}
-use Rattle.std.proofs.lemmas.List.{places, get_or-take, get_or-drop, take-append-drop, drop-drop, length-replicate, get_or_append_left, get_or-append-add, get_or-replicate, get_or_past}
+use Rattle.std.proofs.lemmas.List.{get_or-take, get_or-drop, take-append-drop, drop-drop, length-replicate, get_or_append_left, get_or-append-add, get_or-replicate, get_or_past}
 use Rattle.std.proofs.lemmas.List.FromFn.{length-range_with_len, get_or-range_with_len}
-use Rattle.paged_mem.specs.Memory.{Memory, IsFree, maps, bytes_at, with_bytes, without, zeros}
-use Rattle.paged_mem.specs.Flat.{memory_of, place, slot, Rises, IsLow, IsRank, IsSound}
+use Rattle.paged_mem.specs.Memory.{IsFree, maps, bytes_at, with_bytes, without, zeros}
+use Rattle.paged_mem.specs.Flat.{memory_of, place, Rises, IsLow, IsRank, IsSound}
 use Rattle.paged_mem.specs.Held.{place-some, contains-memory_of}
 use Rattle.paged_mem.proofs.Maps.{get_in_bytes_at}
-use Rattle.paged_mem.proofs.Places.{place-at, place-none, in_a_row}
+use Rattle.paged_mem.proofs.Places.{place-at, in_a_row}
 use Rattle.paged_mem.proofs.Rooms.{Rises-append, IsLow-append, Rises-range, IsLow-range, Part, part_of}
 use Rattle.paged_mem.proofs.Rooms.Part.{in_front, in_back}
 use Rattle.paged_mem.proofs.Mapped.{memory_of-mapped, memory_of-unmapped}

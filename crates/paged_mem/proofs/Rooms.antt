@@ -1,16 +1,14 @@
 -- Pages that are put between others, or taken away from between them.
-use Rattle.std.proofs.Common.{◌≡◌, ◌≢◌, ℕ, zero, suc, ◌+◌, ◌-◌, ◌*◌, ◌/◌, ◌%◌, ◌^◌, ◌<◌, ◌≤◌, Option, None, Some, is_some, List, [], ◌∷◌, ◌++◌, length, get_or, set, take, drop, replicate, refl, sym, ap, ◌∙◌, subst, arith, rules, ◌⊎◌, inl, inr, append_assoc, length-append, length-take, length-drop}
+use Rattle.std.proofs.Common.{◌≡◌, ℕ, zero, suc, ◌+◌, ◌-◌, ◌*◌, ◌/◌, ◌%◌, ◌^◌, ◌<◌, ◌≤◌, Option, None, Some, List, [], ◌∷◌, ◌++◌, length, get_or, set, take, drop, replicate, refl, sym, ap, ◌∙◌, arith, ◌⊎◌, inl, inr, append_assoc, length-append, length-take}
 use Rattle.std.specs.Option.{option_map}
 use Rattle.std.specs.List.{range_with_len}
-use Rattle.std.specs.FinMap.{get, contains_key}
+use Rattle.std.specs.FinMap.{get}
 use Rattle.std.proofs.lemmas.Bool.{cases_eq, cases_lt}
-use Rattle.std.proofs.lemmas.Option.{none-some, same_Some}
-use Rattle.std.proofs.lemmas.List.{places, set_at, get_or_append_left, get_or-append-add, get_or-replicate, length-replicate, take-append-drop, take_at, drop_at}
+use Rattle.std.proofs.lemmas.Option.{none-some}
+use Rattle.std.proofs.lemmas.List.{set_at, get_or_append_left, get_or-append-add, take-append-drop, take_at, drop_at}
 use Rattle.std.proofs.lemmas.List.FromFn.{length-range_with_len, get_or-range_with_len}
-use Rattle.paged_mem.specs.Memory.{Memory, IsFree, bytes_at, with_bytes, without, zeros}
-use Rattle.paged_mem.specs.Flat.{memory_of, place, slot, Rises, IsLow, IsRank, IsSound}
-use Rattle.paged_mem.specs.Held.{place_here, place_later, place-some, get-memory_of, contains-memory_of, get-with_bytes, get-with_bytes_below, get-with_bytes_above}
-use Rattle.paged_mem.proofs.Maps.{same_memory, get-without, get-without_other}
+use Rattle.paged_mem.specs.Flat.{memory_of, place, Rises, IsLow}
+use Rattle.paged_mem.specs.Held.{place_here, place_later, place-some, get-memory_of}
 use Rattle.paged_mem.proofs.Places.{place-at, place-none}
 
 -- ---- numbers in a row

@@ -1,12 +1,12 @@
 -- The memory of sound pages: that it is whole, what a span reads, and what writing over a span changes.
-use Rattle.std.proofs.Common.{◌≡◌, ◌≢◌, ℕ, zero, suc, ◌+◌, ◌-◌, ◌*◌, ◌/◌, ◌%◌, ◌^◌, ◌<◌, ◌≤◌, Bool, true, false, Option, None, Some, IsSome, is_some, subst, List, [], ◌∷◌, ◌++◌, length, get_or, take, drop, refl, sym, ap, ◌∙◌, arith, rules, ◌⊎◌, inl, inr, length-drop, length-append, length-take}
+use Rattle.std.proofs.Common.{◌≡◌, ℕ, ◌+◌, ◌-◌, ◌*◌, ◌/◌, ◌%◌, ◌<◌, ◌≤◌, Option, None, Some, is_some, List, length, get_or, take, drop, refl, sym, ap, ◌∙◌, arith, rules, ◌⊎◌, inl, inr, length-drop, length-take}
 use Rattle.std.specs.Option.{option_map}
-use Rattle.std.specs.FinMap.{get, contains_key}
-use Rattle.std.proofs.lemmas.Bool.{cases_eq, cases_lt}
+use Rattle.std.specs.FinMap.{get}
+use Rattle.std.proofs.lemmas.Bool.{cases_lt}
 use Rattle.std.proofs.lemmas.Option.{none-some, same_Some}
 use Rattle.std.proofs.lemmas.List.{get_or-take, get_or-drop, places}
-use Rattle.paged_mem.specs.Memory.{Memory, IsWhole, bytes_at, maps, with_bytes}
-use Rattle.paged_mem.specs.Flat.{memory_of, place, slot, Rises, IsLow, IsSound, Spans, overwritten}
+use Rattle.paged_mem.specs.Memory.{bytes_at, maps, with_bytes}
+use Rattle.paged_mem.specs.Flat.{memory_of, place, slot, Spans, overwritten}
 use Rattle.paged_mem.proofs.Maps.{same_memory, bytes_at-found, bytes_at-none}
 use Rattle.paged_mem.specs.Held.{place-some, get-memory_of, get-with_bytes, get-with_bytes_below, get-with_bytes_above}
 

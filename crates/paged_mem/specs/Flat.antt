@@ -1,5 +1,5 @@
 -- How a `FlatRam` keeps its memory: page numbers that rise, and the bytes of all those pages, in that order, in one list.
-use Rattle.std.specs.Prelude.{◌≡◌, ℕ, zero, suc, ◌+◌, ◌*◌, ◌/◌, ◌%◌, ◌^◌, ◌<◌, ◌≤◌, Option, None, Some, if◌then◌else◌, ◌==◌, List, [], ◌∷◌, ◌++◌, length, take, drop, slice_index}
+use Rattle.std.specs.Prelude.{◌≡◌, ◌≢◌, ℕ, zero, suc, ◌+◌, ◌*◌, ◌/◌, ◌%◌, ◌^◌, ◌<◌, ◌≤◌, Option, None, Some, if◌then◌else◌, ◌==◌, List, [], ◌∷◌, ◌++◌, length, take, drop, slice_index}
 use Rattle.std.specs.Option.{option_map}
 use Rattle.std.specs.FinMap.{empty}
 use Rattle.paged_mem.specs.Memory.{Memory, with_bytes}
@@ -38,6 +38,18 @@ pub record IsRank (pages : List ℕ) (number rank : ℕ) : Type 0 where
   pub within : rank ≤ length pages
   pub below : (k : ℕ) → k < rank → slice_index pages k < number
   pub above : (k : ℕ) → rank ≤ k → k < length pages → number ≤ slice_index pages k
+
+-- the first page with a number or a later one, at its place, and so many pages in a row from it on
+pub record IsRowAt (pages : List ℕ) (number start first count : ℕ) : Type 0 where
+  pub rank : IsRank pages number start
+  pub some : 1 ≤ count
+  pub within : start + count ≤ length pages
+  pub row : (k : ℕ) → k < count → slice_index pages (start + k) ≡ first + k
+  pub ends : start + count < length pages → slice_index pages (start + count) ≢ first + count
+
+abbrev pub IsRow : List ℕ → ℕ → Option (ℕ × ℕ) → Type 0
+IsRow pages number None = IsRank pages number (length pages)
+IsRow pages number (Some row) = (start : ℕ) × IsRowAt pages number start row.0 row.1
 
 -- the bytes of count addresses in a row stand in a row, or one of those addresses is on none of the pages
 abbrev pub Spans : List ℕ → ℕ → ℕ → Option ℕ → Type 0

@@ -3,9 +3,15 @@
 //! Rules and their public sources: docs/reference/memory.md.
 #![tactic(auto)]
 
+mod flat;
 mod gaps;
+pub mod laws;
 mod mapping;
 mod pages;
 mod ram;
 
+pub use flat::FlatRam;
 pub use ram::{PageView, Ram, StoreRefusal, Width};
+
+#[cfg(test)]
+mod tests;

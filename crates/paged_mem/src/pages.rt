@@ -1,5 +1,7 @@
-ghost use Rattle.std.specs.Prelude.{◌≡◌, ℕ, ◌+◌, ◌*◌, ◌^◌, ◌<◌, ◌≤◌, length};
-ghost use Rattle.paged_mem.specs.Flat.{Rises, IsLow, IsRank, Spans, place, number_at, overwritten};
+ghost use Rattle.std.specs.Prelude.{◌≡◌, ℕ, ◌+◌, ◌*◌, ◌^◌, ◌<◌, ◌≤◌, length, take, drop};
+ghost use Rattle.std.specs.Vec.{vec_len};
+ghost use Rattle.paged_mem.specs.Flat.{Rises, IsLow, IsRank, IsRow, Spans, place, number_at, overwritten};
+ghost use Rattle.paged_mem.specs.Ram.{count_of};
 
 use crate::ram::Width;
 
@@ -58,11 +60,19 @@ pub fn span(pages: &[u64], at: u64, count: u64) -> Option<usize>
 }
 
 /// Writes `source` in place of as many bytes from an index on.
-pub fn put(bytes: &mut [u8], start: usize, source: &[u8])
-    requires { start + length source.now ≤ length bytes.old }
-    ensures { bytes.new ≡ overwritten bytes.old start source.now }
+pub fn put(bytes: &mut Vec<u8>, start: usize, source: &[u8])
+    requires { start + length source.now ≤ vec_len bytes.old }
+    ensures { bytes.new.items ≡ overwritten bytes.old.items start source.now }
 {
     bytes[start..start + source.len()].copy_from_slice(source);
+}
+
+/// Fills `out` with the bytes from an index on.
+pub fn fill(out: &mut [u8], bytes: &[u8], start: usize)
+    requires { start + length out.old ≤ length bytes.now }
+    ensures { out.new ≡ take (length out.old) (drop start bytes.now) }
+{
+    out.copy_from_slice(&bytes[start..start + out.len()]);
 }
 
 fn two_at(bytes: &[u8], start: usize) -> u64
@@ -86,4 +96,36 @@ fn eight_at(bytes: &[u8], start: usize) -> u64
     ensures { result ≡ number_at bytes.now start 8 }
 {
     four_at(bytes, start) + 0x1_0000_0000 * four_at(bytes, start + 4)
+}
+
+/// The little-endian number of an access that begins at an index.
+pub fn number(bytes: &[u8], start: usize, width: Width) -> u64
+    requires { start + count_of width ≤ length bytes.now }
+    ensures value { result ≡ number_at bytes.now start (count_of width) }
+    ensures fits { result < 2 ^ (8 * count_of width) }
+{
+    match width {
+        Width::W1 => bytes[start] as u64,
+        Width::W2 => two_at(bytes, start),
+        Width::W4 => four_at(bytes, start),
+        Width::W8 => eight_at(bytes, start),
+    }
+}
+
+/// The first page with this number or a later one, and how many pages there are in a row from it on.
+pub fn row_from(pages: &[u64], number: u64) -> Option<(u64, u64)>
+    requires rising { Rises pages.now }
+    requires low { IsLow pages.now }
+    ensures { IsRow pages.now number result }
+{
+    let start = rank(pages, number);
+    if start == pages.len() {
+        return None;
+    }
+    let first = pages[start];
+    let mut count = 1;
+    while count < pages.len() - start && pages[start + count] == first + count as u64 {
+        count += 1;
+    }
+    Some((first, count as u64))
 }

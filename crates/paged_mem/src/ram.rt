@@ -15,6 +15,20 @@ pub enum Width {
     W8,
 }
 
+impl Width {
+    /// How many bytes such an access has.
+    pub fn count(self) -> u64
+        ensures { result ≡ count_of self }
+    {
+        match self {
+            Width::W1 => 1,
+            Width::W2 => 2,
+            Width::W4 => 4,
+            Width::W8 => 8,
+        }
+    }
+}
+
 /// Why a write was refused. `Unmapped` comes before want of memory.
 #[derive(Clone, Copy, Debug, PartialEq, Eq)]
 pub enum StoreRefusal {

@@ -1,4 +1,4 @@
-use Rattle.std.proofs.Common.{◌≤◌, ◌+◌, length, arith}
+use Rattle.std.proofs.Common.{arith}
 use Rattle.paged_mem.proofs.Moves.{within_before_unmap, sound_after_unmap, memory_after_unmap}
 use Rattle.paged_mem.proofs.mapping.unmap_pages.Goals as goal
 

@@ -1,5 +1,4 @@
-use Rattle.std.proofs.Common.{◌≡◌, ℕ, ◌<◌, ◌*◌, ◌-◌, ◌+◌, ◌/◌, ◌^◌, Some, sym, ap, ◌∙◌, arith}
-use Rattle.paged_mem.specs.Flat.{place, slot}
+use Rattle.std.proofs.Common.{◌<◌, ◌-◌, ◌+◌, ◌/◌, ◌^◌, sym, arith}
 use Rattle.paged_mem.specs.Held.{place-some}
 use Rattle.paged_mem.proofs.Spans.{slot_past, span_found, span_ends}
 use Rattle.paged_mem.proofs.pages.span.Goals as goal
