@@ -10,6 +10,8 @@ mod arithmetic;
 mod effect;
 mod hart;
 pub mod laws;
+#[cfg(test)]
+mod tests;
 
 pub use answer::{Cause, StepEnd};
 pub use hart::Hart;
