@@ -35,12 +35,16 @@ reads-writes m at count value =
     ∙ ap (option_map number_of) (bytes_at-with_bytes m at (bytes_of count value))
     ∙ ap Some (number_of-bytes_of count value)
 
-pub maps-past : (m : Memory) → IsWhole m → (at count : ℕ) → 0 < count → 2 ^ 64 < at + count → maps m at count ≡ false
-maps-past m whole at count some past = ap is_some (bytes_at-none m at count (at + (count - 1)) (omega arith) (omega arith) (gone (get m (at + (count - 1))) refl))
+pub get-past : (m : Memory) → IsWhole m → (at : ℕ) → 2 ^ 38 ≤ at → get m at ≡ None
+get-past m whole at past = gone (get m at) refl
   where
-    gone : (o : Option ℕ) → get m (at + (count - 1)) ≡ o → o ≡ None
+    gone : (o : Option ℕ) → get m at ≡ o → o ≡ None
     gone None was = refl
-    gone (Some byte) was = absurd (omega (arith, whole.low (at + (count - 1)) byte was))
+    gone (Some byte) was = absurd (omega (arith, whole.low at byte was))
+
+pub maps-past : (m : Memory) → IsWhole m → (at count : ℕ) → 0 < count → 2 ^ 64 < at + count → maps m at count ≡ false
+maps-past m whole at count some past =
+    ap is_some (bytes_at-none m at count (at + (count - 1)) (omega arith) (omega arith) (get-past m whole (at + (count - 1)) (omega arith)))
 
 pub maps-zeros : (m : Memory) (first count : ℕ) → maps (with_bytes m first (zeros count)) first count ≡ true
 maps-zeros m first count =
