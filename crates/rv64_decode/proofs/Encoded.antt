@@ -56,7 +56,7 @@ reads R want d a b z w g e =
       rd = omega arith;
       rs1 = omega arith;
       rs2 = omega arith;
-      imm = ap pos number ∙ unsigned-code 0 z (omega arith) g.imm
+      imm = ap pos number ∙ unsigned-code 0 z (omega arith) g.imm;
     }
 reads I want d a b z w g e =
     let wants = g.wants refl in
@@ -69,7 +69,7 @@ reads I want d a b z w g e =
       rd = omega arith;
       rs1 = omega arith;
       rs2 = omega arith;
-      imm = ap (signed 12) number ∙ signed-code 12 z (omega arith) (omega arith) g.imm
+      imm = ap (signed 12) number ∙ signed-code 12 z (omega arith) (omega arith) g.imm;
     }
 reads H want d a b z w g e =
     let wants = g.wants refl in
@@ -83,7 +83,7 @@ reads H want d a b z w g e =
       rd = omega arith;
       rs1 = omega arith;
       rs2 = omega arith;
-      imm = ap pos number ∙ unsigned-code 6 z (omega arith) g.imm
+      imm = ap pos number ∙ unsigned-code 6 z (omega arith) g.imm;
     }
 reads K want d a b z w g e =
     let wants = g.wants refl in
@@ -95,7 +95,7 @@ reads K want d a b z w g e =
       rd = omega arith;
       rs1 = omega arith;
       rs2 = omega arith;
-      imm = ap pos number ∙ unsigned-code 5 z (omega arith) g.imm
+      imm = ap pos number ∙ unsigned-code 5 z (omega arith) g.imm;
     }
 reads S want d a b z w g e =
     let wants = g.wants refl in
@@ -108,7 +108,7 @@ reads S want d a b z w g e =
       rd = omega arith;
       rs1 = omega arith;
       rs2 = omega arith;
-      imm = ap (signed 12) number ∙ signed-code 12 z (omega arith) (omega arith) g.imm
+      imm = ap (signed 12) number ∙ signed-code 12 z (omega arith) (omega arith) g.imm;
     }
 reads B want d a b z w g e =
     let wants = g.wants refl in
@@ -123,7 +123,7 @@ reads B want d a b z w g e =
       rd = omega arith;
       rs1 = omega arith;
       rs2 = omega arith;
-      imm = ap (signed 13) number ∙ signed-code 13 z (omega arith) (omega arith) range.0
+      imm = ap (signed 13) number ∙ signed-code 13 z (omega arith) (omega arith) range.0;
     }
 reads U want d a b z w g e =
     let wants = g.wants refl in
@@ -139,7 +139,7 @@ reads U want d a b z w g e =
       rd = omega arith;
       rs1 = omega arith;
       rs2 = omega arith;
-      imm = ap (signed 32) number ∙ signed-code 32 z (omega arith) (omega arith) range.0
+      imm = ap (signed 32) number ∙ signed-code 32 z (omega arith) (omega arith) range.0;
     }
 reads J want d a b z w g e =
     let wants = g.wants refl in
@@ -155,7 +155,7 @@ reads J want d a b z w g e =
       rd = omega arith;
       rs1 = omega arith;
       rs2 = omega arith;
-      imm = ap (signed 21) number ∙ signed-code 21 z (omega arith) (omega arith) range.0
+      imm = ap (signed 21) number ∙ signed-code 21 z (omega arith) (omega arith) range.0;
     }
 reads E want d a b z w g e =
     let number : 0 ≡ low z % 2 ^ 0 = omega arith in
@@ -166,5 +166,5 @@ reads E want d a b z w g e =
       rd = omega arith;
       rs1 = omega arith;
       rs2 = omega arith;
-      imm = ap pos number ∙ unsigned-code 0 z (omega arith) g.imm
+      imm = ap pos number ∙ unsigned-code 0 z (omega arith) g.imm;
     }

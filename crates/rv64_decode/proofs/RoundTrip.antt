@@ -1,18 +1,21 @@
 -- An instruction that lies in its form has one word, and a word's instruction lies in its form.
-use Rattle.std.proofs.Common.{◌≡◌, ℕ, ◌+◌, ◌*◌, ◌%◌, ◌^◌, ◌<◌, Bool, true, false, ◌&&◌, cond, Option, Some, None, refl, sym, ap, ◌∙◌, arith}
+use Rattle.std.proofs.Common.{◌≡◌, ℕ, ◌+◌, ◌*◌, ◌%◌, ◌^◌, ◌<◌, Bool, true, false, ◌&&◌, cond, Option, Some, None, refl, sym, ap, ◌∙◌, arith, slice_index_or}
 use Rattle.std.specs.Prelude.{◌==◌, nat_lt, bit_and, option_map, if◌then◌else◌}
 use Rattle.std.specs.Option.{option_map_or}
 use Rattle.std.proofs.lemmas.Bool.{and_parts, and_from, ltb-true, lt-ltb}
 use Rattle.rv64_table.specs.declared.Row.{Row}
+use Rattle.rv64_table.specs.declared.Op.TheVariants.{Lui}
 use Rattle.rv64_table.specs.declared.Form.{Form}
 use Rattle.rv64_table.specs.declared.Form.TheVariants.{R, I, H, K, S, B, U, J, E}
-use Rattle.rv64_table.specs.Table.{mask_of, fits, row_for, row_with, number, table}
+use Rattle.rv64_table.specs.Table.{mask_of, row, fits, row_for, row_with, number, table}
 use Rattle.rv64_table.proofs.Apart.{row_for-fits}
+use Rattle.rv64_table.proofs.OpRows.{row_with-at, op-at}
 use Rattle.rv64_table.proofs.Places.{find-listed, regular-at, row_with-row_for}
 use Rattle.rv64_decode.specs.declared.Inst.{Inst}
 use Rattle.rv64_decode.specs.Fields.{bits, signed, immediate, has_rd, has_rs1, has_rs2}
 use Rattle.rv64_decode.specs.Decode.{instruction, decoded}
 use Rattle.rv64_decode.specs.Encode.{placed, joined, has_immediate, fits_form, is_encodable}
+use Rattle.rv64_decode.specs.Laws.{IsWordOf, HasOneWord, HasWordInForm}
 use Rattle.rv64_decode.proofs.Signed.{signed-range, unsigned-range, signed-multiple}
 use Rattle.rv64_decode.proofs.Encoded.{Given, Reads, reads, low}
 use Rattle.rv64_decode.proofs.OneWord.{Alike, one-word}
@@ -83,21 +86,16 @@ given i r e h =
       rd = ltb-true _ _ rd.0;
       rs1 = ltb-true _ _ rs1.0;
       rs2 = ltb-true _ _ rs2.0;
-      imm = rs2.1
+      imm = rs2.1;
     }
 
 same-fields : (i : Inst) (r : Row) (w : ℕ) → r.op ≡ i.op → (if has_rd r.form then bits w 11 7 else 0) ≡ i.rd → (if has_rs1 r.form then bits w 19 15 else 0) ≡ i.rs1
     → (if has_rs2 r.form then bits w 24 20 else 0) ≡ i.rs2 → immediate r.form w ≡ i.imm → instruction r w ≡ i
 same-fields i r w op rd rs1 rs2 imm = rw (op, rd, rs1, rs2, imm) refl
 
--- a word is the instruction's
-pub record IsWord (i : Inst) (w : ℕ) : Type 0 where
-  pub below : w < 2 ^ 32
-  pub decodes : decoded w ≡ Some i
-
 -- as the sum of the row's wanted bits and the fields at their places is
 pub joined-word : (i : Inst) (r : Row) (n : ℕ) → row_with i.op ≡ Some r → r.op ≡ i.op → is_encodable i ≡ true
-    → n ≡ placed r.form (low i.imm) → IsWord i (joined r.want i n)
+    → n ≡ placed r.form (low i.imm) → IsWordOf i (joined r.want i n)
 joined-word i r n e op h immediate =
     let w : ℕ = joined r.want i n in
     let reading = reads r.form r.want i.rd i.rs1 i.rs2 i.imm w (given i r e h) (ap (joined r.want i) immediate) in
@@ -115,22 +113,35 @@ row-fits w r e =
     rw (← regular.mask) listed.passes
 
 -- the only one
-pub one-decoded : (i : Inst) (v w : ℕ) → v < 2 ^ 32 → w < 2 ^ 32 → decoded v ≡ Some i → decoded w ≡ Some i → v ≡ w
-one-decoded i v w bv bw ev ew =
-    let fv = found v i ev in
-    let fw = found w i ew in
+pub one-word-of : HasOneWord
+one-word-of i v w own other =
+    let fv = found v i own.decodes in
+    let fw = found w i other.decodes in
     let ops : fv.row.op ≡ fw.row.op = ap (λ j. j.op) (fv.is ∙ sym fw.is) in
     let some : Some fv.row ≡ Some fw.row = sym (row_with-row_for v fv.row fv.at) ∙ ap row_with ops ∙ row_with-row_for w fw.row fw.at in
     let rows : fv.row ≡ fw.row = cc in
     let at : row_for w ≡ Some fv.row = fw.at ∙ ap Some (sym rows) in
     let same : instruction fv.row v ≡ instruction fv.row w = fv.is ∙ sym (ap (λ r. instruction r w) rows ∙ fw.is) in
     one-word fv.row.form fv.row.want v w (record {
-      below_v = bv;
-      below_w = bw;
+      below_v = own.below;
+      below_w = other.below;
       fits_v = row-fits v fv.row fv.at;
       fits_w = row-fits w fv.row at;
       rd = ap (λ j. j.rd) same;
       rs1 = ap (λ j. j.rs1) same;
       rs2 = ap (λ j. j.rs2) same;
-      imm = ap (λ j. j.imm) same
+      imm = ap (λ j. j.imm) same;
     })
+
+-- the row of an instruction's operation, which stands at the operation's number
+abbrev row_at : Inst → Row
+row_at i = slice_index_or table (number i.op) (row U 0x37 0 0 Lui)
+
+abbrev word_at : Inst → ℕ
+word_at i = joined (row_at i).want i (placed (row_at i).form (low i.imm))
+
+row_at-word : (i : Inst) → is_encodable i ≡ true → IsWordOf i (word_at i)
+row_at-word i h = joined-word i (row_at i) (placed (row_at i).form (low i.imm)) (row_with-at i.op _) (op-at i.op _) h refl
+
+pub word-in-form : HasWordInForm
+word-in-form i = ((λ own. decoded-encodable own.0 i ((own.1).decodes)), (λ h. (word_at i, row_at-word i h)))

@@ -29,7 +29,7 @@ powers k p b =
     record {
       whole = ap (λ j. 2 ^ j) up ∙ pow-suc 2 (k - 1) ∙ omega arith;
       all = sym (pow-add 2 (32 - k) k) ∙ ap (λ j. 2 ^ j) full;
-      most = pow-le-pow_right {n = 2} (omega arith) {i = k} {j = 32} b
+      most = pow-le-pow_right {n = 2} (omega arith) {i = k} {j = 32} b;
     }
 
 -- the low bits of a number of k bits: of m, and of -(m + 1)
@@ -85,13 +85,13 @@ pub signed-same : (k x y : ℕ) → x < 2 ^ k → y < 2 ^ k → signed k x ≡ s
 signed-same k x y hx hy e =
     ⊎_elim
     (λ lx. ⊎_elim
-      (λ ly. let same : pos x ≡ pos y = sym (signed-low k x lx) ∙ e ∙ signed-low k y ly in cc)
-      (λ gy. let same : pos x ≡ pos y -ℤ pos (2 ^ k) = sym (signed-low k x lx) ∙ e ∙ signed-high k y gy in absurd (omega (arith, ints)))
-      (cases_lt y (2 ^ (k - 1))))
+    (λ ly. let same : pos x ≡ pos y = sym (signed-low k x lx) ∙ e ∙ signed-low k y ly in cc)
+    (λ gy. let same : pos x ≡ pos y -ℤ pos (2 ^ k) = sym (signed-low k x lx) ∙ e ∙ signed-high k y gy in absurd (omega (arith, ints)))
+    (cases_lt y (2 ^ (k - 1))))
     (λ gx. ⊎_elim
-      (λ ly. let same : pos x -ℤ pos (2 ^ k) ≡ pos y = sym (signed-high k x gx) ∙ e ∙ signed-low k y ly in absurd (omega (arith, ints)))
-      (λ gy. let same : pos x -ℤ pos (2 ^ k) ≡ pos y -ℤ pos (2 ^ k) = sym (signed-high k x gx) ∙ e ∙ signed-high k y gy in omega (arith, ints))
-      (cases_lt y (2 ^ (k - 1))))
+    (λ ly. let same : pos x -ℤ pos (2 ^ k) ≡ pos y = sym (signed-high k x gx) ∙ e ∙ signed-low k y ly in absurd (omega (arith, ints)))
+    (λ gy. let same : pos x -ℤ pos (2 ^ k) ≡ pos y -ℤ pos (2 ^ k) = sym (signed-high k x gx) ∙ e ∙ signed-high k y gy in omega (arith, ints))
+    (cases_lt y (2 ^ (k - 1))))
     (cases_lt x (2 ^ (k - 1)))
 
 -- what the bits stand for is a number of that width
@@ -122,11 +122,11 @@ signed-multiple k j x b h e =
     ⊎_elim
     (λ low. rw (signed-low k x low) (eq-eqb _ _ e))
     (λ high.
-      let split : k - j + j ≡ k = omega arith in
-      let whole : 2 ^ k ≡ 2 ^ (k - j) * 2 ^ j = ap (λ i. 2 ^ i) (sym split) ∙ pow-add 2 (k - j) j in
-      let parts = div-add-mod' x (2 ^ j) in
-      let rest : suc (2 ^ k - suc x) ≡ 2 ^ j * 2 ^ (k - j) - 2 ^ j * (x / 2 ^ j) = omega (arith, h, whole, parts, e) in
-      let abs : unsigned_abs (negsuc (2 ^ k - suc x)) % 2 ^ j ≡ 0 =
-        rw (rest, ← mul-sub (2 ^ j) (2 ^ (k - j)) (x / 2 ^ j)) (mul-mod_right (2 ^ j) (2 ^ (k - j) - x / 2 ^ j)) in
-      rw (signed-high k x high, negative k x h) (eq-eqb _ _ abs))
+    let split : k - j + j ≡ k = omega arith in
+    let whole : 2 ^ k ≡ 2 ^ (k - j) * 2 ^ j = ap (λ i. 2 ^ i) (sym split) ∙ pow-add 2 (k - j) j in
+    let parts = div-add-mod' x (2 ^ j) in
+    let rest : suc (2 ^ k - suc x) ≡ 2 ^ j * 2 ^ (k - j) - 2 ^ j * (x / 2 ^ j) = omega (arith, h, whole, parts, e) in
+    let abs : unsigned_abs (negsuc (2 ^ k - suc x)) % 2 ^ j ≡ 0 =
+    rw (rest, ← mul-sub (2 ^ j) (2 ^ (k - j)) (x / 2 ^ j)) (mul-mod_right (2 ^ j) (2 ^ (k - j) - x / 2 ^ j)) in
+    rw (signed-high k x high, negative k x h) (eq-eqb _ _ abs))
     (cases_lt x (2 ^ (k - 1)))

@@ -5,13 +5,14 @@
 #![tactic(auto)]
 
 mod field;
+pub mod laws;
 mod reading;
 mod writing;
 
-pub use reading::decode;
-pub use writing::encode;
 use field::{has_rd, has_rs1, has_rs2};
+pub use reading::decode;
 use rv64_table::Op;
+pub use writing::encode;
 use writing::{fits_register, has_immediate};
 
 /// An instruction: its operation and its fields. A field that the operation's form lacks is 0.
