@@ -1,5 +1,5 @@
 -- The places of rows in the table.
-use Rattle.std.proofs.Common.{◌≡◌, ℕ, ◌+◌, ◌/◌, ◌%◌, ◌^◌, ◌<◌, zero, suc, Bool, true, false, ◌&&◌, ◌||◌, not, cond, List, [], ◌∷◌, Some, refl, sym, ap, ◌∙◌, arith, ⊎_elim, slice_index_or}
+use Rattle.std.proofs.Common.{◌≡◌, ℕ, ◌+◌, ◌/◌, ◌%◌, ◌^◌, ◌<◌, zero, suc, Bool, true, ◌&&◌, ◌||◌, not, List, [], ◌∷◌, Some, refl, ap, ◌∙◌, arith, ⊎_elim, slice_index_or}
 use Rattle.std.specs.Prelude.{◌==◌, nat_lt, Option, None, find, slice_get, option_map}
 use Rattle.std.specs.List.{list_all}
 use Rattle.std.proofs.lemmas.Bool.{and_parts, eqb-true, ltb-true, cases_Bool}
