@@ -1,4 +1,5 @@
 pub mod Decoding
+pub mod Hex
 pub mod OneWord
 pub mod RoundTrip
 pub mod Signed

@@ -7,11 +7,13 @@
 mod field;
 pub mod laws;
 mod reading;
+mod text;
 mod writing;
 
 use field::{has_rd, has_rs1, has_rs2};
 pub use reading::decode;
 use rv64_table::Op;
+pub use text::{InstText, print};
 pub use writing::encode;
 use writing::{fits_register, has_immediate};
 
