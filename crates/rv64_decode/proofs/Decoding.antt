@@ -2,7 +2,9 @@
 use Rattle.std.proofs.Common.{◌≡◌, ℕ, Option, Some, None, refl, ap}
 use Rattle.std.specs.Prelude.{option_map}
 use Rattle.rv64_table.specs.declared.Row.{Row}
-use Rattle.rv64_table.specs.Table.{row_for}
+use Rattle.rv64_table.specs.Table.{row_for, row_with}
+use Rattle.rv64_decode.specs.declared.Inst.{Inst}
+use Rattle.rv64_decode.specs.Text.{text, form_text}
 use Rattle.rv64_decode.specs.Decode.{instruction, decoded}
 
 missing : (w : ℕ) (found : Option Row) → option_map (λ r. r.op) found ≡ None → option_map (λ r. instruction r w) found ≡ None
@@ -18,3 +20,8 @@ decoded-none w e = missing w (row_for w) e
 pub decoded-row : (w : ℕ) (r : Row) → row_for w ≡ Some r → decoded w ≡ Some (instruction r w)
 unfolding decoded
 decoded-row w r e = rw e refl
+
+-- the text of an instruction whose operation has this row
+pub text-row : (i : Inst) (pc : ℕ) (r : Row) → row_with i.op ≡ Some r → text i pc ≡ form_text r.form i pc
+unfolding text
+text-row i pc r e = rw e refl

@@ -1,7 +1,8 @@
 //! The instruction of a word.
 
-ghost use Rattle.std.specs.Prelude.{◌≡◌, ◌<◌, ◌≤ℤ◌, ◌<ℤ◌, IfSome};
+ghost use Rattle.std.specs.Prelude.{◌≡◌, ◌<◌, IfSome, IsTrue};
 ghost use Rattle.rv64_decode.specs.Decode.{decoded};
+ghost use Rattle.rv64_decode.specs.Encode.{is_encodable};
 
 use crate::Inst;
 use crate::field::{has_rd, has_rs1, has_rs2, immediate, register};
@@ -13,6 +14,7 @@ pub fn decode(word: u32) -> Option<Inst>
     ensures rd { IfSome result (λ inst. inst.rd < 32) }
     ensures rs1 { IfSome result (λ inst. inst.rs1 < 32) }
     ensures rs2 { IfSome result (λ inst. inst.rs2 < 32) }
+    ensures encodable { IfSome result (λ inst. IsTrue (is_encodable inst)) }
 {
     let op = row_of(word)?;
     let form = op.row().form;

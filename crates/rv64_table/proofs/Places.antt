@@ -1,11 +1,13 @@
 -- The places of rows in the table.
-use Rattle.std.proofs.Common.{◌≡◌, ℕ, ◌+◌, zero, suc, Bool, true, false, ◌&&◌, cond, List, [], ◌∷◌, Some, refl, sym, ap, ◌∙◌, arith, ⊎_elim, slice_index_or}
-use Rattle.std.specs.Prelude.{◌==◌, Option, None, find, slice_get, option_map}
+use Rattle.std.proofs.Common.{◌≡◌, ℕ, ◌+◌, ◌/◌, ◌%◌, ◌^◌, ◌<◌, zero, suc, Bool, true, ◌&&◌, ◌||◌, not, List, [], ◌∷◌, Some, refl, ap, ◌∙◌, arith, ⊎_elim, slice_index_or}
+use Rattle.std.specs.Prelude.{◌==◌, nat_lt, Option, None, find, slice_get, option_map}
 use Rattle.std.specs.List.{list_all}
-use Rattle.std.proofs.lemmas.Bool.{and_parts, eqb-true, cases_Bool}
+use Rattle.std.proofs.lemmas.Bool.{and_parts, eqb-true, ltb-true, cases_Bool}
 use Rattle.rv64_table.specs.declared.Row.{Row}
+use Rattle.rv64_table.specs.declared.Form.{Form}
 use Rattle.rv64_table.specs.declared.Op.{Op}
-use Rattle.rv64_table.specs.Table.{fits, row_for, table, row_with, number}
+use Rattle.rv64_table.specs.Table.{mask_of, fits, row_for, table, row_with, number}
+use Rattle.rv64_table.specs.Lookup.{has_fields, fits_funct3, fits_funct7, fits_fields}
 use Rattle.rv64_table.proofs.OpRows.{row_with-at}
 
 -- a test that all pass holds of the one at a place
@@ -69,3 +71,40 @@ found-op w op r (Some s) f e t = let own : row_with s.op ≡ Some s = row_with-r
 
 pub row_for-op : (w : ℕ) (op : Op) (r : Row) → option_map (λ s. s.op) (row_for w) ≡ Some op → row_with op ≡ Some r → row_for w ≡ Some r
 row_for-op w op r e t = found-op w op r (row_for w) refl e t
+
+-- a row of this form wants its own fields, as it must to fit any word, and 0 elsewhere
+abbrev pub is_regular : Row → Bool
+is_regular r =
+    (r.mask == mask_of r.form)
+    && (nat_lt r.want (2 ^ 32)
+    && (not (has_fields r.form) || fits_fields r.form r.want (r.want / 2 ^ 12 % 2 ^ 3) (r.want / 2 ^ 25)))
+
+-- the parts of what a form with fields wants
+pub record Wants (form : Form) (want : ℕ) : Type 0 where
+  pub rd : want / 2 ^ 7 % 2 ^ 5 ≡ 0
+  pub funct3 : fits_funct3 form (want / 2 ^ 12 % 2 ^ 3) (want / 2 ^ 12 % 2 ^ 3) ≡ true
+  pub rs : want / 2 ^ 15 % 2 ^ 10 ≡ 0
+  pub funct7 : fits_funct7 form (want / 2 ^ 25) (want / 2 ^ 25) ≡ true
+
+wants : (form : Form) (want : ℕ) → (not (has_fields form) || fits_fields form want (want / 2 ^ 12 % 2 ^ 3) (want / 2 ^ 25)) ≡ true → has_fields form ≡ true
+    → Wants form want
+wants form want h p =
+    let own = rw p at h in
+    let rd = and_parts _ _ own in
+    let funct3 = and_parts _ _ rd.1 in
+    let rs = and_parts _ _ funct3.1 in
+    record { rd = eqb-true _ _ rd.0; funct3 = funct3.0; rs = eqb-true _ _ rs.0; funct7 = rs.1 }
+
+-- what holds of each row of the table
+pub record IsRegular (r : Row) : Type 0 where
+  pub mask : r.mask ≡ mask_of r.form
+  pub below : r.want < 2 ^ 32
+  pub wants : has_fields r.form ≡ true → Wants r.form r.want
+
+pub regular-at : (i : ℕ) (r : Row) → slice_get table i ≡ Some r → IsRegular r
+unfolding table
+regular-at i r e =
+    let all : is_regular r ≡ true = list_all-at is_regular table i r refl e in
+    let mask = and_parts (r.mask == mask_of r.form) _ all in
+    let below = and_parts (nat_lt r.want (2 ^ 32)) _ mask.1 in
+    record { mask = eqb-true _ _ mask.0; below = ltb-true _ _ below.0; wants = wants r.form r.want below.1 }

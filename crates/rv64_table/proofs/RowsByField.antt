@@ -9,13 +9,8 @@ use Rattle.rv64_table.specs.declared.Row.{Row}
 use Rattle.rv64_table.specs.declared.Form.{Form}
 use Rattle.rv64_table.specs.declared.Form.TheVariants.{R, I, H, K, S, B, U, J, E}
 use Rattle.rv64_table.specs.Table.{mask_of, fits, row_for, table}
-use Rattle.rv64_table.specs.Lookup.{rows_of, fits_fields, pick}
+use Rattle.rv64_table.specs.Lookup.{rows_of, has_fields, fits_fields, pick}
 use Rattle.rv64_table.proofs.Masks.{test-parts, test-fields, test-high, and-fixed, test-free}
-
--- forms whose words have fields
-abbrev pub has_fields : Form → Bool
-has_fields E = false
-has_fields _ = true
 
 -- a word fits a row with fields where its opcode, funct3 and funct7 do
 pub fits-form : (form : Form) (w v : ℕ) → w < 2 ^ 32 → has_fields form ≡ true

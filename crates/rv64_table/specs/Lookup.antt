@@ -1,13 +1,18 @@
 -- How the code finds a row: by the opcode, and then by funct3 and funct7 alone.
-use Rattle.std.specs.Prelude.{ℕ, ◌/◌, ◌%◌, ◌^◌, Bool, ◌&&◌, ◌==◌, List, Option, option_map, find, filter}
+use Rattle.std.specs.Prelude.{ℕ, ◌/◌, ◌%◌, ◌^◌, Bool, true, false, ◌&&◌, ◌==◌, List, Option, option_map, find, filter}
 use Rattle.rv64_table.specs.declared.Row.{Row}
 use Rattle.rv64_table.specs.declared.Form.{Form}
-use Rattle.rv64_table.specs.declared.Form.TheVariants.{R, H, K, U, J}
+use Rattle.rv64_table.specs.declared.Form.TheVariants.{R, H, K, U, J, E}
 use Rattle.rv64_table.specs.declared.Op.{Op}
 
 -- the rows of an opcode
 abbrev pub rows_of : ℕ → List Row → List Row
 rows_of opcode rows = filter (λ r. r.want % 2 ^ 7 == opcode) rows
+
+-- forms whose words have fields
+abbrev pub has_fields : Form → Bool
+has_fields E = false
+has_fields _ = true
 
 -- funct3 is the wanted one, or free in the form
 abbrev pub fits_funct3 : Form → ℕ → ℕ → Bool

@@ -2,6 +2,7 @@ use Rattle.std.proofs.Common.{◌≡◌, rules, sym, ◌∙◌, w64, to_z, of_z,
 use Rattle.std.proofs.lemmas.Int.{to_z-of_z}
 use Rattle.rv64_table.proofs.Places.{row_for-op}
 use Rattle.rv64_decode.proofs.Decoding.{decoded-none, decoded-row}
+use Rattle.rv64_decode.proofs.RoundTrip.{decoded-encodable}
 use Rattle.rv64_decode.proofs.reading.decode.Goals as goal
 
 pub returns-in_err-op-clause-value : goal.returns-in_err-op-clause-value
@@ -14,3 +15,6 @@ returns-clause-value c =
     let fits : SFits w64 c.immediate.result = search rules in
     let imm : to_z w64 (of_z w64 c.immediate.result) ≡ c.immediate.result = to_z-of_z w64 c.immediate.result fits in
     rw (decoded-row c.args.word c.row-form.result found, imm) (cc)
+
+pub returns-clause-encodable : goal.returns-clause-encodable
+returns-clause-encodable c = decoded-encodable c.args.word _ (sym (returns-clause-value c))
