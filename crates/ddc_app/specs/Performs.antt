@@ -1,12 +1,11 @@
 -- What a command does to a shelf, by how it ends, measured against its plan.
-use Rattle.std.specs.Prelude.{◌≡◌, ◌≢◌, ℕ, ◌≤◌, Bool, IsTrue, IsSomeAnd, ◌⊎◌, Option, Result, Ok, Err, List, [], ◌∷◌}
+use Rattle.std.specs.Prelude.{◌≡◌, ◌≢◌, ℕ, ◌≤◌, Bool, IsTrue, IsSomeAnd, ◌⊎◌, Result, Ok, Err, List, [], ◌∷◌}
 use Rattle.std.specs.Bool.{OnTrue}
 use Rattle.std.specs.FinMap as map
 use Rattle.ddc_base.specs.declared.outside.Operation.{Operation}
 use Rattle.ddc_base.specs.declared.outside.Operation.TheVariants.{Load, Save}
 use Rattle.ddc_base.specs.declared.outside.Loaded.TheVariants as content
 use Rattle.ddc_base.specs.Outside.{Files, ShelfState, Rose, LoadFails, loaded}
-use Rattle.ddc_app.specs.declared.status.Status.{Status}
 use Rattle.ddc_app.specs.declared.status.Status.TheVariants as status
 use Rattle.ddc_app.specs.declared.answer.Answer.{Answer}
 use Rattle.ddc_app.specs.declared.stop.Stop.{Stop}
