@@ -1,17 +1,17 @@
 -- A row's wanted bits and an instruction's fields at their places, as one sum: what the sum reads, form by form.
-use Rattle.std.proofs.Common.{◌≡◌, ℕ, ◌+◌, ◌-◌, ◌*◌, ◌/◌, ◌%◌, ◌^◌, ◌<◌, ◌≤◌, Bool, true, false, ◌&&◌, refl, sym, ap, ◌∙◌, arith}
+use Rattle.std.proofs.Common.{◌≡◌, ℕ, ◌+◌, ◌*◌, ◌/◌, ◌%◌, ◌^◌, ◌<◌, true, refl, ap, ◌∙◌, arith}
 use Rattle.std.specs.Prelude.{◌==◌, bit_and, ℤ, pos, if◌then◌else◌}
 use Rattle.std.specs.Int.{w64, cast_unsigned}
 use Rattle.std.proofs.lemmas.Bool.{and_parts, and_from, eqb-true, eq-eqb}
 use Rattle.rv64_table.specs.declared.Form.{Form}
 use Rattle.rv64_table.specs.declared.Form.TheVariants.{R, I, H, K, S, B, U, J, E}
 use Rattle.rv64_table.specs.Table.{mask_of}
-use Rattle.rv64_table.specs.Lookup.{has_fields, fits_funct3, fits_funct7, fits_fields}
+use Rattle.rv64_table.specs.Lookup.{has_fields, fits_funct3, fits_funct7}
 use Rattle.rv64_table.proofs.RowsByField.{fits-form}
 use Rattle.rv64_table.proofs.Masks.{and-fixed}
 use Rattle.rv64_table.proofs.Places.{Wants}
 use Rattle.rv64_decode.specs.Fields.{bits, signed, immediate, has_rd, has_rs1, has_rs2}
-use Rattle.rv64_decode.specs.Encode.{placed, has_immediate, is_signed, is_unsigned, is_multiple}
+use Rattle.rv64_decode.specs.Encode.{placed, has_immediate, is_signed, is_multiple}
 use Rattle.rv64_decode.proofs.Signed.{signed-code, unsigned-code, multiple-2, multiple-4096}
 
 -- what is known of a row's wanted bits and an instruction's fields

@@ -1,6 +1,6 @@
 -- No two words of a row have the same fields.
-use Rattle.std.proofs.Common.{◌≡◌, ℕ, ◌+◌, ◌-◌, ◌*◌, ◌/◌, ◌%◌, ◌^◌, ◌<◌, ◌≤◌, Bool, true, false, ◌&&◌, Some, refl, sym, ap, ◌∙◌, arith}
-use Rattle.std.specs.Prelude.{◌==◌, bit_and, ℤ, pos, if◌then◌else◌}
+use Rattle.std.proofs.Common.{◌≡◌, ℕ, ◌+◌, ◌-◌, ◌*◌, ◌/◌, ◌%◌, ◌^◌, ◌<◌, true, refl, sym, ◌∙◌, arith}
+use Rattle.std.specs.Prelude.{◌==◌, bit_and, pos, if◌then◌else◌}
 use Rattle.std.proofs.lemmas.Bool.{and_parts, eqb-true}
 use Rattle.rv64_table.specs.declared.Form.{Form}
 use Rattle.rv64_table.specs.declared.Form.TheVariants.{R, I, H, K, S, B, U, J, E}
@@ -8,7 +8,7 @@ use Rattle.rv64_table.specs.Table.{mask_of}
 use Rattle.rv64_table.specs.Lookup.{has_fields, fits_funct3, fits_funct7}
 use Rattle.rv64_table.proofs.RowsByField.{fits-form}
 use Rattle.rv64_table.proofs.Masks.{and-fixed}
-use Rattle.rv64_decode.specs.Fields.{bits, signed, immediate, has_rd, has_rs1, has_rs2}
+use Rattle.rv64_decode.specs.Fields.{bits, immediate, has_rd, has_rs1, has_rs2}
 use Rattle.rv64_decode.proofs.Signed.{signed-same}
 
 -- what a word that fits has in its fixed fields

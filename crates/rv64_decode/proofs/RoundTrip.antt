@@ -1,7 +1,6 @@
 -- An instruction that lies in its form has one word, and a word's instruction lies in its form.
-use Rattle.std.proofs.Common.{◌≡◌, ℕ, ◌+◌, ◌*◌, ◌%◌, ◌^◌, ◌<◌, Bool, true, false, ◌&&◌, cond, Option, Some, None, refl, sym, ap, ◌∙◌, arith, slice_index_or}
+use Rattle.std.proofs.Common.{◌≡◌, ℕ, ◌+◌, ◌*◌, ◌^◌, ◌<◌, Bool, true, false, Option, Some, None, refl, sym, ap, ◌∙◌, arith, slice_index_or}
 use Rattle.std.specs.Prelude.{◌==◌, nat_lt, bit_and, option_map, if◌then◌else◌}
-use Rattle.std.specs.Option.{option_map_or}
 use Rattle.std.proofs.lemmas.Bool.{and_parts, and_from, ltb-true, lt-ltb}
 use Rattle.rv64_table.specs.declared.Row.{Row}
 use Rattle.rv64_table.specs.declared.Op.TheVariants.{Lui}
@@ -12,13 +11,13 @@ use Rattle.rv64_table.proofs.Apart.{row_for-fits}
 use Rattle.rv64_table.proofs.OpRows.{row_with-at, op-at}
 use Rattle.rv64_table.proofs.Places.{find-listed, regular-at, row_with-row_for}
 use Rattle.rv64_decode.specs.declared.Inst.{Inst}
-use Rattle.rv64_decode.specs.Fields.{bits, signed, immediate, has_rd, has_rs1, has_rs2}
+use Rattle.rv64_decode.specs.Fields.{bits, immediate, has_rd, has_rs1, has_rs2}
 use Rattle.rv64_decode.specs.Decode.{instruction, decoded}
 use Rattle.rv64_decode.specs.Encode.{placed, joined, has_immediate, fits_form, is_encodable}
 use Rattle.rv64_decode.specs.Laws.{IsWordOf, HasOneWord, HasWordInForm}
 use Rattle.rv64_decode.proofs.Signed.{signed-range, unsigned-range, signed-multiple}
-use Rattle.rv64_decode.proofs.Encoded.{Given, Reads, reads, low}
-use Rattle.rv64_decode.proofs.OneWord.{Alike, one-word}
+use Rattle.rv64_decode.proofs.Encoded.{Given, reads, low}
+use Rattle.rv64_decode.proofs.OneWord.{one-word}
 use Rattle.rv64_decode.proofs.Decoding.{decoded-row}
 
 -- a register that a form may lack lies in its range
