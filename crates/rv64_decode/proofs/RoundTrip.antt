@@ -11,7 +11,7 @@ use Rattle.rv64_table.proofs.Apart.{row_for-fits}
 use Rattle.rv64_table.proofs.OpRows.{row_with-at, op-at}
 use Rattle.rv64_table.proofs.Places.{find-listed, regular-at, row_with-row_for}
 use Rattle.rv64_decode.specs.declared.Inst.{Inst}
-use Rattle.rv64_decode.specs.Fields.{bits, immediate, has_rd, has_rs1, has_rs2}
+use Rattle.rv64_decode.specs.Fields.{bits, branch_offset, jump_offset, immediate, has_rd, has_rs1, has_rs2}
 use Rattle.rv64_decode.specs.Decode.{instruction, decoded}
 use Rattle.rv64_decode.specs.Encode.{placed, joined, has_immediate, fits_form, is_encodable}
 use Rattle.rv64_decode.specs.Laws.{IsWordOf, HasOneWord, HasWordInForm}
@@ -33,13 +33,13 @@ immediate-fits H w = unsigned-range 6 (bits w 25 20) (omega arith)
 immediate-fits K w = unsigned-range 5 (bits w 24 20) (omega arith)
 immediate-fits S w = signed-range 12 (bits w 31 25 * 2 ^ 5 + bits w 11 7) (omega arith) (omega arith) (omega arith)
 immediate-fits B w =
-    let offset = bits w 31 31 * 2 ^ 12 + bits w 7 7 * 2 ^ 11 + bits w 30 25 * 2 ^ 5 + bits w 11 8 * 2 ^ 1 in
+    let offset = branch_offset w in
     and_from _ _ (signed-range 13 offset (omega arith) (omega arith) (omega arith)) (signed-multiple 13 1 offset (omega arith) (omega arith) (omega arith))
 immediate-fits U w =
     let value = bits w 31 12 * 2 ^ 12 in
     and_from _ _ (signed-range 32 value (omega arith) (omega arith) (omega arith)) (signed-multiple 32 12 value (omega arith) (omega arith) (omega arith))
 immediate-fits J w =
-    let offset = bits w 31 31 * 2 ^ 20 + bits w 19 12 * 2 ^ 12 + bits w 20 20 * 2 ^ 11 + bits w 30 21 * 2 ^ 1 in
+    let offset = jump_offset w in
     and_from _ _ (signed-range 21 offset (omega arith) (omega arith) (omega arith)) (signed-multiple 21 1 offset (omega arith) (omega arith) (omega arith))
 immediate-fits E w = refl
 
