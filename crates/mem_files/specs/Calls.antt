@@ -215,7 +215,10 @@ content_at w name = option_and_then (map.get w.files) (map.get w.names name)
 abbrev pub stream : World → ℕ → List ℕ
 stream w which = if which == 1 then w.stream1 else w.stream2
 
--- `name_after`: the first name, in their order, that is greater than the given one; without one, the first of all
+-- `name_after`: the first name, in their order, that comes after the given one; without one, the first of all
+abbrev pub is_after : Option (List ℕ) → List ℕ → Bool
+is_after None name = true
+is_after (Some given) name = is_lt (bytes_cmp given name)
+
 abbrev pub name_after : World → Option (List ℕ) → Option (List ℕ)
-name_after w None = find (λ name. true) (map.keys w.names)
-name_after w (Some after) = find (λ name. is_lt (bytes_cmp after name)) (map.keys w.names)
+name_after w given = find (is_after given) (map.keys w.names)

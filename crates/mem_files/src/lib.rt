@@ -4,9 +4,12 @@
 //! prover. There are no directories: a `/` is a byte of a name like another.
 #![tactic(auto)]
 
+mod calls;
+mod cells;
 mod files;
 mod names;
 mod slot;
+mod stored;
 mod table;
 
 //pub use files::Files;
