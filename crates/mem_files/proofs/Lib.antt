@@ -5,3 +5,6 @@ pub mod Totals
 pub mod Overwrites
 pub mod Changes
 pub mod First
+pub mod Entries
+pub mod Soundness
+pub mod SoundCalls

@@ -33,15 +33,14 @@ with_file w name content = record w {
 }
 
 -- `place`
-abbrev pub is_full : World → List ℕ → Bool
-is_full w content =
-    nat_lt MAX_CONTENT (length content) || nat_lt MAX_TOTAL (total w + length content) || nat_le MAX_NAMES (map.len w.names)
+abbrev pub is_full : World → ℕ → Bool
+is_full w len = nat_lt MAX_CONTENT len || nat_lt MAX_TOTAL (total w + len) || nat_le MAX_NAMES (map.len w.names)
 
 abbrev pub placed_as : World → List ℕ → List ℕ → Result (Unit {0}) PlaceRefusal × World
 placed_as w name content =
     if not (is_name name) then (Err BadName, w)
     else (if map.contains_key w.names name then (Err Twice, w)
-    else (if is_full w content then (Err Full, w)
+    else (if is_full w (length content) then (Err Full, w)
     else (Ok tt, with_file w name content)))
 
 abbrev pub placed : World → List ℕ → List ℕ → Result (Unit {0}) PlaceRefusal × World

@@ -1,11 +1,9 @@
 //! What a descriptor stands for, and how calls refuse.
 ghost use Rattle.std.specs.Prelude.{◌≡◌};
-ghost use Rattle.mem_files.specs.declared.slot.FileRefusal.TheVariants.{OutOfMemory as file_out_of_memory};
-ghost use Rattle.mem_files.specs.declared.slot.PlaceRefusal.TheVariants.{OutOfMemory as place_out_of_memory};
+ghost use Rattle.mem_files.specs.declared.slot.FileRefusal.TheVariants as file;
+ghost use Rattle.mem_files.specs.declared.slot.PlaceRefusal.TheVariants as place;
 
-use std::alloc::{AllocError, AllocFailed};
-use std::error::Error;
-use std::fmt;
+use std::alloc::AllocError;
 
 /// What a descriptor stands for.
 #[derive(Clone, Copy, Debug, PartialEq, Eq)]
@@ -40,4 +38,20 @@ pub enum PlaceRefusal {
     Full,
     /// No more memory in this process.
     OutOfMemory,
+}
+
+impl From<AllocError> for FileRefusal {
+    ghost from_gives = { λ _ refusal. refusal ≡ file.OutOfMemory };
+
+    fn from(_error: AllocError) -> FileRefusal {
+        FileRefusal::OutOfMemory
+    }
+}
+
+impl From<AllocError> for PlaceRefusal {
+    ghost from_gives = { λ _ refusal. refusal ≡ place.OutOfMemory };
+
+    fn from(_error: AllocError) -> PlaceRefusal {
+        PlaceRefusal::OutOfMemory
+    }
 }
