@@ -10,3 +10,4 @@ pub mod Soundness
 pub mod SoundCalls
 pub mod AnswersLemmas
 pub mod Opening
+pub mod LawLemmas

@@ -1,5 +1,5 @@
 //! The calls, over a table: the first rule that fits.
-ghost use Rattle.std.specs.Prelude.{◌≡◌, ◌+◌, ◌-◌, ◌<◌, ◌≤◌, ◌≢◌, ◌^◌, pos, ◌+ℤ◌, IsTrue, IsOkAnd, IsSome, IfSome, OnOk, OnErr, MatchResult, Ok, Err, Some, None, length, take, drop, []};
+ghost use Rattle.std.specs.Prelude.{◌≡◌, ◌+◌, ◌-◌, ◌<◌, ◌≤◌, ◌≢◌, ◌^◌, pos, ◌+ℤ◌, IsTrue, IfOk, IsOkAnd, IsSome, IfSome, OnOk, OnErr, MatchResult, Ok, Err, Some, None, length, take, drop, []};
 ghost use Rattle.std.specs.Option.{option_copied, option_and_then, option_map};
 ghost use Rattle.std.specs.FinMap as map;
 ghost use Rattle.mem_files.specs.World.{content_of};
@@ -203,7 +203,9 @@ impl Table {
 
     pub fn ready(&self, fd: u32, count: u64) -> Result<&[u8], u16>
         requires { IsSound self.now }
-        ensures { MatchResult result (λ bytes. ready self.now fd count ≡ Ok bytes.now) (λ errno. ready self.now fd count ≡ Err errno) }
+        ensures answer { MatchResult result (λ bytes. ready self.now fd count ≡ Ok bytes.now) (λ errno. ready self.now fd count ≡ Err errno) }
+        // As many bytes are ready again, so that `skip` may follow.
+        ensures skippable { IfOk result (λ bytes. IsOkAnd (ready self.now fd (length bytes.now)) (λ again. length again ≡ length bytes.now)) }
     {
         match self.slot(fd) {
             Some(Slot::Input) => Ok(&[]),
