@@ -1,12 +1,11 @@
 -- Pages and ranges of segments, as arithmetic.
-use Rattle.std.proofs.Common.{◌≡◌, ◌≢◌, ◌≤◌, ◌<◌, ℕ, ◌+◌, ◌*◌, ◌-◌, ◌^◌, ◌/◌, Bool, true, false, List, [], ◌∷◌, length, get_or, drop, take, refl, sym, ◌∙◌, ap, arith, drop-cons, add-one, ◌⊎◌, inl, inr}
-use Rattle.std.specs.Prelude.{All, AllPairs, sum_by, nat_lt, ◌||◌, ◌&&◌}
-use Rattle.std.specs.List.{list_any, fold}
+use Rattle.std.proofs.Common.{◌≡◌, ◌≤◌, ◌<◌, ℕ, ◌+◌, ◌^◌, Bool, true, false, List, length, get_or, drop, refl, arith, drop-cons, add-one}
+use Rattle.std.specs.Prelude.{All, ◌||◌}
+use Rattle.std.specs.List.{list_any}
 use Rattle.std.proofs.lemmas.Bool.Decides.{nat_tests}
-use Rattle.std.proofs.lemmas.Grind.{common_steps}
 use Rattle.std.proofs.lemmas.List.Folds.{list_any_at}
 use Rattle.elf_load.specs.declared.Segment.{Segment}
-use Rattle.elf_load.specs.Segments.{page_up, page_down, first_page, page_end, end_of, is_out_of_range, share_page, any_share, IsLow, IsPlaced, AreApart}
+use Rattle.elf_load.specs.Segments.{page_up, first_page, page_end, end_of, is_out_of_range, share_page, any_share, IsLow}
 
 pub page_up_low : (n : ℕ) → n ≤ 2 ^ 37 → page_up n ≤ 2 ^ 37
 page_up_low n h = omega arith
@@ -70,10 +69,10 @@ low_of segment h = let above = page_up_above (end_of segment) in omega arith
 pub none_at : {X : Type 0} (p : X → Bool) (xs : List X) → list_any p xs ≡ false → All (λ x. p x ≡ false) xs
 none_at p xs none k d lt =
     let cases : (b : Bool) → p (get_or xs k d) ≡ b → p (get_or xs k d) ≡ false =
-      λ b. elim b as (λ v. p (get_or xs k d) ≡ v → p (get_or xs k d) ≡ false) [
-        true ↦ (λ is. let yes : list_any p xs ≡ true = list_any_at p xs k d lt is in cc)
+    λ b. elim b as (λ v. p (get_or xs k d) ≡ v → p (get_or xs k d) ≡ false) [
+      | true ↦ (λ is. let yes : list_any p xs ≡ true = list_any_at p xs k d lt is in cc)
       | false ↦ (λ is. is)
-      ] in
+    ] in
     cases (p (get_or xs k d)) refl
 
 pub all_low : (size : ℕ) (segments : List Segment) → list_any (is_out_of_range size) segments ≡ false → All IsLow segments

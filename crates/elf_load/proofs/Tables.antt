@@ -1,12 +1,11 @@
 -- The header table, taken one program header at a time.
-use Rattle.std.proofs.Common.{◌≡◌, ◌≢◌, ◌≤◌, ◌<◌, ℕ, zero, suc, ◌+◌, ◌*◌, ◌-◌, ◌==◌, Bool, true, false, cond, List, [], ◌∷◌, ◌++◌, length, refl, sym, ◌∙◌, ap, arith, append_assoc, length-append}
-use Rattle.std.specs.Prelude.{map, not, ◌&&◌}
+use Rattle.std.proofs.Common.{◌≡◌, ◌≢◌, ◌≤◌, ◌<◌, ℕ, zero, suc, ◌+◌, ◌*◌, ◌-◌, ◌==◌, Bool, true, false, List, [], ◌∷◌, ◌++◌, refl, sym, ◌∙◌, arith, append_assoc}
+use Rattle.std.specs.Prelude.{map}
 use Rattle.std.specs.List.{filter, list_any}
 use Rattle.std.proofs.lemmas.Bool.Decides.{nat_tests}
-use Rattle.std.proofs.lemmas.Grind.{common_steps}
 use Rattle.elf_load.specs.declared.Segment.{Segment}
 use Rattle.elf_load.specs.Fields.{e_phoff, e_phnum, headers, offsets_from, p_type}
-use Rattle.elf_load.specs.Segments.{is_interpreter, is_load, loads_among, segment_at, segments_of}
+use Rattle.elf_load.specs.Segments.{is_interpreter, is_load, loads_among, segment_at}
 
 -- the offsets of the program headers from that index on
 unfoldable pub headers_from : List ℕ → ℕ → List ℕ
@@ -67,20 +66,20 @@ loads-cons : (file : List ℕ) (header : ℕ) (rest : List ℕ)
 unfolding loads_among
 loads-cons file header rest =
     let cases : (b : Bool) → is_load file header ≡ b
-      → map (segment_at file) (filter (is_load file) (header ∷ rest))
-        ≡ map (segment_at file) (filter (is_load file) (header ∷ [])) ++ map (segment_at file) (filter (is_load file) rest) =
-      λ b. elim b as (λ v. is_load file header ≡ v
-        → map (segment_at file) (filter (is_load file) (header ∷ rest))
-          ≡ map (segment_at file) (filter (is_load file) (header ∷ [])) ++ map (segment_at file) (filter (is_load file) rest)) [
-        true ↦ (λ is. rw is refl)
+    → map (segment_at file) (filter (is_load file) (header ∷ rest))
+    ≡ map (segment_at file) (filter (is_load file) (header ∷ [])) ++ map (segment_at file) (filter (is_load file) rest) =
+    λ b. elim b as (λ v. is_load file header ≡ v
+    → map (segment_at file) (filter (is_load file) (header ∷ rest))
+    ≡ map (segment_at file) (filter (is_load file) (header ∷ [])) ++ map (segment_at file) (filter (is_load file) rest)) [
+      | true ↦ (λ is. rw is refl)
       | false ↦ (λ is. rw is refl)
-      ] in
+    ] in
     cases (is_load file header) refl
 
 -- a table's segments, where those before the index are `taken`
 pub loads-on : (file : List ℕ) (index : ℕ) (taken : List Segment) → index < e_phnum file
     → taken ++ loads_among file (headers_from file index)
-      ≡ (taken ++ loads_among file ((e_phoff file + 56 * index) ∷ [])) ++ loads_among file (headers_from file (index + 1))
+    ≡ (taken ++ loads_among file ((e_phoff file + 56 * index) ∷ [])) ++ loads_among file (headers_from file (index + 1))
 loads-on file index taken listed =
     rw (headers_from-on file index listed, loads-cons file (e_phoff file + 56 * index) (headers_from file (index + 1)))
     (sym (append_assoc taken (loads_among file ((e_phoff file + 56 * index) ∷ [])) (loads_among file (headers_from file (index + 1)))))

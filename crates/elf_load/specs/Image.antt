@@ -56,17 +56,22 @@ rules file =
     header_rules file ++ table_rules file
     ++ placing_rules (length file) (segments_of file) ++ entry_rules (e_entry file) (segments_of file)
 
+-- entry, segments and first break of a file that no rule refuses
+abbrev pub accepted_image : List ℕ → Image
+accepted_image file = record {
+  entry = e_entry file;
+  segments = record { items = segments_of file };
+  first_break = break_after (segments_of file);
+}
+
+-- the refusal, or else the image
+abbrev pub refused_or : Option ElfRefusal → Image → Result Image ElfRefusal
+refused_or (Some refusal) image = Err refusal
+refused_or None image = Ok image
+
 -- the first refusal, or else entry, segments and first break
 unfoldable pub image_of : List ℕ → Result Image ElfRefusal
-image_of file =
-    elim (first_refusal (rules file)) [
-      Some refusal ↦ Err refusal
-    | None ↦ Ok (record {
-        entry = e_entry file;
-        segments = record { items = segments_of file };
-        first_break = break_after (segments_of file);
-      })
-    ]
+image_of file = refused_or (first_refusal (rules file)) (accepted_image file)
 
 -- the file holds an ELF header and the header table that it names
 pub record HoldsTable (file : List ℕ) : Type 0 where

@@ -1,6 +1,6 @@
 -- Segments: what a file asks to be placed in memory, and where its pages lie.
 -- docs/reference/loader.md says the same for people.
-use Rattle.std.specs.Prelude.{◌≡◌, ◌≤◌, ◌<◌, ℕ, ◌+◌, ◌-◌, ◌*◌, ◌/◌, ◌^◌, ◌==◌, Bool, false, ◌&&◌, ◌||◌, not, nat_lt, nat_le, List, [], ◌∷◌, ◌⊎◌, max, map}
+use Rattle.std.specs.Prelude.{◌≤◌, ◌<◌, ℕ, ◌+◌, ◌-◌, ◌*◌, ◌/◌, ◌^◌, ◌==◌, Bool, false, ◌&&◌, ◌||◌, not, nat_lt, nat_le, List, [], ◌∷◌, ◌⊎◌, max, map}
 use Rattle.std.specs.List.{filter, fold, list_any}
 use Rattle.elf_load.specs.declared.Segment.{Segment}
 use Rattle.elf_load.specs.Fields.{headers, p_type, p_offset, p_vaddr, p_filesz, p_memsz}

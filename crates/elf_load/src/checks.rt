@@ -11,10 +11,12 @@ use super::{ElfRefusal, Segment, fields};
 const HIGHEST: u64 = 1 << 37;
 /// The pages of all segments take at most these bytes together.
 const MOST_TOGETHER: u64 = 268_435_456;
+
 const PAGE: u64 = 4_096;
 
 /// RISC-V and an executable file, by the ELF standard's numbers.
 const RISC_V: u16 = 243;
+
 const EXECUTABLE: u16 = 2;
 
 /// Whether the file is an ELF-64 executable for RISC-V that holds its header table.
@@ -51,7 +53,8 @@ fn holds_table(file: &[u8]) -> bool
 {
     let size = file.len() as u64;
     let first = fields::table_offset(file);
-    let table = u64::from(fields::PROGRAM_HEADER_SIZE) * u64::from(fields::program_header_count(file));
+    let table = u64::from(fields::PROGRAM_HEADER_SIZE)
+        * u64::from(fields::program_header_count(file));
     first <= size && table <= size - first
 }
 

@@ -10,6 +10,7 @@ use arrayvec::ArrayVec;
 
 /// PT_LOAD and PT_INTERP of the ELF standard.
 const LOAD: u32 = 1;
+
 const INTERPRETER: u32 = 3;
 
 /// The segments of a file that holds its header table, or the first refusal for that table.
@@ -60,14 +61,18 @@ fn loads(file: &[u8]) -> Result<ArrayVec<Segment, 16>, ElfRefusal>
 
 /// Appends the segment of the program header at `header`, where that takes memory.
 #[tactic(auto, using(crate::proofs::Tables::kinds_of_loads))]
-fn take_load(file: &[u8], header: usize, segments: &mut ArrayVec<Segment, 16>) -> Result<(), ElfRefusal>
+fn take_load(
+    file: &[u8],
+    header: usize,
+    segments: &mut ArrayVec<Segment, 16>,
+) -> Result<(), ElfRefusal>
     requires holds { header + 56 ≤ length file.now }
     requires few { length segments.old.items ≤ 16 }
     ensures still_few { length segments.new.items ≤ 16 }
     ensures value { MatchResult result
         (λ _. segments.new.items ≡ segments.old.items ++ loads_among file.now (header ∷ []))
         (λ refusal. (refusal ≡ ElfRefusal.TooMany)
-            × (16 < length (segments.old.items ++ loads_among file.now (header ∷ [])))) }
+        × (16 < length (segments.old.items ++ loads_among file.now (header ∷ [])))) }
 {
     if !is_load(file, header) {
         return Ok(());
