@@ -35,7 +35,7 @@ pub enum Form {
     E,
 }
 
-/// The operations, in the order of the table.
+/// The operations, named after the standard's mnemonics, in the order of the table.
 #[derive(Clone, Copy, PartialEq, Eq, Debug)]
 pub enum Op {
     Lui,
