@@ -1,5 +1,5 @@
 -- The files of a guest as one value: equal files are equal values (docs/reference/files.md, "What is kept").
-use Rattle.std.specs.Prelude.{◌≡◌, ℕ, ◌+◌, Bool, false, ◌||◌, ◌==◌, if◌then◌else◌, Option, Some, None, unwrap_or, List, [], ◌∷◌, length, sum_by, refl}
+use Rattle.std.specs.Prelude.{ℕ, ◌+◌, Bool, false, ◌==◌, if◌then◌else◌, unwrap_or, List, [], ◌∷◌, length, sum_by, refl}
 use Rattle.std.specs.List.{list_any}
 use Rattle.std.specs.Ordering.{nat_cmp}
 use Rattle.std.specs.FinMap as map
@@ -51,7 +51,7 @@ lowest_unused m = first_gap 0 (map.keys m)
 abbrev pub world_code : Coded World
 world_code =
     code_by (map.FinMap bytes_cmp ℕ × (map.FinMap nat_cmp (List ℕ) × (map.FinMap nat_cmp Slot × (List ℕ × List ℕ))))
-        (coded× (map.code (coded_list coded_ℕ) coded_ℕ) (coded× (map.code coded_ℕ (coded_list coded_ℕ)) (coded× (map.code coded_ℕ slot.the_row.coded) (coded× (coded_list coded_ℕ) (coded_list coded_ℕ)))))
-        (λ w. (w.names, (w.files, (w.slots, (w.stream1, w.stream2)))))
-        (λ p. record { names = p.0; files = p.1.0; slots = p.1.1.0; stream1 = p.1.1.1.0; stream2 = p.1.1.1.1 })
-        (λ _. refl)
+    (coded× (map.code (coded_list coded_ℕ) coded_ℕ) (coded× (map.code coded_ℕ (coded_list coded_ℕ)) (coded× (map.code coded_ℕ slot.the_row.coded) (coded× (coded_list coded_ℕ) (coded_list coded_ℕ)))))
+    (λ w. (w.names, (w.files, (w.slots, (w.stream1, w.stream2)))))
+    (λ p. record { names = p.0; files = p.1.0; slots = p.1.1.0; stream1 = p.1.1.1.0; stream2 = p.1.1.1.1 })
+    (λ _. refl)

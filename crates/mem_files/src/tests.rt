@@ -1,5 +1,6 @@
 //! Scripts of calls, with what Linux's manual pages and the limits of this project say of them.
 use super::*;
+use std::process::Abort;
 use std::test::Fail;
 
 /// One call of a script.
@@ -85,7 +86,11 @@ fn places_names(rt: HostRuntime) -> Result<(), Fail> {
         (longest.as_slice(), 0),
         (too_long.as_slice(), 1),
     ] {
-        assert_eq!(rt; answer(&mut files, Call::Place(name, b"x")), want, "{name:?}");
+        assert_eq!(rt;
+            answer(&mut files, Call::Place(name, b"x")),
+            want,
+            "{name:?}"
+        );
     }
     Ok(())
 }
@@ -104,10 +109,18 @@ fn opens_by_flags(rt: HostRuntime) -> Result<(), Fail> {
         (O_WRONLY | O_TRUNC, -2, 3),
     ] {
         let mut files = Files::new(rt.alloc())?;
-        assert_eq!(rt; answer(&mut files, Call::Open(b"f", flags)), absent, "{flags}");
+        assert_eq!(rt;
+            answer(&mut files, Call::Open(b"f", flags)),
+            absent,
+            "{flags}"
+        );
         let mut files = Files::new(rt.alloc())?;
         assert_eq!(rt; answer(&mut files, Call::Place(b"f", b"x")), 0);
-        assert_eq!(rt; answer(&mut files, Call::Open(b"f", flags)), present, "{flags}");
+        assert_eq!(rt;
+            answer(&mut files, Call::Open(b"f", flags)),
+            present,
+            "{flags}"
+        );
     }
     Ok(())
 }
@@ -124,12 +137,18 @@ fn runs_out_of_descriptors(rt: HostRuntime) -> Result<(), Fail> {
     Ok(())
 }
 
-/// lseek(2), read(2), write(2), unlink(2), close(2), call after call.
+/// Runs a script, and asks for each call's answer.
+fn run(rt: &impl Abort, files: &mut Files, script: &[(Call<'_>, i64)]) {
+    for (index, (call, want)) in script.iter().enumerate() {
+        assert_eq!(rt; answer(files, *call), *want, "call {index}");
+    }
+}
+
+/// lseek(2), in a file of five bytes.
 #[test]
-fn runs_a_script(rt: HostRuntime) -> Result<(), Fail> {
+fn seeks(rt: HostRuntime) -> Result<(), Fail> {
     let mut files = Files::new(rt.alloc())?;
-    for (index, (call, want)) in [
-        // lseek
+    let script = [
         (Call::Place(b"f", b"01234"), 0),
         (Call::Open(b"f", O_RDONLY), 3),
         (Call::Seek(3, 2, SEEK_SET), 2),
@@ -145,55 +164,65 @@ fn runs_a_script(rt: HostRuntime) -> Result<(), Fail> {
         (Call::Seek(0, 0, SEEK_SET), -29),
         (Call::Seek(1, 0, 9), -29),
         (Call::Seek(4, 0, 9), -9),
-        // a write past the end, and one that appends
-        (Call::Open(b"g", O_RDWR | O_CREAT), 4),
-        (Call::Write(4, b"ab"), 0),
-        (Call::Seek(4, 2, SEEK_CUR), 4),
-        (Call::Write(4, b"cd"), 0),
-        (Call::Open(b"g", O_WRONLY | O_APPEND), 5),
-        (Call::Write(5, b"e"), 0),
-        (Call::Read(5, 1, b""), -9),
-        (Call::Read(4, 9, b"e"), 0),
-        (Call::Seek(4, 1, SEEK_SET), 1),
-        (Call::Write(4, b"B"), 0),
-        (Call::Read(4, 3, b"\0\0c"), 0),
-        (Call::Read(4, 9, b"de"), 0),
-        // the name goes while the file is open
+    ];
+    run(&rt, &mut files, &script);
+    Ok(())
+}
+
+/// write(2), read(2) and unlink(2): a gap, an end, a name that goes while its file is open.
+#[test]
+fn writes_and_reads(rt: HostRuntime) -> Result<(), Fail> {
+    let mut files = Files::new(rt.alloc())?;
+    let script = [
+        (Call::Open(b"g", O_RDWR | O_CREAT), 3),
+        (Call::Write(3, b"ab"), 0),
+        (Call::Seek(3, 2, SEEK_CUR), 4),
+        (Call::Write(3, b"cd"), 0),
+        (Call::Open(b"g", O_WRONLY | O_APPEND), 4),
+        (Call::Write(4, b"e"), 0),
+        (Call::Read(4, 1, b""), -9),
+        (Call::Read(3, 9, b"e"), 0),
+        (Call::Seek(3, 1, SEEK_SET), 1),
+        (Call::Write(3, b"B"), 0),
+        (Call::Read(3, 3, b"\0\0c"), 0),
+        (Call::Read(3, 9, b"de"), 0),
         (Call::Remove(b"h"), -2),
         (Call::Remove(b"g"), 0),
-        (Call::Open(b"g", O_RDWR | O_CREAT), 6),
-        (Call::Write(5, b"!"), 0),
-        (Call::Read(4, 9, b"!"), 0),
-        (Call::Read(6, 9, b""), 0),
-        // a file that is emptied while another descriptor stands at its end
-        (Call::Open(b"f", O_RDONLY | O_TRUNC), 7),
+        (Call::Open(b"g", O_RDWR | O_CREAT), 5),
+        (Call::Write(4, b"!"), 0),
+        (Call::Read(3, 9, b"!"), 0),
+        (Call::Read(5, 9, b""), 0),
+    ];
+    run(&rt, &mut files, &script);
+    Ok(())
+}
+
+/// The streams, the descriptors that are used again, O_TRUNC, and the most bytes of a file.
+#[test]
+fn closes_and_fits(rt: HostRuntime) -> Result<(), Fail> {
+    let mut files = Files::new(rt.alloc())?;
+    let script = [
+        (Call::Place(b"f", b"old"), 0),
+        (Call::Open(b"f", O_RDWR), 3),
+        (Call::Open(b"f", O_RDONLY | O_TRUNC), 4),
         (Call::Seek(3, 0, SEEK_END), 0),
-        // the streams and the input
         (Call::Write(1, b"out"), 0),
         (Call::Write(2, b"err"), 0),
         (Call::Write(0, b""), -9),
         (Call::Read(0, 1, b""), 0),
         (Call::Read(1, 1, b""), -9),
-        // the lowest descriptor is used again
-        (Call::Close(5), 0),
-        (Call::Close(5), -9),
-        (Call::Close(1), 0),
-        (Call::Open(b"f", O_RDONLY), 1),
-        (Call::Open(b"f", O_RDONLY), 5),
-        // a write ends at 268,435,456
-        (Call::Seek(6, 268_435_455, SEEK_SET), 268_435_455),
-        (Call::Fits(6, 0), 0),
-        (Call::Fits(6, 1), 0),
-        (Call::Fits(6, 2), -27),
-        (Call::Fits(3, 1), -9),
+        (Call::Fits(3, 268_435_456), 0),
+        (Call::Fits(3, 268_435_457), -27),
         (Call::Fits(2, 268_435_453), 0),
         (Call::Fits(2, 268_435_454), -27),
-    ]
-    .into_iter()
-    .enumerate()
-    {
-        assert_eq!(rt; answer(&mut files, call), want, "{index}: {call:?}");
-    }
+        (Call::Fits(4, 0), -9),
+        (Call::Close(4), 0),
+        (Call::Close(4), -9),
+        (Call::Close(1), 0),
+        (Call::Open(b"f", O_RDONLY), 1),
+        (Call::Open(b"f", O_RDONLY), 4),
+    ];
+    run(&rt, &mut files, &script);
     assert_eq!(rt; files.stream(1), b"out".as_slice());
     assert_eq!(rt; files.stream(2), b"err".as_slice());
     Ok(())
@@ -203,7 +232,12 @@ fn runs_a_script(rt: HostRuntime) -> Result<(), Fail> {
 #[test]
 fn lists_names(rt: HostRuntime) -> Result<(), Fail> {
     let mut files = Files::new(rt.alloc())?;
-    for name in [b"b".as_slice(), b"a/b".as_slice(), b"a".as_slice(), b"\xff".as_slice()] {
+    for name in [
+        b"b".as_slice(),
+        b"a/b".as_slice(),
+        b"a".as_slice(),
+        b"\xff".as_slice(),
+    ] {
         assert_eq!(rt; answer(&mut files, Call::Place(name, b"")), 0);
     }
     for (name, want) in [
