@@ -23,6 +23,7 @@ IsSlotAt w fd Stream2 = fd ≡ 2
 IsSlotAt w fd (File number cursor flags) =
     IsSome (map.get w.files number) × (cursor < 2 ^ 63) × (flags < 8) × (flags % 4 ≢ 0)
 
+-- the limits are kept, and names, files and descriptors fit together
 pub record IsSound (w : World) : Type 0 where
   pub few_names : map.len w.names ≤ MAX_NAMES
   pub few_slots : map.len w.slots ≤ MAX_SLOTS

@@ -25,16 +25,18 @@ content_of w number = unwrap_or (map.get w.files number) []
 abbrev pub total : World → ℕ
 total w = length w.stream1 + length w.stream2 + sum_by length (map.values w.files)
 
--- does a descriptor stand for this file?
+-- does what a descriptor stands for have this file number?
 abbrev pub is_of : ℕ → Slot → Bool
 is_of number Input = false
 is_of number Stream1 = false
 is_of number Stream2 = false
 is_of number (File held cursor flags) = held == number
 
+-- does a file have a name?
 abbrev pub is_named : World → ℕ → Bool
 is_named w number = list_any (λ held. held == number) (map.values w.names)
 
+-- does a descriptor stand for a file?
 abbrev pub is_open : World → ℕ → Bool
 is_open w number = list_any (is_of number) (map.values w.slots)
 
