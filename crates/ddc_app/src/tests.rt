@@ -10,6 +10,8 @@ fn worked_shelf(alloc: Global) -> Result<MemShelf, OutOfMemory> {
     shelf.set("pair", &[0x7F, 0x45])?;
     shelf.set("empty", b"")?;
     shelf.set("zero", &[0])?;
+    shelf.set("exits", &[0x13, 5, 0, 0, 0x93, 8, 0xD0, 5, 0x73, 0, 0, 0])?;
+    shelf.set("no word", &[0xFF, 0xFF, 0xFF, 0xFF, 1])?;
     Ok(shelf)
 }
 
@@ -17,7 +19,7 @@ fn worked_shelf(alloc: Global) -> Result<MemShelf, OutOfMemory> {
 fn worked_examples(rt: HostRuntime) -> Result<(), Fail> {
     let alloc = rt.alloc();
     let mut shelf = worked_shelf(alloc)?;
-    let table: [(&[&str], Status, &str); 9] = [
+    let table: [(&[&str], Status, &str); 14] = [
         (&["hex0", "commented", "pair"], Status::Yes, "equal 2\n"),
         (&["hex0", "empty", "empty"], Status::Yes, "equal 0\n"),
         (
@@ -39,6 +41,23 @@ fn worked_examples(rt: HostRuntime) -> Result<(), Fail> {
         (&["hex0", "comm\0ented", "pair"], Status::Usage, "usage\n"),
         (&["hex1", "commented", "pair"], Status::Usage, "usage\n"),
         (&[], Status::Usage, "usage\n"),
+        (
+            &["list", "exits"],
+            Status::Yes,
+            "00000000 00000513 addi x10, x0, 0\n00000004 05d00893 addi x17, x0, 93\n00000008 00000073 ecall\n",
+        ),
+        (
+            &["list", "no word"],
+            Status::Yes,
+            "00000000 ffffffff ?\n00000004 rest 01\n",
+        ),
+        (&["list", "empty"], Status::Yes, ""),
+        (
+            &["list", "none"],
+            Status::FileRefused,
+            "file refused none absent\n",
+        ),
+        (&["list"], Status::Usage, "usage\n"),
     ];
     for (words, status, text) in table {
         let mut out = MemSink::new(alloc);

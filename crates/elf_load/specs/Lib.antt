@@ -1,0 +1,4 @@
+pub mod Fields
+pub mod Segments
+pub mod Image
+pub mod Refusal

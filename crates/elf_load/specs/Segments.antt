@@ -1,0 +1,92 @@
+-- Segments: what a file asks to be placed in memory, and where its pages lie.
+-- docs/reference/loader.md says the same for people.
+use Rattle.std.specs.Prelude.{◌≤◌, ◌<◌, ℕ, ◌+◌, ◌-◌, ◌*◌, ◌/◌, ◌^◌, ◌==◌, Bool, false, ◌&&◌, ◌||◌, not, nat_lt, nat_le, List, [], ◌∷◌, ◌⊎◌, max, map}
+use Rattle.std.specs.List.{filter, fold, list_any}
+use Rattle.elf_load.specs.declared.Segment.{Segment}
+use Rattle.elf_load.specs.Fields.{headers, p_type, p_offset, p_vaddr, p_filesz, p_memsz}
+
+-- PT_INTERP: the program wants an interpreter
+abbrev pub is_interpreter : List ℕ → ℕ → Bool
+is_interpreter file header = p_type file header == 3
+
+-- PT_LOAD, where it takes memory at all
+abbrev pub is_load : List ℕ → ℕ → Bool
+is_load file header = p_type file header == 1 && not (p_memsz file header == 0)
+
+-- the segment that the program header at `header` describes
+abbrev pub segment_at : List ℕ → ℕ → Segment
+segment_at file header = record {
+  at = p_vaddr file header;
+  offset = p_offset file header;
+  in_file = p_filesz file header;
+  in_memory = p_memsz file header;
+}
+
+-- the segments that those of the program headers describe that take memory
+unfoldable pub loads_among : List ℕ → List ℕ → List Segment
+loads_among file offsets = map (segment_at file) (filter (is_load file) offsets)
+
+-- the segments of a file, in the order of its header table
+abbrev pub segments_of : List ℕ → List Segment
+segments_of file = loads_among file (headers file)
+
+-- the first multiple of 4,096 that is not below `n`, and the last that is not above it
+abbrev pub page_up : ℕ → ℕ
+page_up n = (n + 4095) / 4096 * 4096
+
+abbrev pub page_down : ℕ → ℕ
+page_down n = n / 4096 * 4096
+
+-- where a segment ends in memory
+abbrev pub end_of : Segment → ℕ
+end_of segment = segment.at + segment.in_memory
+
+-- the segment's pages: from the page of its first byte to the end of the page of its last
+unfoldable pub first_page : Segment → ℕ
+first_page segment = page_down segment.at
+
+unfoldable pub page_end : Segment → ℕ
+page_end segment = page_up (end_of segment)
+
+-- the bytes of its pages
+abbrev pub paged_size : Segment → ℕ
+paged_size segment = page_end segment - first_page segment
+
+-- more bytes in the file than in memory, bytes past the end of a file of `size` bytes, or pages above 2^37
+unfoldable pub is_out_of_range : ℕ → Segment → Bool
+is_out_of_range size segment =
+    nat_lt segment.in_memory segment.in_file
+    || nat_lt size (segment.offset + segment.in_file)
+    || nat_lt (2 ^ 37) (page_end segment)
+
+-- two segments have a page in common
+abbrev pub share_page : Segment → Segment → Bool
+share_page one other = nat_lt (first_page one) (page_end other) && nat_lt (first_page other) (page_end one)
+
+-- some two of the segments do
+abbrev pub any_share : List Segment → Bool
+any_share [] = false
+any_share (segment ∷ rest) = list_any (share_page segment) rest || any_share rest
+
+-- the address is one of the segment's bytes in memory
+abbrev pub holds_address : ℕ → Segment → Bool
+holds_address address segment = nat_le segment.at address && nat_lt address (end_of segment)
+
+-- where the last of the segments ends, whole pages: the first byte of the heap
+abbrev pub break_after : List Segment → ℕ
+break_after segments = page_up (fold (λ most segment. max most (end_of segment)) 0 segments)
+
+-- the segment ends at most at 2^37
+abbrev pub IsLow : Segment → Type 0
+IsLow segment = end_of segment ≤ 2 ^ 37
+
+-- the segment's bytes stand in a file of `size` bytes, and its pages below 2^37
+pub record IsPlaced (size : ℕ) (segment : Segment) : Type 0 where
+  pub is_there : 0 < segment.in_memory
+  pub in_file : segment.in_file ≤ segment.in_memory
+  pub in_range : segment.offset + segment.in_file ≤ size
+  pub low : page_end segment ≤ 2 ^ 37
+
+-- the pages of one lie below those of the other
+abbrev pub AreApart : Segment → Segment → Type 0
+AreApart one other = (page_end one ≤ first_page other) ⊎ (page_end other ≤ first_page one)

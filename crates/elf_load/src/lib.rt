@@ -1,0 +1,67 @@
+//! The loader: what an ELF file asks to be placed in memory, and where its program begins.
+//!
+//! The rules, with their public sources, are in docs/reference/loader.md.
+#![tactic(auto)]
+
+ghost use Rattle.elf_load.specs.Fields.{e_entry};
+ghost use Rattle.elf_load.specs.Image.{image_of, header_rules, IsSound, Judges};
+ghost use Rattle.std.specs.Prelude.{◌≡◌, length, IfOk};
+
+use arrayvec::ArrayVec;
+
+mod checks;
+mod fields;
+mod refusal;
+mod table;
+#[cfg(test)]
+mod tests;
+
+pub use refusal::ElfRefusal;
+
+/// A part of a file that is to stand in memory: PT_LOAD of the ELF standard.
+#[derive(Clone, Copy, PartialEq, Eq, Default, Debug)]
+pub struct Segment {
+    /// The address of its first byte (p_vaddr).
+    pub at: u64,
+    /// The offset of its first byte in the file (p_offset).
+    pub offset: u64,
+    /// How many bytes the file holds (p_filesz); zeros follow them in memory.
+    pub in_file: u64,
+    /// How many bytes it takes in memory (p_memsz).
+    pub in_memory: u64,
+}
+
+/// What an accepted file asks for.
+#[derive(Drop)]
+pub struct Image {
+    /// The address of the first instruction, a multiple of 4 within a segment.
+    pub entry: u64,
+    /// The 1 to 16 segments, in the order of the header table. No two of them share a page.
+    pub segments: ArrayVec<Segment, 16>,
+    /// The end of the last segment in memory, rounded up to whole pages of 4,096 bytes.
+    pub first_break: u64,
+}
+
+/// Reads a static ELF-64 program for RISC-V.
+///
+/// Answers the first refusal that fits, in the order of [`ElfRefusal`]'s variants; else the entry,
+/// the segments and the first break. Takes no memory.
+///
+/// Public source: System V ABI (gABI), "Object Files" and "Program Loading and Dynamic Linking".
+pub fn read_image(file: &[u8]) -> Result<Image, ElfRefusal>
+    ensures value { result ≡ image_of file.now }
+    // What the layer above relies on.
+    ensures sound { IfOk result (IsSound (length file.now)) }
+{
+    checks::check_header(file)?;
+    let segments = table::read_segments(file)?;
+    checks::check_placing(&segments, file.len() as u64)?;
+    let entry = fields::entry(file);
+    checks::check_entry(entry, &segments)?;
+    let first_break = checks::break_after(&segments);
+    Ok(Image {
+        entry,
+        segments,
+        first_break,
+    })
+}
