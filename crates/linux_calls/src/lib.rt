@@ -3,6 +3,7 @@
 //! docs/reference/calls.md has the rules for a reader, and specs/Calls.antt the same for the prover.
 #![tactic(auto)]
 
+pub mod laws;
 mod names;
 mod path;
 mod program_break;

@@ -251,7 +251,7 @@ const ORDERS: [Row; 20] = [
     (SYS_WRITE, [1, BUFFER, 4096], 4096),
 ];
 
-const LIMITS: [Row; 19] = [
+const LIMITS: [Row; 9] = [
     (SYS_OPENAT, [CWD, F, 66], 3),
     (SYS_LSEEK, [3, i64::MAX, 0], i64::MAX),
     (SYS_LSEEK, [3, 1, 1], -22),
@@ -261,16 +261,6 @@ const LIMITS: [Row; 19] = [
     (SYS_READ, [3, NOWHERE, 1], 0),
     (SYS_LSEEK, [3, 268_435_455, 0], 268_435_455),
     (SYS_WRITE, [3, BUFFER, 2], -27),
-    (SYS_WRITE, [3, BUFFER, 1], 1),
-    (SYS_OPENAT, [CWD, G, 66], 4),
-    (SYS_LSEEK, [4, 268_435_454, 0], 268_435_454),
-    (SYS_WRITE, [4, BUFFER, 1], 1),
-    (SYS_WRITE, [1, BUFFER, 2], -28),
-    (SYS_WRITE, [1, BUFFER, 1], 1),
-    (SYS_WRITE, [4, BUFFER, 1], -28),
-    (SYS_WRITE, [4, BUFFER, 2], -27),
-    (SYS_LSEEK, [4, 0, 0], 0),
-    (SYS_WRITE, [4, BUFFER, 5], 5),
 ];
 
 const TOO_MANY: [Row; 8] = [
