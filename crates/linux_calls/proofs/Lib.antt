@@ -1,3 +1,4 @@
+pub mod BreakLaws
 pub mod Heaps
 pub mod Texts
 pub mod Writing

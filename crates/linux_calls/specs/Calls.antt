@@ -1,6 +1,6 @@
 -- The call table: what each call answers, and the memory, files and heap after it, by the first rule that fits
 -- (docs/reference/calls.md, "The table"). An error changes nothing.
-use Rattle.std.specs.Prelude.{ℕ, ◌+◌, ◌-◌, ◌%◌, ◌^◌, Bool, nat_lt, ◌==◌, if◌then◌else◌, Option, Some, None, Result, Ok, Err, List, length, slice_index, bit_and}
+use Rattle.std.specs.Prelude.{ℕ, ◌-◌, ◌%◌, ◌^◌, nat_lt, ◌==◌, if◌then◌else◌, Option, Some, None, Result, Ok, Err, List, length, slice_index, bit_and}
 use Rattle.std.specs.Int.{cast_signed, w64}
 use Rattle.std.specs.FinMap.{get, contains_key}
 use Rattle.paged_mem.specs.Memory.{Memory, bytes_at, maps, with_bytes}
