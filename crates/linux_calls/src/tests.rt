@@ -274,6 +274,14 @@ const TOO_MANY: [Row; 8] = [
     (SYS_OPENAT, [CWD, F, 0], 500),
 ];
 
+const NO_MORE_NAMES: [Row; 5] = [
+    (SYS_OPENAT, [CWD, H, 64], -28),
+    (SYS_OPENAT, [CWD, H, 0], -2),
+    (SYS_OPENAT, [CWD, BUFFER, 192], -17),
+    (SYS_UNLINKAT, [CWD, BUFFER, 0], 0),
+    (SYS_OPENAT, [CWD, H, 64], 3),
+];
+
 /// The same rows as tests/calls/expected.txt.
 #[test]
 fn as_linux(rt: HostRuntime) {
@@ -320,6 +328,30 @@ fn the_last_descriptor(rt: HostRuntime) {
         guest.run(&rt, rt.alloc(), &[(SYS_OPENAT, [CWD, F, 64], fd)]);
     }
     guest.run(&rt, rt.alloc(), &TOO_MANY);
+}
+
+/// With 4,096 names no other file is made; those that are there open as ever.
+#[test]
+fn the_last_name(rt: HostRuntime) {
+    let mut guest = with_texts(rt.alloc()).expect(&rt, "memory");
+    for i in 0..4096u64 {
+        let name = [
+            b'a' + (i / 256) as u8,
+            b'a' + (i / 16 % 16) as u8,
+            b'a' + (i % 16) as u8,
+            0,
+        ];
+        assert!(rt; guest.put(BUFFER as u64, &name));
+        guest.run(
+            &rt,
+            rt.alloc(),
+            &[
+                (SYS_OPENAT, [CWD, BUFFER, 64], 3),
+                (SYS_CLOSE, [3, 0, 0], 0),
+            ],
+        );
+    }
+    guest.run(&rt, rt.alloc(), &NO_MORE_NAMES);
 }
 
 #[test]
