@@ -1,12 +1,11 @@
 //! The program ddc: it hands its words and the host's files and output to the top call, and ends with its status.
 #![tactic(auto)]
 
+use ddc_app::{Status, run};
+use ddc_base::{DirShelf, OutOfMemory, StdSink};
 use std::env;
 use std::io::ErrorKind;
 use std::process::ExitCode;
-
-use ddc_app::{Status, run};
-use ddc_base::{DirShelf, OutOfMemory, StdSink};
 
 /// The words of the command line without the program's own name. They are none where a word is not UTF-8.
 fn command_line(rt: &HostRuntime) -> Result<Vec<String>, OutOfMemory> {

@@ -1,5 +1,5 @@
 -- How the steps of a command make up the whole.
-use Rattle.std.proofs.Common.{◌≡◌, ◌≢◌, ℕ, ◌+◌, ◌-◌, ◌^◌, ◌≤◌, min, Bool, true, false, IsTrue, IsSomeAnd, ◌⊎◌, inl, inr, Option, Some, None, Result, Ok, Err, List, [], ◌∷◌, string_bytes, refl, sym, ap, subst, ◌∙◌, arith}
+use Rattle.std.proofs.Common.{◌≡◌, ◌≢◌, ℕ, ◌+◌, ◌-◌, ◌^◌, ◌≤◌, min, Bool, true, false, IsTrue, IsSomeAnd, ◌⊎◌, inl, inr, Option, Some, None, Result, Ok, Err, List, [], ◌∷◌, refl, sym, ap, subst, ◌∙◌, arith}
 use Rattle.std.specs.Bool.{OnTrue}
 use Rattle.std.specs.FinMap as map
 use Rattle.ddc_base.specs.declared.outside.Operation.{Operation}
@@ -63,7 +63,7 @@ the_last P last call is p =
 
 -- a refused name's outcome
 refused : (name : List ℕ) (limit : ℕ) (next : List ℕ → Plan) (shelf : ShelfState) (answer : Answer) → IsTrue shelf.tells → IsRefusal shelf name limit answer
-    → outcome (needs name limit next) shelf.files ≡ record { status = answer.status; text = string_bytes answer.text; files = shelf.files }
+    → outcome (needs name limit next) shelf.files ≡ record { status = answer.status; text = answer.text; files = shelf.files }
 refused name limit next shelf answer told r =
     elim (where_told shelf.tells told r.1) [
       | inl absent ↦ rw (absent.0, r.0, absent.1) refl

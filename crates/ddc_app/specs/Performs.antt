@@ -1,5 +1,5 @@
 -- What a command does to a shelf, by how it ends, measured against its plan.
-use Rattle.std.specs.Prelude.{◌≡◌, ◌≢◌, ℕ, ◌≤◌, Bool, IsTrue, IsSomeAnd, ◌⊎◌, Option, Result, Ok, Err, List, [], ◌∷◌, string_bytes}
+use Rattle.std.specs.Prelude.{◌≡◌, ◌≢◌, ℕ, ◌≤◌, Bool, IsTrue, IsSomeAnd, ◌⊎◌, Option, Result, Ok, Err, List, [], ◌∷◌}
 use Rattle.std.specs.Bool.{OnTrue}
 use Rattle.std.specs.FinMap as map
 use Rattle.ddc_base.specs.declared.outside.Operation.{Operation}
@@ -38,7 +38,7 @@ IsFaultIn plan old (Save, name) new = IsIn name (saves plan old) × OthersStay n
 pub record Answers (plan : Plan) (old new : ShelfState) (answer : Answer) : Type 0 where
   pub tells : new.tells ≡ old.tells
   pub faults : new.faults ≡ old.faults
-  pub outcome : IsSettled plan old.tells → outcome plan old.files ≡ record { status = answer.status; text = string_bytes answer.text; files = new.files }
+  pub outcome : IsSettled plan old.tells → outcome plan old.files ≡ record { status = answer.status; text = answer.text; files = new.files }
 
 -- a call failed, the text names it, and where the shelf tells it is a call of the plan
 pub record Faults (plan : Plan) (old new : ShelfState) (text : List ℕ) : Type 0 where
@@ -61,7 +61,7 @@ pub record WantsMemory (plan : Plan) (old new : ShelfState) : Type 0 where
 abbrev pub PerformsBy : Plan → ShelfState → ShelfState → Result Answer Stop → Type 0
 PerformsBy plan old new (Ok answer) = Answers plan old new answer
 PerformsBy plan old new (Err (stop.Answered answer)) = Answers plan old new answer
-PerformsBy plan old new (Err (stop.ShelfFault text)) = Faults plan old new (string_bytes text)
+PerformsBy plan old new (Err (stop.ShelfFault text)) = Faults plan old new text
 PerformsBy plan old new (Err stop.OutOfMemory) = WantsMemory plan old new
 
 -- a command did to a shelf what its plan says
@@ -69,7 +69,7 @@ pub record Performs (plan : Plan) (old new : ShelfState) (result : Result Answer
   pub by_result : PerformsBy plan old new result
 
 abbrev pub SaysBy : Plan → Result Answer Stop → Type 0
-SaysBy plan (Ok answer) = plan ≡ answers answer.status (string_bytes answer.text)
+SaysBy plan (Ok answer) = plan ≡ answers answer.status (answer.text)
 SaysBy plan (Err ending) = ending ≡ stop.OutOfMemory
 
 -- the plan's answer is given with no call of a shelf, or memory was wanting
@@ -81,13 +81,13 @@ abbrev pub IsRefusal : ShelfState → List ℕ → ℕ → Answer → Type 0
 IsRefusal shelf name limit answer =
     (answer.status ≡ status.FileRefused)
     × OnTrue shelf.tells (
-    ((loaded shelf.files name limit ≡ content.Absent) × (string_bytes answer.text ≡ absent_line name))
-    ⊎ ((loaded shelf.files name limit ≡ content.TooLong) × (string_bytes answer.text ≡ too_long_line name)))
+    ((loaded shelf.files name limit ≡ content.Absent) × (answer.text ≡ absent_line name))
+    ⊎ ((loaded shelf.files name limit ≡ content.TooLong) × (answer.text ≡ too_long_line name)))
 
 abbrev pub FetchesBy : List ℕ → ℕ → ShelfState → ShelfState → Result (List ℕ) Stop → Type 0
 FetchesBy name limit old new (Ok bytes) = (new ≡ old) × OnTrue old.tells (loaded old.files name limit ≡ content.Bytes bytes)
 FetchesBy name limit old new (Err (stop.Answered answer)) = (new ≡ old) × IsRefusal old name limit answer
-FetchesBy name limit old new (Err (stop.ShelfFault text)) = LoadFails name old new × (string_bytes text ≡ shelf_fault_line name)
+FetchesBy name limit old new (Err (stop.ShelfFault text)) = LoadFails name old new × (text ≡ shelf_fault_line name)
 FetchesBy name limit old new (Err stop.OutOfMemory) = (new ≡ old) ⊎ LoadFails name old new
 
 -- a needed name was fetched, or ended the command

@@ -2,6 +2,7 @@ ghost use Rattle.std.specs.Prelude.{◌≡◌};
 ghost use Rattle.ddc_app.specs.declared.stop.Stop.TheVariants.{OutOfMemory};
 
 use crate::answer::Answer;
+use ddc_base::Bytes;
 
 /// What ends a command before its end.
 #[derive(Debug, Drop)]
@@ -9,7 +10,7 @@ pub(crate) enum Stop {
     /// The answer is fixed already.
     Answered(Answer),
     /// The shelf failed; the text names the call.
-    ShelfFault(String),
+    ShelfFault(Bytes),
     OutOfMemory,
 }
 

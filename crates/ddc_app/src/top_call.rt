@@ -52,9 +52,9 @@ pub fn run<S: Shelf, K: Sink>(alloc: Global, words: &[&str], shelf: &mut S, out:
         → LeavesFiles (asked words.now) (S.state shelf.old) (S.state shelf.new) }
 {
     match perform(alloc, words, shelf) {
-        Ok(answer) => put(out, answer.text.as_str(), answer.status),
-        Err(Stop::Answered(answer)) => put(out, answer.text.as_str(), answer.status),
-        Err(Stop::ShelfFault(text)) => put(out, text.as_str(), Status::ShelfFault),
+        Ok(answer) => put(out, answer.text.as_slice(), answer.status),
+        Err(Stop::Answered(answer)) => put(out, answer.text.as_slice(), answer.status),
+        Err(Stop::ShelfFault(text)) => put(out, text.as_slice(), Status::ShelfFault),
         Err(Stop::OutOfMemory) => Status::OutOfMemory,
     }
 }
@@ -74,10 +74,10 @@ fn perform<S: Shelf>(alloc: Global, words: &[&str], shelf: &mut S) -> Result<Ans
 }
 
 /// Puts the whole text, and gives the status unless that fails.
-fn put<K: Sink>(out: &mut K, text: &str, status: Status) -> Status
+fn put<K: Sink>(out: &mut K, text: &[u8], status: Status) -> Status
     ensures { PutEnds (K.state out.old) text.now (K.state out.new) status result }
 {
-    match out.put(text.as_bytes()) {
+    match out.put(text) {
         Ok(()) => status,
         Err(PutFail::Failed) => Status::OutFault,
         Err(PutFail::OutOfMemory) => Status::OutOfMemory,

@@ -1,0 +1,11 @@
+pub mod Mapped
+pub mod Maps
+pub mod MemoryLaws
+pub mod Moves
+pub mod Numbers
+pub mod Places
+pub mod Rooms
+pub mod Runs
+pub mod Seen
+pub mod Spans
+pub mod Views

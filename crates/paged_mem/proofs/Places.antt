@@ -1,0 +1,86 @@
+-- What the memory of rising pages answers at an address, by the place of its page.
+use Rattle.std.proofs.Common.{◌≡◌, ◌≢◌, ℕ, zero, suc, ◌+◌, ◌-◌, ◌^◌, ◌<◌, ◌≤◌, Option, None, Some, IsSome, add-zero, List, [], ◌∷◌, length, get_or, refl, sym, ap, ◌∙◌, arith, ◌⊎◌, inl, inr}
+use Rattle.std.specs.Option.{option_map}
+use Rattle.std.proofs.lemmas.Bool.{cases_eq, cases_order}
+use Rattle.paged_mem.specs.Flat.{place, Rises, IsLow, IsRank}
+use Rattle.paged_mem.specs.Held.{place_here, place_later, place-some}
+
+-- the page with a number stands at one place, and where no page has it there is none
+Rises-tail : (page : ℕ) (pages : List ℕ) → Rises (page ∷ pages) → Rises pages
+Rises-tail page pages rising = λ i j below within. rising (suc i) (suc j) (omega arith) (omega arith)
+
+pub place-at : (pages : List ℕ) → Rises pages → (number i : ℕ) → i < length pages → get_or pages i 0 ≡ number → place pages number ≡ Some i
+place-at [] rising number i within e = absurd (omega arith)
+place-at (page ∷ pages) rising number zero within e = place_here page number pages e
+place-at (page ∷ pages) rising number (suc i) within e =
+    let above : page < get_or pages i 0 = rising 0 (suc i) (omega arith) within in
+    place_later page number pages (λ same. omega arith) ∙ ap (option_map (λ i. 1 + i)) (place-at pages (Rises-tail page pages rising) number i (omega arith) e) ∙ ap Some (omega arith)
+
+pub place-none : (pages : List ℕ) (number : ℕ) → ((k : ℕ) → k < length pages → get_or pages k 0 ≢ number) → place pages number ≡ None
+place-none [] number apart = unfold place in refl
+place-none (page ∷ pages) number apart =
+    place_later page number pages (apart 0 (omega arith)) ∙ ap (option_map (λ i. 1 + i)) (place-none pages number (λ k within. apart (suc k) (omega arith)))
+
+pub never_falls : (pages : List ℕ) → Rises pages → (i j : ℕ) → i ≤ j → j < length pages → get_or pages i 0 ≤ get_or pages j 0
+never_falls pages rising i j le within = step (cases_eq i j)
+  where
+    step : (i ≡ j) ⊎ (i ≢ j) → get_or pages i 0 ≤ get_or pages j 0
+    step (inl same) = omega (arith, ap (λ k. get_or pages k 0) same)
+    step (inr ne) = omega (arith, rising i j (omega arith) within)
+
+-- a page's place is the rank of its number
+pub rank_found : (pages : List ℕ) → Rises pages → (number i : ℕ) → i < length pages → get_or pages i 0 ≡ number → IsRank pages number i
+rank_found pages rising number i within at = record {
+  within = omega arith;
+  below = λ k below. omega (arith, rising k i below within);
+  above = λ k from in_range. omega (arith, never_falls pages rising i k from in_range);
+}
+
+-- where the rank of a number is not its place, no page has it
+pub place-rank : (pages : List ℕ) (number rank : ℕ) → Rises pages → IsRank pages number rank → (rank < length pages → get_or pages rank 0 ≢ number) → place pages number ≡ None
+place-rank pages number rank rising is ne = place-none pages number (λ k within e. apart k within e (cases_order k rank))
+  where
+    apart : (k : ℕ) → k < length pages → get_or pages k 0 ≡ number → (k ≡ rank) ⊎ ((k < rank) ⊎ (rank < k)) → ⊥
+    apart k within e (inl same) = ne (omega arith) (ap (λ k. get_or pages k 0) (sym same) ∙ e)
+    apart k within e (inr (inl below)) = omega (arith, is.below k below)
+    apart k within e (inr (inr above)) = omega (arith, rising rank k above within, is.above rank (omega arith) (omega arith))
+
+-- from one page to a later one the number rises at least as much as the place
+pub rising_by : (pages : List ℕ) → Rises pages → (i more : ℕ) → i + more < length pages → get_or pages i 0 + more ≤ get_or pages (i + more) 0
+rising_by pages rising i zero within = omega (arith, ap (λ k. get_or pages k 0) (add-zero i))
+rising_by pages rising i (suc more) within =
+    omega (arith, rising_by pages rising i more (omega arith), rising (i + more) (i + suc more) (omega arith) within)
+
+-- there are at most 2 ^ 26 pages
+pub few_pages : (pages : List ℕ) → Rises pages → IsLow pages → length pages ≤ 2 ^ 26
+few_pages pages rising low = few (cases_eq (length pages) 0)
+  where
+    few : (length pages ≡ 0) ⊎ (length pages ≢ 0) → length pages ≤ 2 ^ 26
+    few (inl none) = omega arith
+    few (inr some) =
+        let last = length pages - 1 in
+        let at : get_or pages 0 0 + last ≤ get_or pages (0 + last) 0 = rising_by pages rising 0 last (omega arith) in
+        let top : get_or pages (0 + last) 0 < 2 ^ 26 = low (0 + last) (omega arith) in
+        omega arith
+
+-- pages with numbers in a row stand in a row
+pub in_a_row : (pages : List ℕ) → Rises pages → (page i : ℕ) → place pages page ≡ Some i → (more : ℕ) → ((k : ℕ) → k ≤ more → IsSome (place pages (page + k))) → place pages (page + more) ≡ Some (i + more)
+in_a_row pages rising page i at zero present = ap (place pages) (add-zero page) ∙ at ∙ ap Some (sym (add-zero i))
+in_a_row pages rising page i at (suc more) present =
+    next (in_a_row pages rising page i at more (λ k le. present k (omega arith))) (place pages (page + suc more)) refl (present (suc more) (omega arith))
+  where
+    next : place pages (page + more) ≡ Some (i + more) → (o : Option ℕ) → place pages (page + suc more) ≡ o → IsSome o → o ≡ Some (i + suc more)
+    next before None was there = cc
+    next before (Some j) was there =
+        let low = place-some pages (page + more) (i + more) before in
+        let high = place-some pages (page + suc more) j was in
+        ap Some (found low high (cases_order j (i + suc more)))
+      where
+        earlier : (i + more < length pages) × (get_or pages (i + more) 0 ≡ page + more) → (j < length pages) × (get_or pages j 0 ≡ page + suc more) → j < i + suc more → (j ≡ i + more) ⊎ (j ≢ i + more) → j ≡ i + suc more
+        earlier low high below (inl same) = absurd (omega (arith, low.1, high.1, ap (λ k. get_or pages k 0) same))
+        earlier low high below (inr ne) = absurd (omega (arith, low.1, high.1, rising j (i + more) (omega arith) low.0))
+
+        found : (i + more < length pages) × (get_or pages (i + more) 0 ≡ page + more) → (j < length pages) × (get_or pages j 0 ≡ page + suc more) → (j ≡ i + suc more) ⊎ ((j < i + suc more) ⊎ (i + suc more < j)) → j ≡ i + suc more
+        found low high (inl same) = same
+        found low high (inr (inl below)) = earlier low high below (cases_eq j (i + more))
+        found low high (inr (inr above)) = absurd (omega (arith, low.1, high.1, rising (i + more) (i + suc more) (omega arith) (omega (arith, high.0)), rising (i + suc more) j above high.0))

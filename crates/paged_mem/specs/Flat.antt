@@ -1,0 +1,66 @@
+-- How a `FlatRam` keeps its memory: page numbers that rise, and the bytes of all those pages, in that order, in one list.
+use Rattle.std.specs.Prelude.{◌≡◌, ◌≢◌, ℕ, zero, suc, ◌+◌, ◌*◌, ◌/◌, ◌%◌, ◌^◌, ◌<◌, ◌≤◌, Option, None, Some, if◌then◌else◌, ◌==◌, List, [], ◌∷◌, ◌++◌, length, take, drop, slice_index}
+use Rattle.std.specs.Option.{option_map}
+use Rattle.std.specs.FinMap.{empty}
+use Rattle.paged_mem.specs.Memory.{Memory, with_bytes}
+
+-- the memory of these pages, 4,096 bytes for each
+unfoldable pub memory_of : List ℕ → List ℕ → Memory
+memory_of [] bytes = empty
+memory_of (page ∷ pages) bytes = with_bytes (memory_of pages (drop 4096 bytes)) (4096 * page) (take 4096 bytes)
+
+-- which of the pages has this number
+unfoldable pub place : List ℕ → ℕ → Option ℕ
+place [] number = None
+place (page ∷ pages) number = if page == number then Some 0 else option_map (λ i. 1 + i) (place pages number)
+
+-- where in the list of bytes the byte of an address stands
+abbrev pub slot : List ℕ → ℕ → Option ℕ
+slot pages at = option_map (λ i. 4096 * i + at % 4096) (place pages (at / 4096))
+
+-- each number is below the later ones
+abbrev pub Rises : List ℕ → Type 0
+Rises pages = (i j : ℕ) → i < j → j < length pages → slice_index pages i < slice_index pages j
+
+-- each number is below 2 ^ 26
+abbrev pub IsLow : List ℕ → Type 0
+IsLow pages = (i : ℕ) → i < length pages → slice_index pages i < 2 ^ 26
+
+-- page numbers rise and are below 2 ^ 26, and each page has 4,096 bytes
+pub record IsSound (pages bytes : List ℕ) : Type 0 where
+  pub rising : Rises pages
+  pub low : IsLow pages
+  pub full : length bytes ≡ 4096 * length pages
+  pub small : (i : ℕ) → slice_index bytes i < 256
+
+-- so many pages have a number below this one
+pub record IsRank (pages : List ℕ) (number rank : ℕ) : Type 0 where
+  pub within : rank ≤ length pages
+  pub below : (k : ℕ) → k < rank → slice_index pages k < number
+  pub above : (k : ℕ) → rank ≤ k → k < length pages → number ≤ slice_index pages k
+
+-- the first page with a number or a later one, at its place, and so many pages in a row from it on
+pub record IsRowAt (pages : List ℕ) (number start first count : ℕ) : Type 0 where
+  pub rank : IsRank pages number start
+  pub some : 1 ≤ count
+  pub within : start + count ≤ length pages
+  pub row : (k : ℕ) → k < count → slice_index pages (start + k) ≡ first + k
+  pub ends : start + count < length pages → slice_index pages (start + count) ≢ first + count
+
+abbrev pub IsRow : List ℕ → ℕ → Option (ℕ × ℕ) → Type 0
+IsRow pages number None = IsRank pages number (length pages)
+IsRow pages number (Some row) = (start : ℕ) × IsRowAt pages number start row.0 row.1
+
+-- the bytes of count addresses in a row stand in a row, or one of those addresses is on none of the pages
+abbrev pub Spans : List ℕ → ℕ → ℕ → Option ℕ → Type 0
+Spans pages at count (Some start) = (start + count ≤ 4096 * length pages) × ((k : ℕ) → k < count → slot pages (at + k) ≡ Some (start + k))
+Spans pages at count None = (k : ℕ) × (k < count) × (slot pages (at + k) ≡ None)
+
+-- a list with these elements in place of as many from an index on
+abbrev pub overwritten : List ℕ → ℕ → List ℕ → List ℕ
+overwritten bytes start source = take start bytes ++ (source ++ drop (start + length source) bytes)
+
+-- the little-endian number of count bytes from an index on
+abbrev pub number_at : List ℕ → ℕ → ℕ → ℕ
+number_at bytes start zero = 0
+number_at bytes start (suc count) = slice_index bytes start + 256 * number_at bytes (1 + start) count

@@ -1,0 +1,4 @@
+pub mod Flat
+pub mod Held
+pub mod Memory
+pub mod Ram

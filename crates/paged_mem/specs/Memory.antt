@@ -1,0 +1,65 @@
+-- The guest's memory as contracts see it, a finite map from mapped addresses to bytes (docs/reference/memory.md).
+-- Addresses are plain numbers that do not wrap: none at or past 2 ^ 64 is ever mapped.
+use Rattle.std.specs.Prelude.{◌≡◌, ℕ, zero, suc, ◌+◌, ◌*◌, ◌/◌, ◌%◌, ◌^◌, ◌<◌, ◌≤◌, Bool, not, ◌&&◌, nat_le, nat_lt, Option, None, Some, is_some, List, [], ◌∷◌, replicate}
+use Rattle.std.specs.Ordering.{nat_cmp}
+use Rattle.std.specs.Option.{option_map}
+use Rattle.std.specs.FinMap.{FinMap, get, contains_key, insert, retain_keys}
+
+-- the byte at each mapped address
+abbrev pub Memory : Type 0
+Memory = FinMap nat_cmp ℕ
+
+-- mapped addresses come in whole pages of 4,096 bytes below 2 ^ 38, and each holds a byte
+pub record IsWhole (m : Memory) : Type 0 where
+  pub small : (at byte : ℕ) → get m at ≡ Some byte → byte < 256
+  pub low : (at byte : ℕ) → get m at ≡ Some byte → at < 2 ^ 38
+  pub pages : (at other : ℕ) → at / 4096 ≡ other / 4096 → contains_key m at ≡ contains_key m other
+
+-- a byte before those that follow it, where all of them are there
+abbrev pub prepended : Option ℕ → Option (List ℕ) → Option (List ℕ)
+prepended None rest = None
+prepended (Some byte) rest = option_map (λ bytes. byte ∷ bytes) rest
+
+-- the count bytes from an address, or none where one of them is unmapped
+unfoldable pub bytes_at : Memory → ℕ → ℕ → Option (List ℕ)
+bytes_at m at zero = Some []
+bytes_at m at (suc count) = prepended (get m at) (bytes_at m (suc at) count)
+
+-- whether the count bytes from an address are all mapped
+abbrev pub maps : Memory → ℕ → ℕ → Bool
+maps m at count = is_some (bytes_at m at count)
+
+-- no address of the count from this one is mapped
+abbrev pub IsFree : Memory → ℕ → ℕ → Type 0
+IsFree m at count = (address : ℕ) → at ≤ address → address < at + count → get m address ≡ None
+
+-- the memory with these bytes from an address on
+unfoldable pub with_bytes : Memory → ℕ → List ℕ → Memory
+with_bytes m at [] = m
+with_bytes m at (byte ∷ bytes) = insert (with_bytes m (suc at) bytes) at byte
+
+-- the memory without the count addresses from this one
+unfoldable pub without : Memory → ℕ → ℕ → Memory
+without m at count = retain_keys m (λ address. not (nat_le at address && nat_lt address (at + count)))
+
+-- zero bytes, so many
+unfoldable pub zeros : ℕ → List ℕ
+zeros count = replicate count 0
+
+-- the number of bytes that stand lowest first
+unfoldable pub number_of : List ℕ → ℕ
+number_of [] = 0
+number_of (byte ∷ bytes) = byte + 256 * number_of bytes
+
+-- the low bytes of a number, so many, lowest first
+unfoldable pub bytes_of : ℕ → ℕ → List ℕ
+bytes_of zero value = []
+bytes_of (suc count) value = value % 256 ∷ bytes_of count (value / 256)
+
+-- the little-endian number of the count bytes from an address, or none where one of them is unmapped
+abbrev pub reads : Memory → ℕ → ℕ → Option ℕ
+reads m at count = option_map number_of (bytes_at m at count)
+
+-- the memory with the low count bytes of a number, little-endian, from an address on
+abbrev pub writes : Memory → ℕ → ℕ → ℕ → Memory
+writes m at count value = with_bytes m at (bytes_of count value)

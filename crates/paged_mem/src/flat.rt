@@ -1,0 +1,112 @@
+ghost use Rattle.std.specs.Prelude.{◌≡◌, ◌≢◌, ◌*◌, Err};
+ghost use Rattle.paged_mem.specs.Ram.{count_of, Stores, Writes};
+ghost use Rattle.paged_mem.specs.Flat.{IsSound};
+ghost use Rattle.paged_mem.specs.Held.{IsSound-prop};
+
+use crate::mapping::{map_pages, unmap_pages};
+use crate::pages::{fill, number, put, row_from, span};
+use crate::ram::{PageView, Ram, StoreRefusal, Width};
+use ddc_base::OutOfMemory;
+use std::alloc::Global;
+use std::marker::Model;
+
+/// A guest's memory in one vector: the mapped page numbers, ascending, and the bytes of all those pages in that order.
+///
+/// A look-up is a binary search on page numbers, with a first guess for pages in a row from the first one on.
+#[derive(Drop)]
+pub struct FlatRam {
+    pages: Vec<u64>,
+    bytes: Vec<u8>,
+    ghost sound: { IsSound pages.items bytes.items } by { IsSound-prop pages.items bytes.items },
+}
+
+impl Model for FlatRam {
+    ghost use Rattle.paged_mem.specs.Held.{Held, held_code, IsWhole-memory_of};
+    ghost use Rattle.paged_mem.specs.Flat.{memory_of};
+
+    ghost Value = { Held };
+
+    ghost coded = { held_code };
+
+    ghost view = { λ ram. record {
+      bytes = memory_of ram.pages.items ram.bytes.items;
+      whole = IsWhole-memory_of ram.pages.items ram.bytes.items ram.sound;
+    } };
+}
+
+impl Ram for FlatRam {
+    ghost bytes = { λ ram. ram.bytes };
+
+    fn empty(alloc: Global) -> FlatRam {
+        FlatRam {
+            pages: Vec::new(alloc),
+            bytes: Vec::new(alloc),
+        }
+    }
+
+    fn load(&self, at: u64, width: Width) -> Option<u64> {
+        match span(&self.pages, at, width.count()) {
+            None => None,
+            Some(start) => Some(number(&self.bytes, start, width)),
+        }
+    }
+
+    fn store(&mut self, at: u64, width: Width, value: u64) -> Result<(), StoreRefusal>
+        ensures stores { Stores self.old.bytes at (count_of width) value result self.new.bytes }
+        ensures needs_no_memory { result ≢ Err StoreRefusal.OutOfMemory }
+    {
+        let low = value.to_le_bytes();
+        self.write_from(at, &low[..width.count() as usize])
+    }
+
+    fn mapped(&self, at: u64, count: u64) -> bool {
+        span(&self.pages, at, count).is_some()
+    }
+
+    fn read_into(&self, at: u64, out: &mut [u8]) -> bool {
+        match span(&self.pages, at, out.len() as u64) {
+            None => false,
+            Some(start) => {
+                fill(out, &self.bytes, start);
+                true
+            }
+        }
+    }
+
+    fn write_from(&mut self, at: u64, source: &[u8]) -> Result<(), StoreRefusal>
+        ensures writes { Writes self.old.bytes at source.now result self.new.bytes }
+        ensures needs_no_memory { result ≢ Err StoreRefusal.OutOfMemory }
+    {
+        match span(&self.pages, at, source.len() as u64) {
+            None => Err(StoreRefusal::Unmapped),
+            Some(start) => {
+                put(&mut self.bytes, start, source);
+                Ok(())
+            }
+        }
+    }
+
+    fn map_zero(&mut self, first: u64, pages: u64) -> Result<(), OutOfMemory> {
+        map_pages(&mut self.pages, &mut self.bytes, first, pages as usize)
+    }
+
+    fn unmap(&mut self, first: u64, pages: u64) {
+        unmap_pages(&mut self.pages, &mut self.bytes, first, pages as usize);
+    }
+
+    fn run_from(&self, at: u64) -> Option<(u64, u64)> {
+        match row_from(&self.pages, at / 4096) {
+            None => None,
+            Some((first, count)) => Some((4096 * first, count)),
+        }
+    }
+
+    fn page(&self, first: u64) -> PageView<'_> {
+        match span(&self.pages, first, 4096) {
+            None => PageView::Unmapped,
+            Some(start) => PageView::Full(&self.bytes[start..start + 4096]),
+        }
+    }
+
+    ghost whole = { λ ram. ram.whole };
+}

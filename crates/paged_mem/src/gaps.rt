@@ -1,0 +1,53 @@
+ghost use Rattle.std.specs.Prelude.{◌≡◌, ℕ, ◌+◌, ◌*◌, ◌^◌, ◌<◌, ◌≤◌, ◌++◌, length, take, drop, replicate, OnOk, OnErr};
+ghost use Rattle.std.specs.Vec.{vec_len};
+ghost use Rattle.std.specs.List.{range_with_len};
+
+use std::alloc::AllocError;
+
+/// Makes room for `count` more elements before the one at `at`, each `value` at first.
+pub fn open_gap<T: Copy>(
+    list: &mut Vec<T>,
+    at: usize,
+    count: usize,
+    value: T,
+) -> Result<(), AllocError>
+    requires within { at ≤ vec_len list.old }
+    requires fits { vec_len list.old + count < 2 ^ 64 }
+    ensures ok { OnOk result (list.new.items ≡ take at list.old.items ++ (replicate count value ++ drop at list.old.items)) }
+    ensures err { OnErr result (list.new.items ≡ list.old.items) }
+{
+    let len = list.len();
+    list.resize(len + count, value)?;
+    list[at..].rotate_right(count);
+    Ok(())
+}
+
+/// Takes away `count` elements from the one at `at` on.
+pub fn close_gap<T: Copy>(list: &mut Vec<T>, at: usize, count: usize)
+    requires { at + count ≤ vec_len list.old }
+    ensures { list.new.items ≡ take at list.old.items ++ drop (at + count) list.old.items }
+{
+    let len = list.len();
+    list[at..].rotate_left(count);
+    list.truncate(len - count);
+}
+
+/// Makes room for `count` page numbers before the one at `at`: those in a row from `number` on.
+pub fn insert_numbers(
+    pages: &mut Vec<u64>,
+    at: usize,
+    number: u64,
+    count: usize,
+) -> Result<(), AllocError>
+    requires within { at ≤ vec_len pages.old }
+    requires fits { vec_len pages.old + count < 2 ^ 64 }
+    requires low { number + count < 2 ^ 64 }
+    ensures ok { OnOk result (pages.new.items ≡ take at pages.old.items ++ (range_with_len number count ++ drop at pages.old.items)) }
+    ensures err { OnErr result (pages.new.items ≡ pages.old.items) }
+{
+    open_gap(pages, at, count, 0)?;
+    for i in 0..count {
+        pages[at + i] = number + i as u64;
+    }
+    Ok(())
+}

@@ -1,0 +1,48 @@
+ghost use Rattle.std.specs.Prelude.{◌≡◌, ℕ, ◌+◌, ◌*◌, ◌%◌, ◌^◌, ◌<◌, ◌≤◌, IsTrue, OnOk, OnErr};
+ghost use Rattle.paged_mem.specs.Memory.{IsFree, maps, with_bytes, without, zeros};
+ghost use Rattle.paged_mem.specs.Flat.{IsSound, memory_of};
+
+use crate::gaps::{close_gap, insert_numbers, open_gap};
+use crate::pages::rank;
+use ddc_base::OutOfMemory;
+
+/// Puts `count` pages of zeros where none is, from the page at `first` on.
+pub fn map_pages(
+    pages: &mut Vec<u64>,
+    bytes: &mut Vec<u8>,
+    first: u64,
+    count: usize,
+) -> Result<(), OutOfMemory>
+    requires sound { IsSound pages.old.items bytes.old.items }
+    requires aligned { first % 4096 ≡ 0 }
+    requires low { first + 4096 * count ≤ 2 ^ 38 }
+    requires free { IsFree (memory_of pages.old.items bytes.old.items) first (4096 * count) }
+    ensures sound { IsSound pages.new.items bytes.new.items }
+    ensures ok { OnOk result (memory_of pages.new.items bytes.new.items
+        ≡ with_bytes (memory_of pages.old.items bytes.old.items) first (zeros (4096 * count))) }
+    ensures err { OnErr result (memory_of pages.new.items bytes.new.items ≡ memory_of pages.old.items bytes.old.items) }
+{
+    let at = rank(pages, first / 4096);
+    open_gap(bytes, 4096 * at, 4096 * count, 0)?;
+    match insert_numbers(pages, at, first / 4096, count) {
+        Ok(()) => Ok(()),
+        Err(_) => {
+            close_gap(bytes, 4096 * at, 4096 * count);
+            Err(OutOfMemory)
+        }
+    }
+}
+
+/// Takes away `count` mapped pages from the page at `first` on.
+pub fn unmap_pages(pages: &mut Vec<u64>, bytes: &mut Vec<u8>, first: u64, count: usize)
+    requires sound { IsSound pages.old.items bytes.old.items }
+    requires aligned { first % 4096 ≡ 0 }
+    requires present { IsTrue (maps (memory_of pages.old.items bytes.old.items) first (4096 * count)) }
+    ensures sound { IsSound pages.new.items bytes.new.items }
+    ensures unmapped { memory_of pages.new.items bytes.new.items
+        ≡ without (memory_of pages.old.items bytes.old.items) first (4096 * count) }
+{
+    let at = rank(pages, first / 4096);
+    close_gap(pages, at, count);
+    close_gap(bytes, 4096 * at, 4096 * count);
+}

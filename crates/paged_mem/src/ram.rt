@@ -1,0 +1,107 @@
+ghost use Rattle.std.specs.Prelude.{◌≡◌, ℕ, ◌+◌, ◌*◌, ◌%◌, ◌^◌, ◌<◌, ◌≤◌, length, IsTrue, unwrap_or, IfSome, OnOk, OnErr};
+ghost use Rattle.std.specs.FinMap as map;
+ghost use Rattle.paged_mem.specs.Memory.{Memory, IsWhole, IsFree, bytes_at, maps, reads, with_bytes, without, zeros};
+ghost use Rattle.paged_mem.specs.Ram.{count_of, Stores, Writes, RunsFrom, shown};
+
+use ddc_base::OutOfMemory;
+use std::alloc::Global;
+
+/// How many bytes a load or a store moves: 1, 2, 4 or 8.
+#[derive(Clone, Copy, Debug, PartialEq, Eq)]
+pub enum Width {
+    W1,
+    W2,
+    W4,
+    W8,
+}
+
+impl Width {
+    /// How many bytes such an access has.
+    pub fn count(self) -> u64
+        ensures { result ≡ count_of self }
+    {
+        match self {
+            Width::W1 => 1,
+            Width::W2 => 2,
+            Width::W4 => 4,
+            Width::W8 => 8,
+        }
+    }
+}
+
+/// Why a write was refused. `Unmapped` comes before want of memory.
+#[derive(Clone, Copy, Debug, PartialEq, Eq)]
+pub enum StoreRefusal {
+    Unmapped,
+    OutOfMemory,
+}
+
+/// What a page holds: nothing, 4,096 zero bytes, or the 4,096 bytes that are lent.
+///
+/// `Zero` and `Full` both speak of a mapped page, and a page that is all zero may be shown either way.
+#[derive(Clone, Copy, Debug)]
+pub enum PageView<'a> {
+    Unmapped,
+    Zero,
+    Full(&'a [u8]),
+}
+
+/// A guest's memory, seen as the finite map from its mapped addresses to bytes.
+///
+/// The mapped addresses are whole pages of 4,096 bytes below 2^38. Alignment never matters, a number stands lowest
+/// byte first, and an address past 2^64 - 1 is unmapped: nothing wraps.
+pub trait Ram: Sized + Drop {
+    ghost bytes: { Self → Memory };
+
+    /// Memory with nothing mapped. It takes no memory, and keeps the allocator.
+    fn empty(alloc: Global) -> Self
+        ensures { bytes result ≡ map.empty };
+
+    /// The little-endian number at an address, zero-extended; `None` exactly where a byte of it is unmapped.
+    fn load(&self, at: u64, width: Width) -> Option<u64>
+        ensures value { result ≡ reads (bytes self.now) at (count_of width) }
+        ensures fits { IfSome result (λ value. value < 2 ^ (8 * count_of width)) };
+
+    /// Stores the low bytes of a number, little-endian; a refusal leaves the memory as it was.
+    fn store(&mut self, at: u64, width: Width, value: u64) -> Result<(), StoreRefusal>
+        ensures { Stores (bytes self.old) at (count_of width) value result (bytes self.new) };
+
+    /// Whether all `count` bytes from an address are mapped; no bytes are.
+    fn mapped(&self, at: u64, count: u64) -> bool
+        ensures { result ≡ maps (bytes self.now) at count };
+
+    /// Fills `out` from an address on; `false`, with `out` as it was, exactly where a byte is unmapped.
+    fn read_into(&self, at: u64, out: &mut [u8]) -> bool
+        ensures answer { result ≡ maps (bytes self.now) at (length out.old) }
+        ensures moved { out.new ≡ unwrap_or (bytes_at (bytes self.now) at (length out.old)) out.old };
+
+    /// Writes bytes from an address on, all or none; a refusal leaves the memory as it was.
+    fn write_from(&mut self, at: u64, source: &[u8]) -> Result<(), StoreRefusal>
+        ensures { Writes (bytes self.old) at source.now result (bytes self.new) };
+
+    /// Maps `pages` pages from the page at `first` on, with zero bytes. Want of memory leaves the memory as it was.
+    fn map_zero(&mut self, first: u64, pages: u64) -> Result<(), OutOfMemory>
+        requires aligned { first % 4096 ≡ 0 }
+        requires low { first + 4096 * pages ≤ 2 ^ 38 }
+        requires free { IsFree (bytes self.old) first (4096 * pages) }
+        ensures ok { OnOk result (bytes self.new ≡ with_bytes (bytes self.old) first (zeros (4096 * pages))) }
+        ensures err { OnErr result (bytes self.new ≡ bytes self.old) };
+
+    /// Takes away `pages` mapped pages from the page at `first` on. It takes no memory.
+    fn unmap(&mut self, first: u64, pages: u64)
+        requires aligned { first % 4096 ≡ 0 }
+        requires present { IsTrue (maps (bytes self.old) first (4096 * pages)) }
+        ensures { bytes self.new ≡ without (bytes self.old) first (4096 * pages) };
+
+    /// The address of the first page and the number of pages of the first maximal run of mapped pages that holds or
+    /// follows `at`, clipped to begin at the page of `at`; `None` where none does.
+    fn run_from(&self, at: u64) -> Option<(u64, u64)>
+        ensures { RunsFrom (bytes self.now) at result };
+
+    /// The page at `first`: all its bytes, or that it is unmapped.
+    fn page(&self, first: u64) -> PageView<'_>
+        requires { first % 4096 ≡ 0 }
+        ensures { shown result ≡ bytes_at (bytes self.now) first 4096 };
+
+    ghost whole: { (ram : Self) → IsWhole (bytes ram) };
+}

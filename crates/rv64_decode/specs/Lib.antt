@@ -1,0 +1,5 @@
+pub mod Decode
+pub mod Encode
+pub mod Fields
+pub mod Laws
+pub mod Text

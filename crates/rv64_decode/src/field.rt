@@ -1,0 +1,103 @@
+//! Bit ranges of a word, and the registers and the immediate that a form holds in them.
+
+ghost use Rattle.std.specs.Prelude.{if◌then◌else◌, ◌≡◌, ◌+◌, ◌-◌, ◌*◌, ◌^◌, ◌<◌, ◌≤◌};
+ghost use Rattle.rv64_decode.specs.Fields as fields;
+
+use rv64_table::Form;
+
+/// Bits high..low of a word.
+pub fn bits(word: u32, high: u32, low: u32) -> u32
+    requires order { low ≤ high }
+    requires within { high < 32 }
+    requires part { high - low < 31 }
+    ensures value { result ≡ fields.bits word high low }
+    ensures below { result < 2 ^ (high - low + 1) }
+{
+    let width = high - low + 1;
+    (word >> low) & ((1 << width) - 1)
+}
+
+/// The register that bits high..low of a word name, 0 where the word names none there.
+pub fn register(named: bool, word: u32, high: u32, low: u32) -> u8
+    requires five { high ≡ low + 4 }
+    requires within { high < 32 }
+    ensures value { result ≡ (if named then fields.bits word high low else 0) }
+    ensures below { result < 32 }
+{
+    if named {
+        bits(word, high, low) as u8
+    } else {
+        0
+    }
+}
+
+/// The number that so many bits are in two's complement.
+pub fn signed(width: u32, number: u32) -> i64
+    requires some { 0 < width }
+    requires within { width ≤ 32 }
+    requires below { number < 2 ^ width }
+    ensures { result ≡ fields.signed width number }
+{
+    if number < 1 << (width - 1) {
+        i64::from(number)
+    } else {
+        i64::from(number) - (1 << width)
+    }
+}
+
+/// Whether words of a form name a destination register.
+pub fn has_rd(form: Form) -> bool
+    ensures { result ≡ fields.has_rd form }
+{
+    !matches!(form, Form::S | Form::B | Form::E)
+}
+
+/// Whether they name a first source register.
+pub fn has_rs1(form: Form) -> bool
+    ensures { result ≡ fields.has_rs1 form }
+{
+    !matches!(form, Form::U | Form::J | Form::E)
+}
+
+/// Whether they name a second source register.
+pub fn has_rs2(form: Form) -> bool
+    ensures { result ≡ fields.has_rs2 form }
+{
+    matches!(form, Form::R | Form::S | Form::B)
+}
+
+/// The immediate of a word of a form, 0 where the form has none.
+pub fn immediate(form: Form, word: u32) -> i64
+    ensures { result ≡ fields.immediate form word }
+{
+    match form {
+        Form::R | Form::E => 0,
+        Form::I => signed(12, bits(word, 31, 20)),
+        Form::H => i64::from(bits(word, 25, 20)),
+        Form::K => i64::from(bits(word, 24, 20)),
+        Form::S => signed(12, (bits(word, 31, 25) << 5) + bits(word, 11, 7)),
+        Form::B => signed(13, branch_offset(word)),
+        Form::U => signed(32, bits(word, 31, 12) << 12),
+        Form::J => signed(21, jump_offset(word)),
+    }
+}
+
+fn branch_offset(word: u32) -> u32
+    ensures value { result ≡ fields.bits word 31 31 * 2 ^ 12 + fields.bits word 7 7 * 2 ^ 11 + fields.bits word 30 25 * 2 ^ 5 + fields.bits word 11 8 * 2 ^ 1 }
+    ensures below { result < 2 ^ 13 }
+{
+    (bits(word, 31, 31) << 12)
+        + (bits(word, 7, 7) << 11)
+        + (bits(word, 30, 25) << 5)
+        + (bits(word, 11, 8) << 1)
+}
+
+fn jump_offset(word: u32) -> u32
+    ensures value { result ≡ fields.bits word 31 31 * 2 ^ 20 + fields.bits word 19 12 * 2 ^ 12 + fields.bits word 20 20 * 2 ^ 11 + fields.bits word 30 21 * 2 ^ 1 }
+    ensures below { result < 2 ^ 21 }
+{
+    (bits(word, 31, 31) << 20)
+        + (bits(word, 19, 12) << 12)
+        + (bits(word, 20, 20) << 11)
+        + (bits(word, 30, 21) << 1)
+}

@@ -1,0 +1,50 @@
+//! Instruction words of RV64I and M to instructions and back, and their printed text.
+//!
+//! The public source is The RISC-V Instruction Set Manual, Volume I (Unprivileged ISA): "RV32I Base Integer
+//! Instruction Set", the sections "Base Instruction Formats" and "Immediate Encoding Variants".
+#![tactic(auto)]
+
+mod field;
+pub mod laws;
+mod reading;
+mod text;
+mod writing;
+
+use field::{has_rd, has_rs1, has_rs2};
+pub use reading::decode;
+use rv64_table::Op;
+pub use text::{InstText, print};
+pub use writing::encode;
+use writing::{fits_register, has_immediate};
+
+/// An instruction: its operation and its fields. A field that the operation's form lacks is 0.
+#[derive(Clone, Copy, PartialEq, Eq, Debug)]
+pub struct Inst {
+    /// The operation.
+    pub op: Op,
+    /// The destination register, below 32.
+    pub rd: u8,
+    /// The first source register, below 32.
+    pub rs1: u8,
+    /// The second source register, below 32.
+    pub rs2: u8,
+    /// The immediate, sign-extended where its form is signed.
+    pub imm: i64,
+}
+
+impl Inst {
+    ghost use Rattle.std.specs.Prelude.{◌≡◌};
+    ghost use Rattle.rv64_decode.specs.Encode as encoding;
+
+    /// Whether the fields lie in the operation's form: registers below 32 where the form has them and 0 where not, and
+    /// an immediate of the form. `encode` takes exactly these instructions, and `decode` gives no others.
+    pub fn is_encodable(&self) -> bool
+        ensures { result ≡ encoding.is_encodable self.now }
+    {
+        let form = self.op.row().form;
+        fits_register(self.rd, has_rd(form))
+            && fits_register(self.rs1, has_rs1(form))
+            && fits_register(self.rs2, has_rs2(form))
+            && has_immediate(form, self.imm)
+    }
+}

@@ -1,0 +1,126 @@
+-- A hart and one act of it (docs/reference/machine.md).
+use Rattle.std.specs.Prelude.{◌≡◌, ℕ, ◌*◌, ◌%◌, ◌==◌, Bool, true, false, if◌then◌else◌, IsTrue, length, List, slice_index, slice_set, Option, None, Some, option_map, option_and_then, refl}
+use Rattle.std.specs.Coded.{Coded, code_by, coded×, coded_ℕ, coded_list}
+use Rattle.std.specs.FinMap as map
+use Rattle.paged_mem.specs.Memory.{IsWhole, Memory, maps, reads, writes}
+use Rattle.paged_mem.specs.Ram.{count_of}
+use Rattle.rv64_decode.specs.declared.Inst.{Inst}
+use Rattle.rv64_decode.specs.Decode.{decoded}
+use Rattle.rv64_machine.specs.declared.answer.Cause.{Cause}
+use Rattle.rv64_machine.specs.declared.answer.Cause.TheVariants as cause
+use Rattle.rv64_machine.specs.declared.answer.StepEnd.{StepEnd}
+use Rattle.rv64_machine.specs.declared.answer.StepEnd.TheVariants as end
+use Rattle.rv64_machine.specs.declared.effect.Effect.{Effect}
+use Rattle.rv64_machine.specs.declared.effect.Effect.TheVariants.{Put, Jump, Branch, Load, LoadSigned, Store, Next, Call, Break}
+use Rattle.rv64_machine.specs.Arithmetic.{sign_extended, sum, wrapped}
+use Rattle.rv64_machine.specs.Meaning.{meaning}
+
+-- the state of a hart: the registers x0 to x31, the address of the next instruction, and memory
+pub record HartState : Type 0 where
+  pub registers : List ℕ
+  pub pc : ℕ
+  pub memory : Memory
+
+-- the states that a hart can be in: 32 registers of which x0 is 0, and a pc at a multiple of 4
+pub record IsHart (hart : HartState) : Type 0 where
+  pub count : length hart.registers ≡ 32
+  pub zero : slice_index hart.registers 0 ≡ 0
+  pub aligned : hart.pc % 4 ≡ 0
+  pub whole : IsWhole hart.memory
+
+-- a state is stored as its three parts
+abbrev pub code : Coded HartState
+code =
+    code_by (List ℕ × (ℕ × Memory)) (coded× (coded_list coded_ℕ) (coded× coded_ℕ (map.code coded_ℕ coded_ℕ)))
+    (λ h. (h.registers, (h.pc, h.memory)))
+    (λ p. record { registers = p.0; pc = p.1.0; memory = p.1.1 })
+    (λ _. refl)
+
+-- one act: the hart goes on in a state, calls the system, or traps; both of the latter leave the state
+pub data Act : Type 0 where
+  Goes : HartState → Act
+  Calls : Act
+  Traps : Cause → Act
+
+-- the state with a value in a register; x0 keeps its 0
+abbrev pub with_register : HartState → ℕ → ℕ → HartState
+with_register hart number value =
+    record hart { registers = (if number == 0 then hart.registers else slice_set hart.registers number value) }
+
+-- the address of the next instruction in memory
+abbrev pub following : HartState → ℕ
+following hart = sum 64 hart.pc 4
+
+-- the act that goes on at the next instruction
+abbrev pub passes : HartState → Act
+passes hart = Goes (record hart { pc = following hart })
+
+-- the act that goes on at a target, which must be a multiple of 4
+abbrev pub arrives : HartState → ℕ → Act
+arrives hart target =
+    if target % 4 == 0 then Goes (record hart { pc = target }) else Traps (cause.FetchMisaligned target)
+
+-- the act of a load from an address, which read this
+abbrev pub loads : HartState → ℕ → ℕ → Option ℕ → Act
+loads hart rd at None = Traps (cause.LoadUnmapped at)
+loads hart rd at (Some value) = passes (with_register hart rd value)
+
+-- the act of a row's effect
+abbrev pub carried : HartState → ℕ → Effect → Act
+carried hart rd (Put value) = passes (with_register hart rd value)
+carried hart rd (Jump target) = arrives (with_register hart rd (following hart)) target
+carried hart rd (Branch taken target) = if taken then arrives hart target else passes hart
+carried hart rd (Load width at) = loads hart rd at (reads hart.memory at (count_of width))
+carried hart rd (LoadSigned width at) =
+    loads hart rd at (option_map (sign_extended (8 * count_of width)) (reads hart.memory at (count_of width)))
+carried hart rd (Store width at value) =
+    if maps hart.memory at (count_of width)
+    then passes (record hart { memory = writes hart.memory at (count_of width) value })
+    else Traps (cause.StoreUnmapped at)
+carried hart rd Next = passes hart
+carried hart rd Call = Calls
+carried hart rd Break = Traps cause.Break
+
+-- the effect of an instruction: its row's, on the values of its registers
+abbrev pub effect_of : HartState → Inst → Effect
+effect_of hart inst =
+    meaning inst.op (slice_index hart.registers inst.rs1) (slice_index hart.registers inst.rs2) (wrapped 64 inst.imm) hart.pc
+
+-- the act of a word's instruction
+abbrev pub runs : HartState → ℕ → Option Inst → Act
+runs hart word None = Traps (cause.Illegal word)
+runs hart word (Some inst) = carried hart inst.rd (effect_of hart inst)
+
+-- the act of the word that was fetched
+abbrev pub fetched : HartState → Option ℕ → Act
+fetched hart None = Traps (cause.FetchUnmapped hart.pc)
+fetched hart (Some word) = runs hart word (decoded word)
+
+-- the act of a hart: the four bytes at the pc are fetched, and their instruction is carried out
+unfoldable pub act : HartState → Act
+act hart = fetched hart (reads hart.memory hart.pc 4)
+
+-- the effect of the instruction at the pc, or none where none is there
+unfoldable pub effect_at : HartState → Option Effect
+effect_at hart = option_map (effect_of hart) (option_and_then decoded (reads hart.memory hart.pc 4))
+
+-- whether an act goes on
+abbrev pub goes_on : Act → Bool
+goes_on (Goes next) = true
+goes_on _ = false
+
+-- whether an effect is that of a store
+abbrev pub is_store : Option Effect → Bool
+is_store (Some (Store width at value)) = true
+is_store _ = false
+
+-- how a step ended, and the state that it left, of a hart with this act and this effect
+abbrev pub Ends : Act → Option Effect → HartState → StepEnd → HartState → Type 0
+Ends an_act effect old end.Done new = an_act ≡ Goes new
+Ends an_act effect old end.Call new = (an_act ≡ Calls) × (new ≡ old)
+Ends an_act effect old (end.Trap cause) new = (an_act ≡ Traps cause) × (new ≡ old)
+Ends an_act effect old end.OutOfMemory new = IsTrue (goes_on an_act) × IsTrue (is_store effect) × (new ≡ old)
+
+-- what a step answers, and the state that it leaves: its act's, or want of memory in a store that would go on
+abbrev pub Steps : HartState → StepEnd → HartState → Type 0
+Steps old end new = Ends (act old) (effect_at old) old end new

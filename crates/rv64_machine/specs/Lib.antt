@@ -1,0 +1,3 @@
+pub mod Arithmetic
+pub mod Hart
+pub mod Meaning

@@ -1,0 +1,110 @@
+ghost use Rattle.std.specs.Prelude.{◌≡◌};
+ghost use Rattle.rv64_machine.specs.Arithmetic.{wrapped};
+ghost use Rattle.rv64_machine.specs.Meaning.{meaning};
+
+use crate::arithmetic::{
+    difference, difference_word, even, extended, flag, high_signed, high_signed_unsigned,
+    high_unsigned, is_less, low_word, pattern, product, product_word, quotient, quotient_unsigned,
+    quotient_unsigned_word, quotient_word, remainder, remainder_unsigned, remainder_unsigned_word,
+    remainder_word, shifted_left, shifted_left_word, shifted_right, shifted_right_signed,
+    shifted_right_signed_word, shifted_right_word, sum, sum_word,
+};
+use paged_mem::Width;
+use rv64_table::Op;
+
+/// What an instruction does to its hart.
+#[derive(Clone, Copy)]
+pub enum Effect {
+    /// rd takes the value.
+    Put(u64),
+    /// rd takes the address of the next instruction, and the hart goes on at the target.
+    Jump(u64),
+    /// Where the test holds, the hart goes on at the target.
+    Branch(bool, u64),
+    /// rd takes the number at the address, zero-extended.
+    Load(Width, u64),
+    /// rd takes the number at the address, sign-extended.
+    LoadSigned(Width, u64),
+    /// The low bytes of the value go to the address.
+    Store(Width, u64, u64),
+    /// Nothing.
+    Next,
+    /// The system is called.
+    Call,
+    /// The hart stops.
+    Break,
+}
+
+/// The effect of a row, on the values of rs1 and rs2, the immediate and the pc.
+pub fn effect_of(op: Op, a: u64, b: u64, imm: i64, pc: u64) -> Effect
+    ensures { result ≡ meaning op a b (wrapped 64 imm) pc }
+{
+    let i = pattern(imm);
+    match op {
+        Op::Lui => Effect::Put(i),
+        Op::Auipc => Effect::Put(sum(pc, i)),
+        Op::Jal => Effect::Jump(sum(pc, i)),
+        Op::Jalr => Effect::Jump(even(sum(a, i))),
+        Op::Beq => Effect::Branch(a == b, sum(pc, i)),
+        Op::Bne => Effect::Branch(a != b, sum(pc, i)),
+        Op::Blt => Effect::Branch(is_less(a, b), sum(pc, i)),
+        Op::Bge => Effect::Branch(!is_less(a, b), sum(pc, i)),
+        Op::Bltu => Effect::Branch(a < b, sum(pc, i)),
+        Op::Bgeu => Effect::Branch(a >= b, sum(pc, i)),
+        Op::Lb => Effect::LoadSigned(Width::W1, sum(a, i)),
+        Op::Lh => Effect::LoadSigned(Width::W2, sum(a, i)),
+        Op::Lw => Effect::LoadSigned(Width::W4, sum(a, i)),
+        Op::Ld => Effect::Load(Width::W8, sum(a, i)),
+        Op::Lbu => Effect::Load(Width::W1, sum(a, i)),
+        Op::Lhu => Effect::Load(Width::W2, sum(a, i)),
+        Op::Lwu => Effect::Load(Width::W4, sum(a, i)),
+        Op::Sb => Effect::Store(Width::W1, sum(a, i), b),
+        Op::Sh => Effect::Store(Width::W2, sum(a, i), b),
+        Op::Sw => Effect::Store(Width::W4, sum(a, i), b),
+        Op::Sd => Effect::Store(Width::W8, sum(a, i), b),
+        Op::Addi => Effect::Put(sum(a, i)),
+        Op::Slti => Effect::Put(flag(is_less(a, i))),
+        Op::Sltiu => Effect::Put(flag(a < i)),
+        Op::Xori => Effect::Put(a ^ i),
+        Op::Ori => Effect::Put(a | i),
+        Op::Andi => Effect::Put(a & i),
+        Op::Slli => Effect::Put(shifted_left(a, i)),
+        Op::Srli => Effect::Put(shifted_right(a, i)),
+        Op::Srai => Effect::Put(shifted_right_signed(a, i)),
+        Op::Add => Effect::Put(sum(a, b)),
+        Op::Sub => Effect::Put(difference(a, b)),
+        Op::Sll => Effect::Put(shifted_left(a, b)),
+        Op::Slt => Effect::Put(flag(is_less(a, b))),
+        Op::Sltu => Effect::Put(flag(a < b)),
+        Op::Xor => Effect::Put(a ^ b),
+        Op::Srl => Effect::Put(shifted_right(a, b)),
+        Op::Sra => Effect::Put(shifted_right_signed(a, b)),
+        Op::Or => Effect::Put(a | b),
+        Op::And => Effect::Put(a & b),
+        Op::Fence => Effect::Next,
+        Op::Ecall => Effect::Call,
+        Op::Ebreak => Effect::Break,
+        Op::Addiw => Effect::Put(extended(sum_word(low_word(a), low_word(i)))),
+        Op::Slliw => Effect::Put(extended(shifted_left_word(low_word(a), i))),
+        Op::Srliw => Effect::Put(extended(shifted_right_word(low_word(a), i))),
+        Op::Sraiw => Effect::Put(extended(shifted_right_signed_word(low_word(a), i))),
+        Op::Addw => Effect::Put(extended(sum_word(low_word(a), low_word(b)))),
+        Op::Subw => Effect::Put(extended(difference_word(low_word(a), low_word(b)))),
+        Op::Sllw => Effect::Put(extended(shifted_left_word(low_word(a), b))),
+        Op::Srlw => Effect::Put(extended(shifted_right_word(low_word(a), b))),
+        Op::Sraw => Effect::Put(extended(shifted_right_signed_word(low_word(a), b))),
+        Op::Mul => Effect::Put(product(a, b)),
+        Op::Mulh => Effect::Put(high_signed(a, b)),
+        Op::Mulhsu => Effect::Put(high_signed_unsigned(a, b)),
+        Op::Mulhu => Effect::Put(high_unsigned(a, b)),
+        Op::Div => Effect::Put(quotient(a, b)),
+        Op::Divu => Effect::Put(quotient_unsigned(a, b)),
+        Op::Rem => Effect::Put(remainder(a, b)),
+        Op::Remu => Effect::Put(remainder_unsigned(a, b)),
+        Op::Mulw => Effect::Put(extended(product_word(low_word(a), low_word(b)))),
+        Op::Divw => Effect::Put(extended(quotient_word(low_word(a), low_word(b)))),
+        Op::Divuw => Effect::Put(extended(quotient_unsigned_word(low_word(a), low_word(b)))),
+        Op::Remw => Effect::Put(extended(remainder_word(low_word(a), low_word(b)))),
+        Op::Remuw => Effect::Put(extended(remainder_unsigned_word(low_word(a), low_word(b)))),
+    }
+}

@@ -1,0 +1,228 @@
+ghost use Rattle.std.specs.Prelude.{◌≡◌, ℕ, ◌+◌, ◌*◌, ◌%◌, ◌^◌, ◌<◌, replicate, slice_index};
+ghost use Rattle.paged_mem.specs.Ram.{count_of};
+ghost use Rattle.rv64_machine.specs.Arithmetic.{sign_extended};
+ghost use Rattle.rv64_machine.specs.Hart.{carried, Ends, following, HartState, IsHart, Steps, with_register};
+ghost use Rattle.std.specs.FinMap.{contains_key};
+ghost use Rattle.std.specs.Borrow.{Lends, sem};
+ghost use Rattle.rv64_machine.specs.contracts.hart.Hart.{the_row};
+
+use crate::answer::{Cause, StepEnd};
+use crate::arithmetic::{sum, widened};
+use crate::effect::{Effect, effect_of};
+use paged_mem::{Ram, StoreRefusal, Width};
+use rv64_decode::decode;
+use std::marker::Model;
+
+/// A hart of RV64IM with its memory.
+#[derive(Drop)]
+pub struct Hart<R: Ram> {
+    registers: [u64; 32],
+    pc: u64,
+    ram: R,
+}
+
+impl<R: Ram> Model for Hart<R> {
+    ghost use Rattle.std.specs.Prelude.{◌≡◌, ◌%◌, length, slice_index};
+    ghost use Rattle.rv64_machine.specs.Hart.{HartState, code};
+
+    ghost Value = { HartState };
+
+    ghost coded = { code };
+
+    ghost view = { λ h. record { registers = h.registers; pc = h.pc; memory = R.bytes h.ram } };
+
+    ghost invariant = { λ h.
+        (length h.registers ≡ 32) × (slice_index h.registers 0 ≡ 0) × (h.pc % 4 ≡ 0) };
+}
+
+impl<R: Ram> Hart<R> {
+    /// A hart at `pc` whose registers are all 0.
+    pub fn new(ram: R, pc: u64) -> Hart<R>
+        requires { pc % 4 ≡ 0 }
+        ensures { result ≡ record { registers = replicate 32 0; pc = pc; memory = R.bytes ram } }
+    {
+        Hart {
+            registers: [0; 32],
+            pc,
+            ram,
+        }
+    }
+
+    /// The value of a register.
+    pub fn reg(&self, number: u8) -> u64
+        requires { number < 32 }
+        ensures { result ≡ slice_index self.now.registers number }
+    {
+        self.registers[usize::from(number)]
+    }
+
+    /// Sets a register; x0 keeps its 0.
+    pub fn set_reg(&mut self, number: u8, value: u64)
+        requires { number < 32 }
+        ensures { self.new ≡ with_register self.old number value }
+    {
+        if number != 0 {
+            self.registers[usize::from(number)] = value;
+        }
+    }
+
+    /// The address of the next instruction.
+    pub fn pc(&self) -> u64
+        ensures value { result ≡ self.now.pc }
+        ensures hart { IsHart self.now }
+    {
+        self.pc
+    }
+
+    /// The memory.
+    pub fn ram(&self) -> &R
+        ensures { R.bytes result.now ≡ self.now.memory }
+    {
+        &self.ram
+    }
+
+    /// The memory, to be changed.
+    pub fn ram_mut(&mut self) -> &mut R
+        ensures value { R.bytes result.now ≡ self.old.memory }
+        ensures* writes_back { sem 𝓛 (Lends (the_row R.row R.Ram) R.row self.entry result
+            (λ w. record self.old { memory = R.bytes w })) }
+    {
+        &mut self.ram
+    }
+
+    /// Answers a call: x10 takes the value, and the hart goes on at the next instruction.
+    pub fn answer(&mut self, value: u64)
+        ensures { self.new ≡ record (with_register self.old 10 value) { pc = following self.old } }
+    {
+        self.registers[10] = value;
+        self.pass();
+    }
+
+    /// One step: fetches the four bytes at the pc and carries out their instruction.
+    ///
+    /// Want of memory can come only in a store that would go on, and like every answer but `Done` it
+    /// leaves the hart as it was.
+    pub fn step(&mut self) -> StepEnd
+        ensures act { Steps self.old result self.new }
+        // No step maps or unmaps an address.
+        ensures mapping { (address : ℕ)
+            → contains_key self.new.memory address ≡ contains_key self.old.memory address }
+    {
+        self.advance()
+    }
+
+    #[tactic(auto, unfolding(crate::specs::Hart::act, crate::specs::Hart::effect_at))]
+    fn advance(&mut self) -> StepEnd
+        ensures { Steps self.old result self.new }
+    {
+        let Some(word) = self.ram.load(self.pc, Width::W4) else {
+            return StepEnd::Trap(Cause::FetchUnmapped(self.pc));
+        };
+        let word = word as u32;
+        let Some(inst) = decode(word) else {
+            return StepEnd::Trap(Cause::Illegal(word));
+        };
+        let effect = effect_of(
+            inst.op,
+            self.reg(inst.rs1),
+            self.reg(inst.rs2),
+            inst.imm,
+            self.pc,
+        );
+        self.carry_out(inst.rd, effect)
+    }
+
+    /// Carries an effect out.
+    fn carry_out(&mut self, rd: u8, effect: Effect) -> StepEnd
+        requires { rd < 32 }
+        ensures { Ends (carried self.old rd effect) (Some effect) self.old result self.new }
+    {
+        match effect {
+            Effect::Put(value) => {
+                self.set_reg(rd, value);
+                self.pass()
+            }
+            Effect::Jump(target) => self.jump(rd, target),
+            Effect::Branch(taken, target) => self.branch(taken, target),
+            Effect::Load(width, at) => self.load(rd, width, at),
+            Effect::LoadSigned(width, at) => self.load_signed(rd, width, at),
+            Effect::Store(width, at, value) => self.store(width, at, value),
+            Effect::Next => self.pass(),
+            Effect::Call => StepEnd::Call,
+            Effect::Break => StepEnd::Trap(Cause::Break),
+        }
+    }
+
+    /// Carries out a jump.
+    fn jump(&mut self, rd: u8, target: u64) -> StepEnd
+        requires { rd < 32 }
+        ensures { Ends (carried self.old rd (Effect.Jump target)) None self.old result self.new }
+    {
+        if target % 4 != 0 {
+            return StepEnd::Trap(Cause::FetchMisaligned(target));
+        }
+        let following = sum(self.pc, 4);
+        self.set_reg(rd, following);
+        self.pc = target;
+        StepEnd::Done
+    }
+
+    /// Carries out a branch.
+    fn branch(&mut self, taken: bool, target: u64) -> StepEnd
+        ensures { Ends (carried self.old 0 (Effect.Branch taken target)) None self.old result self.new }
+    {
+        if !taken {
+            return self.pass();
+        }
+        if target % 4 != 0 {
+            return StepEnd::Trap(Cause::FetchMisaligned(target));
+        }
+        self.pc = target;
+        StepEnd::Done
+    }
+
+    /// Carries out a load that zero-extends.
+    fn load(&mut self, rd: u8, width: Width, at: u64) -> StepEnd
+        requires { rd < 32 }
+        ensures { Ends (carried self.old rd (Effect.Load width at)) None self.old result self.new }
+    {
+        let Some(value) = self.ram.load(at, width) else {
+            return StepEnd::Trap(Cause::LoadUnmapped(at));
+        };
+        self.set_reg(rd, value);
+        self.pass()
+    }
+
+    /// Carries out a load that sign-extends.
+    fn load_signed(&mut self, rd: u8, width: Width, at: u64) -> StepEnd
+        requires { rd < 32 }
+        ensures { Ends (carried self.old rd (Effect.LoadSigned width at)) None self.old result self.new }
+    {
+        let Some(value) = self.ram.load(at, width) else {
+            return StepEnd::Trap(Cause::LoadUnmapped(at));
+        };
+        self.set_reg(rd, widened(width, value));
+        self.pass()
+    }
+
+    /// Carries out a store.
+    #[tactic(auto, using(crate::proofs::StoredBytes::stored))]
+    fn store(&mut self, width: Width, at: u64, value: u64) -> StepEnd
+        ensures { Ends (carried self.old 0 (Effect.Store width at value)) (Some (Effect.Store width at value)) self.old result self.new }
+    {
+        match self.ram.store(at, width, value) {
+            Ok(()) => self.pass(),
+            Err(StoreRefusal::Unmapped) => StepEnd::Trap(Cause::StoreUnmapped(at)),
+            Err(StoreRefusal::OutOfMemory) => StepEnd::OutOfMemory,
+        }
+    }
+
+    /// Goes on at the next instruction.
+    fn pass(&mut self) -> StepEnd
+        ensures end { result ≡ StepEnd.Done }
+        ensures state { self.new ≡ record self.old { pc = following self.old } }
+    {
+        self.pc = sum(self.pc, 4);
+        StepEnd::Done
+    }
+}

@@ -1,0 +1,57 @@
+//! What holds of every act. Each law is the contract of a function, which does nothing but the steps that it speaks of.
+ghost use Rattle.paged_mem.specs.Memory.{reads};
+ghost use Rattle.paged_mem.specs.Ram.{count_of};
+ghost use Rattle.paged_mem.specs.declared.ram.Width.{Width};
+ghost use Rattle.rv64_decode.specs.Decode.{decoded};
+ghost use Rattle.rv64_machine.specs.Hart.{act, effect_at, Goes, HartState, is_store, runs};
+ghost use Rattle.rv64_machine.specs.declared.effect.Effect.TheVariants.{Store};
+ghost use Rattle.std.specs.FinMap.{contains_key, get};
+ghost use Rattle.std.specs.Prelude.{◌≡◌, ◌≢◌, ℕ, ◌+◌, ◌*◌, ◌%◌, ◌^◌, ◌<◌, ◌≤◌, ◌⊎◌, false, Some};
+
+use crate::answer::StepEnd;
+use crate::hart::Hart;
+use paged_mem::Ram;
+
+/// A step reads nothing but the registers, the pc and the mapped bytes: two harts that are equal in these
+/// answer alike and are equal afterwards, over whatever memories they stand, unless one wants memory.
+pub fn equal_harts_step_alike<R: Ram, S: Ram>(
+    one: &mut Hart<R>,
+    other: &mut Hart<S>,
+) -> (StepEnd, StepEnd)
+    requires { one.old ≡ other.old }
+    ensures { result.0 ≢ StepEnd.OutOfMemory → result.1 ≢ StepEnd.OutOfMemory
+        → (result.0 ≡ result.1) × (one.new ≡ other.new) }
+{
+    (one.step(), other.step())
+}
+
+/// A row other than a store leaves memory as it was.
+pub fn only_stores_write()
+    ensures { (hart next : HartState) → act hart ≡ Goes next → is_store (effect_at hart) ≡ false
+        → next.memory ≡ hart.memory }
+{}
+
+/// An act maps and unmaps nothing.
+pub fn nothing_is_mapped()
+    ensures { (hart next : HartState) → act hart ≡ Goes next
+        → (address : ℕ) → contains_key next.memory address ≡ contains_key hart.memory address }
+{}
+
+/// A store changes the bytes of its access alone, to the low bytes of its value.
+pub fn a_store_writes_its_access()
+    ensures access { (hart next : HartState) (width : Width) (at value : ℕ)
+        → act hart ≡ Goes next → effect_at hart ≡ Some (Store width at value)
+        → reads next.memory at (count_of width) ≡ Some (value % 2 ^ (8 * count_of width)) }
+    ensures others { (hart next : HartState) (width : Width) (at value : ℕ)
+        → act hart ≡ Goes next → effect_at hart ≡ Some (Store width at value)
+        → (address : ℕ) → (address < at) ⊎ (at + count_of width ≤ address)
+        → get next.memory address ≡ get hart.memory address }
+{}
+
+/// A store into code is what the next fetch sees: after a word is stored over the next instruction, the
+/// next act is that word's.
+pub fn a_stored_word_is_fetched()
+    ensures { (hart next : HartState) (value : ℕ)
+        → act hart ≡ Goes next → effect_at hart ≡ Some (Store Width.W4 next.pc value)
+        → act next ≡ runs next (value % 2 ^ 32) (decoded (value % 2 ^ 32)) }
+{}

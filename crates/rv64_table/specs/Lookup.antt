@@ -1,0 +1,40 @@
+-- How the code finds a row: by the opcode, and then by funct3 and funct7 alone.
+use Rattle.std.specs.Prelude.{ℕ, ◌/◌, ◌%◌, ◌^◌, Bool, true, false, ◌&&◌, ◌==◌, List, Option, option_map, find, filter}
+use Rattle.rv64_table.specs.declared.Row.{Row}
+use Rattle.rv64_table.specs.declared.Form.{Form}
+use Rattle.rv64_table.specs.declared.Form.TheVariants.{R, H, K, U, J, E}
+use Rattle.rv64_table.specs.declared.Op.{Op}
+
+-- the rows of an opcode
+abbrev pub rows_of : ℕ → List Row → List Row
+rows_of opcode rows = filter (λ r. r.want % 2 ^ 7 == opcode) rows
+
+-- forms whose words have fields
+abbrev pub has_fields : Form → Bool
+has_fields E = false
+has_fields _ = true
+
+-- funct3 is the wanted one, or free in the form
+abbrev pub fits_funct3 : Form → ℕ → ℕ → Bool
+fits_funct3 U want funct3 = want == 0
+fits_funct3 J want funct3 = want == 0
+fits_funct3 _ want funct3 = funct3 == want
+
+-- funct7 (H: its upper six bits) is the wanted one, or free in the form
+abbrev pub fits_funct7 : Form → ℕ → ℕ → Bool
+fits_funct7 R want funct7 = funct7 == want
+fits_funct7 K want funct7 = funct7 == want
+fits_funct7 H want funct7 = (want % 2 == 0) && (funct7 / 2 == want / 2)
+fits_funct7 _ want funct7 = want == 0
+
+-- a form's wanted bits above the opcode are these two fields, and 0 where it has registers or an immediate
+abbrev pub fits_fields : Form → ℕ → ℕ → ℕ → Bool
+fits_fields form want funct3 funct7 =
+    (want / 2 ^ 7 % 2 ^ 5 == 0)
+    && (fits_funct3 form (want / 2 ^ 12 % 2 ^ 3) funct3
+    && ((want / 2 ^ 15 % 2 ^ 10 == 0)
+    && fits_funct7 form (want / 2 ^ 25) funct7))
+
+-- the operation of the row among these that has these two fields
+abbrev pub pick : List Row → ℕ → ℕ → Option Op
+pick rows funct3 funct7 = option_map (λ r. r.op) (find (λ r. fits_fields r.form r.want funct3 funct7) rows)

@@ -1,0 +1,132 @@
+-- The table of instructions, and the row of a word.
+-- The source: RISC-V Unprivileged ISA, "RV32/64G Instruction Set Listings", the tables RV32I, RV64I, RV32M and RV64M.
+-- docs/reference/instructions.md says the same for readers.
+use Rattle.std.specs.Prelude.{ℕ, ◌+◌, ◌*◌, ◌^◌, ◌≡◌, Bool, ◌==◌, IsTrue, List, [], ◌∷◌, Option, Some, find, slice_get, bit_and}
+use denote.Enum.Declared.{tag_of}
+use Rattle.rv64_table.specs.contracts.Op.{the_type}
+use Rattle.rv64_table.specs.declared.Row.{Row}
+use Rattle.rv64_table.specs.declared.Form.{Form}
+use Rattle.rv64_table.specs.declared.Form.TheVariants.{R, I, H, K, S, B, U, J, E}
+use Rattle.rv64_table.specs.declared.Op.{Op}
+use Rattle.rv64_table.specs.declared.Op.TheVariants.{Lui, Auipc, Jal, Jalr, Beq, Bne, Blt, Bge, Bltu, Bgeu, Lb, Lh, Lw, Ld, Lbu, Lhu, Lwu, Sb, Sh, Sw, Sd, Addi, Slti, Sltiu, Xori, Ori, Andi, Slli, Srli, Srai, Add, Sub, Sll, Slt, Sltu, Xor, Srl, Sra, Or, And, Fence, Ecall, Ebreak, Addiw, Slliw, Srliw, Sraiw, Addw, Subw, Sllw, Srlw, Sraw, Mul, Mulh, Mulhsu, Mulhu, Div, Divu, Rem, Remu, Mulw, Divw, Divuw, Remw, Remuw}
+
+-- the bits that a form fixes: the opcode in bits 6..0, funct3 in 14..12, funct7 (H: funct6) from 31 on, or all
+abbrev pub mask_of : Form → ℕ
+mask_of R = 0xFE00707F
+mask_of I = 0x0000707F
+mask_of H = 0xFC00707F
+mask_of K = 0xFE00707F
+mask_of S = 0x0000707F
+mask_of B = 0x0000707F
+mask_of U = 0x0000007F
+mask_of J = 0x0000007F
+mask_of E = 0xFFFFFFFF
+
+-- the row of an operation by its form, opcode, funct3 and funct7, the last two 0 where the form does not fix them
+abbrev pub row : Form → ℕ → ℕ → ℕ → Op → Row
+row form opcode funct3 funct7 op =
+    record { mask = mask_of form; want = opcode + funct3 * 2 ^ 12 + funct7 * 2 ^ 25; form = form; op = op }
+
+-- the row of an operation whose word has no fields
+abbrev pub whole_word : ℕ → Op → Row
+whole_word word op = record { mask = mask_of E; want = word; form = E; op = op }
+
+-- the table
+unfoldable pub table : List Row
+table =
+    row U 0x37 0 0x00 Lui
+    ∷ row U 0x17 0 0x00 Auipc
+    ∷ row J 0x6F 0 0x00 Jal
+    ∷ row I 0x67 0 0x00 Jalr
+    ∷ row B 0x63 0 0x00 Beq
+    ∷ row B 0x63 1 0x00 Bne
+    ∷ row B 0x63 4 0x00 Blt
+    ∷ row B 0x63 5 0x00 Bge
+    ∷ row B 0x63 6 0x00 Bltu
+    ∷ row B 0x63 7 0x00 Bgeu
+    ∷ row I 0x03 0 0x00 Lb
+    ∷ row I 0x03 1 0x00 Lh
+    ∷ row I 0x03 2 0x00 Lw
+    ∷ row I 0x03 3 0x00 Ld
+    ∷ row I 0x03 4 0x00 Lbu
+    ∷ row I 0x03 5 0x00 Lhu
+    ∷ row I 0x03 6 0x00 Lwu
+    ∷ row S 0x23 0 0x00 Sb
+    ∷ row S 0x23 1 0x00 Sh
+    ∷ row S 0x23 2 0x00 Sw
+    ∷ row S 0x23 3 0x00 Sd
+    ∷ row I 0x13 0 0x00 Addi
+    ∷ row I 0x13 2 0x00 Slti
+    ∷ row I 0x13 3 0x00 Sltiu
+    ∷ row I 0x13 4 0x00 Xori
+    ∷ row I 0x13 6 0x00 Ori
+    ∷ row I 0x13 7 0x00 Andi
+    ∷ row H 0x13 1 0x00 Slli
+    ∷ row H 0x13 5 0x00 Srli
+    ∷ row H 0x13 5 0x20 Srai
+    ∷ row R 0x33 0 0x00 Add
+    ∷ row R 0x33 0 0x20 Sub
+    ∷ row R 0x33 1 0x00 Sll
+    ∷ row R 0x33 2 0x00 Slt
+    ∷ row R 0x33 3 0x00 Sltu
+    ∷ row R 0x33 4 0x00 Xor
+    ∷ row R 0x33 5 0x00 Srl
+    ∷ row R 0x33 5 0x20 Sra
+    ∷ row R 0x33 6 0x00 Or
+    ∷ row R 0x33 7 0x00 And
+    ∷ row I 0x0F 0 0x00 Fence
+    ∷ whole_word 0x00000073 Ecall
+    ∷ whole_word 0x00100073 Ebreak
+    ∷ row I 0x1B 0 0x00 Addiw
+    ∷ row K 0x1B 1 0x00 Slliw
+    ∷ row K 0x1B 5 0x00 Srliw
+    ∷ row K 0x1B 5 0x20 Sraiw
+    ∷ row R 0x3B 0 0x00 Addw
+    ∷ row R 0x3B 0 0x20 Subw
+    ∷ row R 0x3B 1 0x00 Sllw
+    ∷ row R 0x3B 5 0x00 Srlw
+    ∷ row R 0x3B 5 0x20 Sraw
+    ∷ row R 0x33 0 0x01 Mul
+    ∷ row R 0x33 1 0x01 Mulh
+    ∷ row R 0x33 2 0x01 Mulhsu
+    ∷ row R 0x33 3 0x01 Mulhu
+    ∷ row R 0x33 4 0x01 Div
+    ∷ row R 0x33 5 0x01 Divu
+    ∷ row R 0x33 6 0x01 Rem
+    ∷ row R 0x33 7 0x01 Remu
+    ∷ row R 0x3B 0 0x01 Mulw
+    ∷ row R 0x3B 4 0x01 Divw
+    ∷ row R 0x3B 5 0x01 Divuw
+    ∷ row R 0x3B 6 0x01 Remw
+    ∷ row R 0x3B 7 0x01 Remuw
+    ∷ []
+
+-- the word has the bits that the row wants where its mask is set
+abbrev pub fits : Row → ℕ → Bool
+fits r word = bit_and word r.mask == r.want
+
+-- the row of a word: the row of the table with word & mask = want, if there is one
+abbrev pub row_for : ℕ → Option Row
+row_for word = find (λ r. fits r word) table
+
+-- the number of an operation, as the cast `op as u32` gives it
+abbrev pub number : Op → ℕ
+number op = tag_of the_type op
+
+-- the row of an operation
+abbrev pub row_with : Op → Option Row
+row_with op = find (λ r. number r.op == number op) table
+
+-- a row that a word fits is the row of the word
+abbrev pub FitsItsRow : Type 0
+FitsItsRow = (word i : ℕ) (r : Row) → slice_get table i ≡ Some r → IsTrue (fits r word) → row_for word ≡ Some r
+
+-- no word fits two rows: where a word fits the rows at two places, the places are one
+abbrev pub Apart : Type 0
+Apart =
+    (word i j : ℕ) (r s : Row)
+    → slice_get table i ≡ Some r
+    → slice_get table j ≡ Some s
+    → IsTrue (fits r word)
+    → IsTrue (fits s word)
+    → i ≡ j

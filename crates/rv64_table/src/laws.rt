@@ -1,0 +1,13 @@
+//! What holds of the table alone. Each law is the contract of a function that does nothing.
+
+ghost use Rattle.rv64_table.specs.Table.{Apart, FitsItsRow};
+
+/// No word fits two rows of the table.
+pub fn no_word_fits_two_rows()
+    ensures { Apart }
+{}
+
+/// The row that a word fits is the word's row, wherever it stands in the table.
+pub fn a_fitting_row_is_the_row()
+    ensures { FitsItsRow }
+{}

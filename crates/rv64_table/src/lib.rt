@@ -1,0 +1,222 @@
+//! The instructions of RV64I and M, as one table of 65 rows, and the row that a word belongs to.
+//!
+//! The public source is The RISC-V Instruction Set Manual, Volume I (Unprivileged ISA): the chapters
+//! "RV32I", "RV64I" and "M" and the chapter "RV32/64G Instruction Set Listings".
+#![tactic(auto)]
+
+ghost use Rattle.std.specs.Prelude.{◌≡◌};
+ghost use Rattle.rv64_table.specs.Table.{table};
+
+pub mod laws;
+mod lookup;
+
+pub use lookup::row_of;
+
+/// The shape of an instruction word: which of its bits are fixed, and which fields the others hold.
+#[derive(Clone, Copy, PartialEq, Eq, Debug)]
+pub enum Form {
+    /// Two source registers and a destination.
+    R,
+    /// One source register, a destination and a signed immediate of 12 bits.
+    I,
+    /// As I, but the immediate is a shift by 6 bits, and funct6 is fixed.
+    H,
+    /// As I, but the immediate is a shift by 5 bits, and funct7 is fixed.
+    K,
+    /// Two source registers and a signed immediate of 12 bits.
+    S,
+    /// As S, but the immediate is a branch offset of 13 bits, a multiple of 2.
+    B,
+    /// A destination and the upper 20 bits of an immediate of 32 bits.
+    U,
+    /// A destination and a jump offset of 21 bits, a multiple of 2.
+    J,
+    /// No fields: every bit is fixed.
+    E,
+}
+
+/// The operations, in the order of the table.
+#[derive(Clone, Copy, PartialEq, Eq, Debug)]
+pub enum Op {
+    Lui,
+    Auipc,
+    Jal,
+    Jalr,
+    Beq,
+    Bne,
+    Blt,
+    Bge,
+    Bltu,
+    Bgeu,
+    Lb,
+    Lh,
+    Lw,
+    Ld,
+    Lbu,
+    Lhu,
+    Lwu,
+    Sb,
+    Sh,
+    Sw,
+    Sd,
+    Addi,
+    Slti,
+    Sltiu,
+    Xori,
+    Ori,
+    Andi,
+    Slli,
+    Srli,
+    Srai,
+    Add,
+    Sub,
+    Sll,
+    Slt,
+    Sltu,
+    Xor,
+    Srl,
+    Sra,
+    Or,
+    And,
+    Fence,
+    Ecall,
+    Ebreak,
+    Addiw,
+    Slliw,
+    Srliw,
+    Sraiw,
+    Addw,
+    Subw,
+    Sllw,
+    Srlw,
+    Sraw,
+    Mul,
+    Mulh,
+    Mulhsu,
+    Mulhu,
+    Div,
+    Divu,
+    Rem,
+    Remu,
+    Mulw,
+    Divw,
+    Divuw,
+    Remw,
+    Remuw,
+}
+
+impl Op {
+    ghost use Rattle.std.specs.Prelude.{Some};
+    ghost use Rattle.rv64_table.specs.Table.{row_with};
+
+    /// The row of this operation.
+    pub fn row(self) -> Row
+        ensures table { row_with self ≡ Some result }
+        ensures op { result.op ≡ self }
+    {
+        let rows = listed();
+        rows[self as usize]
+    }
+}
+
+/// A row of the table: the words with `word & mask == want` are those of the operation `op`.
+#[derive(Clone, Copy, PartialEq, Eq, Debug)]
+pub struct Row {
+    /// The bits that the operation fixes.
+    pub mask: u32,
+    /// What those bits are.
+    pub want: u32,
+    /// Which fields the other bits hold.
+    pub form: Form,
+    /// The operation.
+    pub op: Op,
+}
+
+macro_rules! table {
+    ($($form:ident $mask:literal $want:literal $op:ident)*) => {
+        [$(Row { mask: $mask, want: $want, form: Form::$form, op: Op::$op }),*]
+    };
+}
+
+/// The table, by the masks and values of the words themselves.
+static ROWS: [Row; 65] = table! {
+    U 0x0000_007F 0x0000_0037 Lui
+    U 0x0000_007F 0x0000_0017 Auipc
+    J 0x0000_007F 0x0000_006F Jal
+    I 0x0000_707F 0x0000_0067 Jalr
+    B 0x0000_707F 0x0000_0063 Beq
+    B 0x0000_707F 0x0000_1063 Bne
+    B 0x0000_707F 0x0000_4063 Blt
+    B 0x0000_707F 0x0000_5063 Bge
+    B 0x0000_707F 0x0000_6063 Bltu
+    B 0x0000_707F 0x0000_7063 Bgeu
+    I 0x0000_707F 0x0000_0003 Lb
+    I 0x0000_707F 0x0000_1003 Lh
+    I 0x0000_707F 0x0000_2003 Lw
+    I 0x0000_707F 0x0000_3003 Ld
+    I 0x0000_707F 0x0000_4003 Lbu
+    I 0x0000_707F 0x0000_5003 Lhu
+    I 0x0000_707F 0x0000_6003 Lwu
+    S 0x0000_707F 0x0000_0023 Sb
+    S 0x0000_707F 0x0000_1023 Sh
+    S 0x0000_707F 0x0000_2023 Sw
+    S 0x0000_707F 0x0000_3023 Sd
+    I 0x0000_707F 0x0000_0013 Addi
+    I 0x0000_707F 0x0000_2013 Slti
+    I 0x0000_707F 0x0000_3013 Sltiu
+    I 0x0000_707F 0x0000_4013 Xori
+    I 0x0000_707F 0x0000_6013 Ori
+    I 0x0000_707F 0x0000_7013 Andi
+    H 0xFC00_707F 0x0000_1013 Slli
+    H 0xFC00_707F 0x0000_5013 Srli
+    H 0xFC00_707F 0x4000_5013 Srai
+    R 0xFE00_707F 0x0000_0033 Add
+    R 0xFE00_707F 0x4000_0033 Sub
+    R 0xFE00_707F 0x0000_1033 Sll
+    R 0xFE00_707F 0x0000_2033 Slt
+    R 0xFE00_707F 0x0000_3033 Sltu
+    R 0xFE00_707F 0x0000_4033 Xor
+    R 0xFE00_707F 0x0000_5033 Srl
+    R 0xFE00_707F 0x4000_5033 Sra
+    R 0xFE00_707F 0x0000_6033 Or
+    R 0xFE00_707F 0x0000_7033 And
+    I 0x0000_707F 0x0000_000F Fence
+    E 0xFFFF_FFFF 0x0000_0073 Ecall
+    E 0xFFFF_FFFF 0x0010_0073 Ebreak
+    I 0x0000_707F 0x0000_001B Addiw
+    K 0xFE00_707F 0x0000_101B Slliw
+    K 0xFE00_707F 0x0000_501B Srliw
+    K 0xFE00_707F 0x4000_501B Sraiw
+    R 0xFE00_707F 0x0000_003B Addw
+    R 0xFE00_707F 0x4000_003B Subw
+    R 0xFE00_707F 0x0000_103B Sllw
+    R 0xFE00_707F 0x0000_503B Srlw
+    R 0xFE00_707F 0x4000_503B Sraw
+    R 0xFE00_707F 0x0200_0033 Mul
+    R 0xFE00_707F 0x0200_1033 Mulh
+    R 0xFE00_707F 0x0200_2033 Mulhsu
+    R 0xFE00_707F 0x0200_3033 Mulhu
+    R 0xFE00_707F 0x0200_4033 Div
+    R 0xFE00_707F 0x0200_5033 Divu
+    R 0xFE00_707F 0x0200_6033 Rem
+    R 0xFE00_707F 0x0200_7033 Remu
+    R 0xFE00_707F 0x0200_003B Mulw
+    R 0xFE00_707F 0x0200_403B Divw
+    R 0xFE00_707F 0x0200_503B Divuw
+    R 0xFE00_707F 0x0200_603B Remw
+    R 0xFE00_707F 0x0200_703B Remuw
+};
+
+#[tactic(auto, unfolding(crate::specs::Table::table))]
+fn listed() -> &'static [Row; 65]
+    ensures { result.now ≡ table }
+{
+    &ROWS
+}
+
+/// The table, row by row in the standard's order.
+pub fn rows() -> [Row; 65]
+    ensures { result ≡ table }
+{
+    *listed()
+}

@@ -1,0 +1,237 @@
+//! The row of a word, by its opcode and its fields funct3 and funct7.
+
+ghost use Rattle.std.specs.Prelude.{◌≡◌, option_map, find};
+ghost use Rattle.rv64_table.specs.Table.{fits, row_for, table};
+ghost use Rattle.rv64_table.specs.Lookup.{pick, rows_of};
+
+use crate::Op;
+
+const OPCODE_LUI: u32 = 0x37;
+
+const OPCODE_AUIPC: u32 = 0x17;
+
+const OPCODE_JAL: u32 = 0x6F;
+
+const OPCODE_JALR: u32 = 0x67;
+
+const OPCODE_BRANCH: u32 = 0x63;
+
+const OPCODE_LOAD: u32 = 0x03;
+
+const OPCODE_STORE: u32 = 0x23;
+
+const OPCODE_OP_IMM: u32 = 0x13;
+
+const OPCODE_OP: u32 = 0x33;
+
+const OPCODE_MISC_MEM: u32 = 0x0F;
+
+const OPCODE_SYSTEM: u32 = 0x73;
+
+const OPCODE_OP_IMM_32: u32 = 0x1B;
+
+const OPCODE_OP_32: u32 = 0x3B;
+
+/// The operation whose row has these bits: `word & mask == want`. None where the word has no row.
+pub fn row_of(word: u32) -> Option<Op>
+    ensures { result ≡ option_map (λ r. r.op) (row_for word) }
+{
+    let funct3 = (word >> 12) & 0x7;
+    let funct7 = word >> 25;
+    match word & 0x7F {
+        OPCODE_LUI => Some(Op::Lui),
+        OPCODE_AUIPC => Some(Op::Auipc),
+        OPCODE_JAL => Some(Op::Jal),
+        OPCODE_JALR => jalr(funct3),
+        OPCODE_BRANCH => branch(funct3),
+        OPCODE_LOAD => load(funct3),
+        OPCODE_STORE => store(funct3),
+        OPCODE_OP_IMM => op_imm(funct3, funct7),
+        OPCODE_OP => op(funct3, funct7),
+        OPCODE_MISC_MEM => misc_mem(funct3),
+        OPCODE_SYSTEM => system(word),
+        OPCODE_OP_IMM_32 => op_imm_32(funct3, funct7),
+        OPCODE_OP_32 => op_32(funct3, funct7),
+        _ => None,
+    }
+}
+
+#[tactic(auto, unfolding(crate::specs::Table::table))]
+fn jalr(funct3: u32) -> Option<Op>
+    ensures { result ≡ pick (rows_of OPCODE_JALR table) funct3 0 }
+{
+    match funct3 {
+        0 => Some(Op::Jalr),
+        _ => None,
+    }
+}
+
+#[tactic(auto, unfolding(crate::specs::Table::table))]
+fn branch(funct3: u32) -> Option<Op>
+    ensures { result ≡ pick (rows_of OPCODE_BRANCH table) funct3 0 }
+{
+    match funct3 {
+        0 => Some(Op::Beq),
+        1 => Some(Op::Bne),
+        4 => Some(Op::Blt),
+        5 => Some(Op::Bge),
+        6 => Some(Op::Bltu),
+        7 => Some(Op::Bgeu),
+        _ => None,
+    }
+}
+
+#[tactic(auto, unfolding(crate::specs::Table::table))]
+fn load(funct3: u32) -> Option<Op>
+    ensures { result ≡ pick (rows_of OPCODE_LOAD table) funct3 0 }
+{
+    match funct3 {
+        0 => Some(Op::Lb),
+        1 => Some(Op::Lh),
+        2 => Some(Op::Lw),
+        3 => Some(Op::Ld),
+        4 => Some(Op::Lbu),
+        5 => Some(Op::Lhu),
+        6 => Some(Op::Lwu),
+        _ => None,
+    }
+}
+
+#[tactic(auto, unfolding(crate::specs::Table::table))]
+fn store(funct3: u32) -> Option<Op>
+    ensures { result ≡ pick (rows_of OPCODE_STORE table) funct3 0 }
+{
+    match funct3 {
+        0 => Some(Op::Sb),
+        1 => Some(Op::Sh),
+        2 => Some(Op::Sw),
+        3 => Some(Op::Sd),
+        _ => None,
+    }
+}
+
+#[tactic(auto, unfolding(crate::specs::Table::table))]
+fn op_imm(funct3: u32, funct7: u32) -> Option<Op>
+    ensures { result ≡ pick (rows_of OPCODE_OP_IMM table) funct3 funct7 }
+{
+    match (funct3, funct7 >> 1) {
+        (0, _) => Some(Op::Addi),
+        (1, 0x00) => Some(Op::Slli),
+        (2, _) => Some(Op::Slti),
+        (3, _) => Some(Op::Sltiu),
+        (4, _) => Some(Op::Xori),
+        (5, 0x00) => Some(Op::Srli),
+        (5, 0x10) => Some(Op::Srai),
+        (6, _) => Some(Op::Ori),
+        (7, _) => Some(Op::Andi),
+        _ => None,
+    }
+}
+
+#[tactic(auto, unfolding(crate::specs::Table::table))]
+fn op(funct3: u32, funct7: u32) -> Option<Op>
+    ensures { result ≡ pick (rows_of OPCODE_OP table) funct3 funct7 }
+{
+    match (funct7, funct3) {
+        (0x00, 0) => Some(Op::Add),
+        (0x20, 0) => Some(Op::Sub),
+        (0x00, 1) => Some(Op::Sll),
+        (0x00, 2) => Some(Op::Slt),
+        (0x00, 3) => Some(Op::Sltu),
+        (0x00, 4) => Some(Op::Xor),
+        (0x00, 5) => Some(Op::Srl),
+        (0x20, 5) => Some(Op::Sra),
+        (0x00, 6) => Some(Op::Or),
+        (0x00, 7) => Some(Op::And),
+        (0x01, 0) => Some(Op::Mul),
+        (0x01, 1) => Some(Op::Mulh),
+        (0x01, 2) => Some(Op::Mulhsu),
+        (0x01, 3) => Some(Op::Mulhu),
+        (0x01, 4) => Some(Op::Div),
+        (0x01, 5) => Some(Op::Divu),
+        (0x01, 6) => Some(Op::Rem),
+        (0x01, 7) => Some(Op::Remu),
+        _ => None,
+    }
+}
+
+#[tactic(auto, unfolding(crate::specs::Table::table))]
+fn misc_mem(funct3: u32) -> Option<Op>
+    ensures { result ≡ pick (rows_of OPCODE_MISC_MEM table) funct3 0 }
+{
+    match funct3 {
+        0 => Some(Op::Fence),
+        _ => None,
+    }
+}
+
+#[tactic(auto, unfolding(crate::specs::Table::table))]
+fn op_imm_32(funct3: u32, funct7: u32) -> Option<Op>
+    ensures { result ≡ pick (rows_of OPCODE_OP_IMM_32 table) funct3 funct7 }
+{
+    match (funct3, funct7) {
+        (0, _) => Some(Op::Addiw),
+        (1, 0x00) => Some(Op::Slliw),
+        (5, 0x00) => Some(Op::Srliw),
+        (5, 0x20) => Some(Op::Sraiw),
+        _ => None,
+    }
+}
+
+#[tactic(auto, unfolding(crate::specs::Table::table))]
+fn op_32(funct3: u32, funct7: u32) -> Option<Op>
+    ensures { result ≡ pick (rows_of OPCODE_OP_32 table) funct3 funct7 }
+{
+    match (funct7, funct3) {
+        (0x00, 0) => Some(Op::Addw),
+        (0x20, 0) => Some(Op::Subw),
+        (0x00, 1) => Some(Op::Sllw),
+        (0x00, 5) => Some(Op::Srlw),
+        (0x20, 5) => Some(Op::Sraw),
+        (0x01, 0) => Some(Op::Mulw),
+        (0x01, 4) => Some(Op::Divw),
+        (0x01, 5) => Some(Op::Divuw),
+        (0x01, 6) => Some(Op::Remw),
+        (0x01, 7) => Some(Op::Remuw),
+        _ => None,
+    }
+}
+
+#[tactic(auto, unfolding(crate::specs::Table::table), using(std::proofs::lemmas::Nat::and_mask))]
+fn system(word: u32) -> Option<Op>
+    ensures { result ≡ option_map (λ r. r.op) (find (λ r. fits r word) (rows_of OPCODE_SYSTEM table)) }
+{
+    match word {
+        0x0000_0073 => Some(Op::Ecall),
+        0x0010_0073 => Some(Op::Ebreak),
+        _ => None,
+    }
+}
+
+#[cfg(test)]
+mod tests {
+    use super::*;
+    use crate::{laws, rows};
+
+    /// Words as the GNU assembler makes them.
+    #[test]
+    fn rows_of_assembled_words(rt: HostRuntime) {
+        laws::no_word_fits_two_rows();
+        laws::a_fitting_row_is_the_row();
+        for (word, want) in [
+            (0x4020_8fb3, Op::Sub),
+            (0x43f3_5293, Op::Srai),
+            (0x41f3_529b, Op::Sraiw),
+            (0x0ff0_000f, Op::Fence),
+            (0x0010_0073, Op::Ebreak),
+            (0x02c5_f53b, Op::Remuw),
+            (0xffff_f0b7, Op::Lui),
+        ] {
+            assert_eq!(rt; row_of(word), Some(want), "at {word:08x}");
+            let row = want.row();
+            assert_eq!(rt; word & row.mask, row.want, "at {word:08x}");
+            assert_eq!(rt; rows()[want as usize], row);
+        }
+        assert_eq!(rt; row_of(0xffff_ffff), None);
+    }
+}
