@@ -1,0 +1,465 @@
+-- What each change of a table does to its world, and that the table stays consistent.
+use Rattle.std.proofs.Common.{◌≡◌, ◌≢◌, ℕ, zero, suc, ◌+◌, ◌-◌, ◌<◌, ◌≤◌, Bool, true, false, cond, not, eqb, T, List, [], ◌∷◌, ◌++◌, length, get_or, set, map, Option, Some, None, Result, Ok, Err, IsSome, is_some, unwrap_or, sum_by, refl, sym, ap, ◌∙◌, subst, arith, inl, inr, eq-eqb, eqb-true}
+use Rattle.std.specs.Result.{OnErr}
+use Rattle.std.specs.Option.{option_map_or}
+use Rattle.std.specs.List.{list_any}
+use Rattle.std.proofs.lemmas.List.{length-set, get_or_past, get_or-set_same, get_or-set_other, map-set, map-append, length-append, length-map}
+use Rattle.std.proofs.lemmas.Bool.{cases_lt, false≢true}
+use Rattle.std.proofs.Math.Seq.{map-set_same}
+use Rattle.std.proofs.lemmas.Bool.Decides.{nat_tests}
+use Rattle.std.proofs.lemmas.Option.{none-some, same_Some}
+use Rattle.std.specs.Cmp.{nat_cmp_total, tied_itself}
+use Rattle.std.specs.Cmp.Lexicographic.{nat_list_cmp_total}
+use Rattle.std.specs.Ordering.{eq_by_cmp, is_eq, nat_cmp}
+use Rattle.std.specs.FinMap as fin
+use Rattle.std.specs.FinMap.Entries.{is_sorted-put, is_sorted-where_key, where_key}
+use Rattle.mem_files.specs.declared.slot.Slot.{Slot}
+use Rattle.mem_files.specs.declared.stored.Stored.{Stored}
+use Rattle.mem_files.specs.declared.TheConstants.{MAX_SLOTS, MAX_NAMES}
+use Rattle.mem_files.specs.Names.{bytes_cmp}
+use Rattle.mem_files.specs.World.{World, total, content_of, is_of, is_named, is_open, lowest_unused}
+use Rattle.mem_files.specs.Cells.{map_of, with_room}
+use Rattle.mem_files.specs.Table.{Parts, world_of, IsConsistent}
+use Rattle.mem_files.specs.Stored.{content_in, name_in}
+use Rattle.mem_files.proofs.Maps.{get-insert_nat, get-remove_nat, get-lowest_unused, below-lowest_unused, lowest_unused-is, lowest_unused-le-len, size_at, sum_by-insert, sum_by-remove, any_at, key_of_any}
+use Rattle.mem_files.proofs.Totals.{total-insert, total-remove}
+use Rattle.mem_files.proofs.CellMaps.{get-map_of, map_of-fill, map_of-empty, map_of-push, at_set, at_push, any-map_of}
+use Rattle.mem_files.proofs.Directory.{from_sorted-put, from_sorted-where_key, len-from_sorted, bytes_cmp-IsAntisymmetric, equal}
+
+-- what holds anyway holds on an error
+pub on_err : {T E P : Type 0} (r : Result T E) → P → OnErr r P
+on_err (Ok x) h = tt
+on_err (Err e) h = h
+
+-- a full cell is there
+pub within : {X : Type 0} (cells : List (Option X)) (k : ℕ) → IsSome (get_or cells k None) → k < length cells
+within cells k full = elim (cases_lt k (length cells)) as (λ _. k < length cells) [
+    | inl h ↦ h
+    | inr h ↦ absurd (false≢true (sym (ap is_some (get_or_past cells k None h)) ∙ full))
+  ]
+
+-- the cell of a file, as the world sees it
+at_map : {X Y : Type 0} (f : Option X → Option Y) → f None ≡ None → (cells : List (Option X)) (k : ℕ) → get_or (map f cells) k None ≡ f (get_or cells k None)
+at_map f none [] k = sym none
+at_map f none (c ∷ cells) zero = refl
+at_map f none (c ∷ cells) (suc k) = at_map f none cells k
+
+pub get-file : (p : Parts) (number : ℕ) → fin.get (world_of p).files number ≡ content_in (get_or p.files number None)
+get-file p number = get-map_of (map content_in p.files) number ∙ at_map content_in refl p.files number
+
+full_from_content : (cell : Option Stored) → IsSome (content_in cell) → IsSome cell
+full_from_content None h = h
+full_from_content (Some file) h = refl
+
+content_full : (cell : Option Stored) → IsSome cell → IsSome (content_in cell)
+content_full None h = h
+content_full (Some file) h = refl
+
+named_full : (cell : Option Stored) (name : List ℕ) → name_in cell ≡ Some name → IsSome cell
+named_full None name h = absurd (none-some name h)
+named_full (Some file) name h = refl
+
+-- a cell gets another file with the same name, or none
+name_kept : (cells : List (Option Stored)) (at : ℕ) (cell : Option Stored) → at < length cells → name_in cell ≡ name_in (get_or cells at None) → (q : ℕ) → name_in (get_or (set cells at cell) q None) ≡ name_in (get_or cells q None)
+name_kept cells at cell h same q =
+    ap name_in (at_set cells at q cell h)
+    ∙ elim (eqb q at) as (λ b. eqb q at ≡ b → name_in (cond b cell (get_or cells q None)) ≡ name_in (get_or cells q None)) [
+      | true ↦ λ e. let is : q ≡ at = (grind (arith, nat_tests)) in same ∙ ap (λ k. name_in (get_or cells k None)) (sym is)
+      | false ↦ λ _. refl
+    ] refl
+
+empty_cell : (cell : Option Stored) → content_in cell ≡ None → name_in cell ≡ None
+empty_cell None h = refl
+empty_cell (Some file) h = absurd (none-some file.content.items (sym h))
+
+is_true : (b : Bool) → T b → b ≡ true
+is_true true h = refl
+is_true false h = absurd h
+
+-- names that tie are one name
+tied : (q name : List ℕ) → eq_by_cmp bytes_cmp q name ≡ true → q ≡ name
+tied q name tie = bytes_cmp-IsAntisymmetric q name (equal (bytes_cmp q name) tie)
+
+ties : (q name : List ℕ) → q ≡ name → eq_by_cmp bytes_cmp q name ≡ true
+ties q name same = ap (λ n. eq_by_cmp bytes_cmp n name) same ∙ ap is_eq (tied_itself nat_list_cmp_total name)
+
+module _ (p : Parts) (w : World) (is : world_of p ≡ w) (ok : IsConsistent p) where
+  pub in_order : T (fin.is_sorted bytes_cmp p.names)
+  in_order = subst T (sym ok.sorted) tt
+
+  pub slot_within : (fd : ℕ) → IsSome (fin.get w.slots fd) → fd < length p.slots
+  slot_within fd held = within p.slots fd (sym (ap is_some (get-map_of p.slots fd)) ∙ subst (λ (v : World). IsSome (fin.get v.slots fd)) (sym is) held)
+
+  pub file_within : (number : ℕ) → IsSome (fin.get w.files number) → number < length p.files
+  file_within number held = within p.files number (full_from_content _ (sym (ap is_some (get-file p number)) ∙ subst (λ (v : World). IsSome (fin.get v.files number)) (sym is) held))
+
+  -- a descriptor that is held stands for something else
+  pub set_slot-consistent : (fd : ℕ) (slot : Slot) → IsSome (fin.get w.slots fd) → IsConsistent (record p { slots = set p.slots fd (Some slot) })
+  set_slot-consistent fd slot held = record {
+    sorted = ok.sorted;
+    few_slots = omega (arith, length-set p.slots fd (Some slot), ok.few_slots);
+    few_files = ok.few_files;
+    slots_counted = ok.slots_counted ∙ sym (ap fin.len (map_of-fill p.slots fd slot (slot_within fd held)) ∙ fin.len-insert nat_cmp_total (map_of p.slots) fd slot
+        ∙ ap (λ b. cond b (fin.len (map_of p.slots)) (fin.len (map_of p.slots) + 1)) (subst (λ (v : World). IsSome (fin.get v.slots fd)) (sym is) held));
+    bytes_counted = ok.bytes_counted;
+    found = ok.found;
+    holds = ok.holds;
+  }
+
+  pub set_slot-world : (fd : ℕ) (slot : Slot) → IsSome (fin.get w.slots fd) → world_of (record p { slots = set p.slots fd (Some slot) }) ≡ record w { slots = fin.insert w.slots fd slot }
+  set_slot-world fd slot held = ap (λ m. record (world_of p) { slots = m }) (map_of-fill p.slots fd slot (slot_within fd held)) ∙ ap (λ (v : World). record v { slots = fin.insert v.slots fd slot }) is
+
+  -- a descriptor that is held stands for nothing any more
+  pub clear_slot-consistent : (fd : ℕ) → IsSome (fin.get w.slots fd) → IsConsistent (record p { slots = set p.slots fd None; slot_count = p.slot_count - 1 })
+  clear_slot-consistent fd held = record {
+    sorted = ok.sorted;
+    few_slots = omega (arith, length-set p.slots fd None, ok.few_slots);
+    few_files = ok.few_files;
+    slots_counted = ap (λ n. n - 1) ok.slots_counted ∙ sym (ap fin.len (map_of-empty p.slots fd (slot_within fd held)) ∙ fin.len-remove nat_cmp_total (map_of p.slots) fd
+        ∙ ap (λ b. cond b (fin.len (map_of p.slots) - 1) (fin.len (map_of p.slots))) (subst (λ (v : World). IsSome (fin.get v.slots fd)) (sym is) held));
+    bytes_counted = ok.bytes_counted;
+    found = ok.found;
+    holds = ok.holds;
+  }
+
+  pub clear_slot-world : (fd : ℕ) → IsSome (fin.get w.slots fd) → world_of (record p { slots = set p.slots fd None; slot_count = p.slot_count - 1 }) ≡ record w { slots = fin.remove w.slots fd }
+  clear_slot-world fd held = ap (λ m. record (world_of p) { slots = m }) (map_of-empty p.slots fd (slot_within fd held)) ∙ ap (λ (v : World). record v { slots = fin.remove v.slots fd }) is
+
+  -- an empty cell more
+  pub room_for_slot-consistent : length p.slots < MAX_SLOTS → IsConsistent (record p { slots = p.slots ++ None ∷ [] })
+  room_for_slot-consistent few = record {
+    sorted = ok.sorted;
+    few_slots = omega (arith, length-append p.slots (None ∷ []), few);
+    few_files = ok.few_files;
+    slots_counted = ok.slots_counted ∙ sym (ap fin.len (map_of-push p.slots));
+    bytes_counted = ok.bytes_counted;
+    found = ok.found;
+    holds = ok.holds;
+  }
+
+  pub room_for_slot-world : world_of (record p { slots = p.slots ++ None ∷ [] }) ≡ w
+  room_for_slot-world = ap (λ m. record (world_of p) { slots = m }) (map_of-push p.slots) ∙ is
+
+  -- an unused descriptor with a cell stands for something
+  pub add_slot-consistent : (fd : ℕ) (slot : Slot) → fd < length p.slots → fin.get w.slots fd ≡ None → IsConsistent (record p { slots = set p.slots fd (Some slot); slot_count = p.slot_count + 1 })
+  add_slot-consistent fd slot h unused = record {
+    sorted = ok.sorted;
+    few_slots = omega (arith, length-set p.slots fd (Some slot), ok.few_slots);
+    few_files = ok.few_files;
+    slots_counted = ap (λ n. n + 1) ok.slots_counted ∙ sym (ap fin.len (map_of-fill p.slots fd slot h) ∙ fin.len-insert nat_cmp_total (map_of p.slots) fd slot
+        ∙ ap (λ b. cond b (fin.len (map_of p.slots)) (fin.len (map_of p.slots) + 1)) (ap is_some (subst (λ (v : World). fin.get v.slots fd ≡ None) (sym is) unused)));
+    bytes_counted = ok.bytes_counted;
+    found = ok.found;
+    holds = ok.holds;
+  }
+
+  pub add_slot-world : (fd : ℕ) (slot : Slot) → fd < length p.slots → world_of (record p { slots = set p.slots fd (Some slot); slot_count = p.slot_count + 1 }) ≡ record w { slots = fin.insert w.slots fd slot }
+  add_slot-world fd slot h = ap (λ m. record (world_of p) { slots = m }) (map_of-fill p.slots fd slot h) ∙ ap (λ (v : World). record v { slots = fin.insert v.slots fd slot }) is
+
+  pub slots_some : (fd : ℕ) → IsSome (fin.get w.slots fd) → 1 ≤ p.slot_count
+  slots_some fd held =
+      let there : IsSome (fin.get (map_of p.slots) fd) = subst (λ (v : World). IsSome (fin.get v.slots fd)) (sym is) held in
+      elim (cases_lt 0 (fin.len (map_of p.slots))) as (λ _. 1 ≤ p.slot_count) [
+        | inl h ↦ omega (arith, ok.slots_counted)
+        | inr h ↦ absurd (false≢true (sym (ap is_some (ap (λ m. fin.get m fd) (fin.empty_of_len (map_of p.slots) (omega arith)) ∙ fin.get-empty nat_cmp fd)) ∙ there))
+      ]
+
+  -- a file with other bytes and the same name
+  pub set_file-world : (at : ℕ) (cell : Option Stored) (content : List ℕ) → at < length p.files → content_in cell ≡ Some content
+      → world_of (record p { files = set p.files at cell }) ≡ record w { files = fin.insert w.files at content }
+  set_file-world at cell content h filled =
+      ap (λ m. record (world_of p) { files = m }) (ap map_of (map-set content_in p.files at cell ∙ ap (set (map content_in p.files) at) filled) ∙ map_of-fill (map content_in p.files) at content (omega (arith, length-map p.files content_in)))
+      ∙ ap (λ (v : World). record v { files = fin.insert v.files at content }) is
+
+  pub set_file-consistent : (at : ℕ) (cell : Option Stored) (content : List ℕ) (bytes : ℕ) → at < length p.files → content_in cell ≡ Some content → name_in cell ≡ name_in (get_or p.files at None)
+      → bytes + length (content_of w at) ≡ p.total + length content → IsConsistent (record p { files = set p.files at cell; total = bytes })
+  set_file-consistent at cell content bytes h filled same sums = record {
+    sorted = ok.sorted;
+    few_slots = ok.few_slots;
+    few_files = omega (arith, length-set p.files at cell, ok.few_files);
+    slots_counted = ok.slots_counted;
+    bytes_counted = omega (arith, ap total (set_file-world at cell content h filled), total-insert w at content, ok.bytes_counted, ap total is, sums);
+    found = λ name number e. name_kept p.files at cell h same number ∙ ok.found name number e;
+    holds = λ number name e. ok.holds number name (sym (name_kept p.files at cell h same number) ∙ e);
+  }
+
+  -- a file with the same bytes and the same name
+  pub same_file-world : (at : ℕ) (cell : Option Stored) → content_in cell ≡ content_in (get_or p.files at None) → world_of (record p { files = set p.files at cell }) ≡ w
+  same_file-world at cell same = ap (λ cells. record (world_of p) { files = map_of cells }) (map-set_same content_in p.files at cell None same) ∙ is
+
+  pub same_file-consistent : (at : ℕ) (cell : Option Stored) → at < length p.files → content_in cell ≡ content_in (get_or p.files at None) → name_in cell ≡ name_in (get_or p.files at None) → IsConsistent (record p { files = set p.files at cell })
+  same_file-consistent at cell h same named = record {
+    sorted = ok.sorted;
+    few_slots = ok.few_slots;
+    few_files = omega (arith, length-set p.files at cell, ok.few_files);
+    slots_counted = ok.slots_counted;
+    bytes_counted = ok.bytes_counted ∙ ap total is ∙ sym (ap total (same_file-world at cell same));
+    found = λ name number e. name_kept p.files at cell h named number ∙ ok.found name number e;
+    holds = λ number name e. ok.holds number name (sym (name_kept p.files at cell h named number) ∙ e);
+  }
+
+  -- a file that has no name is dropped
+  pub drop_file-world : (at : ℕ) → at < length p.files → world_of (record p { files = set p.files at None }) ≡ record w { files = fin.remove w.files at }
+  drop_file-world at h =
+      ap (λ m. record (world_of p) { files = m }) (ap map_of (map-set content_in p.files at None) ∙ map_of-empty (map content_in p.files) at (omega (arith, length-map p.files content_in)))
+      ∙ ap (λ (v : World). record v { files = fin.remove v.files at }) is
+
+  unnamed : (at : ℕ) → is_named w at ≡ false → name_in (get_or p.files at None) ≡ None
+  unnamed at none =
+      elim (name_in (get_or p.files at None)) as (λ o. name_in (get_or p.files at None) ≡ o → o ≡ None) [
+        | None ↦ λ _. refl
+        | Some name ↦ λ e.
+            let known : fin.get w.names name ≡ Some at = subst (λ (v : World). fin.get v.names name ≡ Some at) is (ok.holds at name e) in
+            absurd (false≢true (sym none ∙ any_at nat_list_cmp_total (λ held. eqb held at) w.names name at known (eq-eqb at at refl)))
+      ] refl
+
+  pub drop_file-consistent : (at bytes : ℕ) → at < length p.files → is_named w at ≡ false → bytes + length (content_of w at) ≡ p.total → IsConsistent (record p { files = set p.files at None; total = bytes })
+  drop_file-consistent at bytes h none sums =
+      let kept = name_kept p.files at None h (sym (unnamed at none)) in record {
+        sorted = ok.sorted;
+        few_slots = ok.few_slots;
+        few_files = omega (arith, length-set p.files at None, ok.few_files);
+        slots_counted = ok.slots_counted;
+        bytes_counted = omega (arith, ap total (drop_file-world at h), total-remove w at, ok.bytes_counted, ap total is, sums);
+        found = λ name number e. kept number ∙ ok.found name number e;
+        holds = λ number name e. ok.holds number name (sym (kept number) ∙ e);
+      }
+
+  -- an empty cell more
+  pub room_for_file-world : world_of (record p { files = p.files ++ None ∷ [] }) ≡ w
+  room_for_file-world = ap (λ m. record (world_of p) { files = m }) (ap map_of (map-append content_in p.files (None ∷ [])) ∙ map_of-push (map content_in p.files)) ∙ is
+
+  pub room_for_file-consistent : length p.files < MAX_NAMES + MAX_SLOTS → IsConsistent (record p { files = p.files ++ None ∷ [] })
+  room_for_file-consistent few = record {
+    sorted = ok.sorted;
+    few_slots = ok.few_slots;
+    few_files = omega (arith, length-append p.files (None ∷ []), few);
+    slots_counted = ok.slots_counted;
+    bytes_counted = ok.bytes_counted ∙ ap total is ∙ sym (ap total room_for_file-world);
+    found = λ name number e. ap name_in (at_push p.files number) ∙ ok.found name number e;
+    holds = λ number name e. ok.holds number name (sym (ap name_in (at_push p.files number)) ∙ e);
+  }
+
+  -- a new file, under a number that no file has
+  pub add_file-world : (name : List ℕ) (at : ℕ) (file : Stored) → at < length p.files
+      → world_of (record p { names = fin.put bytes_cmp name at p.names; files = set p.files at (Some file) }) ≡ record w { names = fin.insert w.names name at; files = fin.insert w.files at file.content.items }
+  add_file-world name at file h =
+      ap (λ m. record (world_of p) { names = m; files = map_of (map content_in (set p.files at (Some file))) }) (from_sorted-put p.names in_order name at)
+      ∙ ap (λ (v : World). record v { names = fin.insert v.names name at }) (set_file-world at (Some file) file.content.items h refl)
+
+  get-put : (name : List ℕ) (at : ℕ) (q : List ℕ) → fin.get (fin.from_sorted {R = bytes_cmp} (fin.put bytes_cmp name at p.names)) q ≡ cond (eq_by_cmp bytes_cmp q name) (Some at) (fin.get (world_of p).names q)
+  get-put name at q = ap (λ m. fin.get m q) (from_sorted-put p.names in_order name at) ∙ fin.get-insert nat_list_cmp_total (world_of p).names name at q
+
+  get-where : (name q : List ℕ) → fin.get (fin.from_sorted {R = bytes_cmp} (where_key bytes_cmp (λ other. not (eq_by_cmp bytes_cmp name other)) p.names)) q ≡ cond (eq_by_cmp bytes_cmp q name) None (fin.get (world_of p).names q)
+  get-where name q = ap (λ m. fin.get m q) (from_sorted-where_key p.names in_order name) ∙ fin.get-remove nat_list_cmp_total (world_of p).names name q
+
+  pub add_file-consistent : (name : List ℕ) (at : ℕ) (file : Stored) (bytes : ℕ) → at < length p.files → fin.get w.names name ≡ None → fin.get w.files at ≡ None → name_in (Some file) ≡ Some name
+      → bytes ≡ p.total + length file.content.items → IsConsistent (record p { names = fin.put bytes_cmp name at p.names; files = set p.files at (Some file); total = bytes })
+  add_file-consistent name at file bytes h absent free named sums = record {
+    sorted = is_true _ (is_sorted-put bytes_cmp nat_list_cmp_total name at p.names in_order);
+    few_slots = ok.few_slots;
+    few_files = omega (arith, length-set p.files at (Some file), ok.few_files);
+    slots_counted = ok.slots_counted;
+    bytes_counted = omega (arith, ap total (add_file-world name at file h), total-insert w at file.content.items, ok.bytes_counted, ap total is, sums, ap (λ o. length (unwrap_or o [])) free);
+    found = λ q number e.
+        let looked = sym (get-put name at q) ∙ e in
+        elim (eq_by_cmp bytes_cmp q name) as (λ b. eq_by_cmp bytes_cmp q name ≡ b → cond b (Some at) (fin.get (world_of p).names q) ≡ Some number → name_in (get_or (set p.files at (Some file)) number None) ≡ Some q) [
+          | true ↦ λ tie here. ap (λ k. name_in (get_or (set p.files at (Some file)) k None)) (sym (same_Some at number here))
+              ∙ ap name_in (get_or-set_same p.files at (Some file) None h) ∙ named ∙ ap (λ n. Some n) (sym (tied q name tie))
+          | false ↦ λ _ there.
+              let old = ok.found q number there in
+              let apart : number ≢ at = λ same. none-some q (sym vacant ∙ ap (λ k. name_in (get_or p.files k None)) (sym same) ∙ old) in
+              ap name_in (get_or-set_other p.files at number (Some file) None apart) ∙ old
+        ] refl looked;
+    holds = λ number q e.
+        elim (eqb number at) as (λ b. eqb number at ≡ b → fin.get (fin.from_sorted {R = bytes_cmp} (fin.put bytes_cmp name at p.names)) q ≡ Some number) [
+          | true ↦ λ t. let same : number ≡ at = (grind (arith, nat_tests)) in
+              let new : Some name ≡ Some q = sym named ∙ ap name_in (sym (get_or-set_same p.files at (Some file) None h)) ∙ ap (λ k. name_in (get_or (set p.files at (Some file)) k None)) (sym same) ∙ e in
+              let is_name : q ≡ name = sym (same_Some name q new) in
+              get-put name at q ∙ ap (λ b. cond b (Some at) (fin.get (world_of p).names q)) (ties q name is_name) ∙ ap (λ k. Some k) (sym same)
+          | false ↦ λ t. let apart : number ≢ at = (grind (arith, nat_tests)) in
+              let old = ok.holds number q (ap name_in (sym (get_or-set_other p.files at number (Some file) None apart)) ∙ e) in
+              get-put name at q
+              ∙ elim (eq_by_cmp bytes_cmp q name) as (λ b. eq_by_cmp bytes_cmp q name ≡ b → cond b (Some at) (fin.get (world_of p).names q) ≡ Some number) [
+                | true ↦ λ tie. absurd (none-some number (sym (subst (λ (v : World). fin.get v.names name ≡ None) (sym is) absent) ∙ ap (fin.get (world_of p).names) (sym (tied q name tie)) ∙ old))
+                | false ↦ λ _. old
+              ] refl
+        ] refl;
+  }
+    where
+    vacant : name_in (get_or p.files at None) ≡ None
+    vacant = empty_cell (get_or p.files at None) (sym (get-file p at) ∙ subst (λ (v : World). fin.get v.files at ≡ None) (sym is) free)
+
+  -- a file loses its name
+  pub unname-world : (name : List ℕ) (at : ℕ) (cell : Option Stored) → content_in cell ≡ content_in (get_or p.files at None)
+      → world_of (record p { names = where_key bytes_cmp (λ other. not (eq_by_cmp bytes_cmp name other)) p.names; files = set p.files at cell }) ≡ record w { names = fin.remove w.names name }
+  unname-world name at cell same =
+      ap (λ m. record (world_of p) { names = m; files = map_of (map content_in (set p.files at cell)) }) (from_sorted-where_key p.names in_order name)
+      ∙ ap (λ cells. record (world_of p) { names = fin.remove (world_of p).names name; files = map_of cells }) (map-set_same content_in p.files at cell None same)
+      ∙ ap (λ (v : World). record v { names = fin.remove v.names name }) is
+
+  pub unname-consistent : (name : List ℕ) (at : ℕ) (cell : Option Stored) → fin.get w.names name ≡ Some at → name_in cell ≡ None → content_in cell ≡ content_in (get_or p.files at None)
+      → IsConsistent (record p { names = where_key bytes_cmp (λ other. not (eq_by_cmp bytes_cmp name other)) p.names; files = set p.files at cell })
+  unname-consistent name at cell held none same = record {
+    sorted = is_true _ (is_sorted-where_key bytes_cmp (λ other. not (eq_by_cmp bytes_cmp name other)) p.names in_order);
+    few_slots = ok.few_slots;
+    few_files = omega (arith, length-set p.files at cell, ok.few_files);
+    slots_counted = ok.slots_counted;
+    bytes_counted = ok.bytes_counted ∙ ap total is ∙ sym (ap total (unname-world name at cell same));
+    found = λ q number e.
+        elim (eq_by_cmp bytes_cmp q name) as (λ b. eq_by_cmp bytes_cmp q name ≡ b → cond b None (fin.get (world_of p).names q) ≡ Some number → name_in (get_or (set p.files at cell) number None) ≡ Some q) [
+          | true ↦ λ _ gone. absurd (none-some number gone)
+          | false ↦ λ t there.
+              let old = ok.found q number there in
+              let apart : number ≢ at = λ k. false≢true (sym t ∙ (ties q name (same_Some q name (sym old ∙ ap (λ n. name_in (get_or p.files n None)) k ∙ ok.found name at here)))) in
+              ap name_in (get_or-set_other p.files at number cell None apart) ∙ old
+        ] refl (sym (get-where name q) ∙ e);
+    holds = λ number q e.
+        elim (eqb number at) as (λ b. eqb number at ≡ b → fin.get (fin.from_sorted {R = bytes_cmp} (where_key bytes_cmp (λ other. not (eq_by_cmp bytes_cmp name other)) p.names)) q ≡ Some number) [
+          | true ↦ λ t. let k : number ≡ at = (grind (arith, nat_tests)) in
+              absurd (none-some q (sym none ∙ ap name_in (sym (get_or-set_same p.files at cell None inside)) ∙ ap (λ n. name_in (get_or (set p.files at cell) n None)) (sym k) ∙ e))
+          | false ↦ λ t. let apart : number ≢ at = (grind (arith, nat_tests)) in
+              let old = ok.holds number q (ap name_in (sym (get_or-set_other p.files at number cell None apart)) ∙ e) in
+              get-where name q
+              ∙ elim (eq_by_cmp bytes_cmp q name) as (λ b. eq_by_cmp bytes_cmp q name ≡ b → cond b None (fin.get (world_of p).names q) ≡ Some number) [
+                | true ↦ λ tie. absurd (apart (same_Some number at (sym old ∙ ap (fin.get (world_of p).names) (tied q name tie) ∙ here)))
+                | false ↦ λ _. old
+              ] refl
+        ] refl;
+  }
+    where
+    here : fin.get (world_of p).names name ≡ Some at
+    here = subst (λ (v : World). fin.get v.names name ≡ Some at) (sym is) held
+
+    inside : at < length p.files
+    inside = within p.files at (named_full (get_or p.files at None) name (ok.found name at here))
+
+  -- what is looked up
+  pub slot-is : (fd : ℕ) → fin.get w.slots fd ≡ get_or p.slots fd None
+  slot-is fd = ap (λ (v : World). fin.get v.slots fd) (sym is) ∙ get-map_of p.slots fd
+
+  pub file-is : (number : ℕ) → fin.get w.files number ≡ content_in (get_or p.files number None)
+  file-is number = ap (λ (v : World). fin.get v.files number) (sym is) ∙ get-file p number
+
+  pub is_named-is : (number : ℕ) → is_named w number ≡ is_some (name_in (get_or p.files number None))
+  is_named-is number =
+      elim (name_in (get_or p.files number None)) as (λ o. name_in (get_or p.files number None) ≡ o → is_named w number ≡ is_some o) [
+        | None ↦ λ none.
+            elim (is_named w number) as (λ b. is_named w number ≡ b → b ≡ false) [
+              | true ↦ λ named.
+                  let key = key_of_any nat_list_cmp_total (λ held. eqb held number) w.names named in
+                  let same : key.1 ≡ number = eqb-true key.1 number key.3 in
+                  absurd (none-some key.0 (sym none ∙ ok.found key.0 number (ap (λ (v : World). fin.get v.names key.0) is ∙ key.2 ∙ ap (λ n. Some n) same)))
+              | false ↦ λ _. refl
+            ] refl
+        | Some name ↦ λ e. any_at nat_list_cmp_total (λ held. eqb held number) w.names name number
+            (ap (λ (v : World). fin.get v.names name) (sym is) ∙ ok.holds number name e) (eq-eqb number number refl)
+      ] refl
+
+  pub is_open-is : (number : ℕ) → is_open w number ≡ list_any (λ cell. option_map_or (is_of number) cell false) p.slots
+  is_open-is number = ap (λ (v : World). is_open v number) (sym is) ∙ any-map_of (is_of number) p.slots
+
+  pub names_len-is : fin.len w.names ≡ length p.names
+  names_len-is = ap (λ (v : World). fin.len v.names) (sym is) ∙ len-from_sorted p.names in_order
+
+  pub number-is : (name : List ℕ) → fin.get w.names name ≡ fin.find bytes_cmp name p.names
+  number-is name = ap (λ (v : World). fin.get v.names name) (sym is) ∙ fin.get-from_sorted bytes_cmp p.names name in_order
+
+  -- the bytes of a file, from its cell
+  pub content-is : (number : ℕ) (cell : Option Stored) → cell ≡ get_or p.files number None → content_of w number ≡ unwrap_or (content_in cell) []
+  content-is number cell same = ap (λ o. unwrap_or o []) (file-is number ∙ ap content_in (sym same))
+
+  -- the first empty cell is the lowest unused number
+  pub free_slot-is : (fd : ℕ) → get_or p.slots fd None ≡ None → ((k : ℕ) → k < fd → IsSome (get_or p.slots k None)) → fd ≡ lowest_unused w.slots
+  free_slot-is fd free full = lowest_unused-is w.slots fd (slot-is fd ∙ free) (λ k h. ap is_some (slot-is k) ∙ full k h)
+
+  pub free_number-is : (number : ℕ) → get_or p.files number None ≡ None → ((k : ℕ) → k < number → IsSome (get_or p.files k None)) → number ≡ lowest_unused w.files
+  free_number-is number free full = lowest_unused-is w.files number (file-is number ∙ ap content_in free) (λ k h. ap is_some (file-is k) ∙ content_full (get_or p.files k None) (full k h))
+
+  pub file_full : (number : ℕ) (cell : Option Stored) → IsSome (fin.get w.files number) → cell ≡ get_or p.files number None → IsSome cell
+  file_full number cell held same = full_from_content cell (ap (λ c. is_some (content_in c)) same ∙ sym (ap is_some (file-is number)) ∙ held)
+
+  pub named_within : (name : List ℕ) (number : ℕ) → fin.get w.names name ≡ Some number → number < length p.files
+  named_within name number held = within p.files number (named_full (get_or p.files number None) name (ok.found name number (ap (λ (v : World). fin.get v.names name) is ∙ held)))
+
+  pub cell_len : (number : ℕ) (cell : Option Stored) (n : ℕ) → cell ≡ get_or p.files number None → n ≡ length (unwrap_or (content_in cell) []) → n ≡ length (content_of w number)
+  cell_len number cell n same len = len ∙ sym (ap length (content-is number cell same))
+
+  pub content_le_total : (number : ℕ) → length (content_of w number) ≤ p.total
+  content_le_total number = omega (arith, total-remove w number, ok.bytes_counted, ap total is)
+
+  pub keys-is : fin.keys w.names ≡ map (λ e. e.0) p.names
+  keys-is = ap (λ (v : World). fin.keys v.names) (sym is) ∙ ap (map (λ e. e.0)) (fin.entries-from_sorted bytes_cmp p.names in_order)
+
+  -- a place for the lowest unused number
+  lowest_slot : lowest_unused w.slots ≤ length p.slots
+  lowest_slot = elim (cases_lt (length p.slots) (lowest_unused w.slots)) as (λ _. lowest_unused w.slots ≤ length p.slots) [
+      | inl h ↦ absurd (false≢true (sym (ap is_some (slot-is (length p.slots) ∙ get_or_past p.slots (length p.slots) None (omega arith))) ∙ below-lowest_unused w.slots (length p.slots) h))
+      | inr h ↦ h
+    ]
+
+  lowest_number : lowest_unused w.files ≤ length p.files
+  lowest_number = elim (cases_lt (length p.files) (lowest_unused w.files)) as (λ _. lowest_unused w.files ≤ length p.files) [
+      | inl h ↦ absurd (false≢true (sym (ap is_some (file-is (length p.files) ∙ ap content_in (get_or_past p.files (length p.files) None (omega arith)))) ∙ below-lowest_unused w.files (length p.files) h))
+      | inr h ↦ h
+    ]
+
+  pub slot_reached : (fd : ℕ) → fd ≡ lowest_unused w.slots → fd ≤ length p.slots
+  slot_reached fd lowest = omega (arith, lowest_slot)
+
+  pub number_reached : (number : ℕ) → number ≡ lowest_unused w.files → number ≤ length p.files
+  number_reached number lowest = omega (arith, lowest_number)
+
+
+-- what is added at the lowest unused descriptor, with room made for it
+module _ (p : Parts) (w : World) (is : world_of p ≡ w) (ok : IsConsistent p)
+    (fd : ℕ) (slot : Slot) (lowest : fd ≡ lowest_unused w.slots) (few : fin.len w.slots < MAX_SLOTS) (cells : List (Option Slot)) (reached : cells ≡ with_room p.slots fd) where
+  slot_room : (b : Bool) → eqb fd (length p.slots) ≡ b → (fd < length (cond b (p.slots ++ None ∷ []) p.slots)) × IsConsistent (record p { slots = cond b (p.slots ++ None ∷ []) p.slots }) × (world_of (record p { slots = cond b (p.slots ++ None ∷ []) p.slots }) ≡ w)
+  slot_room true e = let same : fd ≡ length p.slots = eqb-true _ _ e in (omega (arith, length-append p.slots (None ∷ [])), room_for_slot-consistent p w is ok (omega (arith, lowest_unused-le-len w.slots)), room_for_slot-world p w is ok)
+  slot_room false e = let apart : fd ≢ length p.slots = (grind (arith, nat_tests)) in (omega (arith, slot_reached p w is ok fd lowest), ok, is)
+
+  pub added_slot-within : fd < length cells
+  added_slot-within = subst (λ (l : List (Option Slot)). fd < length l) (sym reached) (slot_room _ refl).0
+
+  pub added_slot-consistent : IsConsistent (record p { slots = set cells fd (Some slot); slot_count = p.slot_count + 1 })
+  added_slot-consistent =
+      subst (λ (l : List (Option Slot)). IsConsistent (record p { slots = set l fd (Some slot); slot_count = p.slot_count + 1 })) (sym reached)
+          (let there = slot_room _ refl in add_slot-consistent (record p { slots = with_room p.slots fd }) w there.2 there.1 fd slot there.0 (ap (fin.get w.slots) lowest ∙ get-lowest_unused w.slots))
+
+  pub added_slot-world : world_of (record p { slots = set cells fd (Some slot); slot_count = p.slot_count + 1 }) ≡ record w { slots = fin.insert w.slots fd slot }
+  added_slot-world =
+      ap (λ l. world_of (record p { slots = set l fd (Some slot); slot_count = p.slot_count + 1 })) reached
+      ∙ (let there = slot_room _ refl in add_slot-world (record p { slots = with_room p.slots fd }) w there.2 there.1 fd slot there.0)
+
+-- what is added at the lowest unused number, with room made for it
+module _ (p : Parts) (w : World) (is : world_of p ≡ w) (ok : IsConsistent p)
+    (at : ℕ) (lowest : at ≡ lowest_unused w.files) (few : lowest_unused w.files < MAX_NAMES + MAX_SLOTS) (cells : List (Option Stored)) (reached : cells ≡ with_room p.files at) where
+  file_room : (b : Bool) → eqb at (length p.files) ≡ b → (at < length (cond b (p.files ++ None ∷ []) p.files)) × IsConsistent (record p { files = cond b (p.files ++ None ∷ []) p.files }) × (world_of (record p { files = cond b (p.files ++ None ∷ []) p.files }) ≡ w)
+  file_room true e = let same : at ≡ length p.files = eqb-true _ _ e in (omega (arith, length-append p.files (None ∷ [])), room_for_file-consistent p w is ok (omega arith), room_for_file-world p w is ok)
+  file_room false e = let apart : at ≢ length p.files = (grind (arith, nat_tests)) in (omega (arith, number_reached p w is ok at lowest), ok, is)
+
+  pub added_file-within : at < length cells
+  added_file-within = subst (λ (l : List (Option Stored)). at < length l) (sym reached) (file_room _ refl).0
+
+  pub roomy_files-consistent : IsConsistent (record p { files = cells })
+  roomy_files-consistent = subst (λ (l : List (Option Stored)). IsConsistent (record p { files = l })) (sym reached) (file_room _ refl).1
+
+  pub roomy_files-world : world_of (record p { files = cells }) ≡ w
+  roomy_files-world = ap (λ l. world_of (record p { files = l })) reached ∙ (file_room _ refl).2
+
+  module _ (name : List ℕ) (content : List ℕ) (file : Stored) (bytes : ℕ) (absent : fin.get w.names name ≡ None) (named : name_in (Some file) ≡ Some name) (filled : content_in (Some file) ≡ Some content)
+      (sums : bytes ≡ p.total + length content) (names : List (List ℕ × ℕ)) (listed : names ≡ fin.put bytes_cmp name at p.names) where
+    same_content : file.content.items ≡ content
+    same_content = same_Some _ _ filled
+
+    pub added_file-consistent : IsConsistent (record p { names = names; files = set cells at (Some file); total = bytes })
+    added_file-consistent =
+        subst (λ (l : List (List ℕ × ℕ)). IsConsistent (record p { names = l; files = set cells at (Some file); total = bytes })) (sym listed)
+            (add_file-consistent (record p { files = cells }) w roomy_files-world roomy_files-consistent name at file bytes added_file-within absent (ap (fin.get w.files) lowest ∙ get-lowest_unused w.files) named
+                (sums ∙ ap (λ l. p.total + length l) (sym same_content)))
+
+    pub added_file-world : world_of (record p { names = names; files = set cells at (Some file); total = bytes }) ≡ record w { names = fin.insert w.names name at; files = fin.insert w.files at content }
+    added_file-world =
+        ap (λ l. world_of (record p { names = l; files = set cells at (Some file); total = bytes })) listed
+        ∙ add_file-world (record p { files = cells }) w roomy_files-world roomy_files-consistent name at file added_file-within
+        ∙ ap (λ l. record w { names = fin.insert w.names name at; files = fin.insert w.files at l }) same_content

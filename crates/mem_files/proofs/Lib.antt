@@ -1,0 +1,10 @@
+pub mod CellMaps
+pub mod Maps
+pub mod Directory
+pub mod Totals
+pub mod Overwrites
+pub mod Changes
+pub mod First
+pub mod Entries
+pub mod Soundness
+pub mod SoundCalls

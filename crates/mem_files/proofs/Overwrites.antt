@@ -1,0 +1,48 @@
+-- Bytes that are written at a place, after zeros up to their end.
+use Rattle.std.proofs.Common.{◌≡◌, ℕ, ◌+◌, ◌-◌, ◌<◌, ◌≤◌, List, [], ◌++◌, length, take, drop, replicate, refl, sym, ap, ◌∙◌, arith, inl, inr}
+use Rattle.std.proofs.lemmas.List.{take-append-le, drop-append-le, take-replicate, take_all, append-nil, length-take, length-drop, length-append, length-replicate}
+use Rattle.std.proofs.Math.Seq.{take-append-add, drop-append-add, drop-length}
+use Rattle.std.proofs.Math.ListN.{drop_of_length-le}
+use Rattle.std.proofs.lemmas.Bool.{cases_lt}
+use Rattle.mem_files.specs.Calls.{overwritten}
+
+take-padded : (old : List ℕ) (place n : ℕ) → place - length old ≤ n → take place (old ++ replicate n 0) ≡ take place old ++ replicate (place - length old) 0
+take-padded old place n few =
+    elim (cases_lt (length old) place) as (λ _. take place (old ++ replicate n 0) ≡ take place old ++ replicate (place - length old) 0) [
+      | inl past ↦
+          let split : place ≡ length old + (place - length old) = omega arith in
+          ap (λ k. take k (old ++ replicate n 0)) split ∙ take-append-add old (replicate n 0) (place - length old)
+          ∙ ap (λ rest. old ++ rest) (take-replicate (place - length old) n 0 few) ∙ ap (λ front. front ++ replicate (place - length old) 0) (sym (take_all place old (omega arith)))
+      | inr inside ↦
+          let none : place - length old ≡ 0 = omega arith in
+          take-append-le place old (replicate n 0) inside ∙ sym (append-nil (take place old)) ∙ ap (λ k. take place old ++ replicate k 0) (sym none)
+    ]
+
+drop-padded : (old : List ℕ) (end : ℕ) → drop end (old ++ replicate (end - length old) 0) ≡ drop end old
+drop-padded old end =
+    elim (cases_lt (length old) end) as (λ _. drop end (old ++ replicate (end - length old) 0) ≡ drop end old) [
+      | inl past ↦ drop_of_length-le (old ++ replicate (end - length old) 0) (omega (arith, length-append old (replicate (end - length old) 0), length-replicate {A = ℕ} (end - length old) 0))
+          ∙ sym (drop_of_length-le old (omega arith))
+      | inr inside ↦
+          let none : end - length old ≡ 0 = omega arith in
+          ap (λ k. drop end (old ++ replicate k 0)) none ∙ ap (drop end) (append-nil old)
+    ]
+
+-- what is left where bytes are copied into a slice of the same length
+pub put_is : (old bytes items copied : List ℕ) (place n : ℕ) → items ≡ old ++ replicate (place + length bytes - length old) 0 → copied ≡ take place items ++ bytes ++ drop (place + length bytes) items → n ≡ length items
+    → take n (copied ++ drop (length copied) items) ≡ overwritten old place bytes
+put_is old bytes items copied place n grown is len =
+    let long : length items ≡ length old + (place + length bytes - length old) = ap length grown ∙ omega (arith, length-append old (replicate (place + length bytes - length old) 0), length-replicate {A = ℕ} (place + length bytes - length old) 0) in
+    let same : length copied ≡ length items = ap length is ∙ omega (arith, length-append (take place items ++ bytes) (drop (place + length bytes) items), length-append (take place items) bytes, length-take place items, length-drop (place + length bytes) items) in
+    ap (λ rest. take n (copied ++ rest)) (drop_of_length-le items (omega arith)) ∙ ap (take n) (append-nil copied) ∙ take_all n copied (omega arith)
+    ∙ is ∙ ap (λ l. take place l ++ bytes ++ drop (place + length bytes) l) grown
+    ∙ ap (λ front. front ++ bytes ++ drop (place + length bytes) (old ++ replicate (place + length bytes - length old) 0)) (take-padded old place (place + length bytes - length old) (omega arith))
+    ∙ ap (λ rest. take place old ++ replicate (place - length old) 0 ++ bytes ++ rest) (drop-padded old (place + length bytes))
+
+-- a write adds what its end is past the old end
+pub length-overwritten : (old : List ℕ) (place : ℕ) (bytes : List ℕ) → length (overwritten old place bytes) ≡ length old + (place + length bytes - length old)
+length-overwritten old place bytes =
+    let parts : length (overwritten old place bytes) ≡ length (take place old) + length (replicate {A = ℕ} (place - length old) 0) + length bytes + length (drop (place + length bytes) old) =
+        length-append (take place old ++ replicate (place - length old) 0 ++ bytes) (drop (place + length bytes) old)
+        ∙ omega (arith, length-append (take place old ++ replicate (place - length old) 0) bytes, length-append (take place old) (replicate {A = ℕ} (place - length old) 0)) in
+    omega (arith, length-take place old, length-replicate {A = ℕ} (place - length old) 0, length-drop (place + length bytes) old)

@@ -1,0 +1,7 @@
+use Rattle.std.proofs.Common.{arith, length, ap, ◌≡◌, vec_len}
+use Rattle.mem_files.proofs.Overwrites.{put_is}
+use Rattle.mem_files.proofs.stored.put.Goals as goal
+
+pub returns-clause-ok : goal.returns-clause-ok
+returns-clause-ok c =
+    put_is c.args.content.now.items c.args.bytes.now c.grow.new.content.items c.copy_at.new.content c.args.place _ c.in_ok-grow.ensures.ok (rw c.deref_mut.ensures.value at c.copy_at.ensures) (omega arith)

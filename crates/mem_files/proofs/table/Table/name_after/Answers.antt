@@ -1,0 +1,11 @@
+use Rattle.std.proofs.Common.{◌∙◌, ap, sym, find}
+use Rattle.std.specs.Option.{option_copied}
+use Rattle.mem_files.specs.Calls.{is_after}
+use Rattle.mem_files.proofs.Directory.{keys-keyed}
+use Rattle.mem_files.proofs.Changes.{keys-is}
+use Rattle.mem_files.proofs.table.Table.name_after.Goals as goal
+
+pub returns : goal.returns
+returns c =
+    c.next_name.ensures
+    ∙ sym (ap (find (is_after (option_copied c.args.name))) (keys-is _ _ c.self.view_is c.self.invariant ∙ keys-keyed (λ name. name.items) c.self.inside.names.entries))

@@ -1,0 +1,223 @@
+-- What each call answers, and the files after it: the first rule that fits (docs/reference/files.md, "Calls").
+-- An answer that is an error leaves the files as they were.
+use Rattle.std.specs.Prelude.{◌≡◌, ℕ, ◌+◌, ◌-◌, ◌^◌, ℤ, pos, negsuc, ◌+ℤ◌, Bool, true, ◌&&◌, ◌||◌, not, ◌==◌, nat_lt, nat_le, if◌then◌else◌, Option, Some, None, option_and_then, Result, Ok, Err, List, [], ◌∷◌, ◌++◌, length, take, drop, replicate, bit_and, find}
+use Rattle.std.specs.Ordering.{is_lt, nat_cmp}
+use Rattle.std.specs.FinMap as map
+use Rattle.mem_files.specs.declared.slot.Slot.{Slot}
+use Rattle.mem_files.specs.declared.slot.Slot.TheVariants.{Input, Stream1, Stream2, File}
+use Rattle.mem_files.specs.declared.slot.PlaceRefusal.{PlaceRefusal}
+use Rattle.mem_files.specs.declared.slot.PlaceRefusal.TheVariants.{BadName, Twice, Full}
+use Rattle.mem_files.specs.declared.TheConstants.{ENOENT, EBADF, EEXIST, EINVAL, EMFILE, EFBIG, ENOSPC, ESPIPE, O_ACCMODE, O_RDONLY, O_WRONLY, O_CREAT, O_EXCL, O_TRUNC, O_APPEND, SEEK_SET, SEEK_CUR, SEEK_END, MAY_READ, MAY_WRITE, APPENDS, MAX_CONTENT, MAX_TOTAL, MAX_SLOTS, MAX_NAMES}
+use Rattle.mem_files.specs.Names.{bytes_cmp, stripped, is_name}
+use Rattle.mem_files.specs.World.{World, content_of, total, is_named, is_open, lowest_unused}
+
+-- is this bit of the flags set?
+abbrev pub has : ℕ → ℕ → Bool
+has flags bit = not (bit_and flags bit == 0)
+
+-- at the start: descriptor 0 is the empty input, 1 and 2 are the streams
+abbrev pub first_world : World
+first_world = record {
+  names = map.empty;
+  files = map.empty;
+  slots = map.from_entries ((0, Input) ∷ (1, Stream1) ∷ (2, Stream2) ∷ []);
+  stream1 = [];
+  stream2 = [];
+}
+
+-- a new file, under the lowest unused number
+abbrev pub with_file : World → List ℕ → List ℕ → World
+with_file w name content = record w {
+  names = map.insert w.names name (lowest_unused w.files);
+  files = map.insert w.files (lowest_unused w.files) content;
+}
+
+-- `place`
+abbrev pub is_full : World → ℕ → Bool
+is_full w len = nat_lt MAX_CONTENT len || nat_lt MAX_TOTAL (total w + len) || nat_le MAX_NAMES (map.len w.names)
+
+abbrev pub placed_as : World → List ℕ → List ℕ → Result (Unit {0}) PlaceRefusal × World
+placed_as w name content =
+    if not (is_name name) then (Err BadName, w)
+    else (if map.contains_key w.names name then (Err Twice, w)
+    else (if is_full w (length content) then (Err Full, w)
+    else (Ok tt, with_file w name content)))
+
+abbrev pub placed : World → List ℕ → List ℕ → Result (Unit {0}) PlaceRefusal × World
+placed w name content = placed_as w (stripped name) content
+
+-- a file with neither a name nor a descriptor is dropped
+abbrev pub without_unused : World → ℕ → World
+without_unused w number =
+    if is_named w number || is_open w number then w else record w { files = map.remove w.files number }
+
+-- `remove`
+abbrev pub removed_at : World → List ℕ → Option ℕ → Result (Unit {0}) ℕ × World
+removed_at w name None = (Err ENOENT, w)
+removed_at w name (Some number) = (Ok tt, without_unused (record w { names = map.remove w.names name }) number)
+
+abbrev pub removed : World → List ℕ → Result (Unit {0}) ℕ × World
+removed w name = removed_at w name (map.get w.names name)
+
+-- `close`
+abbrev pub released : World → Slot → World
+released w Input = w
+released w Stream1 = w
+released w Stream2 = w
+released w (File number cursor flags) = without_unused w number
+
+abbrev pub closed_at : World → ℕ → Option Slot → Result (Unit {0}) ℕ × World
+closed_at w fd None = (Err EBADF, w)
+closed_at w fd (Some slot) = (Ok tt, released (record w { slots = map.remove w.slots fd }) slot)
+
+abbrev pub closed : World → ℕ → Result (Unit {0}) ℕ × World
+closed w fd = closed_at w fd (map.get w.slots fd)
+
+-- `open_name`: the flags of the descriptor, from those of the call
+abbrev pub flag_byte : ℕ → ℕ
+flag_byte flags =
+    (if bit_and flags O_ACCMODE == O_WRONLY then 0 else MAY_READ)
+    + (if bit_and flags O_ACCMODE == O_RDONLY then 0 else MAY_WRITE)
+    + (if has flags O_APPEND then APPENDS else 0)
+
+-- the lowest unused descriptor stands for the file, with its cursor at the start
+abbrev pub with_descriptor : World → ℕ → ℕ → Result ℕ ℕ × World
+with_descriptor w number flags =
+    (Ok (lowest_unused w.slots), record w { slots = map.insert w.slots (lowest_unused w.slots) (File number 0 (flag_byte flags)) })
+
+-- a present file
+abbrev pub emptied_if : Bool → World → ℕ → World
+emptied_if truncate w number = if truncate then record w { files = map.insert w.files number [] } else w
+
+abbrev pub opened_at : World → List ℕ → ℕ → Option ℕ → Result ℕ ℕ × World
+opened_at w name flags (Some number) =
+    if has flags O_CREAT && has flags O_EXCL then (Err EEXIST, w)
+    else with_descriptor (emptied_if (has flags O_TRUNC) w number) number flags
+opened_at w name flags None =
+    if not (has flags O_CREAT) then (Err ENOENT, w)
+    else (if nat_le MAX_NAMES (map.len w.names) then (Err ENOSPC, w)
+    else with_descriptor (with_file w name []) (lowest_unused w.files) flags)
+
+abbrev pub opened : World → List ℕ → ℕ → Result ℕ ℕ × World
+opened w name flags =
+    if bit_and flags O_ACCMODE == O_ACCMODE then (Err EINVAL, w)
+    else (if nat_le MAX_SLOTS (map.len w.slots) then (Err EMFILE, w)
+    else opened_at w name flags (map.get w.names name))
+
+-- `seek`: the number that the offset counts from
+abbrev pub seek_base : ℕ → ℕ → ℕ → Option ℕ
+seek_base whence cursor len =
+    if whence == SEEK_SET then Some 0
+    else (if whence == SEEK_CUR then Some cursor
+    else (if whence == SEEK_END then Some len
+    else None))
+
+-- a cursor is from 0 to 2^63 - 1
+abbrev pub as_cursor : ℤ → Option ℕ
+as_cursor (pos n) = if nat_lt n (2 ^ 63) then Some n else None
+as_cursor (negsuc n) = None
+
+abbrev pub moved : World → ℕ → ℕ → ℕ → Option ℕ → Result ℕ ℕ × World
+moved w fd number flags None = (Err EINVAL, w)
+moved w fd number flags (Some cursor) = (Ok cursor, record w { slots = map.insert w.slots fd (File number cursor flags) })
+
+abbrev pub sought_at : World → ℕ → ℤ → ℕ → Option Slot → Result ℕ ℕ × World
+sought_at w fd offset whence None = (Err EBADF, w)
+sought_at w fd offset whence (Some Input) = (Err ESPIPE, w)
+sought_at w fd offset whence (Some Stream1) = (Err ESPIPE, w)
+sought_at w fd offset whence (Some Stream2) = (Err ESPIPE, w)
+sought_at w fd offset whence (Some (File number cursor flags)) =
+    moved w fd number flags (option_and_then (λ base. as_cursor (pos base +ℤ offset)) (seek_base whence cursor (length (content_of w number))))
+
+abbrev pub sought : World → ℕ → ℤ → ℕ → Result ℕ ℕ × World
+sought w fd offset whence = sought_at w fd offset whence (map.get w.slots fd)
+
+-- `ready`: what a read of at most `count` bytes gives
+abbrev pub ready_at : World → ℕ → Option Slot → Result (List ℕ) ℕ
+ready_at w count None = Err EBADF
+ready_at w count (Some Input) = Ok []
+ready_at w count (Some Stream1) = Err EBADF
+ready_at w count (Some Stream2) = Err EBADF
+ready_at w count (Some (File number cursor flags)) =
+    if has flags MAY_READ then Ok (take count (drop cursor (content_of w number))) else Err EBADF
+
+abbrev pub ready : World → ℕ → ℕ → Result (List ℕ) ℕ
+ready w fd count = ready_at w count (map.get w.slots fd)
+
+-- `skip`: the cursor rises by `count`
+abbrev pub skipped_at : World → ℕ → ℕ → Option Slot → World
+skipped_at w fd count None = w
+skipped_at w fd count (Some Input) = w
+skipped_at w fd count (Some Stream1) = w
+skipped_at w fd count (Some Stream2) = w
+skipped_at w fd count (Some (File number cursor flags)) =
+    record w { slots = map.insert w.slots fd (File number (cursor + count) flags) }
+
+abbrev pub skipped : World → ℕ → ℕ → World
+skipped w fd count = skipped_at w fd count (map.get w.slots fd)
+
+-- where a write goes: how many bytes are there now, and the place of the first byte that is written
+abbrev pub write_place : World → Option Slot → Option (ℕ × ℕ)
+write_place w None = None
+write_place w (Some Input) = None
+write_place w (Some Stream1) = Some (length w.stream1, length w.stream1)
+write_place w (Some Stream2) = Some (length w.stream2, length w.stream2)
+write_place w (Some (File number cursor flags)) =
+    if has flags MAY_WRITE
+    then Some (length (content_of w number), (if has flags APPENDS then length (content_of w number) else cursor))
+    else None
+
+-- `fits`: what refuses a write of `count` bytes
+abbrev pub fits_at : World → ℕ → Option (ℕ × ℕ) → Result (Unit {0}) ℕ
+fits_at w count None = Err EBADF
+fits_at w count (Some (len, place)) =
+    if count == 0 then Ok tt
+    else (if nat_lt MAX_CONTENT (place + count) then Err EFBIG
+    else (if nat_lt MAX_TOTAL (total w + (place + count - len)) then Err ENOSPC
+    else Ok tt))
+
+abbrev pub fits : World → ℕ → ℕ → Result (Unit {0}) ℕ
+fits w fd count = fits_at w count (write_place w (map.get w.slots fd))
+
+-- the bytes of a file after `bytes` were written at `place`: a gap before the place is zeros
+abbrev pub overwritten : List ℕ → ℕ → List ℕ → List ℕ
+overwritten old place bytes = take place old ++ replicate (place - length old) 0 ++ bytes ++ drop (place + length bytes) old
+
+-- a file after a write at a place, with the cursor at its end
+abbrev pub with_bytes : World → ℕ → ℕ → ℕ → List ℕ → ℕ → World
+with_bytes w fd number flags bytes place = record w {
+  files = map.insert w.files number (overwritten (content_of w number) place bytes);
+  slots = map.insert w.slots fd (File number (place + length bytes) flags);
+}
+
+abbrev pub filled : World → ℕ → List ℕ → Option Slot → World
+filled w fd bytes None = w
+filled w fd bytes (Some Input) = w
+filled w fd bytes (Some Stream1) = record w { stream1 = w.stream1 ++ bytes }
+filled w fd bytes (Some Stream2) = record w { stream2 = w.stream2 ++ bytes }
+filled w fd bytes (Some (File number cursor flags)) =
+    with_bytes w fd number flags bytes (if has flags APPENDS then length (content_of w number) else cursor)
+
+-- `write`: a write of no byte changes nothing
+abbrev pub written_if : World → ℕ → List ℕ → Result (Unit {0}) ℕ → Result (Unit {0}) ℕ × World
+written_if w fd bytes (Err errno) = (Err errno, w)
+written_if w fd bytes (Ok done) = (Ok done, (if length bytes == 0 then w else filled w fd bytes (map.get w.slots fd)))
+
+abbrev pub written : World → ℕ → List ℕ → Result (Unit {0}) ℕ × World
+written w fd bytes = written_if w fd bytes (fits w fd (length bytes))
+
+-- `content`
+abbrev pub content_at : World → List ℕ → Option (List ℕ)
+content_at w name = option_and_then (map.get w.files) (map.get w.names name)
+
+-- `stream`
+abbrev pub stream : World → ℕ → List ℕ
+stream w which = if which == 1 then w.stream1 else w.stream2
+
+-- `name_after`: the first name, in their order, that comes after the given one; without one, the first of all
+abbrev pub is_after : Option (List ℕ) → List ℕ → Bool
+is_after None name = true
+is_after (Some given) name = is_lt (bytes_cmp given name)
+
+abbrev pub name_after : World → Option (List ℕ) → Option (List ℕ)
+name_after w given = find (is_after given) (map.keys w.names)

@@ -1,0 +1,22 @@
+-- A list of cells, of which some hold a value, as a map.
+use Rattle.std.specs.Prelude.{ℕ, suc, Option, Some, None, List, [], ◌∷◌, ◌++◌, map, length, ◌==◌, if◌then◌else◌}
+use Rattle.std.specs.Ordering.{nat_cmp}
+use Rattle.std.specs.FinMap.{FinMap, from_entries}
+
+-- the full cells of a list with their numbers, from n on
+abbrev pub numbered : {X : Type 0} → ℕ → List (Option X) → List (ℕ × X)
+numbered n [] = []
+numbered n (None ∷ cells) = numbered (suc n) cells
+numbered n (Some x ∷ cells) = (n, x) ∷ numbered (suc n) cells
+
+-- the map from the numbers of the full cells to what they hold
+abbrev pub map_of : {X : Type 0} → List (Option X) → FinMap nat_cmp X
+map_of cells = from_entries (numbered 0 cells)
+
+-- entries with their keys as they are seen
+abbrev pub keyed : {K X : Type 0} → (K → List ℕ) → List (K × X) → List (List ℕ × X)
+keyed view es = map (λ e. (view e.0, e.1)) es
+
+-- with an empty cell more, where the place is their count
+abbrev pub with_room : {X : Type 0} → List (Option X) → ℕ → List (Option X)
+with_room cells at = if at == length cells then cells ++ None ∷ [] else cells

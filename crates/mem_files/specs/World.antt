@@ -1,0 +1,57 @@
+-- The files of a guest as one value: equal files are equal values (docs/reference/files.md, "What is kept").
+use Rattle.std.specs.Prelude.{◌≡◌, ℕ, ◌+◌, Bool, false, ◌||◌, ◌==◌, if◌then◌else◌, Option, Some, None, unwrap_or, List, [], ◌∷◌, length, sum_by, refl}
+use Rattle.std.specs.List.{list_any}
+use Rattle.std.specs.Ordering.{nat_cmp}
+use Rattle.std.specs.FinMap as map
+use Rattle.std.specs.Coded.{Coded, code_by, coded×, coded_ℕ, coded_list}
+use Rattle.mem_files.specs.declared.slot.Slot.{Slot}
+use Rattle.mem_files.specs.declared.slot.Slot.TheVariants.{Input, Stream1, Stream2, File}
+use Rattle.mem_files.specs.contracts.slot.Slot as slot
+use Rattle.mem_files.specs.Names.{bytes_cmp}
+
+-- names to file numbers, numbers to contents, descriptors to what they stand for, and the two collected streams
+pub record World : Type 0 where
+  pub names : map.FinMap bytes_cmp ℕ
+  pub files : map.FinMap nat_cmp (List ℕ)
+  pub slots : map.FinMap nat_cmp Slot
+  pub stream1 : List ℕ
+  pub stream2 : List ℕ
+
+-- the content of a file: none is empty
+abbrev pub content_of : World → ℕ → List ℕ
+content_of w number = unwrap_or (map.get w.files number) []
+
+-- all bytes of all files and both streams
+abbrev pub total : World → ℕ
+total w = length w.stream1 + length w.stream2 + sum_by length (map.values w.files)
+
+-- does a descriptor stand for this file?
+abbrev pub is_of : ℕ → Slot → Bool
+is_of number Input = false
+is_of number Stream1 = false
+is_of number Stream2 = false
+is_of number (File held cursor flags) = held == number
+
+abbrev pub is_named : World → ℕ → Bool
+is_named w number = list_any (λ held. held == number) (map.values w.names)
+
+abbrev pub is_open : World → ℕ → Bool
+is_open w number = list_any (is_of number) (map.values w.slots)
+
+-- the least number, from n on, that isn't in a rising list
+abbrev pub first_gap : ℕ → List ℕ → ℕ
+first_gap n [] = n
+first_gap n (key ∷ keys) = if key == n then first_gap (n + 1) keys else n
+
+-- the least number that isn't a key
+abbrev pub lowest_unused : {X : Type 0} → map.FinMap nat_cmp X → ℕ
+lowest_unused m = first_gap 0 (map.keys m)
+
+-- a world is stored as its parts
+abbrev pub world_code : Coded World
+world_code =
+    code_by (map.FinMap bytes_cmp ℕ × (map.FinMap nat_cmp (List ℕ) × (map.FinMap nat_cmp Slot × (List ℕ × List ℕ))))
+        (coded× (map.code (coded_list coded_ℕ) coded_ℕ) (coded× (map.code coded_ℕ (coded_list coded_ℕ)) (coded× (map.code coded_ℕ slot.the_row.coded) (coded× (coded_list coded_ℕ) (coded_list coded_ℕ)))))
+        (λ w. (w.names, (w.files, (w.slots, (w.stream1, w.stream2)))))
+        (λ p. record { names = p.0; files = p.1.0; slots = p.1.1.0; stream1 = p.1.1.1.0; stream2 = p.1.1.1.1 })
+        (λ _. refl)

@@ -1,0 +1,321 @@
+//! The calls, over a table: the first rule that fits.
+ghost use Rattle.std.specs.Prelude.{◌≡◌, ◌+◌, ◌-◌, ◌<◌, ◌≤◌, ◌^◌, pos, ◌+ℤ◌, IsTrue, IsOkAnd, IsSome, IfSome, OnOk, OnErr, MatchResult, Ok, Err, Some, None, length, take, drop, []};
+ghost use Rattle.std.specs.Option.{option_copied, option_and_then, option_map};
+ghost use Rattle.std.specs.FinMap as map;
+ghost use Rattle.mem_files.specs.World.{content_of};
+ghost use Rattle.mem_files.specs.Calls.{placed, is_full, opened, opened_at, flag_byte, has, closed, released, without_unused, sought, seek_base, as_cursor, ready, skipped, fits, write_place, filled, written, removed, content_at};
+ghost use Rattle.mem_files.specs.Answers.{Answers, Places, Grows};
+ghost use Rattle.mem_files.specs.Sound.{IsSound};
+
+use crate::names::{is_name, strip};
+use crate::table::Table;
+use crate::{
+    APPENDS, EBADF, EEXIST, EFBIG, EINVAL, EMFILE, ENOENT, ENOSPC, ESPIPE, FileRefusal, MAX_CONTENT,
+    MAX_NAMES, MAX_SLOTS, MAX_TOTAL, MAY_READ, MAY_WRITE, O_ACCMODE, O_APPEND, O_CREAT, O_EXCL,
+    O_RDONLY, O_TRUNC, O_WRONLY, PlaceRefusal, SEEK_CUR, SEEK_END, SEEK_SET, Slot,
+};
+use std::alloc::AllocError;
+
+/// Is this bit of the flags set?
+fn has(flags: u32, bit: u32) -> bool
+    ensures { result ≡ has flags bit }
+{
+    flags & bit != 0
+}
+
+/// The flags of a descriptor, from those of openat(2).
+fn flag_byte(flags: u32) -> u8
+    ensures { result ≡ flag_byte flags }
+{
+    let access = flags & O_ACCMODE;
+    let read = if access == O_WRONLY { 0 } else { MAY_READ };
+    let write = if access == O_RDONLY { 0 } else { MAY_WRITE };
+    let appends = if has(flags, O_APPEND) { APPENDS } else { 0 };
+    read + write + appends
+}
+
+/// The number that an offset counts from.
+fn seek_base(whence: u32, cursor: u64, len: u64) -> Option<u64>
+    ensures { result ≡ seek_base whence cursor len }
+{
+    match whence {
+        SEEK_SET => Some(0),
+        SEEK_CUR => Some(cursor),
+        SEEK_END => Some(len),
+        _ => None,
+    }
+}
+
+/// A cursor after an offset, from 0 to 2^63 - 1.
+fn moved_cursor(base: u64, offset: i64) -> Option<u64>
+    requires { base < 2 ^ 63 }
+    ensures { result ≡ as_cursor (pos base +ℤ offset) }
+{
+    let to = (base as i64).checked_add(offset)?;
+    if to < 0 { None } else { Some(to as u64) }
+}
+
+impl Table {
+    pub fn place(&mut self, name: &[u8], content: &[u8]) -> Result<(), PlaceRefusal>
+        requires { IsSound self.old }
+        ensures { Places result self.old self.new (placed self.old name.now content.now) }
+    {
+        let name = strip(name);
+        if !is_name(name) {
+            return Err(PlaceRefusal::BadName);
+        }
+        if self.number(name).is_some() {
+            return Err(PlaceRefusal::Twice);
+        }
+        if self.is_full(content.len() as u64) {
+            return Err(PlaceRefusal::Full);
+        }
+        self.add_file(name, content)?;
+        Ok(())
+    }
+
+    /// Would a new file with so many bytes pass a limit?
+    fn is_full(&self, len: u64) -> bool
+        requires { IsSound self.now }
+        ensures { result ≡ is_full self.now len }
+    {
+        len > MAX_CONTENT || self.total() + len > MAX_TOTAL || self.name_count() >= MAX_NAMES
+    }
+
+    pub fn open_name(&mut self, name: &[u8], flags: u32) -> Result<u32, FileRefusal>
+        requires { IsSound self.old }
+        ensures { Answers result self.old self.new (opened self.old name.now flags) }
+    {
+        if flags & O_ACCMODE == O_ACCMODE {
+            return Err(FileRefusal::Errno(EINVAL));
+        }
+        if self.slot_count() >= MAX_SLOTS {
+            return Err(FileRefusal::Errno(EMFILE));
+        }
+        match self.number(name) {
+            Some(number) => self.open_present(number, flags),
+            None => self.open_absent(name, flags),
+        }
+    }
+
+    fn open_present(&mut self, number: u32, flags: u32) -> Result<u32, FileRefusal>
+        requires held { IsSome (map.get self.old.files number) }
+        requires room { map.len self.old.slots < MAX_SLOTS }
+        ensures { Answers result self.old self.new (opened_at self.old [] flags (Some number)) }
+    {
+        if has(flags, O_CREAT) && has(flags, O_EXCL) {
+            return Err(FileRefusal::Errno(EEXIST));
+        }
+        let fd = self.add_slot(Slot::File { number, cursor: 0, flags: flag_byte(flags) })?;
+        if has(flags, O_TRUNC) {
+            self.empty(number);
+        }
+        Ok(fd)
+    }
+
+    fn open_absent(&mut self, name: &[u8], flags: u32) -> Result<u32, FileRefusal>
+        requires sound { IsSound self.old }
+        requires absent { map.get self.old.names name.now ≡ None }
+        requires room { map.len self.old.slots < MAX_SLOTS }
+        ensures { Answers result self.old self.new (opened_at self.old name.now flags None) }
+    {
+        if !has(flags, O_CREAT) {
+            return Err(FileRefusal::Errno(ENOENT));
+        }
+        if self.name_count() >= MAX_NAMES {
+            return Err(FileRefusal::Errno(ENOSPC));
+        }
+        let number = self.free_number();
+        let fd = self.add_slot(Slot::File { number, cursor: 0, flags: flag_byte(flags) })?;
+        if let Err(error) = self.add_file(name, &[]) {
+            self.clear_slot(fd);
+            return Err(error.into());
+        }
+        Ok(fd)
+    }
+
+    pub fn close(&mut self, fd: u32) -> Result<(), u16>
+        requires { IsSound self.old }
+        ensures { closed self.old fd ≡ (result, self.new) }
+    {
+        let Some(slot) = self.slot(fd) else {
+            return Err(EBADF);
+        };
+        self.clear_slot(fd);
+        self.release(slot);
+        Ok(())
+    }
+
+    /// A file that a descriptor stood for goes, where nothing else has it.
+    fn release(&mut self, slot: Slot)
+        ensures { self.new ≡ released self.old slot }
+    {
+        if let Slot::File { number, .. } = slot {
+            self.drop_unused(number);
+        }
+    }
+
+    /// A file with neither a name nor a descriptor goes.
+    fn drop_unused(&mut self, number: u32)
+        ensures { self.new ≡ without_unused self.old number }
+    {
+        if !self.is_named(number) && !self.is_open(number) {
+            self.drop_file(number);
+        }
+    }
+
+    pub fn remove(&mut self, name: &[u8]) -> Result<(), u16>
+        ensures { removed self.old name.now ≡ (result, self.new) }
+    {
+        let Some(number) = self.number(name) else {
+            return Err(ENOENT);
+        };
+        self.unname(name, number);
+        self.drop_unused(number);
+        Ok(())
+    }
+
+    pub fn seek(&mut self, fd: u32, offset: i64, whence: u32) -> Result<u64, u16>
+        requires { IsSound self.old }
+        ensures { sought self.old fd offset whence ≡ (result, self.new) }
+    {
+        match self.slot(fd) {
+            None => Err(EBADF),
+            Some(Slot::Input) => Err(ESPIPE),
+            Some(Slot::Stream1) => Err(ESPIPE),
+            Some(Slot::Stream2) => Err(ESPIPE),
+            Some(Slot::File { number, cursor, flags }) => {
+                let len = self.content(number).len() as u64;
+                let Some(base) = seek_base(whence, cursor, len) else {
+                    return Err(EINVAL);
+                };
+                let Some(cursor) = moved_cursor(base, offset) else {
+                    return Err(EINVAL);
+                };
+                self.set_slot(fd, Slot::File { number, cursor, flags });
+                Ok(cursor)
+            }
+        }
+    }
+
+    pub fn ready(&self, fd: u32, count: u64) -> Result<&[u8], u16>
+        requires { IsSound self.now }
+        ensures { MatchResult result (λ bytes. ready self.now fd count ≡ Ok bytes.now) (λ errno. ready self.now fd count ≡ Err errno) }
+    {
+        match self.slot(fd) {
+            Some(Slot::Input) => Ok(&[]),
+            Some(Slot::File { number, cursor, flags }) if flags & MAY_READ != 0 => {
+                Ok(part(self.content(number), cursor, count))
+            }
+            _ => Err(EBADF),
+        }
+    }
+
+    pub fn skip(&mut self, fd: u32, count: u64)
+        requires sound { IsSound self.old }
+        requires ready { IsOkAnd (ready self.old fd count) (λ bytes. length bytes ≡ count) }
+        ensures { self.new ≡ skipped self.old fd count }
+    {
+        if let Some(Slot::File { number, cursor, flags }) = self.slot(fd) {
+            let cursor = cursor + count;
+            self.set_slot(fd, Slot::File { number, cursor, flags });
+        }
+    }
+
+    /// Where a write goes: how many bytes are there now, and the place of the first byte that is written.
+    fn write_place(&self, fd: u32) -> Option<(u64, u64)>
+        ensures { result ≡ write_place self.now (map.get self.now.slots fd) }
+    {
+        match self.slot(fd) {
+            Some(Slot::Stream1) => {
+                let len = self.stream(1).len() as u64;
+                Some((len, len))
+            }
+            Some(Slot::Stream2) => {
+                let len = self.stream(2).len() as u64;
+                Some((len, len))
+            }
+            Some(Slot::File { number, cursor, flags }) if flags & MAY_WRITE != 0 => {
+                let len = self.content(number).len() as u64;
+                Some((len, if flags & APPENDS != 0 { len } else { cursor }))
+            }
+            _ => None,
+        }
+    }
+
+    pub fn fits(&self, fd: u32, count: u64) -> Result<(), u16>
+        requires { IsSound self.now }
+        ensures { result ≡ fits self.now fd count }
+    {
+        let Some((len, place)) = self.write_place(fd) else {
+            return Err(EBADF);
+        };
+        if count == 0 {
+            return Ok(());
+        }
+        if place > MAX_CONTENT || count > MAX_CONTENT - place {
+            return Err(EFBIG);
+        }
+        let growth = (place + count).saturating_sub(len);
+        if self.total() + growth > MAX_TOTAL {
+            return Err(ENOSPC);
+        }
+        Ok(())
+    }
+
+    pub fn write(&mut self, fd: u32, bytes: &[u8]) -> Result<(), FileRefusal>
+        requires { IsSound self.old }
+        ensures answer { Answers result self.old self.new (written self.old fd bytes.now) }
+        ensures memory { result ≡ Err FileRefusal.OutOfMemory → Grows self.old fd (length bytes.now) }
+    {
+        if let Err(errno) = self.fits(fd, bytes.len() as u64) {
+            return Err(FileRefusal::Errno(errno));
+        }
+        if !bytes.is_empty() {
+            self.fill(fd, bytes)?;
+        }
+        Ok(())
+    }
+
+    /// Writes bytes that fit.
+    fn fill(&mut self, fd: u32, bytes: &[u8]) -> Result<(), AllocError>
+        requires sound { IsSound self.old }
+        requires fits { fits self.old fd (length bytes.now) ≡ Ok tt }
+        ensures ok { OnOk result (self.new ≡ filled self.old fd bytes.now (map.get self.old.slots fd)) }
+        ensures err { OnErr result (self.new ≡ self.old) }
+        ensures memory { OnErr result (Grows self.old fd (length bytes.now)) }
+    {
+        match self.slot(fd) {
+            Some(Slot::Stream1) => self.extend_stream1(bytes)?,
+            Some(Slot::Stream2) => self.extend_stream2(bytes)?,
+            Some(Slot::File { number, cursor, flags }) => {
+                let end = self.content(number).len() as u64;
+                let place = if flags & APPENDS != 0 { end } else { cursor };
+                self.overwrite(number, place as usize, bytes)?;
+                let cursor = place + bytes.len() as u64;
+                self.set_slot(fd, Slot::File { number, cursor, flags });
+            }
+            _ => {}
+        }
+        Ok(())
+    }
+
+    /// The bytes of the file of this name.
+    pub fn named_content(&self, name: &[u8]) -> Option<&[u8]>
+        requires { IsSound self.now }
+        ensures { option_copied result ≡ content_at self.now name.now }
+    {
+        let number = self.number(name)?;
+        Some(self.content(number))
+    }
+}
+
+/// At most `count` bytes past a cursor.
+fn part(content: &[u8], cursor: u64, count: u64) -> &[u8]
+    ensures { result.now ≡ take count (drop cursor content.now) }
+{
+    let len = content.len() as u64;
+    let from = cursor.min(len);
+    let count = count.min(len - from);
+    &content[from as usize..(from + count) as usize]
+}

@@ -1,0 +1,39 @@
+//! Lists of cells, of which some hold a value.
+ghost use Rattle.std.specs.Prelude.{◌≡◌, ◌≤◌, ◌<◌, ℕ, OnOk, OnErr, IsSome, Option, Some, None, length, slice_index_or};
+ghost use Rattle.std.specs.Option.{option_copied};
+ghost use Rattle.mem_files.specs.Cells.{with_room};
+
+use std::alloc::AllocError;
+
+/// What a cell holds; nothing past the last one.
+pub fn cell<X>(cells: &[Option<X>], at: u32) -> Option<&X>
+    ensures { option_copied result ≡ slice_index_or cells.now at None }
+{
+    cells.get(at as usize)?.as_ref()
+}
+
+/// The place of the first empty cell, or the count of cells.
+pub fn first_free<X>(cells: &[Option<X>]) -> usize
+    ensures within { result ≤ length cells.now }
+    ensures free { slice_index_or cells.now result None ≡ None }
+    ensures full { (k : ℕ) → k < result → IsSome (slice_index_or cells.now k None) }
+{
+    for (at, cell) in cells.iter().enumerate() {
+        if cell.is_none() {
+            return at;
+        }
+    }
+    cells.len()
+}
+
+/// Adds an empty cell where the place is the count of cells.
+pub fn reach<X: Drop>(cells: &mut Vec<Option<X>>, at: usize) -> Result<(), AllocError>
+    requires { at ≤ length cells.old.items }
+    ensures ok { OnOk result (cells.new.items ≡ with_room cells.old.items at) }
+    ensures err { OnErr result (cells.new.items ≡ cells.old.items) }
+{
+    if at == cells.len() {
+        cells.push(None)?;
+    }
+    Ok(())
+}

@@ -1,0 +1,152 @@
+//! The files of a guest, with what each call answers.
+ghost use Rattle.std.specs.Prelude.{◌≡◌, ◌⊎◌, ℕ, IsTrue, IfOk, IsOkAnd, MatchResult, Ok, Err, Some, length};
+ghost use Rattle.std.specs.Option.{option_copied, option_map};
+ghost use Rattle.std.specs.FinMap as map;
+ghost use Rattle.mem_files.specs.Names.{is_stripped_name};
+ghost use Rattle.mem_files.specs.Calls.{first_world, placed, opened, closed, sought, ready, skipped, fits, written, removed, content_at, stream, name_after};
+ghost use Rattle.mem_files.specs.Answers.{Answers, Places, Grows};
+
+use crate::table::Table;
+use crate::{FileRefusal, PlaceRefusal};
+use std::alloc::{AllocError, Global};
+use std::marker::Model;
+
+/// The files of a guest in memory: names, contents, descriptors and two collected streams, within the limits.
+///
+/// Seen as a `World`. A look-up of a name or a number costs its logarithm at most, a read or a write of n bytes costs n,
+/// and bytes that are written at the end cost the same each on average.
+#[derive(Drop)]
+pub struct Files {
+    table: Table,
+}
+
+impl Model for Files {
+    ghost use Rattle.mem_files.specs.World.{World, world_code};
+
+    ghost Value = { World };
+
+    ghost coded = { world_code };
+
+    ghost use Rattle.mem_files.specs.Sound.{IsSound};
+
+    ghost view = { λ files. files.table };
+
+    ghost invariant = { λ files. IsSound files.table };
+}
+
+impl Files {
+    /// No files, with the empty input at descriptor 0 and the streams at 1 and 2.
+    pub fn new(alloc: Global) -> Result<Files, AllocError>
+        ensures { IfOk result (λ files. files ≡ first_world) }
+    {
+        let table = Table::new(alloc)?;
+        Ok(Files { table })
+    }
+
+    /// Adds a named file; `./` is taken off the name first.
+    pub fn place(&mut self, name: &[u8], content: &[u8]) -> Result<(), PlaceRefusal>
+        ensures { Places result self.old self.new (placed self.old name.now content.now) }
+    {
+        self.table.place(name, content)
+    }
+
+    /// Opens a file by its name, as openat(2) does with these flags; answers the new descriptor.
+    /// Errors: `EINVAL`, `EMFILE`, `EEXIST`, `ENOENT`, `ENOSPC`.
+    pub fn open_name(&mut self, name: &[u8], flags: u32) -> Result<u32, FileRefusal>
+        requires { IsTrue (is_stripped_name name.now) }
+        ensures { Answers result self.old self.new (opened self.old name.now flags) }
+    {
+        self.table.open_name(name, flags)
+    }
+
+    /// Closes a descriptor. Error: `EBADF`.
+    pub fn close(&mut self, fd: u32) -> Result<(), u16>
+        ensures { closed self.old fd ≡ (result, self.new) }
+    {
+        self.table.close(fd)
+    }
+
+    /// Moves a cursor, as lseek(2) does; answers where it is now. Errors: `EBADF`, `ESPIPE`, `EINVAL`.
+    pub fn seek(&mut self, fd: u32, offset: i64, whence: u32) -> Result<u64, u16>
+        ensures { sought self.old fd offset whence ≡ (result, self.new) }
+    {
+        self.table.seek(fd, offset, whence)
+    }
+
+    /// What a read of at most `count` bytes gives. Error: `EBADF`.
+    pub fn ready(&self, fd: u32, count: u64) -> Result<&[u8], u16>
+        ensures { MatchResult result (λ bytes. ready self.now fd count ≡ Ok bytes.now) (λ errno. ready self.now fd count ≡ Err errno) }
+    {
+        self.table.ready(fd, count)
+    }
+
+    /// Ends a read of `count` bytes: the cursor rises by `count`.
+    pub fn skip(&mut self, fd: u32, count: u64)
+        requires { IsOkAnd (ready self.old fd count) (λ bytes. length bytes ≡ count) }
+        ensures { self.new ≡ skipped self.old fd count }
+    {
+        self.table.skip(fd, count);
+    }
+
+    /// Whether a write of `count` bytes would be done. Errors: `EBADF`, `EFBIG`, `ENOSPC`.
+    pub fn fits(&self, fd: u32, count: u64) -> Result<(), u16>
+        ensures { result ≡ fits self.now fd count }
+    {
+        self.table.fits(fd, count)
+    }
+
+    /// Writes bytes at the cursor, at the end of a file that appends, or at the end of a stream. Errors: those of `fits`.
+    pub fn write(&mut self, fd: u32, bytes: &[u8]) -> Result<(), FileRefusal>
+        ensures answer { Answers result self.old self.new (written self.old fd bytes.now) }
+        // Bytes that are there already take no memory.
+        ensures memory { result ≡ Err FileRefusal.OutOfMemory → Grows self.old fd (length bytes.now) }
+    {
+        self.table.write(fd, bytes)
+    }
+
+    /// Removes a name; an open descriptor keeps the bytes. Error: `ENOENT`.
+    pub fn remove(&mut self, name: &[u8]) -> Result<(), u16>
+        requires { IsTrue (is_stripped_name name.now) }
+        ensures { removed self.old name.now ≡ (result, self.new) }
+    {
+        self.table.remove(name)
+    }
+
+    /// Whether a file has this name.
+    pub fn exists(&self, name: &[u8]) -> bool
+        requires { IsTrue (is_stripped_name name.now) }
+        ensures { result ≡ map.contains_key self.now.names name.now }
+    {
+        self.table.number(name).is_some()
+    }
+
+    /// The bytes of the file of this name.
+    pub fn content(&self, name: &[u8]) -> Option<&[u8]>
+        requires { IsTrue (is_stripped_name name.now) }
+        ensures { option_copied result ≡ content_at self.now name.now }
+    {
+        self.table.named_content(name)
+    }
+
+    /// The bytes that were written to a stream, 1 or 2.
+    pub fn stream(&self, which: u8) -> &[u8]
+        requires { (which ≡ 1) ⊎ (which ≡ 2) }
+        ensures { result.now ≡ stream self.now which }
+    {
+        self.table.stream(which)
+    }
+
+    /// The least name that is greater than the given one, byte by byte; without one, the least of all.
+    pub fn name_after(&self, name: Option<&[u8]>) -> Option<&[u8]>
+        ensures { option_copied result ≡ name_after self.now (option_copied name.entry) }
+    {
+        self.table.name_after(name)
+    }
+
+    /// Whether this is a descriptor.
+    pub fn is_descriptor(&self, fd: u32) -> bool
+        ensures { result ≡ map.contains_key self.now.slots fd }
+    {
+        self.table.slot(fd).is_some()
+    }
+}

@@ -1,0 +1,76 @@
+//! Files of one guest program, held in memory: names, contents, descriptors and the two collected streams.
+//!
+//! docs/reference/files.md has the rules for a reader, and specs/World.antt and specs/Calls.antt the same for the
+//! prover. There are no directories: a `/` is a byte of a name like another.
+#![tactic(auto)]
+
+mod calls;
+mod cells;
+mod files;
+mod names;
+mod slot;
+mod stored;
+mod table;
+
+//pub use files::Files;
+pub use names::strip;
+pub use slot::{FileRefusal, PlaceRefusal, Slot};
+
+/// No such file (Linux, asm-generic/errno-base.h, as the other error numbers).
+pub const ENOENT: u16 = 2;
+/// Not a descriptor, or not one for this use.
+pub const EBADF: u16 = 9;
+/// The file is there already.
+pub const EEXIST: u16 = 17;
+/// An argument that the call doesn't know.
+pub const EINVAL: u16 = 22;
+/// No more descriptors.
+pub const EMFILE: u16 = 24;
+/// The file would be too large.
+pub const EFBIG: u16 = 27;
+/// No more room.
+pub const ENOSPC: u16 = 28;
+/// A descriptor that has no cursor.
+pub const ESPIPE: u16 = 29;
+
+/// The bits of the flags that say how a file is opened (Linux, asm-generic/fcntl.h, as the other flags).
+pub const O_ACCMODE: u32 = 3;
+/// To read alone.
+pub const O_RDONLY: u32 = 0;
+/// To write alone.
+pub const O_WRONLY: u32 = 1;
+/// To read and to write.
+pub const O_RDWR: u32 = 2;
+/// An absent file is made.
+pub const O_CREAT: u32 = 64;
+/// With `O_CREAT`: a present file is refused.
+pub const O_EXCL: u32 = 128;
+/// A present file is emptied.
+pub const O_TRUNC: u32 = 512;
+/// Each write goes to the end of the file.
+pub const O_APPEND: u32 = 1024;
+
+/// An offset counts from the start (Linux, lseek(2), as the other two).
+pub const SEEK_SET: u32 = 0;
+/// An offset counts from the cursor.
+pub const SEEK_CUR: u32 = 1;
+/// An offset counts from the end.
+pub const SEEK_END: u32 = 2;
+
+/// In the flags of a `Slot::File`: it may be read.
+pub const MAY_READ: u8 = 1;
+/// In the flags of a `Slot::File`: it may be written.
+pub const MAY_WRITE: u8 = 2;
+/// In the flags of a `Slot::File`: each write goes to the end.
+pub const APPENDS: u8 = 4;
+
+/// The most bytes of a file or a stream.
+pub const MAX_CONTENT: u64 = 268_435_456;
+/// The most bytes of all files and streams together.
+pub const MAX_TOTAL: u64 = 536_870_912;
+/// The most descriptors, 0, 1 and 2 among them while they are open.
+pub const MAX_SLOTS: usize = 1_024;
+/// The most names.
+pub const MAX_NAMES: usize = 4_096;
+/// The most bytes of a name.
+pub const MAX_NAME: usize = 255;

@@ -1,0 +1,22 @@
+//! Names of files.
+ghost use Rattle.std.specs.Prelude.{◌≡◌};
+ghost use Rattle.mem_files.specs.Names.{stripped, is_name};
+
+use crate::MAX_NAME;
+
+/// A name without the `./` that it begins with, again and again.
+pub fn strip(name: &[u8]) -> &[u8]
+    ensures { result.now ≡ stripped name.now }
+{
+    match name {
+        [b'.', b'/', rest @ ..] => strip(rest),
+        _ => name,
+    }
+}
+
+/// Is this a guest file name: 1 to 255 bytes, none of them zero?
+pub fn is_name(name: &[u8]) -> bool
+    ensures { result ≡ is_name name.now }
+{
+    !name.is_empty() && name.len() <= MAX_NAME && !name.iter().any(|byte| *byte == 0)
+}

@@ -1,0 +1,57 @@
+//! What a descriptor stands for, and how calls refuse.
+ghost use Rattle.std.specs.Prelude.{◌≡◌};
+ghost use Rattle.mem_files.specs.declared.slot.FileRefusal.TheVariants as file;
+ghost use Rattle.mem_files.specs.declared.slot.PlaceRefusal.TheVariants as place;
+
+use std::alloc::AllocError;
+
+/// What a descriptor stands for.
+#[derive(Clone, Copy, Debug, PartialEq, Eq)]
+pub enum Slot {
+    /// The empty input; only descriptor 0.
+    Input,
+    /// The first collected stream; only descriptor 1.
+    Stream1,
+    /// The second collected stream; only descriptor 2.
+    Stream2,
+    /// An open file: its number, its cursor in bytes (below 2^63), and its flags (`MAY_READ`, `MAY_WRITE`, `APPENDS`).
+    File { number: u32, cursor: u64, flags: u8 },
+}
+
+/// Why a file isn't opened or written.
+#[derive(Clone, Copy, Debug, PartialEq, Eq)]
+pub enum FileRefusal {
+    /// Linux's error number.
+    Errno(u16),
+    /// No more memory in this process: the guest doesn't see it.
+    OutOfMemory,
+}
+
+/// Why a file isn't placed.
+#[derive(Clone, Copy, Debug, PartialEq, Eq)]
+pub enum PlaceRefusal {
+    /// What is left of the name is no guest file name: 1 to 255 bytes, none of them zero.
+    BadName,
+    /// The name is held already.
+    Twice,
+    /// A limit would be passed.
+    Full,
+    /// No more memory in this process.
+    OutOfMemory,
+}
+
+impl From<AllocError> for FileRefusal {
+    ghost from_gives = { λ _ refusal. refusal ≡ file.OutOfMemory };
+
+    fn from(_error: AllocError) -> FileRefusal {
+        FileRefusal::OutOfMemory
+    }
+}
+
+impl From<AllocError> for PlaceRefusal {
+    ghost from_gives = { λ _ refusal. refusal ≡ place.OutOfMemory };
+
+    fn from(_error: AllocError) -> PlaceRefusal {
+        PlaceRefusal::OutOfMemory
+    }
+}

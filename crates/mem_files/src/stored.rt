@@ -1,0 +1,114 @@
+//! One file as it lies in memory.
+ghost use Rattle.std.specs.Prelude.{◌≡◌, ◌+◌, ◌-◌, ◌<◌, ◌≤◌, ◌^◌, IfOk, OnOk, OnErr, IsSome, Some, None, is_some, length, unwrap_or, take, drop, replicate, ◌++◌, []};
+ghost use Rattle.mem_files.specs.Calls.{overwritten};
+
+use std::alloc::{AllocError, Global};
+
+/// A file: its name, if it still has one, and its bytes.
+#[derive(Drop)]
+pub struct Stored {
+    name: Option<Vec<u8>>,
+    content: Vec<u8>,
+}
+
+ghost use Rattle.mem_files.specs.Stored.{name_in, content_in};
+
+impl Stored {
+    pub fn new(alloc: Global, name: &[u8], content: &[u8]) -> Result<Stored, AllocError>
+        ensures name { IfOk result (λ file. name_in (Some file) ≡ Some name.now) }
+        ensures content { IfOk result (λ file. content_in (Some file) ≡ Some content.now) }
+    {
+        let name = Vec::from_slice(alloc, name)?;
+        let content = Vec::from_slice(alloc, content)?;
+        Ok(Stored { name: Some(name), content })
+    }
+
+    pub fn content(&self) -> &[u8]
+        ensures { content_in (Some self.now) ≡ Some result.now }
+    {
+        self.content.as_slice()
+    }
+
+    pub fn is_named(&self) -> bool
+        ensures { result ≡ is_some (name_in (Some self.now)) }
+    {
+        self.name.is_some()
+    }
+}
+
+/// How many bytes a file has; none where there is no file.
+pub fn len(cell: &Option<Stored>) -> usize
+    ensures { result ≡ length (unwrap_or (content_in cell.now) []) }
+{
+    match cell {
+        Some(file) => file.content.len(),
+        None => 0,
+    }
+}
+
+/// The name goes.
+pub fn unname(cell: &mut Option<Stored>)
+    ensures name { name_in cell.new ≡ None }
+    ensures content { content_in cell.new ≡ content_in cell.old }
+{
+    if let Some(file) = cell {
+        file.name = None;
+    }
+}
+
+/// The bytes go.
+pub fn empty(cell: &mut Option<Stored>)
+    requires { IsSome cell.old }
+    ensures name { name_in cell.new ≡ name_in cell.old }
+    ensures content { content_in cell.new ≡ Some [] }
+{
+    if let Some(file) = cell {
+        file.content.clear();
+    }
+}
+
+/// Writes bytes at a place; a gap before the place is zeros. Answers how many bytes were added.
+pub fn overwrite(cell: &mut Option<Stored>, place: usize, bytes: &[u8]) -> Result<usize, AllocError>
+    requires held { IsSome cell.old }
+    requires small { place + length bytes.now < 2 ^ 63 }
+    ensures name { name_in cell.new ≡ name_in cell.old }
+    ensures ok { OnOk result (content_in cell.new ≡ Some (overwritten (unwrap_or (content_in cell.old) []) place bytes.now)) }
+    ensures added { IfOk result (λ added. added ≡ place + length bytes.now - length (unwrap_or (content_in cell.old) [])) }
+    ensures err { OnErr result (content_in cell.new ≡ content_in cell.old) }
+{
+    let before = len(cell);
+    if let Some(file) = cell {
+        put(&mut file.content, place, bytes)?;
+    }
+    Ok(len(cell) - before)
+}
+
+/// Writes bytes at a place; a gap before the place is zeros.
+fn put(content: &mut Vec<u8>, place: usize, bytes: &[u8]) -> Result<(), AllocError>
+    requires { place + length bytes.now < 2 ^ 63 }
+    ensures ok { OnOk result (content.new.items ≡ overwritten content.old.items place bytes.now) }
+    ensures err { OnErr result (content.new.items ≡ content.old.items) }
+{
+    grow(content, place + bytes.len())?;
+    copy_at(content, place, bytes);
+    Ok(())
+}
+
+/// Adds zeros up to an end.
+fn grow(content: &mut Vec<u8>, end: usize) -> Result<(), AllocError>
+    ensures ok { OnOk result (content.new.items ≡ content.old.items ++ replicate (end - length content.old.items) 0) }
+    ensures err { OnErr result (content.new.items ≡ content.old.items) }
+{
+    if content.len() < end {
+        content.resize(end, 0)?;
+    }
+    Ok(())
+}
+
+/// Copies bytes to a place.
+fn copy_at(content: &mut [u8], place: usize, bytes: &[u8])
+    requires { place + length bytes.now ≤ length content.old }
+    ensures { content.new ≡ take place content.old ++ bytes.now ++ drop (place + length bytes.now) content.old }
+{
+    content[place..place + bytes.len()].copy_from_slice(bytes);
+}

@@ -1,0 +1,298 @@
+//! Names, files, descriptors and streams as they lie in memory: each call here is one change of the world.
+ghost use Rattle.std.specs.Prelude.{◌≡◌, ◌+◌, ◌-◌, ◌<◌, ◌≤◌, ◌^◌, ℕ, IfOk, OnOk, OnErr, IsSome, Option, Some, None, length, false, slice_index_or, find, map as map_list, [], ◌++◌};
+ghost use Rattle.std.specs.List.{list_any};
+ghost use Rattle.std.specs.Option.{option_copied, option_map_or};
+ghost use Rattle.std.specs.FinMap as map;
+ghost use Rattle.mem_files.specs.Cells.{with_room};
+ghost use Rattle.mem_files.specs.World.{content_of, is_of, total, is_named, is_open, lowest_unused};
+ghost use Rattle.mem_files.specs.Calls.{first_world, with_file, overwritten, stream, name_after, is_after};
+
+use crate::cells::{cell, first_free, reach};
+use crate::stored::{self, Stored};
+use crate::{MAX_NAMES, MAX_SLOTS, Slot};
+use std::alloc::{AllocError, Global};
+use std::collections::BTreeMap;
+use std::marker::Model;
+
+/// The files by number, the descriptors by number, and the numbers by name.
+#[derive(Drop)]
+pub struct Table {
+    names: BTreeMap<Vec<u8>, u32>,
+    files: Vec<Option<Stored>>,
+    slots: Vec<Option<Slot>>,
+    slot_count: usize,
+    stream1: Vec<u8>,
+    stream2: Vec<u8>,
+    total: u64,
+    alloc: Global,
+}
+
+impl Model for Table {
+    ghost use Rattle.mem_files.specs.World.{World, world_code};
+
+    ghost Value = { World };
+
+    ghost coded = { world_code };
+
+    ghost use Rattle.mem_files.specs.Table.{parts_of, world_of, IsConsistent};
+
+    ghost view = { λ table. world_of (parts_of table) };
+
+    ghost invariant = { λ table. IsConsistent (parts_of table) };
+}
+
+impl Table {
+    /// No files, and the three first descriptors.
+    pub fn new(alloc: Global) -> Result<Table, AllocError>
+        ensures { IfOk result (λ table. table ≡ first_world) }
+    {
+        let slots = vec![in alloc; Some(Slot::Input), Some(Slot::Stream1), Some(Slot::Stream2)]?;
+        Ok(Table {
+            names: BTreeMap::new(alloc),
+            files: Vec::new(alloc),
+            slots,
+            slot_count: 3,
+            stream1: Vec::new(alloc),
+            stream2: Vec::new(alloc),
+            total: 0,
+            alloc,
+        })
+    }
+
+    /// What a descriptor stands for.
+    pub fn slot(&self, fd: u32) -> Option<Slot>
+        ensures { result ≡ map.get self.now.slots fd }
+    {
+        cell(&self.slots, fd).copied()
+    }
+
+    /// The number of the file of this name.
+    pub fn number(&self, name: &[u8]) -> Option<u32>
+        ensures { result ≡ map.get self.now.names name.now }
+    {
+        self.names.get(name).copied()
+    }
+
+    /// The bytes of a file; none where there is no such file.
+    pub fn content(&self, number: u32) -> &[u8]
+        ensures { result.now ≡ content_of self.now number }
+    {
+        match cell(&self.files, number) {
+            Some(file) => file.content(),
+            None => &[],
+        }
+    }
+
+    /// The bytes of the stream 1 or 2.
+    pub fn stream(&self, which: u8) -> &[u8]
+        ensures { result.now ≡ stream self.now which }
+    {
+        if which == 1 {
+            self.stream1.as_slice()
+        } else {
+            self.stream2.as_slice()
+        }
+    }
+
+    /// How many bytes there are in all.
+    pub fn total(&self) -> u64
+        ensures { result ≡ total self.now }
+    {
+        self.total
+    }
+
+    /// How many names there are.
+    pub fn name_count(&self) -> usize
+        ensures { result ≡ map.len self.now.names }
+    {
+        self.names.len()
+    }
+
+    /// How many descriptors there are.
+    pub fn slot_count(&self) -> usize
+        ensures { result ≡ map.len self.now.slots }
+    {
+        self.slot_count
+    }
+
+    /// Whether a file has a name.
+    pub fn is_named(&self, number: u32) -> bool
+        ensures { result ≡ is_named self.now number }
+    {
+        match cell(&self.files, number) {
+            Some(file) => file.is_named(),
+            None => false,
+        }
+    }
+
+    /// Whether a descriptor stands for a file.
+    pub fn is_open(&self, number: u32) -> bool
+        ensures { result ≡ is_open self.now number }
+    {
+        stand_for(&self.slots, number)
+    }
+
+    /// The lowest unused descriptor.
+    pub fn free_slot(&self) -> u32
+        ensures { result ≡ lowest_unused self.now.slots }
+    {
+        first_free(&self.slots) as u32
+    }
+
+    /// The lowest unused file number.
+    pub fn free_number(&self) -> u32
+        ensures { result ≡ lowest_unused self.now.files }
+    {
+        first_free(&self.files) as u32
+    }
+
+    /// Puts what a descriptor stands for at the lowest unused one, which is the answer.
+    pub fn add_slot(&mut self, slot: Slot) -> Result<u32, AllocError>
+        requires { map.len self.old.slots < MAX_SLOTS }
+        ensures ok { IfOk result (λ fd. (fd ≡ lowest_unused self.old.slots) × (self.new ≡ record self.old { slots = map.insert self.old.slots fd slot })) }
+        ensures err { OnErr result (self.new ≡ self.old) }
+    {
+        let fd = self.free_slot();
+        reach(&mut self.slots, fd as usize)?;
+        self.slots[fd as usize] = Some(slot);
+        self.slot_count += 1;
+        Ok(fd)
+    }
+
+    /// What a descriptor stands for changes.
+    pub fn set_slot(&mut self, fd: u32, slot: Slot)
+        requires { IsSome (map.get self.old.slots fd) }
+        ensures { self.new ≡ record self.old { slots = map.insert self.old.slots fd slot } }
+    {
+        self.slots[fd as usize] = Some(slot);
+    }
+
+    /// A descriptor goes.
+    pub fn clear_slot(&mut self, fd: u32)
+        requires { IsSome (map.get self.old.slots fd) }
+        ensures { self.new ≡ record self.old { slots = map.remove self.old.slots fd } }
+    {
+        self.slots[fd as usize] = None;
+        self.slot_count -= 1;
+    }
+
+    /// A new file, under the lowest unused number.
+    pub fn add_file(&mut self, name: &[u8], content: &[u8]) -> Result<(), AllocError>
+        requires absent { map.get self.old.names name.now ≡ None }
+        requires few { lowest_unused self.old.files < MAX_NAMES + MAX_SLOTS }
+        requires small { total self.old + length content.now < 2 ^ 64 }
+        ensures ok { OnOk result (self.new ≡ with_file self.old name.now content.now) }
+        ensures err { OnErr result (self.new ≡ self.old) }
+    {
+        let number = self.free_number();
+        let key = Vec::from_slice(self.alloc, name)?;
+        let file = Stored::new(self.alloc, name, content)?;
+        reach(&mut self.files, number as usize)?;
+        self.names.insert(key, number)?;
+        self.files[number as usize] = Some(file);
+        self.total += content.len() as u64;
+        Ok(())
+    }
+
+    /// A name goes from its file.
+    pub fn unname(&mut self, name: &[u8], number: u32)
+        requires { map.get self.old.names name.now ≡ Some number }
+        ensures { self.new ≡ record self.old { names = map.remove self.old.names name.now } }
+    {
+        self.names.remove(name);
+        stored::unname(&mut self.files[number as usize]);
+    }
+
+    /// A file without a name goes.
+    pub fn drop_file(&mut self, number: u32)
+        requires held { IsSome (map.get self.old.files number) }
+        requires unnamed { is_named self.old number ≡ false }
+        ensures { self.new ≡ record self.old { files = map.remove self.old.files number } }
+    {
+        self.total -= stored::len(&self.files[number as usize]) as u64;
+        self.files[number as usize] = None;
+    }
+
+    /// A file loses its bytes.
+    pub fn empty(&mut self, number: u32)
+        requires { IsSome (map.get self.old.files number) }
+        ensures { self.new ≡ record self.old { files = map.insert self.old.files number [] } }
+    {
+        self.total -= stored::len(&self.files[number as usize]) as u64;
+        stored::empty(&mut self.files[number as usize]);
+    }
+
+    /// Writes bytes at a place of a file; a gap before the place is zeros.
+    pub fn overwrite(&mut self, number: u32, place: usize, bytes: &[u8]) -> Result<(), AllocError>
+        requires held { IsSome (map.get self.old.files number) }
+        requires small { place + length bytes.now < 2 ^ 63 }
+        requires room { total self.old + (place + length bytes.now - length (content_of self.old number)) < 2 ^ 64 }
+        ensures ok { OnOk result (self.new ≡ record self.old { files = map.insert self.old.files number (overwritten (content_of self.old number) place bytes.now) }) }
+        ensures err { OnErr result (self.new ≡ self.old) }
+    {
+        let added = stored::overwrite(&mut self.files[number as usize], place, bytes)?;
+        self.total += added as u64;
+        Ok(())
+    }
+
+    /// Bytes more in stream 1.
+    pub fn extend_stream1(&mut self, bytes: &[u8]) -> Result<(), AllocError>
+        requires { total self.old + length bytes.now < 2 ^ 64 }
+        ensures ok { OnOk result (self.new ≡ record self.old { stream1 = self.old.stream1 ++ bytes.now }) }
+        ensures err { OnErr result (self.new ≡ self.old) }
+    {
+        self.stream1.extend_from_slice(bytes)?;
+        self.total += bytes.len() as u64;
+        Ok(())
+    }
+
+    /// Bytes more in stream 2.
+    pub fn extend_stream2(&mut self, bytes: &[u8]) -> Result<(), AllocError>
+        requires { total self.old + length bytes.now < 2 ^ 64 }
+        ensures ok { OnOk result (self.new ≡ record self.old { stream2 = self.old.stream2 ++ bytes.now }) }
+        ensures err { OnErr result (self.new ≡ self.old) }
+    {
+        self.stream2.extend_from_slice(bytes)?;
+        self.total += bytes.len() as u64;
+        Ok(())
+    }
+
+    /// The least name that is greater than the given one; without one, the least of all.
+    pub fn name_after(&self, name: Option<&[u8]>) -> Option<&[u8]>
+        ensures { option_copied result ≡ name_after self.now (option_copied name.entry) }
+    {
+        next_name(&self.names, name)
+    }
+}
+
+/// The first name that comes after the given one; without one, the first of all.
+fn next_name<'a>(names: &'a BTreeMap<Vec<u8>, u32>, name: Option<&[u8]>) -> Option<&'a [u8]>
+    ensures { option_copied result ≡ find (is_after (option_copied name.entry)) (map_list (λ e. e.0.items) names.now.entries) }
+{
+    for (held, _) in names {
+        if is_after(held.as_slice(), name) {
+            return Some(held.as_slice());
+        }
+    }
+    None
+}
+
+/// Does a name come after the given one? Each does where none is given.
+fn is_after(held: &[u8], name: Option<&[u8]>) -> bool
+    ensures { result ≡ is_after (option_copied name.entry) held.now }
+{
+    match name {
+        None => true,
+        Some(name) => name.cmp(&held).is_lt(),
+    }
+}
+
+/// Does a descriptor stand for this file?
+fn stand_for(slots: &[Option<Slot>], number: u32) -> bool
+    ensures { result ≡ list_any (λ slot. option_map_or (is_of number) slot false) slots.now }
+{
+    slots.iter().any(|slot| match slot {
+        Some(Slot::File { number: held, .. }) => *held == number,
+        _ => false,
+    })
+}
