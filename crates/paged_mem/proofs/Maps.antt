@@ -1,5 +1,5 @@
 -- What a memory answers after a write, and what the bytes from an address on are, by single addresses.
-use Rattle.std.proofs.Common.{◌≡◌, ℕ, zero, suc, ◌+◌, ◌-◌, ◌<◌, ◌≤◌, cond, not, ◌&&◌, Option, None, Some, List, [], ◌∷◌, length, get_or, refl, sym, ap, ◌∙◌, arith, ◌⊎◌, inl, inr}
+use Rattle.std.proofs.Common.{◌≡◌, ℕ, zero, suc, ◌+◌, ◌-◌, ◌<◌, ◌≤◌, cond, not, ◌&&◌, true, Option, None, Some, IsSome, is_some, List, [], ◌∷◌, length, get_or, refl, sym, ap, ◌∙◌, arith, ◌⊎◌, inl, inr}
 use Rattle.std.specs.Prelude.{nat_le, nat_lt}
 use Rattle.std.proofs.lemmas.Option.{none-some, same_Some}
 use Rattle.std.specs.Cmp.{nat_cmp_total}
@@ -7,7 +7,7 @@ use Rattle.std.specs.FinMap.{get, get-retain_keys, same_map, nat_cmp-IsAntisymme
 use Rattle.std.proofs.lemmas.Bool.{cases_eq}
 use Rattle.std.proofs.lemmas.Bool.Decides.{nat_tests}
 use Rattle.std.proofs.lemmas.Grind.{common_steps}
-use Rattle.paged_mem.specs.Memory.{Memory, prepended, bytes_at, without}
+use Rattle.paged_mem.specs.Memory.{Memory, prepended, bytes_at, maps, without}
 
 pub same_memory : (m n : Memory) → ((q : ℕ) → get m q ≡ get n q) → m ≡ n
 same_memory m n same = same_map nat_cmp_total nat_cmp-IsAntisymmetric m n same
@@ -76,3 +76,22 @@ get_in_bytes_at m at (suc count) bytes e q from to =
       | inl same ↦ ap (get m) same ∙ p.2 ∙ ap Some (first p.0 p.1 (q - at) (omega arith) ∙ sym (ap (λ xs. get_or xs (q - at) 0) p.4))
       | inr ne ↦ get_in_bytes_at m (suc at) count p.1 p.3 q (omega arith) (omega arith) ∙ ap Some (later p.0 p.1 (q - suc at) (q - at) (omega arith) ∙ sym (ap (λ xs. get_or xs (q - at) 0) p.4))
     ]
+
+-- a range is mapped exactly where each of its addresses is
+pub maps_by_each : (m : Memory) (at count : ℕ) → ((q : ℕ) → at ≤ q → q < at + count → IsSome (get m q)) → maps m at count ≡ true
+unfolding bytes_at
+maps_by_each m at zero each = refl
+maps_by_each m at (suc count) each =
+    both (get m at) (bytes_at m (suc at) count) (each at (omega arith) (omega arith)) (maps_by_each m (suc at) count (λ q from to. each q (omega arith) (omega arith)))
+  where
+    both : (o : Option ℕ) (rest : Option (List ℕ)) → IsSome o → is_some rest ≡ true → is_some (prepended o rest) ≡ true
+    both None rest here there = cc
+    both (Some byte) None here there = cc
+    both (Some byte) (Some bytes) here there = refl
+
+pub each_by_maps : (m : Memory) (at count : ℕ) → maps m at count ≡ true → (q : ℕ) → at ≤ q → q < at + count → IsSome (get m q)
+each_by_maps m at count there q from to = found (bytes_at m at count) refl there
+  where
+    found : (o : Option (List ℕ)) → bytes_at m at count ≡ o → is_some o ≡ true → IsSome (get m q)
+    found None was e = cc
+    found (Some bytes) was e = ap is_some (get_in_bytes_at m at count bytes was q from to)
