@@ -1,0 +1,7 @@
+//! A program of a guest: how it starts, and how it runs.
+//!
+//! The rules, with their public sources, are in docs/reference/running.md.
+#![tactic(auto)]
+
+mod placing;
+mod stack;
