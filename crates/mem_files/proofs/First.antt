@@ -29,7 +29,7 @@ nil (x ∷ l) h = absurd (omega arith)
 no_files : fin.entries (fin.empty {X = List ℕ} {R = nat_cmp}) ≡ []
 no_files = nil _ (sym (fin.len-entries fin.empty) ∙ fin.len-empty nat_cmp (List ℕ))
 
-three : fin.len (map_of (Some Input ∷ Some Stream1 ∷ Some Stream2 ∷ [])) ≡ 3
+pub three : fin.len (map_of (Some Input ∷ Some Stream1 ∷ Some Stream2 ∷ [])) ≡ 3
 three = grind (fin.gets, rules)
 
 pub first_parts-consistent : IsConsistent first_parts

@@ -8,3 +8,6 @@ pub mod First
 pub mod Entries
 pub mod Soundness
 pub mod SoundCalls
+pub mod AnswersLemmas
+pub mod Opening
+pub mod LawLemmas

@@ -33,7 +33,7 @@ pub or_cases : {P : Type 0} (a b : Bool) → (a || b) ≡ true → (a ≡ true �
 or_cases true b h f g = f refl
 or_cases false b h f g = g h
 
-neither : (a b : Bool) → (a || b) ≡ false → (a ≡ false) × (b ≡ false)
+pub neither : (a b : Bool) → (a || b) ≡ false → (a ≡ false) × (b ≡ false)
 neither true b h = absurd (false≢true (sym h))
 neither false b h = (refl, h)
 

@@ -156,6 +156,10 @@ skipped_at w fd count (Some (File number cursor flags)) =
 abbrev pub skipped : World → ℕ → ℕ → World
 skipped w fd count = skipped_at w fd count (map.get w.slots fd)
 
+-- a write goes to the end of a file that appends, else to the cursor
+abbrev pub write_cursor : ℕ → ℕ → ℕ → ℕ
+write_cursor flags end cursor = if has flags APPENDS then end else cursor
+
 -- where a write goes: how many bytes are there now, and the place of the first byte that is written
 abbrev pub write_place : World → Option Slot → Option (ℕ × ℕ)
 write_place w None = None
@@ -164,7 +168,7 @@ write_place w (Some Stream1) = Some (length w.stream1, length w.stream1)
 write_place w (Some Stream2) = Some (length w.stream2, length w.stream2)
 write_place w (Some (File number cursor flags)) =
     if has flags MAY_WRITE
-    then Some (length (content_of w number), (if has flags APPENDS then length (content_of w number) else cursor))
+    then Some (length (content_of w number), write_cursor flags (length (content_of w number)) cursor)
     else None
 
 -- `fits`: what refuses a write of `count` bytes
@@ -196,7 +200,7 @@ filled w fd bytes (Some Input) = w
 filled w fd bytes (Some Stream1) = record w { stream1 = w.stream1 ++ bytes }
 filled w fd bytes (Some Stream2) = record w { stream2 = w.stream2 ++ bytes }
 filled w fd bytes (Some (File number cursor flags)) =
-    with_bytes w fd number flags bytes (if has flags APPENDS then length (content_of w number) else cursor)
+    with_bytes w fd number flags bytes (write_cursor flags (length (content_of w number)) cursor)
 
 -- `write`: a write of no byte changes nothing
 abbrev pub written_if : World → ℕ → List ℕ → Result (Unit {0}) ℕ → Result (Unit {0}) ℕ × World

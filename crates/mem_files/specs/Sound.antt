@@ -7,6 +7,13 @@ use Rattle.mem_files.specs.declared.TheConstants.{MAX_CONTENT, MAX_TOTAL, MAX_SL
 use Rattle.mem_files.specs.Names.{is_stripped_name}
 use Rattle.mem_files.specs.World.{World, total, is_named, is_open}
 
+-- the file that a descriptor stands for is there
+abbrev pub HasFile : World → Slot → Type 0
+HasFile w Input = Unit {0}
+HasFile w Stream1 = Unit {0}
+HasFile w Stream2 = Unit {0}
+HasFile w (File number cursor flags) = IsSome (map.get w.files number)
+
 -- what stands at a descriptor: the input and the streams have their own, and an open file is there, with its cursor
 -- below 2^63 and flags that let it be read or written
 abbrev pub IsSlotAt : World → ℕ → Slot → Type 0

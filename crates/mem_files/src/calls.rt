@@ -1,11 +1,11 @@
 //! The calls, over a table: the first rule that fits.
-ghost use Rattle.std.specs.Prelude.{◌≡◌, ◌+◌, ◌-◌, ◌<◌, ◌≤◌, ◌^◌, pos, ◌+ℤ◌, IsTrue, IsOkAnd, IsSome, IfSome, OnOk, OnErr, MatchResult, Ok, Err, Some, None, length, take, drop, []};
+ghost use Rattle.std.specs.Prelude.{◌≡◌, ◌+◌, ◌-◌, ◌<◌, ◌≤◌, ◌≢◌, ◌^◌, pos, ◌+ℤ◌, IsTrue, IfOk, IsOkAnd, IsSome, IfSome, OnOk, OnErr, MatchResult, Ok, Err, Some, None, length, take, drop, []};
 ghost use Rattle.std.specs.Option.{option_copied, option_and_then, option_map};
 ghost use Rattle.std.specs.FinMap as map;
 ghost use Rattle.mem_files.specs.World.{content_of};
-ghost use Rattle.mem_files.specs.Calls.{placed, is_full, opened, opened_at, flag_byte, has, closed, released, without_unused, sought, seek_base, as_cursor, ready, skipped, fits, write_place, filled, written, removed, content_at};
+ghost use Rattle.mem_files.specs.Calls.{placed, is_full, opened, opened_at, flag_byte, has, closed, released, without_unused, sought, seek_base, as_cursor, ready, skipped, fits, write_place, write_cursor, filled, written, removed, content_at};
 ghost use Rattle.mem_files.specs.Answers.{Answers, Places, Grows};
-ghost use Rattle.mem_files.specs.Sound.{IsSound};
+ghost use Rattle.mem_files.specs.Sound.{IsSound, HasFile};
 
 use crate::names::{is_name, strip};
 use crate::table::Table;
@@ -148,6 +148,7 @@ impl Table {
 
     /// A file that a descriptor stood for goes, where nothing else has it.
     fn release(&mut self, slot: Slot)
+        requires { HasFile self.old slot }
         ensures { self.new ≡ released self.old slot }
     {
         if let Slot::File { number, .. } = slot {
@@ -157,6 +158,7 @@ impl Table {
 
     /// A file with neither a name nor a descriptor goes.
     fn drop_unused(&mut self, number: u32)
+        requires { IsSome (map.get self.old.files number) }
         ensures { self.new ≡ without_unused self.old number }
     {
         if !self.is_named(number) && !self.is_open(number) {
@@ -165,6 +167,7 @@ impl Table {
     }
 
     pub fn remove(&mut self, name: &[u8]) -> Result<(), u16>
+        requires { IsSound self.old }
         ensures { removed self.old name.now ≡ (result, self.new) }
     {
         let Some(number) = self.number(name) else {
@@ -200,7 +203,9 @@ impl Table {
 
     pub fn ready(&self, fd: u32, count: u64) -> Result<&[u8], u16>
         requires { IsSound self.now }
-        ensures { MatchResult result (λ bytes. ready self.now fd count ≡ Ok bytes.now) (λ errno. ready self.now fd count ≡ Err errno) }
+        ensures answer { MatchResult result (λ bytes. ready self.now fd count ≡ Ok bytes.now) (λ errno. ready self.now fd count ≡ Err errno) }
+        // As many bytes are ready again, so that `skip` may follow.
+        ensures skippable { IfOk result (λ bytes. IsOkAnd (ready self.now fd (length bytes.now)) (λ again. length again ≡ length bytes.now)) }
     {
         match self.slot(fd) {
             Some(Slot::Input) => Ok(&[]),
@@ -237,7 +242,7 @@ impl Table {
             }
             Some(Slot::File { number, cursor, flags }) if flags & MAY_WRITE != 0 => {
                 let len = self.content(number).len() as u64;
-                Some((len, if flags & APPENDS != 0 { len } else { cursor }))
+                Some((len, write_cursor(flags, len, cursor)))
             }
             _ => None,
         }
@@ -280,7 +285,8 @@ impl Table {
     /// Writes bytes that fit.
     fn fill(&mut self, fd: u32, bytes: &[u8]) -> Result<(), AllocError>
         requires sound { IsSound self.old }
-        requires fits { fits self.old fd (length bytes.now) ≡ Ok tt }
+        requires some { length bytes.now ≢ 0 }
+        requires fit { fits self.old fd (length bytes.now) ≡ Ok tt }
         ensures ok { OnOk result (self.new ≡ filled self.old fd bytes.now (map.get self.old.slots fd)) }
         ensures err { OnErr result (self.new ≡ self.old) }
         ensures memory { OnErr result (Grows self.old fd (length bytes.now)) }
@@ -290,7 +296,7 @@ impl Table {
             Some(Slot::Stream2) => self.extend_stream2(bytes)?,
             Some(Slot::File { number, cursor, flags }) => {
                 let end = self.content(number).len() as u64;
-                let place = if flags & APPENDS != 0 { end } else { cursor };
+                let place = write_cursor(flags, end, cursor);
                 self.overwrite(number, place as usize, bytes)?;
                 let cursor = place + bytes.len() as u64;
                 self.set_slot(fd, Slot::File { number, cursor, flags });
@@ -308,6 +314,13 @@ impl Table {
         let number = self.number(name)?;
         Some(self.content(number))
     }
+}
+
+/// The place of a write: the end of a file that appends, else the cursor.
+fn write_cursor(flags: u8, end: u64, cursor: u64) -> u64
+    ensures { result ≡ write_cursor flags end cursor }
+{
+    if flags & APPENDS != 0 { end } else { cursor }
 }
 
 /// At most `count` bytes past a cursor.

@@ -75,7 +75,9 @@ impl Files {
 
     /// What a read of at most `count` bytes gives. Error: `EBADF`.
     pub fn ready(&self, fd: u32, count: u64) -> Result<&[u8], u16>
-        ensures { MatchResult result (λ bytes. ready self.now fd count ≡ Ok bytes.now) (λ errno. ready self.now fd count ≡ Err errno) }
+        ensures answer { MatchResult result (λ bytes. ready self.now fd count ≡ Ok bytes.now) (λ errno. ready self.now fd count ≡ Err errno) }
+        // As many bytes are ready again, so that `skip` may follow.
+        ensures skippable { IfOk result (λ bytes. IsOkAnd (ready self.now fd (length bytes.now)) (λ again. length again ≡ length bytes.now)) }
     {
         self.table.ready(fd, count)
     }

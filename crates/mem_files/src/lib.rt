@@ -7,12 +7,15 @@
 mod calls;
 mod cells;
 mod files;
+pub mod laws;
 mod names;
 mod slot;
 mod stored;
 mod table;
+#[cfg(test)]
+mod tests;
 
-//pub use files::Files;
+pub use files::Files;
 pub use names::strip;
 pub use slot::{FileRefusal, PlaceRefusal, Slot};
 

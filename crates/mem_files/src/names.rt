@@ -1,5 +1,6 @@
 //! Names of files.
-ghost use Rattle.std.specs.Prelude.{◌≡◌};
+ghost use Rattle.std.specs.Prelude.{◌≡◌, ◌==◌};
+ghost use Rattle.std.specs.List.{list_any};
 ghost use Rattle.mem_files.specs.Names.{stripped, is_name};
 
 use crate::MAX_NAME;
@@ -18,5 +19,15 @@ pub fn strip(name: &[u8]) -> &[u8]
 pub fn is_name(name: &[u8]) -> bool
     ensures { result ≡ is_name name.now }
 {
-    !name.is_empty() && name.len() <= MAX_NAME && !name.iter().any(|byte| *byte == 0)
+    if name.is_empty() || name.len() > MAX_NAME {
+        return false;
+    }
+    !has_zero(name)
+}
+
+/// Is there a zero byte?
+fn has_zero(name: &[u8]) -> bool
+    ensures { result ≡ list_any (λ byte. byte == 0) name.now }
+{
+    name.iter().any(|byte| *byte == 0)
 }

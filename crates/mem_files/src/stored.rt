@@ -75,6 +75,7 @@ pub fn overwrite(cell: &mut Option<Stored>, place: usize, bytes: &[u8]) -> Resul
     ensures ok { OnOk result (content_in cell.new ≡ Some (overwritten (unwrap_or (content_in cell.old) []) place bytes.now)) }
     ensures added { IfOk result (λ added. added ≡ place + length bytes.now - length (unwrap_or (content_in cell.old) [])) }
     ensures err { OnErr result (content_in cell.new ≡ content_in cell.old) }
+    ensures short { OnErr result (length (unwrap_or (content_in cell.old) []) < place + length bytes.now) }
 {
     let before = len(cell);
     if let Some(file) = cell {
@@ -88,6 +89,7 @@ fn put(content: &mut Vec<u8>, place: usize, bytes: &[u8]) -> Result<(), AllocErr
     requires { place + length bytes.now < 2 ^ 63 }
     ensures ok { OnOk result (content.new.items ≡ overwritten content.old.items place bytes.now) }
     ensures err { OnErr result (content.new.items ≡ content.old.items) }
+    ensures short { OnErr result (length content.old.items < place + length bytes.now) }
 {
     grow(content, place + bytes.len())?;
     copy_at(content, place, bytes);
@@ -98,6 +100,7 @@ fn put(content: &mut Vec<u8>, place: usize, bytes: &[u8]) -> Result<(), AllocErr
 fn grow(content: &mut Vec<u8>, end: usize) -> Result<(), AllocError>
     ensures ok { OnOk result (content.new.items ≡ content.old.items ++ replicate (end - length content.old.items) 0) }
     ensures err { OnErr result (content.new.items ≡ content.old.items) }
+    ensures short { OnErr result (length content.old.items < end) }
 {
     if content.len() < end {
         content.resize(end, 0)?;

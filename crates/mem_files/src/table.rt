@@ -229,6 +229,7 @@ impl Table {
         requires room { total self.old + (place + length bytes.now - length (content_of self.old number)) < 2 ^ 64 }
         ensures ok { OnOk result (self.new ≡ record self.old { files = map.insert self.old.files number (overwritten (content_of self.old number) place bytes.now) }) }
         ensures err { OnErr result (self.new ≡ self.old) }
+        ensures short { OnErr result (length (content_of self.old number) < place + length bytes.now) }
     {
         let added = stored::overwrite(&mut self.files[number as usize], place, bytes)?;
         self.total += added as u64;

@@ -1,5 +1,8 @@
-use Rattle.mem_files.proofs.SoundCalls.{with_bytes-sound}
+use Rattle.std.proofs.Common.{sym, subst}
+use Rattle.mem_files.specs.World.{World}
+use Rattle.mem_files.specs.Sound.{IsSound}
+use Rattle.mem_files.proofs.SoundCalls.{first-sound}
 use Rattle.mem_files.proofs.files.Files.new.Goals as goal
 
 pub invariant_of-result : goal.invariant_of-result
-invariant_of-result c = ?
+invariant_of-result c = subst IsSound (sym c.in_ok-table.ensures) first-sound

@@ -1,0 +1,39 @@
+-- How an answer that may also be out of memory fits what is meant.
+use Rattle.std.specs.Prelude.{◌≡◌, ℕ, ◌<◌, ◌⊎◌, Result, IsOk, IfOk, IsOkAnd}
+use Rattle.mem_files.specs.World.{World}
+use Rattle.paged_mem.specs.Memory.{Memory}
+use Rattle.linux_calls.specs.declared.Heap.{Heap}
+use Rattle.linux_calls.specs.declared.CallEnd.{CallEnd}
+use Rattle.linux_calls.specs.declared.CallEnd.TheVariants.{Back, Exit, Unknown, OutOfMemory}
+use Rattle.linux_calls.specs.declared.TheConstants.{SYS_OPENAT, SYS_READ, SYS_WRITE, SYS_BRK}
+use Rattle.linux_calls.specs.HeapOf.{page_end, break_heap, break_memory}
+use Rattle.linux_calls.specs.Calls.{State, Outcome, goes, exits, is_unknown, answer_of}
+
+-- the calls that take memory of the host: one that opens a file, one that moves bytes, one that gives the heap pages
+abbrev pub TakesMemory : ℕ → State → Result ℕ ℕ → State → Type 0
+TakesMemory number old answer next =
+    ((number ≡ SYS_OPENAT) × IsOk answer)
+    ⊎ (((number ≡ SYS_READ) × IsOkAnd answer (λ count. 0 < count))
+    ⊎ (((number ≡ SYS_WRITE) × IsOkAnd answer (λ count. 0 < count))
+    ⊎ ((number ≡ SYS_BRK) × (page_end old.heap.now < page_end next.heap.now))))
+
+-- the answer and the state after it are those that are meant; or memory was out, in a call that takes memory, and the
+-- state is as before
+abbrev pub IsAnswer : ℕ → State → State → Outcome → CallEnd → Type 0
+IsAnswer number old new (goes answer next) (Back value) = (value ≡ answer_of answer) × (new ≡ next)
+IsAnswer number old new (goes answer next) OutOfMemory = TakesMemory number old answer next × (new ≡ old)
+IsAnswer number old new (exits status) (Exit code) = (code ≡ status) × (new ≡ old)
+IsAnswer number old new (is_unknown n) (Unknown m) = (m ≡ n) × (new ≡ old)
+IsAnswer number old new meant end = ⊥
+
+-- the same for a call on the files alone
+abbrev pub IsFilesAnswer : World → World → Result ℕ ℕ × World → CallEnd → Type 0
+IsFilesAnswer old new meant (Back value) = (value ≡ answer_of meant.0) × (new ≡ meant.1)
+IsFilesAnswer old new meant OutOfMemory = IsOk meant.0 × (new ≡ old)
+IsFilesAnswer old new meant end = ⊥
+
+-- the same for brk, on the memory and the heap alone
+abbrev pub IsBreakAnswer : Memory → Heap → ℕ → Memory → Heap → CallEnd → Type 0
+IsBreakAnswer m heap to m' heap' (Back value) = (value ≡ (break_heap heap to).now) × (m' ≡ break_memory m heap to) × (heap' ≡ break_heap heap to)
+IsBreakAnswer m heap to m' heap' OutOfMemory = (page_end heap.now < page_end (break_heap heap to).now) × (m' ≡ m) × (heap' ≡ heap)
+IsBreakAnswer m heap to m' heap' end = ⊥

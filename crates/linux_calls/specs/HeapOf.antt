@@ -1,0 +1,33 @@
+-- The heap of a guest in its memory (docs/reference/calls.md, "The heap").
+use Rattle.std.specs.Prelude.{◌≡◌, ℕ, ◌+◌, ◌-◌, ◌*◌, ◌/◌, ◌%◌, ◌^◌, ◌<◌, ◌≤◌, Bool, true, nat_lt, ◌||◌, if◌then◌else◌}
+use Rattle.paged_mem.specs.Memory.{Memory, maps, IsFree, with_bytes, without, zeros}
+use Rattle.linux_calls.specs.declared.Heap.{Heap}
+
+-- rounded up to whole pages
+abbrev pub page_end : ℕ → ℕ
+page_end n = (n + 4095) / 4096 * 4096
+
+-- the pages of the heap, up to the break, are mapped, and the rest of those that it may have is not
+pub record IsHeapOf (m : Memory) (heap : Heap) : Type 0 where
+  pub aligned : heap.first % 4096 ≡ 0
+  pub small : heap.limit ≤ 2 ^ 30
+  pub from : heap.first ≤ heap.now
+  pub to : heap.now ≤ heap.first + heap.limit
+  pub low : heap.first + heap.limit ≤ 2 ^ 38 - 8388608
+  pub mapped : maps m heap.first (page_end heap.now - heap.first) ≡ true
+  pub free : IsFree m (page_end heap.now) (page_end (heap.first + heap.limit) - page_end heap.now)
+
+-- the memory when the heap's pages end at `new` and no longer at `old`: pages that come read 0
+abbrev pub resized : Memory → ℕ → ℕ → Memory
+resized m old new = if nat_lt old new then with_bytes m old (zeros (new - old)) else without m new (old - new)
+
+-- is this no break that the heap may have?
+abbrev pub is_outside : Heap → ℕ → Bool
+is_outside heap to = nat_lt to heap.first || nat_lt (heap.first + heap.limit) to
+
+-- the heap and its memory after brk: another break is refused, and nothing changes
+abbrev pub break_heap : Heap → ℕ → Heap
+break_heap heap to = if is_outside heap to then heap else record heap { now = to }
+
+abbrev pub break_memory : Memory → Heap → ℕ → Memory
+break_memory m heap to = if is_outside heap to then m else resized m (page_end heap.now) (page_end to)

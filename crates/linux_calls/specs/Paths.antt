@@ -1,0 +1,53 @@
+-- How a call reads a path, and what its directory argument means (docs/reference/calls.md, "Paths").
+use Rattle.std.specs.Prelude.{◌≡◌, ℕ, zero, suc, ◌-◌, ◌%◌, ◌^◌, Bool, true, false, ◌||◌, ◌==◌, if◌then◌else◌, Option, Some, None, Result, Ok, Err, List, [], ◌∷◌, length}
+use Rattle.std.specs.FinMap.{get, contains_key}
+use Rattle.paged_mem.specs.Memory.{Memory}
+use Rattle.mem_files.specs.Names.{stripped}
+use Rattle.mem_files.specs.World.{World}
+use Rattle.mem_files.specs.declared.TheConstants.{ENOENT, EBADF}
+use Rattle.linux_calls.specs.declared.TheConstants.{EFAULT, ENOTDIR, ENAMETOOLONG, AT_FDCWD}
+
+-- an error number passes, and a value goes on
+abbrev pub and_then : {A B : Type 0} → (A → Result B ℕ) → Result A ℕ → Result B ℕ
+and_then f (Ok x) = f x
+and_then f (Err errno) = Err errno
+
+-- the low 32 bits of a register
+abbrev pub low : ℕ → ℕ
+low register = register % 2 ^ 32
+
+-- a text that begins with this byte, unless the byte ends it
+abbrev pub text_from : ℕ → Result (List ℕ) ℕ → Result (List ℕ) ℕ
+text_from byte rest = if byte == 0 then Ok [] else and_then (λ text. Ok (byte ∷ text)) rest
+
+abbrev pub text_of : Option ℕ → Result (List ℕ) ℕ → Result (List ℕ) ℕ
+text_of None rest = Err EFAULT
+text_of (Some byte) rest = text_from byte rest
+
+-- the text at an address, which a zero byte among the next `most` bytes ends
+unfoldable pub text_at : Memory → ℕ → ℕ → Result (List ℕ) ℕ
+text_at m at zero = Err ENAMETOOLONG
+text_at m at (suc most) = text_of (get m at) (text_at m (suc at) most)
+
+abbrev pub not_empty : List ℕ → Result (List ℕ) ℕ
+not_empty [] = Err ENOENT
+not_empty (byte ∷ bytes) = Ok (byte ∷ bytes)
+
+-- the name of a file that a path names
+abbrev pub name_at : Memory → ℕ → Result (List ℕ) ℕ
+name_at m at = and_then (λ text. not_empty (stripped text)) (text_at m at 256)
+
+-- does a name begin with `/`?
+abbrev pub is_absolute : List ℕ → Bool
+is_absolute [] = false
+is_absolute (byte ∷ bytes) = byte == 47
+
+-- the directory argument is right for absolute names, and as the working directory; a descriptor is no directory
+abbrev pub in_directory : World → ℕ → List ℕ → Result (List ℕ) ℕ
+in_directory w dir name =
+    if is_absolute name || low dir == AT_FDCWD then Ok name
+    else (if contains_key w.slots (low dir) then Err ENOTDIR else Err EBADF)
+
+-- the name that a path names in a directory
+abbrev pub named : Memory → World → ℕ → ℕ → Result (List ℕ) ℕ
+named m w dir at = and_then (λ name. in_directory w dir name) (name_at m at)

@@ -1,0 +1,84 @@
+//! The calls that take a path.
+ghost use Rattle.std.specs.Prelude.{◌≡◌};
+ghost use Rattle.linux_calls.specs.Paths.{named, name_at};
+ghost use Rattle.linux_calls.specs.Calls.{answer_of, unlinked, accessed, mode_changed, opened_as};
+ghost use Rattle.linux_calls.specs.Answer.{IsFilesAnswer};
+
+use crate::CallEnd;
+use crate::path::{check_directory, low, read_path, read_path_in};
+use mem_files::{EINVAL, ENOENT, FileRefusal, Files, O_ACCMODE, strip};
+use paged_mem::Ram;
+
+/// A value for the guest, or the negated number of an error.
+pub fn back(answer: Result<u64, u16>) -> CallEnd
+    ensures { result ≡ CallEnd.Back (answer_of answer) }
+{
+    match answer {
+        Ok(value) => CallEnd::Back(value),
+        Err(errno) => CallEnd::Back((errno as u64).wrapping_neg()),
+    }
+}
+
+/// unlinkat(dir, path, flags)
+pub fn unlinkat<R: Ram>(
+    ram: &R,
+    files: &mut Files,
+    dir: u64,
+    at: u64,
+    flags: u64,
+) -> Result<u64, u16>
+    ensures { unlinked files.old flags (named (R.bytes ram.now) files.old dir at) ≡ (result, files.new) }
+{
+    let path = read_path_in(ram, files, dir, at)?;
+    if low(flags) != 0 {
+        return Err(EINVAL);
+    }
+    files.remove(strip(&path))?;
+    Ok(0)
+}
+
+/// faccessat(dir, path, mode)
+pub fn faccessat<R: Ram>(ram: &R, files: &Files, dir: u64, at: u64, mode: u64) -> Result<u64, u16>
+    ensures { result ≡ accessed files.now mode (named (R.bytes ram.now) files.now dir at) }
+{
+    let path = read_path_in(ram, files, dir, at)?;
+    if low(mode) > 7 {
+        return Err(EINVAL);
+    }
+    if !files.exists(strip(&path)) {
+        return Err(ENOENT);
+    }
+    Ok(0)
+}
+
+/// fchmodat(dir, path, mode): the mode isn't kept.
+pub fn fchmodat<R: Ram>(ram: &R, files: &Files, dir: u64, at: u64) -> Result<u64, u16>
+    ensures { result ≡ mode_changed files.now (named (R.bytes ram.now) files.now dir at) }
+{
+    let path = read_path_in(ram, files, dir, at)?;
+    if !files.exists(strip(&path)) {
+        return Err(ENOENT);
+    }
+    Ok(0)
+}
+
+/// openat(dir, path, flags, mode): the flags are looked at between the path and the directory.
+pub fn openat<R: Ram>(ram: &R, files: &mut Files, dir: u64, at: u64, flags: u64) -> CallEnd
+    ensures { IsFilesAnswer files.old files.new (opened_as files.old dir flags (name_at (R.bytes ram.now) at)) result }
+{
+    let path = match read_path(ram, at) {
+        Ok(path) => path,
+        Err(errno) => return back(Err(errno)),
+    };
+    if low(flags) & O_ACCMODE == O_ACCMODE {
+        return back(Err(EINVAL));
+    }
+    if let Err(errno) = check_directory(files, dir, strip(&path)) {
+        return back(Err(errno));
+    }
+    match files.open_name(strip(&path), low(flags)) {
+        Ok(fd) => CallEnd::Back(fd as u64),
+        Err(FileRefusal::Errno(errno)) => back(Err(errno)),
+        Err(FileRefusal::OutOfMemory) => CallEnd::OutOfMemory,
+    }
+}

@@ -1,0 +1,84 @@
+//! Paths: how they are read, and the directory argument beside them.
+ghost use Rattle.std.specs.Prelude.{◌≡◌, ◌%◌, MatchResult, IfOk, IsTrue, Ok, Err};
+ghost use Rattle.mem_files.specs.Names.{stripped, is_stripped_name};
+ghost use Rattle.linux_calls.specs.Paths.{low, text_at, name_at, named, in_directory};
+
+use crate::{AT_FDCWD, EFAULT, ENAMETOOLONG, ENOTDIR};
+use arrayvec::ArrayVec;
+use mem_files::{EBADF, ENOENT, Files, strip};
+use paged_mem::{Ram, Width};
+
+/// The low 32 bits of a register.
+pub fn low(register: u64) -> u32
+    ensures { result ≡ low register }
+{
+    (register % 0x1_0000_0000) as u32
+}
+
+/// The text at an address, up to the zero byte that ends it within 256 bytes.
+fn read_text<R: Ram>(ram: &R, at: u64) -> Result<ArrayVec<u8, 256>, u16>
+    ensures { MatchResult result
+        (λ text. text_at (R.bytes ram.now) at 256 ≡ Ok text.items)
+        (λ errno. text_at (R.bytes ram.now) at 256 ≡ Err errno) }
+{
+    let mut text = ArrayVec::new();
+    for i in 0..256 {
+        let Some(address) = at.checked_add(i) else {
+            return Err(EFAULT);
+        };
+        let Some(byte) = ram.load(address, Width::W1) else {
+            return Err(EFAULT);
+        };
+        if byte == 0 {
+            return Ok(text);
+        }
+        text.push(byte as u8);
+    }
+    Err(ENAMETOOLONG)
+}
+
+/// The path at an address, whose name is what `strip` leaves of it.
+pub fn read_path<R: Ram>(ram: &R, at: u64) -> Result<ArrayVec<u8, 256>, u16>
+    ensures value { MatchResult result
+        (λ path. name_at (R.bytes ram.now) at ≡ Ok (stripped path.items))
+        (λ errno. name_at (R.bytes ram.now) at ≡ Err errno) }
+    ensures name { IfOk result (λ path. IsTrue (is_stripped_name (stripped path.items))) }
+{
+    let path = read_text(ram, at)?;
+    if strip(&path).is_empty() {
+        return Err(ENOENT);
+    }
+    Ok(path)
+}
+
+/// Whether the directory argument is right for a name.
+pub fn check_directory(files: &Files, dir: u64, name: &[u8]) -> Result<(), u16>
+    ensures { MatchResult result
+        (λ _. in_directory files.now dir name.now ≡ Ok name.now)
+        (λ errno. in_directory files.now dir name.now ≡ Err errno) }
+{
+    if name.first() == Some(&b'/') || low(dir) == AT_FDCWD {
+        return Ok(());
+    }
+    if files.is_descriptor(low(dir)) {
+        return Err(ENOTDIR);
+    }
+    Err(EBADF)
+}
+
+/// The path at an address, with the right directory argument.
+pub fn read_path_in<R: Ram>(
+    ram: &R,
+    files: &Files,
+    dir: u64,
+    at: u64,
+) -> Result<ArrayVec<u8, 256>, u16>
+    ensures value { MatchResult result
+        (λ path. named (R.bytes ram.now) files.now dir at ≡ Ok (stripped path.items))
+        (λ errno. named (R.bytes ram.now) files.now dir at ≡ Err errno) }
+    ensures name { IfOk result (λ path. IsTrue (is_stripped_name (stripped path.items))) }
+{
+    let path = read_path(ram, at)?;
+    check_directory(files, dir, strip(&path))?;
+    Ok(path)
+}

@@ -1,0 +1,54 @@
+//! The heap.
+ghost use Rattle.std.specs.Prelude.{◌≡◌, ◌≤◌, ◌<◌, ◌+◌, ◌-◌, ◌%◌, ◌^◌, true, OnOk, OnErr};
+ghost use Rattle.paged_mem.specs.Memory.{IsFree, maps};
+ghost use Rattle.linux_calls.specs.HeapOf.{IsHeapOf, page_end, resized};
+ghost use Rattle.linux_calls.specs.Answer.{IsBreakAnswer};
+
+use crate::{CallEnd, Heap};
+use ddc_base::OutOfMemory;
+use paged_mem::Ram;
+
+/// An address rounded up to whole pages.
+fn page_end(address: u64) -> u64
+    requires { address ≤ 2 ^ 38 }
+    ensures { result ≡ page_end address }
+{
+    address.next_multiple_of(4096)
+}
+
+/// Maps the pages from `old` to `new`, or takes away those from `new` to `old`.
+fn resize<R: Ram>(ram: &mut R, old: u64, new: u64) -> Result<(), OutOfMemory>
+    requires aligned { old % 4096 ≡ 0 }
+    requires aligned_too { new % 4096 ≡ 0 }
+    requires low { new ≤ 2 ^ 38 }
+    requires free { old < new → IsFree (R.bytes ram.old) old (new - old) }
+    requires present { new ≤ old → maps (R.bytes ram.old) new (old - new) ≡ true }
+    ensures ok { OnOk result (R.bytes ram.new ≡ resized (R.bytes ram.old) old new) }
+    ensures err { OnErr result (R.bytes ram.new ≡ R.bytes ram.old) }
+    ensures grows { OnErr result (old < new) }
+{
+    if old < new {
+        ram.map_zero(old, (new - old) / 4096)
+    } else {
+        ram.unmap(new, (old - new) / 4096);
+        Ok(())
+    }
+}
+
+/// brk(to): the break becomes `to`, if the heap may end there; the break is answered.
+pub fn brk<R: Ram>(ram: &mut R, heap: &mut Heap, to: u64) -> CallEnd
+    requires { IsHeapOf (R.bytes ram.old) heap.old }
+    ensures answer { IsBreakAnswer (R.bytes ram.old) heap.old to (R.bytes ram.new) heap.new result }
+    ensures kept { IsHeapOf (R.bytes ram.new) heap.new }
+{
+    if to < heap.first || to > heap.first + heap.limit {
+        return CallEnd::Back(heap.now);
+    }
+    match resize(ram, page_end(heap.now), page_end(to)) {
+        Ok(()) => {
+            heap.now = to;
+            CallEnd::Back(to)
+        }
+        Err(_) => CallEnd::OutOfMemory,
+    }
+}

@@ -1,0 +1,86 @@
+//! The calls that move bytes between memory and files.
+ghost use Rattle.std.specs.Prelude.{◌≡◌, ℕ, true, IfOk, Some};
+ghost use Rattle.std.specs.FinMap.{get};
+ghost use Rattle.paged_mem.specs.Memory.{bytes_at, maps};
+ghost use Rattle.mem_files.specs.Calls.{ready, write_place};
+ghost use Rattle.linux_calls.specs.declared.Heap.{Heap as the_heap};
+ghost use Rattle.linux_calls.specs.declared.TheConstants.{SYS_READ, SYS_WRITE};
+ghost use Rattle.linux_calls.specs.HeapOf.{IsHeapOf};
+ghost use Rattle.linux_calls.specs.Calls.{state, moved, written_at};
+ghost use Rattle.linux_calls.specs.Answer.{IsAnswer};
+
+use crate::names::back;
+use crate::{CallEnd, EFAULT};
+use mem_files::{FileRefusal, Files};
+use paged_mem::{Ram, StoreRefusal};
+use std::alloc::{AllocError, Global};
+
+/// read(fd, buffer, count): the bytes are moved, all or none.
+pub fn read<R: Ram>(ram: &mut R, files: &mut Files, fd: u32, buffer: u64, count: u64) -> CallEnd
+    ensures answer { (heap : the_heap)
+        → IsAnswer SYS_READ (state (R.bytes ram.old) files.old heap) (state (R.bytes ram.new) files.new heap)
+        (moved (state (R.bytes ram.old) files.old heap) fd buffer (ready files.old fd count)) result }
+    ensures kept { (heap : the_heap) → IsHeapOf (R.bytes ram.old) heap → IsHeapOf (R.bytes ram.new) heap }
+{
+    let bytes = match files.ready(fd, count) {
+        Ok(bytes) => bytes,
+        Err(errno) => return back(Err(errno)),
+    };
+    if bytes.is_empty() {
+        return CallEnd::Back(0);
+    }
+    let len = bytes.len() as u64;
+    match ram.write_from(buffer, bytes) {
+        Ok(()) => {
+            files.skip(fd, len);
+            CallEnd::Back(len)
+        }
+        Err(StoreRefusal::Unmapped) => back(Err(EFAULT)),
+        Err(StoreRefusal::OutOfMemory) => CallEnd::OutOfMemory,
+    }
+}
+
+/// A copy of mapped bytes.
+fn copy_of<R: Ram>(alloc: Global, ram: &R, at: u64, count: u64) -> Result<Vec<u8>, AllocError>
+    requires { maps (R.bytes ram.now) at count ≡ true }
+    ensures { IfOk result (λ bytes. bytes_at (R.bytes ram.now) at count ≡ Some bytes.items) }
+{
+    let mut bytes = vec![in alloc; 0u8; count as usize]?;
+    ram.read_into(at, &mut bytes);
+    Ok(bytes)
+}
+
+/// write(fd, buffer, count): the bytes are written, all or none.
+pub fn write<R: Ram>(
+    alloc: Global,
+    ram: &R,
+    files: &mut Files,
+    fd: u32,
+    buffer: u64,
+    count: u64,
+) -> CallEnd
+    ensures { (heap : the_heap)
+        → IsAnswer SYS_WRITE (state (R.bytes ram.now) files.old heap) (state (R.bytes ram.now) files.new heap)
+        (written_at (state (R.bytes ram.now) files.old heap) fd buffer count (write_place files.old (get files.old.slots fd))) result }
+{
+    if let Err(errno) = files.fits(fd, 0) {
+        return back(Err(errno));
+    }
+    if count == 0 {
+        return CallEnd::Back(0);
+    }
+    if !ram.mapped(buffer, count) {
+        return back(Err(EFAULT));
+    }
+    if let Err(errno) = files.fits(fd, count) {
+        return back(Err(errno));
+    }
+    let Ok(bytes) = copy_of(alloc, ram, buffer, count) else {
+        return CallEnd::OutOfMemory;
+    };
+    match files.write(fd, &bytes) {
+        Ok(()) => CallEnd::Back(count),
+        Err(FileRefusal::Errno(errno)) => back(Err(errno)),
+        Err(FileRefusal::OutOfMemory) => CallEnd::OutOfMemory,
+    }
+}

@@ -1,0 +1,7 @@
+use Rattle.std.proofs.Common.{ap, subst}
+use Rattle.mem_files.specs.Sound.{IsSound}
+use Rattle.mem_files.proofs.Soundness.{closed-sound}
+use Rattle.mem_files.proofs.files.Files.close.Goals as goal
+
+pub invariant_of-self : goal.invariant_of-self
+invariant_of-self c = subst IsSound (ap (λ answer. answer.1) c.close.ensures) (closed-sound _ c.args.fd c.self.invariant)
