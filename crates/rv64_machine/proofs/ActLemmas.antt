@@ -1,5 +1,5 @@
 -- What an act that goes on does.
-use Rattle.std.proofs.Common.{◌≡◌, ℕ, ◌+◌, ◌*◌, ◌%◌, ◌^◌, ◌<◌, ◌≤◌, Bool, true, false, Option, Some, None, refl, sym, ap, ◌∙◌, arith, ◌⊎◌, ◌≢◌, inl, inr}
+use Rattle.std.proofs.Common.{◌≡◌, ℕ, ◌+◌, ◌%◌, ◌^◌, ◌<◌, ◌≤◌, Bool, true, false, Option, Some, None, refl, sym, ap, ◌∙◌, arith, ◌⊎◌, ◌≢◌, inl, inr}
 use Rattle.std.specs.Bool.{if◌then◌else◌}
 use Rattle.std.specs.FinMap.{contains_key, get}
 use Rattle.std.proofs.lemmas.Bool.{false≢true}
@@ -17,7 +17,8 @@ use Rattle.rv64_machine.specs.declared.answer.Cause.TheVariants.{StoreUnmapped}
 use Rattle.rv64_machine.specs.declared.answer.StepEnd.{StepEnd}
 use Rattle.rv64_machine.specs.declared.answer.StepEnd.TheVariants as end
 use Rattle.rv64_machine.specs.Hart.{Goes, Traps, HartState, act, arrives, carried, effect_at, effect_of, fetched, following, is_store, loads, passes, runs, Steps, with_register}
-use Rattle.rv64_machine.proofs.StoredBytes.{contains_key-writes, get-writes_other, reads-writes}
+use Rattle.paged_mem.proofs.MemoryLaws.{get-writes_other, reads-writes}
+use Rattle.rv64_machine.proofs.StoredBytes.{contains_key-writes}
 
 -- an act that goes on is that of the effect at the pc
 runs-goes : (hart next : HartState) (word : ℕ) (o : Option Inst) → runs hart word o ≡ Goes next
@@ -122,7 +123,7 @@ act-store_other hart next width at value goes is address outside =
     ∙ get-writes_other hart.memory at (count_of width) value address outside
 
 pub act-store_access : (hart next : HartState) (width : Width) (at value : ℕ) → act hart ≡ Goes next → effect_at hart ≡ Some (Store width at value)
-    → reads next.memory at (count_of width) ≡ Some (value % 2 ^ (8 * count_of width))
+    → reads next.memory at (count_of width) ≡ Some (value % 256 ^ count_of width)
 act-store_access hart next width at value goes is =
     ap (λ m. reads m at (count_of width)) (act-memory hart next (Store width at value) goes is)
     ∙ reads-writes hart.memory at (count_of width) value

@@ -35,7 +35,8 @@ pub enum Effect {
     Break,
 }
 
-/// The effect of a row, on the values of rs1 and rs2, the immediate and the pc.
+/// The effect of a row on the values of rs1 and rs2, the immediate and the pc: a line for each row, as in
+/// `specs/Meaning.antt`.
 pub fn effect_of(op: Op, a: u64, b: u64, imm: i64, pc: u64) -> Effect
     ensures { result ≡ meaning op a b (wrapped 64 imm) pc }
 {

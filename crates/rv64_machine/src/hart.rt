@@ -14,6 +14,8 @@ use rv64_decode::decode;
 use std::marker::Model;
 
 /// A hart of RV64IM with its memory.
+///
+/// Contracts see it as its state: the registers, the pc, and the memory as one map of bytes.
 #[derive(Drop)]
 pub struct Hart<R: Ram> {
     registers: [u64; 32],
@@ -48,7 +50,7 @@ impl<R: Ram> Hart<R> {
         }
     }
 
-    /// The value of a register.
+    /// The value of a register, by its number.
     pub fn reg(&self, number: u8) -> u64
         requires { number < 32 }
         ensures { result ≡ slice_index self.now.registers number }
@@ -66,7 +68,7 @@ impl<R: Ram> Hart<R> {
         }
     }
 
-    /// The address of the next instruction.
+    /// The address of the next instruction, a multiple of 4.
     pub fn pc(&self) -> u64
         ensures value { result ≡ self.now.pc }
         ensures hart { IsHart self.now }
@@ -111,6 +113,7 @@ impl<R: Ram> Hart<R> {
         self.advance()
     }
 
+    /// A step as its act says it.
     #[tactic(auto, unfolding(crate::specs::Hart::act, crate::specs::Hart::effect_at))]
     fn advance(&mut self) -> StepEnd
         ensures { Steps self.old result self.new }
@@ -132,7 +135,7 @@ impl<R: Ram> Hart<R> {
         self.carry_out(inst.rd, effect)
     }
 
-    /// Carries an effect out.
+    /// Carries out the effect of an instruction with this rd.
     fn carry_out(&mut self, rd: u8, effect: Effect) -> StepEnd
         requires { rd < 32 }
         ensures { Ends (carried self.old rd effect) (Some effect) self.old result self.new }
@@ -169,7 +172,8 @@ impl<R: Ram> Hart<R> {
 
     /// Carries out a branch.
     fn branch(&mut self, taken: bool, target: u64) -> StepEnd
-        ensures { Ends (carried self.old 0 (Effect.Branch taken target)) None self.old result self.new }
+        ensures { Ends (carried self.old 0 (Effect.Branch taken target)) None
+            self.old result self.new }
     {
         if !taken {
             return self.pass();
@@ -208,7 +212,8 @@ impl<R: Ram> Hart<R> {
     /// Carries out a store.
     #[tactic(auto, using(crate::proofs::StoredBytes::stored))]
     fn store(&mut self, width: Width, at: u64, value: u64) -> StepEnd
-        ensures { Ends (carried self.old 0 (Effect.Store width at value)) (Some (Effect.Store width at value)) self.old result self.new }
+        ensures { Ends (carried self.old 0 (Effect.Store width at value))
+            (Some (Effect.Store width at value)) self.old result self.new }
     {
         match self.ram.store(at, width, value) {
             Ok(()) => self.pass(),

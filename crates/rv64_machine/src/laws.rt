@@ -41,7 +41,7 @@ pub fn nothing_is_mapped()
 pub fn a_store_writes_its_access()
     ensures access { (hart next : HartState) (width : Width) (at value : ℕ)
         → act hart ≡ Goes next → effect_at hart ≡ Some (Store width at value)
-        → reads next.memory at (count_of width) ≡ Some (value % 2 ^ (8 * count_of width)) }
+        → reads next.memory at (count_of width) ≡ Some (value % 256 ^ count_of width) }
     ensures others { (hart next : HartState) (width : Width) (at value : ℕ)
         → act hart ≡ Goes next → effect_at hart ≡ Some (Store width at value)
         → (address : ℕ) → (address < at) ⊎ (at + count_of width ≤ address)
