@@ -12,7 +12,7 @@ use Rattle.paged_mem.proofs.Maps.{maps_by_each}
 use Rattle.elf_load.specs.declared.Segment.{Segment}
 use Rattle.elf_load.specs.Segments.{end_of, first_page, page_end, paged_size, AreApart, IsPlaced}
 use Rattle.elf_load.proofs.Pages.{first_below_end, low_of}
-use Rattle.std.proofs.lemmas.List.{get_or-take}
+use Rattle.std.proofs.lemmas.List.{get_or-take, get_or_default}
 use Rattle.std.proofs.lemmas.List.Elements.{All-take}
 use Rattle.guest_run.specs.Stack.{stack_end, stack_size}
 use Rattle.guest_run.specs.Placed.{segment_bytes, with_segment, with_segments, with_stack}
@@ -109,7 +109,7 @@ free_ahead program segments i d lt placed apart q from to =
     (λ k d' lt'.
       let len = length-take i segments in
       let at : get_or (take i segments) k d' ≡ get_or segments k d' = get_or-take i segments k d' (omega arith) in
-      let same : get_or segments i d' ≡ get_or segments i d = get_or-any segments i d' d lt in
+      let same : get_or segments i d' ≡ get_or segments i d = get_or_default segments i d' d lt in
       subst (IsBeside q) (sym at)
       (elim (apart k i d' (omega arith) lt) [
         inl before ↦ inr (let b : page_end (get_or segments k d') ≤ first_page (get_or segments i d) = subst (λ (s : Segment). page_end (get_or segments k d') ≤ first_page s) same before in omega arith)

@@ -86,10 +86,26 @@ unfolding zeros bytes_of
 zero_words n = zeros-append 24 n
 
 -- what is appended in turn is the stack
-pub assembled : (args env : List (List ℕ))
-    → ((((((([] ++ bytes_of 8 (length args)) ++ flat_map (bytes_of 8) (addresses (texts_at args env) args)) ++ bytes_of 8 0)
-      ++ flat_map (bytes_of 8) (addresses (texts_at args env + length (joined args)) env)) ++ zeros (24 + gap args env))
-      ++ joined args) ++ joined env
-      ≡ stack_bytes args env
+pub assembled : (args env : List (List ℕ)) (a e : ℕ) (p₀ p₁ p₂ p₃ p₄ p₅ p₆ p₇ : List ℕ)
+    → a ≡ length (joined args) → e ≡ length (joined env) → p₀ ≡ [] → p₁ ≡ p₀ ++ bytes_of 8 (length args)
+    → p₂ ≡ p₁ ++ flat_map (bytes_of 8) (addresses (stack_end - a - e) args) → p₃ ≡ p₂ ++ bytes_of 8 0
+    → p₄ ≡ p₃ ++ flat_map (bytes_of 8) (addresses (stack_end - a - e + a) env)
+    → p₅ ≡ p₄ ++ zeros (24 + (stack_end - a - e - 8 * (5 + length args + length env) - (stack_end - a - e - 8 * (5 + length args + length env)) / 16 * 16))
+    → p₆ ≡ p₅ ++ joined args → p₇ ≡ p₆ ++ joined env → p₇ ≡ stack_bytes args env
 unfolding stack_bytes
-assembled args env = rw (zero_words (gap args env)) (simp (append_assoc, flat_map-append))
+assembled args env a e p₀ p₁ p₂ p₃ p₄ p₅ p₆ p₇ a-is e-is is₀ is₁ is₂ is₃ is₄ is₅ is₆ is₇ =
+    rw (is₇, is₆, is₅, is₄, is₃, is₂, is₁, is₀, a-is, e-is, zero_words (gap args env)) (simp (append_assoc, flat_map-append))
+
+-- one zero more
+pub zeros-none : zeros 0 ≡ []
+unfolding zeros
+zeros-none = refl
+
+zeros-one : zeros 1 ≡ 0 ∷ []
+unfolding zeros
+zeros-one = refl
+
+pub zeros-more : (n : ℕ) → zeros (n + 1) ≡ zeros n ++ 0 ∷ []
+zeros-more n = zeros-append n 1 ∙ ap (λ xs. zeros n ++ xs) zeros-one
+
+pub ruleset zeros_rules = (zeros-none, zeros-more)

@@ -4,4 +4,7 @@
 #![tactic(auto)]
 
 mod placing;
+mod run;
 mod stack;
+
+pub use run::RunEnd;

@@ -100,10 +100,11 @@ fn put_addresses(bytes: &mut Vec<u8>, at: u64, texts: &[Bytes]) -> Result<(), Ou
 }
 
 /// Appends zero bytes.
+#[tactic(auto, using(crate::proofs::Texts::zeros_rules))]
 fn put_zeros(bytes: &mut Vec<u8>, count: u64) -> Result<(), OutOfMemory>
     ensures { OnOk result (bytes.new.items ≡ bytes.old.items ++ zeros count) }
 {
-    for _ in 0..count {
+    for index in 0..count {
         bytes.push(0)?;
     }
     Ok(())

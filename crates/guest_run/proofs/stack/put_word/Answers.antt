@@ -5,4 +5,4 @@ use Rattle.guest_run.proofs.stack.put_word.Goals as goal
 pub returns : goal.returns
 returns c =
     c.in_ok-extend_from_slice.ensures.items
-    ∙ ap (λ xs. c.args.bytes.now.items ++ xs) (le_bytes-are c.args.word)
+    ∙ ap (λ xs. c.args.bytes.now.items ++ xs) (c.to_le_bytes.ensures ∙ le_bytes-are c.args.word)
