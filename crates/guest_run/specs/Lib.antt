@@ -3,3 +3,5 @@ pub mod Placed
 pub mod State
 pub mod Valid
 pub mod Run
+pub mod Setting
+pub mod Start

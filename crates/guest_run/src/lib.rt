@@ -3,8 +3,16 @@
 //! The rules, with their public sources, are in docs/reference/running.md.
 #![tactic(auto)]
 
+mod given;
+mod guest;
 mod placing;
 mod run;
+mod run_box;
 mod stack;
 
+pub use guest::{Guest, StartRefusal};
 pub use run::RunEnd;
+pub use run_box::RunBox;
+
+/// The memory over which programs are run.
+pub type RunRam = paged_mem::FlatRam;

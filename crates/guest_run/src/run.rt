@@ -60,8 +60,9 @@ fn step<R: Ram>(
 ) -> Option<RunEnd>
     requires heap_of { IsHeapOf hart.old.memory heap.old }
     requires counted { steps.old + 1 < 2 ^ 64 }
-    ensures { Steps (guest_state hart.old files.old heap.old steps.old) result
+    ensures step { Steps (guest_state hart.old files.old heap.old steps.old) result
         (guest_state hart.new files.new heap.new steps.new) }
+    ensures kept { IsHeapOf hart.new.memory heap.new }
 {
     match hart.step() {
         StepEnd::Done => {
@@ -85,8 +86,9 @@ fn serve<R: Ram>(
     requires calls { act hart.old ≡ machine.Calls }
     requires heap_of { IsHeapOf hart.old.memory heap.old }
     requires counted { steps.old + 1 < 2 ^ 64 }
-    ensures { Steps (guest_state hart.old files.old heap.old steps.old) result
+    ensures step { Steps (guest_state hart.old files.old heap.old steps.old) result
         (guest_state hart.new files.new heap.new steps.new) }
+    ensures kept { IsHeapOf hart.new.memory heap.new }
 {
     let regs = call_regs(hart);
     match call(alloc, &regs, hart.ram_mut(), files, heap) {

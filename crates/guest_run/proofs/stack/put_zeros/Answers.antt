@@ -9,6 +9,6 @@ loop-index-init c = rw zeros-none (sym (append-nil _))
 
 pub loop-index-preserved : goal.loop-index-preserved
 loop-index-preserved c =
-    let i = c.in_ok-push.ensures.items in
-    let more = zeros-more c.loop-index.index in
-    ?
+    c.in_ok-push.ensures.items ∙ ap (λ xs. xs ++ 0 ∷ []) c.loop-index.invariant
+    ∙ append_assoc _ (zeros c.loop-index.index) (0 ∷ [])
+    ∙ ap (λ xs. c.args.bytes.now.items ++ xs) (sym (zeros-more c.loop-index.index))

@@ -1,0 +1,154 @@
+-- Files that are given, as a sorted list: one more of them, and how they are placed in turn.
+use Rattle.std.proofs.Common.{◌≡◌, ◌≢◌, ℕ, zero, suc, ◌+◌, ◌-◌, ◌*◌, ◌<◌, ◌≤◌, ◌==◌, Bool, true, false, cond, not, ◌&&◌, ◌||◌, T, Option, None, Some, is_some, IsSome, List, [], ◌∷◌, ◌++◌, length, get_or, refl, sym, ap, ◌∙◌, subst, arith, ◌⊎◌, inl, inr, Result, Ok, Err}
+use Rattle.std.specs.Prelude.{All, IsTrue, sum_by, nat_lt, nat_le}
+use Rattle.std.specs.List.{fold}
+use Rattle.std.specs.Ordering.{eq_by_cmp, is_eq, is_lt}
+use Rattle.std.specs.declared.cmp.Ordering.{Ordering}
+use Rattle.std.specs.declared.cmp.Ordering.TheVariants.{Less, Equal, Greater}
+use Rattle.std.specs.Cmp.{eq_by_cmp_equiv}
+use Rattle.std.specs.Cmp.Lexicographic.{nat_list_cmp_total}
+use Rattle.std.specs.FinMap as fin
+use Rattle.std.specs.FinMap.Entries.{below_all, by_order, is_sorted-put}
+use Rattle.std.proofs.lemmas.Bool.Decides.{nat_tests}
+use Rattle.std.proofs.lemmas.List.Elements.{All-head, All-tail}
+use Rattle.std.proofs.lemmas.List.Sums.{sum_by-cons}
+use Rattle.mem_files.specs.Names.{bytes_cmp, is_name, is_stripped_name, stripped}
+use Rattle.mem_files.specs.World.{World, content_of, lowest_unused, total}
+use Rattle.mem_files.specs.Calls.{first_world, is_full, placed, placed_as, with_file}
+use Rattle.mem_files.specs.declared.slot.PlaceRefusal.{PlaceRefusal}
+use Rattle.mem_files.specs.declared.TheConstants.{MAX_CONTENT, MAX_NAMES, MAX_TOTAL}
+use Rattle.mem_files.proofs.Directory.{equal, from_sorted-put, len-from_sorted}
+use Rattle.mem_files.proofs.Maps.{get-lowest_unused}
+use Rattle.mem_files.proofs.Totals.{total-insert}
+use Rattle.guest_run.specs.Setting.{file_size, FileMap, files_size, IsGiven}
+use Rattle.guest_run.specs.Start.{start_world, with_given}
+
+abbrev File : Type 0
+File = List ℕ × List ℕ
+
+both : (a b : Bool) → T (a && b) → T a × T b
+both true b h = (tt, h)
+both false b h = absurd h
+
+all_onto : (P : File → Type 0) (x : File) (xs : List File) → P x → All P xs → All P (x ∷ xs)
+all_onto P x xs first others zero d lt = first
+all_onto P x xs first others (suc k) d lt = others k d (omega arith)
+
+-- a list with one file more, of a new name
+record Added (P : File → Type 0) (name content : List ℕ) (files : List File) : Type 0 where
+  all : All P (fin.put bytes_cmp name content files)
+  longer : length (fin.put bytes_cmp name content files) ≡ length files + 1
+  larger : sum_by file_size (fin.put bytes_cmp name content files) ≡ sum_by file_size files + length content
+
+added : (P : File → Type 0) (name content : List ℕ) (files : List File) → P (name, content) → All P files
+    → fin.find bytes_cmp name files ≡ None → Added P name content files
+added P name content [] here others absent = record {
+  all = all_onto P (name, content) [] here others;
+  longer = refl;
+  larger = refl;
+}
+added P name content (file ∷ files) here others absent =
+    let Q : List File → Type 0 = λ list.
+      All P list × (length list ≡ length (file ∷ files) + 1) × (sum_by file_size list ≡ sum_by file_size (file ∷ files) + length content) in
+    let cases : (r : Ordering) → cond (is_eq r) (Some file.1) (fin.find bytes_cmp name files) ≡ None
+      → Q (by_order r ((name, content) ∷ file ∷ files) ((file.0, content) ∷ files) (file ∷ fin.put bytes_cmp name content files)) =
+      λ r. elim r as (λ o. cond (is_eq o) (Some file.1) (fin.find bytes_cmp name files) ≡ None
+        → Q (by_order o ((name, content) ∷ file ∷ files) ((file.0, content) ∷ files) (file ∷ fin.put bytes_cmp name content files))) [
+        Less ↦ (λ gone. (all_onto P (name, content) (file ∷ files) here others, omega arith,
+          (let sum = sum_by-cons file_size (name, content) (file ∷ files) in omega (arith, sum))))
+      | Equal ↦ (λ gone. cc)
+      | Greater ↦ (λ gone.
+          let rest = added P name content files here (All-tail P file files others) gone in
+          (all_onto P file (fin.put bytes_cmp name content files) (All-head P file files others) rest.all,
+            (let long = rest.longer in omega arith),
+            (let one = sum_by-cons file_size file (fin.put bytes_cmp name content files) in
+             let two = sum_by-cons file_size file files in
+             let large = rest.larger in omega (arith, one, two, large))))
+      ] in
+    let all = cases (bytes_cmp name file.0) absent in
+    record { all = all.0; longer = all.1; larger = all.2 }
+
+pub given_more : (files : List File) (size : ℕ) (name content : List ℕ) → IsGiven files size → IsTrue (is_stripped_name name)
+    → length content ≤ MAX_CONTENT → fin.find bytes_cmp name files ≡ None → length files < MAX_NAMES
+    → IsGiven (fin.put bytes_cmp name content files) (size + length content)
+given_more files size name content is named small absent few =
+    let names = added (λ file. IsTrue (is_stripped_name file.0)) name content files named is.named absent in
+    let sizes = added (λ file. length file.1 ≤ MAX_CONTENT) name content files small is.small absent in
+    let longer = names.longer in
+    let larger = names.larger in
+    record {
+      sorted = is_true _ (is_sorted-put bytes_cmp nat_list_cmp_total name content files (of_true _ is.sorted));
+      named = names.all;
+      small = sizes.all;
+      few = omega arith;
+      counted = (let was = is.counted in omega arith);
+      bounded = (let was = is.bounded in omega arith);
+    }
+  where
+    is_true : (b : Bool) → T b → IsTrue b
+    is_true true h = refl
+    is_true false h = absurd h
+    of_true : (b : Bool) → IsTrue b → T b
+    of_true true h = tt
+    of_true false h = absurd (let gone : false ≡ true = h in cc)
+
+of_true : (b : Bool) → IsTrue b → T b
+of_true true h = tt
+of_true false h = absurd (let gone : false ≡ true = h in cc)
+
+-- what a map of these files answers
+pub get-given : (files : List File) (name : List ℕ) → IsTrue (fin.is_sorted bytes_cmp files)
+    → fin.get (fin.from_sorted {R = bytes_cmp} files) name ≡ fin.find bytes_cmp name files
+get-given files name sorted = fin.get-from_sorted bytes_cmp files name (of_true _ sorted)
+
+pub len-given : (files : List File) → IsTrue (fin.is_sorted bytes_cmp files) → fin.len (fin.from_sorted {R = bytes_cmp} files) ≡ length files
+len-given files sorted = len-from_sorted files (of_true _ sorted)
+
+pub entries-given : (files : List File) → IsTrue (fin.is_sorted bytes_cmp files) → fin.entries (fin.from_sorted {R = bytes_cmp} files) ≡ files
+entries-given files sorted = fin.entries-from_sorted bytes_cmp files (of_true _ sorted)
+
+pub put-given : (files : List File) (name content : List ℕ) → IsTrue (fin.is_sorted bytes_cmp files)
+    → fin.from_sorted (fin.put bytes_cmp name content files) ≡ fin.insert (fin.from_sorted {R = bytes_cmp} files) name content
+put-given files name content sorted = from_sorted-put files (of_true _ sorted) name content
+
+none_of : (o : Option (List ℕ)) → is_some o ≡ false → o ≡ None
+none_of None h = refl
+none_of (Some x) h = cc
+
+pub absent-given : (files : List File) (name : List ℕ) → IsTrue (fin.is_sorted bytes_cmp files)
+    → fin.contains_key (fin.from_sorted {R = bytes_cmp} files) name ≡ false → fin.find bytes_cmp name files ≡ None
+absent-given files name sorted absent = none_of _ (ap is_some (sym (get-given files name sorted)) ∙ absent)
+
+pub none-given : IsGiven [] 0
+none-given = record {
+  sorted = refl;
+  named = λ k d lt. absurd (omega arith);
+  small = λ k d lt. absurd (omega arith);
+  few = omega arith;
+  counted = refl;
+  bounded = omega arith;
+}
+
+-- files that a world without their names can take, one after the other
+pub record CanPlace (world : World) (files : List File) : Type 0 where
+  pub sorted : IsTrue (fin.is_sorted bytes_cmp files)
+  pub named : All (λ file. IsTrue (is_stripped_name file.0)) files
+  pub small : All (λ file. length file.1 ≤ MAX_CONTENT) files
+  pub fresh : All (λ file. fin.get world.names file.0 ≡ None) files
+  pub few : fin.len world.names + length files ≤ MAX_NAMES
+  pub room : total world + sum_by file_size files ≤ MAX_TOTAL
+
+-- a stripped name stays as it is
+stripped_is : (name : List ℕ) → IsTrue (is_stripped_name name) → (stripped name ≡ name) × (is_name name ≡ true)
+stripped_is name is = ?
+
+pub place_next : (world : World) (file : File) (files : List File) → CanPlace world (file ∷ files)
+    → placed world file.0 file.1 ≡ (Ok tt, with_file world file.0 file.1)
+place_next world file files can = ?
+
+pub placed_next : (world : World) (file : File) (files : List File) → CanPlace world (file ∷ files)
+    → CanPlace (with_file world file.0 file.1) files
+placed_next world file files can = ?
+
+pub can_start : (files : List File) (size : ℕ) → IsGiven files size → size ≤ MAX_TOTAL → CanPlace first_world files
+can_start files size is room = ?

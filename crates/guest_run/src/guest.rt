@@ -1,0 +1,124 @@
+ghost use Rattle.guest_run.specs.Run.{Runs};
+ghost use Rattle.guest_run.specs.Valid.{IsValid};
+ghost use Rattle.paged_mem.specs.Memory.{bytes_at, maps};
+ghost use Rattle.std.specs.Prelude.{◌≡◌, ◌+◌, ◌^◌, ◌<◌, ◌≤◌, length, slice_index, unwrap_or};
+
+use crate::run::{RunEnd, run_parts};
+use linux_calls::Heap;
+use mem_files::Files;
+use paged_mem::Ram;
+use rv64_machine::Hart;
+use std::alloc::Global;
+use std::marker::Model;
+
+/// A program that was started: its hart with its memory, its files, its heap and how many steps it
+/// has taken. Two guests that are equal in these behave alike, over whatever memories they stand.
+#[derive(Drop)]
+pub struct Guest<R: Ram> {
+    hart: Hart<R>,
+    files: Files,
+    heap: Heap,
+    steps: u64,
+    alloc: Global,
+}
+
+impl<R: Ram> Model for Guest<R> {
+    ghost use Rattle.guest_run.specs.State.{GuestState, guest_code};
+    ghost use Rattle.guest_run.specs.Valid.{Fits};
+
+    ghost Value = { GuestState };
+
+    ghost coded = { guest_code };
+
+    ghost view = { λ g. record { hart = g.hart; world = g.files; heap = g.heap; steps = g.steps } };
+
+    ghost invariant = { λ g. Fits g.hart.memory g.heap };
+}
+
+impl<R: Ram> Guest<R> {
+    /// Takes at most `most` steps, until one ends the run.
+    ///
+    /// The answer is the first end within them, and comes again, or `Spent` exactly where there is
+    /// none. Want of memory can come only in a step that would have gone on.
+    pub fn run(&mut self, most: u64) -> RunEnd
+        requires some { 1 ≤ most }
+        requires counted { self.old.steps + most < 2 ^ 64 }
+        ensures { Runs self.old most result self.new }
+    {
+        run_parts(
+            self.alloc,
+            &mut self.hart,
+            &mut self.files,
+            &mut self.heap,
+            &mut self.steps,
+            most,
+        )
+    }
+
+    /// How many steps were taken that did not end the run.
+    pub fn steps(&self) -> u64
+        ensures value { result ≡ self.now.steps }
+        // Every guest is in a valid state.
+        ensures valid { IsValid self.now }
+    {
+        let _pc = self.hart.pc();
+        self.steps
+    }
+
+    /// The value of a register.
+    pub fn reg(&self, number: u8) -> u64
+        requires { number < 32 }
+        ensures { result ≡ slice_index self.now.hart.registers number }
+    {
+        self.hart.reg(number)
+    }
+
+    /// The address of the next instruction.
+    pub fn pc(&self) -> u64
+        ensures { result ≡ self.now.hart.pc }
+    {
+        self.hart.pc()
+    }
+
+    /// Fills `out` with the bytes from `at` on; `false`, with `out` as it was, where one is unmapped.
+    pub fn peek(&self, at: u64, out: &mut [u8]) -> bool
+        ensures answer { result ≡ maps self.now.hart.memory at (length out.old) }
+        ensures moved { out.new ≡ unwrap_or (bytes_at self.now.hart.memory at (length out.old)) out.old }
+    {
+        self.hart.ram().read_into(at, out)
+    }
+
+    /// The files.
+    pub fn files(&self) -> &Files
+        ensures { result.now ≡ self.now.world }
+    {
+        &self.files
+    }
+
+    /// The hart, with the memory.
+    pub fn hart(&self) -> &Hart<R>
+        ensures { result.now ≡ self.now.hart }
+    {
+        &self.hart
+    }
+
+    /// The heap.
+    pub fn heap(&self) -> Heap
+        ensures { result ≡ self.now.heap }
+    {
+        self.heap
+    }
+}
+
+/// Why a program does not start.
+#[derive(Clone, Copy, Debug, PartialEq, Eq)]
+pub enum StartRefusal {
+    /// The file is no program that can be loaded.
+    Elf(elf_load::ElfRefusal),
+    /// The texts, a zero byte for each, and the words below them take more than 131,072 bytes.
+    ArgsTooLong,
+    /// The files have more than 536,870,912 bytes together.
+    BoxTooLarge,
+    /// Want of memory of this process.
+    OutOfMemory,
+}
