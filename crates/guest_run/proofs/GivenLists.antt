@@ -1,8 +1,8 @@
 -- Files that are given, as a sorted list: one more of them, and how they are placed in turn.
-use Rattle.std.proofs.Common.{◌≡◌, ◌≢◌, ℕ, zero, suc, ◌+◌, ◌-◌, ◌*◌, ◌<◌, ◌≤◌, ◌==◌, Bool, true, false, cond, not, ◌&&◌, ◌||◌, T, Option, None, Some, is_some, IsSome, List, [], ◌∷◌, ◌++◌, length, get_or, refl, sym, ap, ◌∙◌, subst, arith, ◌⊎◌, inl, inr, Result, Ok, Err}
+use Rattle.std.proofs.Common.{◌≡◌, ◌≢◌, ℕ, zero, suc, ◌+◌, ◌-◌, ◌*◌, ◌<◌, ◌≤◌, ◌==◌, Bool, true, false, cond, not, ◌&&◌, ◌||◌, T, Option, None, Some, is_some, IsSome, List, [], ◌∷◌, ◌++◌, length, map, get_or, refl, sym, ap, ◌∙◌, subst, arith, ◌⊎◌, inl, inr, Result, Ok, Err}
 use Rattle.std.specs.Prelude.{All, IsTrue, sum_by, nat_lt, nat_le}
 use Rattle.std.specs.List.{fold}
-use Rattle.std.specs.Ordering.{eq_by_cmp, is_eq, is_lt}
+use Rattle.std.specs.Ordering.{eq_by_cmp, is_eq, is_lt, nat_cmp}
 use Rattle.std.specs.declared.cmp.Ordering.{Ordering}
 use Rattle.std.specs.declared.cmp.Ordering.TheVariants.{Less, Equal, Greater}
 use Rattle.std.specs.Cmp.{eq_by_cmp_equiv}
@@ -12,13 +12,15 @@ use Rattle.std.specs.FinMap.Entries.{below_all, by_order, is_sorted-put}
 use Rattle.std.proofs.lemmas.Bool.Decides.{nat_tests}
 use Rattle.std.proofs.lemmas.List.Elements.{All-head, All-tail}
 use Rattle.std.proofs.lemmas.List.Sums.{sum_by-cons}
-use Rattle.mem_files.specs.Names.{bytes_cmp, is_name, is_stripped_name, stripped}
+use Rattle.mem_files.specs.Names.{begins_with_dot_slash, bytes_cmp, is_name, is_stripped_name, stripped}
 use Rattle.mem_files.specs.World.{World, content_of, lowest_unused, total}
 use Rattle.mem_files.specs.Calls.{first_world, is_full, placed, placed_as, with_file}
 use Rattle.mem_files.specs.declared.slot.PlaceRefusal.{PlaceRefusal}
 use Rattle.mem_files.specs.declared.TheConstants.{MAX_CONTENT, MAX_NAMES, MAX_TOTAL}
 use Rattle.mem_files.proofs.Directory.{equal, from_sorted-put, len-from_sorted}
 use Rattle.mem_files.proofs.Maps.{get-lowest_unused}
+use Rattle.mem_files.proofs.SoundCalls.{stripped-is}
+use Rattle.mem_files.specs.declared.slot.PlaceRefusal.TheVariants.{BadName, Twice, Full}
 use Rattle.mem_files.proofs.Totals.{total-insert}
 use Rattle.guest_run.specs.Setting.{file_size, FileMap, files_size, IsGiven}
 use Rattle.guest_run.specs.Start.{start_world, with_given}
@@ -139,16 +141,140 @@ pub record CanPlace (world : World) (files : List File) : Type 0 where
   pub room : total world + sum_by file_size files ≤ MAX_TOTAL
 
 -- a stripped name stays as it is
-stripped_is : (name : List ℕ) → IsTrue (is_stripped_name name) → (stripped name ≡ name) × (is_name name ≡ true)
-stripped_is name is = ?
+and_true : (a b : Bool) → (a && b) ≡ true → (a ≡ true) × (b ≡ true)
+and_true true b h = (refl, h)
+and_true false b h = cc
+
+not_true : (b : Bool) → not b ≡ true → b ≡ false
+not_true true h = cc
+not_true false h = refl
+
+stays : (name : List ℕ) → begins_with_dot_slash name ≡ false → stripped name ≡ name
+stays [] h = refl
+stays (a ∷ []) h = refl
+stays (a ∷ (b ∷ rest)) h = ap (λ t. cond t (stripped rest) (a ∷ (b ∷ rest))) h
+
+stripped_stays : (name : List ℕ) → IsTrue (is_stripped_name name) → stripped name ≡ name
+stripped_stays name is =
+    stays name (not_true (begins_with_dot_slash name) ((and_true (is_name name) (not (begins_with_dot_slash name)) is).1))
+
+-- a name that was stripped and is one
+pub good_name : (name : List ℕ) → is_name (stripped name) ≡ true → IsTrue (is_stripped_name (stripped name))
+good_name name is =
+    ap (λ b. b && not (begins_with_dot_slash (stripped name))) is ∙ ap not (stripped-is name)
+
+-- the place of a file that no rule refuses
+placed_well : (world : World) (name content : List ℕ) → is_name name ≡ true → fin.contains_key world.names name ≡ false
+    → is_full world (length content) ≡ false → placed_as world name content ≡ (Ok tt, with_file world name content)
+placed_well world name content is absent room =
+    λ i. cond (not (is i)) (Err BadName, world)
+      (cond (absent i) (Err Twice, world) (cond (room i) (Err Full, world) (Ok tt, with_file world name content)))
+
+not_full : (world : World) (len : ℕ) → len ≤ MAX_CONTENT → total world + len ≤ MAX_TOTAL → fin.len world.names < MAX_NAMES → is_full world len ≡ false
+not_full world len small room few = full_of (total world) len (fin.len world.names) small room few
+  where
+    full_of : (t l n : ℕ) → l ≤ 268435456 → t + l ≤ 536870912 → n < 4096
+      → (nat_lt 268435456 l || nat_lt 536870912 (t + l) || nat_le 4096 n) ≡ false
+    full_of t l n small' room' few' = grind (arith, nat_tests)
+
+-- what the first of the files leaves
+size_of_more : (file : File) (files : List File) → sum_by file_size (file ∷ files) ≡ length file.1 + sum_by file_size files
+size_of_more file files = sum_by-cons file_size file files
 
 pub place_next : (world : World) (file : File) (files : List File) → CanPlace world (file ∷ files)
     → placed world file.0 file.1 ≡ (Ok tt, with_file world file.0 file.1)
-place_next world file files can = ?
+place_next world file files can =
+    let named : IsTrue (is_stripped_name file.0) = All-head (λ f. IsTrue (is_stripped_name f.0)) file files can.named in
+    let fresh : fin.get world.names file.0 ≡ None = All-head (λ f. fin.get world.names f.0 ≡ None) file files can.fresh in
+    let small : length file.1 ≤ MAX_CONTENT = All-head (λ f. length f.1 ≤ MAX_CONTENT) file files can.small in
+    let more = size_of_more file files in
+    let room = can.room in
+    let few = can.few in
+    ap (λ name. placed_as world name file.1) (stripped_stays file.0 named)
+    ∙ placed_well world file.0 file.1 ((and_true (is_name file.0) (not (begins_with_dot_slash file.0)) named).0) (ap is_some fresh)
+      (not_full world (length file.1) small (omega (arith, more)) (omega arith))
+
+-- a name below all others is none of them
+below_at : (name : List ℕ) (files : List File) → T (below_all bytes_cmp name files) → (k : ℕ) (d : File) → k < length files
+    → is_lt (bytes_cmp name (get_or files k d).0) ≡ true
+below_at name [] below k d lt = absurd (omega arith)
+below_at name (file ∷ files) below zero d lt = true_of (is_lt (bytes_cmp name file.0)) ((both (is_lt (bytes_cmp name file.0)) (below_all bytes_cmp name files) below).0)
+  where
+    true_of : (b : Bool) → T b → b ≡ true
+    true_of true h = refl
+    true_of false h = absurd h
+below_at name (file ∷ files) below (suc k) d lt =
+    below_at name files ((both (is_lt (bytes_cmp name file.0)) (below_all bytes_cmp name files) below).1) k d (omega arith)
+
+less_is_not_equal : (r : Ordering) → is_lt r ≡ true → is_eq r ≡ false
+less_is_not_equal Less h = refl
+less_is_not_equal Equal h = cc
+less_is_not_equal Greater h = cc
 
 pub placed_next : (world : World) (file : File) (files : List File) → CanPlace world (file ∷ files)
     → CanPlace (with_file world file.0 file.1) files
-placed_next world file files can = ?
+placed_next world file files can =
+    let parts = and_true (below_all bytes_cmp file.0 files) (fin.is_sorted bytes_cmp files) can.sorted in
+    let fresh : fin.get world.names file.0 ≡ None = All-head (λ f. fin.get world.names f.0 ≡ None) file files can.fresh in
+    let more = size_of_more file files in
+    let number = lowest_unused world.files in
+    let grown : total (with_file world file.0 file.1) + length (content_of world (lowest_unused world.files)) ≡ total world + length file.1 =
+      total-insert world (lowest_unused world.files) file.1 in
+    let longer : fin.len (fin.insert world.names file.0 (lowest_unused world.files)) ≡ fin.len world.names + 1 =
+      fin.len-insert nat_list_cmp_total world.names file.0 (lowest_unused world.files)
+      ∙ ap (λ o. cond (is_some o) (fin.len world.names) (fin.len world.names + 1)) fresh in
+    let few = can.few in
+    let room = can.room in
+    record {
+      sorted = parts.1;
+      named = All-tail (λ f. IsTrue (is_stripped_name f.0)) file files can.named;
+      small = All-tail (λ f. length f.1 ≤ MAX_CONTENT) file files can.small;
+      fresh = λ k d lt.
+        fin.get-insert nat_list_cmp_total world.names file.0 (lowest_unused world.files) (get_or files k d).0
+        ∙ ap (λ b. cond b (Some (lowest_unused world.files)) (fin.get world.names (get_or files k d).0))
+          ((eq_by_cmp_equiv nat_list_cmp_total).symm (get_or files k d).0 file.0
+            ∙ less_is_not_equal (bytes_cmp file.0 (get_or files k d).0)
+              (below_at file.0 files (of_true (below_all bytes_cmp file.0 files) parts.0) k d lt))
+        ∙ All-tail (λ f. fin.get world.names f.0 ≡ None) file files can.fresh k d lt;
+      few = omega (arith, longer);
+      room = omega (arith, more, grown);
+    }
+
+-- a world with no file takes all that are given
+no_bytes : total first_world ≡ 0
+no_bytes = ap (λ es. 0 + 0 + sum_by length (map (λ (e : ℕ × List ℕ). e.1) es)) (nil _ (sym (fin.len-entries fin.empty) ∙ fin.len-empty nat_cmp (List ℕ)))
+  where
+    nil : (l : List (ℕ × List ℕ)) → length l ≡ 0 → l ≡ []
+    nil [] e = refl
+    nil (x ∷ l) e = absurd (omega arith)
 
 pub can_start : (files : List File) (size : ℕ) → IsGiven files size → size ≤ MAX_TOTAL → CanPlace first_world files
-can_start files size is room = ?
+can_start files size is room =
+    let none = no_bytes in
+    let names : fin.len first_world.names ≡ 0 = fin.len-empty bytes_cmp ℕ in
+    let few = is.few in
+    let counted = is.counted in
+    record {
+      sorted = is.sorted;
+      named = is.named;
+      small = is.small;
+      fresh = λ k d lt. fin.get-empty bytes_cmp (get_or files k d).0;
+      few = omega (arith, names);
+      room = omega (arith, none);
+    }
+
+-- the world of files that are given, as the list of them makes it
+pub world-given : (files : List File) (given : FileMap) → IsTrue (fin.is_sorted bytes_cmp files)
+    → fin.from_sorted {R = bytes_cmp} files ≡ given → fold with_given first_world files ≡ start_world given
+unfolding start_world
+world-given files given sorted same =
+    ap (fold with_given first_world) (sym (entries-given files sorted)) ∙ ap (λ m. fold with_given first_world (fin.entries m)) same
+
+pub size-given : (files : List File) (size : ℕ) (given : FileMap) → IsGiven files size → fin.from_sorted {R = bytes_cmp} files ≡ given
+    → size ≡ files_size given
+size-given files size given is same =
+    is.counted ∙ ap (sum_by file_size) (sym (entries-given files is.sorted)) ∙ ap files_size same
+
+-- no file at all
+pub map-none : fin.from_sorted {R = bytes_cmp} {X = List ℕ} [] ≡ fin.empty
+map-none = fin.empty_of_len (fin.from_sorted []) (len-given [] refl)

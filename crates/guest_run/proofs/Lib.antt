@@ -1,3 +1,4 @@
+pub mod Beginnings
 pub mod GivenLists
 pub mod Keeping
 pub mod Places
