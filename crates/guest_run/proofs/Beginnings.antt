@@ -23,6 +23,7 @@ use Rattle.elf_load.specs.Image.{IsSound}
 use Rattle.guest_run.specs.Stack.{addresses, gap, joined, stack_bytes, stack_end, stack_pointer, stack_size, start_size, texts_at, word_count, words}
 use Rattle.guest_run.specs.Placed.{with_segments, with_stack}
 use Rattle.guest_run.specs.Valid.{Fits, is_beside_heap, pages_beside, pages_from}
+use Rattle.elf_load.proofs.Pages.{none_at}
 use Rattle.guest_run.proofs.Places.{first_page-is, IsBeside, maps-within, page_end-is, unmapped_beside}
 
 -- the stack's bytes end at its end
@@ -116,7 +117,10 @@ count_le p q r (page ∷ pages) implies =
 
 count_none : (pages : List ℕ) → count_by (λ page. false) pages ≡ 0
 count_none [] = refl
-count_none (page ∷ pages) = count_on (λ page'. false) page pages ∙ count_none pages
+count_none (page ∷ pages) =
+    let one = count_on (λ page'. false) page pages in
+    let rest = count_none pages in
+    omega (arith, one, rest)
 
 count_within : (low high number count : ℕ) → (count_by (within low high) (pages_from number count) ≤ high - low)
     × (count_by (within low high) (pages_from number count) ≤ high - number)
@@ -128,16 +132,16 @@ count_within low high number (suc count) =
     elim (cases_lt number low) [
       inl below ↦
         (let none : within low high number ≡ false = grind (arith, nat_tests) in
-         let here : cond (within low high number) 1 0 ≡ 0 = ap (λ b. cond b 1 0) none in
+         let here : ◌≡◌ {A = ℕ} (cond (within low high number) 1 0) 0 = ap (λ b. cond b 1 0) none in
          (omega (arith, rest.0, rest.1, more, here), omega (arith, rest.0, rest.1, more, here)))
     | inr from ↦ elim (cases_lt number high) [
         inl lt ↦
           (let yes : within low high number ≡ true = grind (arith, nat_tests) in
-           let here : cond (within low high number) 1 0 ≡ 1 = ap (λ b. cond b 1 0) yes in
+           let here : ◌≡◌ {A = ℕ} (cond (within low high number) 1 0) 1 = ap (λ b. cond b 1 0) yes in
            (omega (arith, rest.0, rest.1, more, here), omega (arith, rest.0, rest.1, more, here)))
       | inr above ↦
           (let none : within low high number ≡ false = grind (arith, nat_tests) in
-           let here : cond (within low high number) 1 0 ≡ 0 = ap (λ b. cond b 1 0) none in
+           let here : ◌≡◌ {A = ℕ} (cond (within low high number) 1 0) 0 = ap (λ b. cond b 1 0) none in
            (omega (arith, rest.0, rest.1, more, here), omega (arith, rest.0, rest.1, more, here)))
       ]
     ]
@@ -164,3 +168,105 @@ count_of_some (segment ∷ rest) pages number count are =
     let end = page_end-is segment in
     let more = sum_by-cons paged_size segment rest in
     omega (arith, both, later, here, at, first, end, more)
+
+-- an address in no segment's pages
+beside_of : (segment : Segment) (page : ℕ) → is_of segment page ≡ false → IsBeside (4096 * page) segment
+beside_of segment page gone =
+    let first = first_page-is segment in
+    let end = page_end-is segment in
+    elim (cases_lt page (first_page segment / 4096)) [
+      inl below ↦ inl (omega arith)
+    | inr from ↦ elim (cases_lt page (page_end segment / 4096)) [
+        inl lt ↦ absurd (let is : is_of segment page ≡ true = grind (arith, nat_tests) in cc)
+      | inr above ↦ inr (omega arith)
+      ]
+    ]
+
+segments_unmapped : (program : List ℕ) (segments : List Segment) (page : ℕ) → All (IsPlaced (length program)) segments
+    → is_of_some segments page ≡ false → get (with_segments program segments) (4096 * page) ≡ None
+segments_unmapped program segments page placed gone =
+    unmapped_beside program segments (4096 * page) placed
+    (λ k d lt. beside_of (get_or segments k d) page (none_at (λ segment. is_of segment page) segments gone k d lt))
+
+-- a page that is mapped is a segment's or the stack's
+either : (b c : Bool) → (b ≡ false → c ≡ true) → (b || c) ≡ true
+either true c h = refl
+either false c h = h refl
+
+not_mapped : (o : Option ℕ) (beside : Bool) → o ≡ None → (is_some o && beside) ≡ true → ⊥
+not_mapped None beside gone is = cc
+not_mapped (Some byte) beside gone is = cc
+
+mapped_page : (program : List ℕ) (segments : List Segment) (at : ℕ) (bytes : List ℕ) (page : ℕ) (beside : Bool)
+    → All (IsPlaced (length program)) segments → stack_end - stack_size ≤ at → at + length bytes ≡ stack_end
+    → (contains_key (with_stack (with_segments program segments) at bytes) (4096 * page) && beside) ≡ true
+    → (is_of_some segments page || within 67106816 67108864 page) ≡ true
+mapped_page program segments at bytes page beside placed low ends is =
+    either (is_of_some segments page) (within 67106816 67108864 page)
+    (λ gone.
+      let none = segments_unmapped program segments page placed gone in
+      elim (cases_lt page 67106816) [
+        inl below ↦ absurd (not_mapped (get (with_stack (with_segments program segments) at bytes) (4096 * page)) beside
+          (below_stack (with_segments program segments) at bytes (4096 * page) low (omega arith) ∙ none) is)
+      | inr from ↦ elim (cases_lt page 67108864) [
+          inl lt ↦ grind (arith, nat_tests)
+        | inr above ↦ absurd (not_mapped (get (with_stack (with_segments program segments) at bytes) (4096 * page)) beside
+            (above_stack (with_segments program segments) at bytes (4096 * page) ends (omega arith) ∙ none) is)
+        ]
+      ])
+
+few_from : (program : List ℕ) (segments : List Segment) (at : ℕ) (bytes : List ℕ) (heap' : Heap) (count : ℕ)
+    → All (IsPlaced (length program)) segments → stack_end - stack_size ≤ at → at + length bytes ≡ stack_end
+    → sum_by paged_size segments ≤ 268435456
+    → count_by (λ page. contains_key (with_stack (with_segments program segments) at bytes) (4096 * page) && is_beside_heap heap' (4096 * page)) (pages_from 0 count) ≤ 67584
+few_from program segments at bytes heap' count placed low ends together =
+    let both = count_le
+      (λ page. contains_key (with_stack (with_segments program segments) at bytes) (4096 * page) && is_beside_heap heap' (4096 * page))
+      (is_of_some segments) (within 67106816 67108864) (pages_from 0 count)
+      (λ page is. mapped_page program segments at bytes page (is_beside_heap heap' (4096 * page)) placed low ends is) in
+    let some = count_of_some segments (pages_from 0 count) 0 count refl in
+    let stack = (count_within 67106816 67108864 0 count).0 in
+    omega (arith, both, some, stack)
+
+few_pages : (program : List ℕ) (segments : List Segment) (at : ℕ) (bytes : List ℕ) (heap' : Heap)
+    → All (IsPlaced (length program)) segments → stack_end - stack_size ≤ at → at + length bytes ≡ stack_end
+    → sum_by paged_size segments ≤ 268435456
+    → pages_beside (with_stack (with_segments program segments) at bytes) heap' ≤ 67584
+unfolding pages_beside
+few_pages program segments at bytes heap' placed low ends together =
+    few_from program segments at bytes heap' (2 ^ 26) placed low ends together
+
+-- the heap of a program that starts is empty, and free up to its limit
+heap_starts : (program : List ℕ) (image : Image) (at : ℕ) (bytes : List ℕ) (limit : ℕ) → IsSound (length program) image → limit ≤ 2 ^ 30
+    → stack_end - stack_size ≤ at
+    → IsHeapOf (with_stack (with_segments program image.segments.items) at bytes)
+      (record { first = image.first_break; now = image.first_break; limit = limit })
+heap_starts program image at bytes limit sound small low =
+    let whole = sound.break_aligned in
+    let high = sound.break_low in
+    record {
+      aligned = sound.break_aligned;
+      small = small;
+      from = omega arith;
+      to = omega arith;
+      low = omega arith;
+      mapped = maps_by_each (with_stack (with_segments program image.segments.items) at bytes) image.first_break
+        (heap.page_end image.first_break - image.first_break) (λ q from to. absurd (omega arith));
+      free = λ q from to.
+        below_stack (with_segments program image.segments.items) at bytes q low (omega arith)
+        ∙ unmapped_beside program image.segments.items q sound.placed
+          (λ k d lt. let above = sound.break_above k d lt in inr (omega arith));
+    }
+
+pub fits_start : (program : List ℕ) (args env : List (List ℕ)) (image : Image) (limit : ℕ) → IsSound (length program) image
+    → start_size args env ≤ 131072 → limit ≤ 2 ^ 30
+    → Fits (with_stack (with_segments program image.segments.items) (stack_pointer args env) (stack_bytes args env))
+      (record { first = image.first_break; now = image.first_break; limit = limit })
+fits_start program args env image limit sound fits small =
+    let low = stack_low args env fits in
+    let ends = stack_length args env fits in
+    record {
+      heap_of = heap_starts program image (stack_pointer args env) (stack_bytes args env) limit sound small low;
+      stack = stack_mapped (with_segments program image.segments.items) (stack_pointer args env) (stack_bytes args env) low ends;
+      few = few_pages program image.segments.items (stack_pointer args env) (stack_bytes args env) _ sound.placed low ends sound.together;
+    }

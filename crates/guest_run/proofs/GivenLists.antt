@@ -276,5 +276,5 @@ size-given files size given is same =
     is.counted ∙ ap (sum_by file_size) (sym (entries-given files is.sorted)) ∙ ap files_size same
 
 -- no file at all
-pub map-none : fin.from_sorted {R = bytes_cmp} {X = List ℕ} [] ≡ fin.empty
+pub map-none : fin.from_sorted {X = List ℕ} {R = bytes_cmp} [] ≡ fin.empty
 map-none = fin.empty_of_len (fin.from_sorted []) (len-given [] refl)

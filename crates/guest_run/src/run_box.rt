@@ -81,6 +81,35 @@ impl RunBox {
     {
         place_in(&mut self.files, name, content)
     }
+
+    /// The arguments.
+    pub(crate) fn args(&self) -> &[Bytes]
+        ensures { result.now ≡ self.now.args }
+    {
+        self.args.as_slice()
+    }
+
+    /// The texts of the environment.
+    pub(crate) fn env(&self) -> &[Bytes]
+        ensures { result.now ≡ self.now.env }
+    {
+        self.env.as_slice()
+    }
+
+    /// The files.
+    pub(crate) fn files(&self) -> &GivenFiles
+        ensures { result.now ≡ self.now.files }
+    {
+        &self.files
+    }
+
+    /// The most bytes of the heap.
+    pub(crate) fn heap(&self) -> u64
+        ensures value { result ≡ self.now.heap }
+        ensures small { result ≤ 2 ^ 30 }
+    {
+        self.heap
+    }
 }
 
 /// Adds a file under its name without the `./` that it begins with.

@@ -15,6 +15,7 @@ const MOST: u64 = 131_072;
 const OTHER_WORDS: u64 = 5;
 
 /// The bytes with which a stack begins, and where the first of them stands.
+#[derive(Drop)]
 pub(crate) struct Stack {
     pub(crate) at: u64,
     pub(crate) bytes: Vec<u8>,
