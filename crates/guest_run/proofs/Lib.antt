@@ -3,6 +3,7 @@ pub mod GivenLists
 pub mod Keeping
 pub mod Places
 pub mod Running
+pub mod Starting
 pub mod Stepping
 pub mod Texts
 pub mod Validity
