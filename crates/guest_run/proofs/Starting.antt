@@ -68,3 +68,7 @@ refuses meant (Elf refusal) is other = is
 refuses meant ArgsTooLong is other = is
 refuses meant BoxTooLarge is other = is
 refuses meant OutOfMemory is other = absurd (other refl)
+
+pub steps_at_start : (program : List ℕ) (setting : Setting) (image : Image) → (start_state program setting image).steps ≡ 0
+unfolding start_state
+steps_at_start program setting image = refl

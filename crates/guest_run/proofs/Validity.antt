@@ -93,7 +93,7 @@ next-fits guest to fits is =
     fits_act guest (act guest.hart) fits (λ next' goes. act-mapping guest.hart next' goes) to is
 
 -- and so do many
-went : (n : Next) (to : GuestState) → went_to n ≡ Some to → n ≡ Goes to
+pub went : (n : Next) (to : GuestState) → went_to n ≡ Some to → n ≡ Goes to
 went (Goes guest) to is = ap Goes (same_Some guest to is)
 went (Ends end) to is = cc
 

@@ -1,6 +1,7 @@
 -- What a program is given when it starts.
 -- docs/reference/running.md says the same for people.
-use Rattle.std.specs.Prelude.{◌≡◌, ◌≢◌, ℕ, ◌*◌, ◌^◌, ◌≤◌, Bool, ◌||◌, nat_le, nat_lt, not, if◌then◌else◌, IsTrue, Option, Some, None, List, length, All, Result, Ok, Err, sum_by, refl}
+use Rattle.std.specs.Prelude.{◌≡◌, ℕ, ◌*◌, ◌^◌, ◌≤◌, ◌==◌, Bool, false, ◌||◌, nat_le, nat_lt, not, if◌then◌else◌, IsTrue, Option, Some, None, List, length, All, Result, Ok, Err, sum_by, refl}
+use Rattle.std.specs.List.{list_any}
 use Rattle.std.specs.FinMap as map
 use Rattle.std.specs.Coded.{Coded, code_by, coded×, coded_ℕ, coded_list}
 use Rattle.mem_files.specs.declared.slot.PlaceRefusal.{PlaceRefusal}
@@ -31,7 +32,7 @@ setting_code =
 
 -- a text has no zero byte
 abbrev pub IsText : List ℕ → Type 0
-IsText text = All (λ byte. byte ≢ 0) text
+IsText text = list_any (λ byte. byte == 0) text ≡ false
 
 -- the bytes of all files
 abbrev pub file_size : List ℕ × List ℕ → ℕ

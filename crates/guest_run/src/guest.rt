@@ -51,7 +51,8 @@ impl<R: Ram> Guest<R> {
     /// Refuses a file that is no program, then texts that are too long, then files that are too large
     /// together. Want of memory comes only where the program would have started.
     pub fn start(alloc: Global, program: &[u8], setting: &RunBox) -> Result<Guest<R>, StartRefusal>
-        ensures { Starts (start_of program.now setting.now) result }
+        ensures answer { Starts (start_of program.now setting.now) result }
+        ensures fresh { IfOk result (λ guest. guest.steps ≡ 0) }
     {
         let image = judged(program, setting)?;
         match started(alloc, program, setting, &image) {
@@ -67,7 +68,9 @@ impl<R: Ram> Guest<R> {
     pub fn run(&mut self, most: u64) -> RunEnd
         requires some { 1 ≤ most }
         requires counted { self.old.steps + most < 2 ^ 64 }
-        ensures { Runs self.old most result self.new }
+        ensures answer { Runs self.old most result self.new }
+        ensures rises { self.old.steps ≤ self.new.steps }
+        ensures few { self.new.steps ≤ self.old.steps + most }
     {
         run_parts(
             self.alloc,

@@ -5,10 +5,13 @@
 
 mod given;
 mod guest;
+pub mod laws;
 mod placing;
 mod run;
 mod run_box;
 mod stack;
+#[cfg(test)]
+mod tests;
 
 pub use guest::{Guest, StartRefusal};
 pub use run::RunEnd;
