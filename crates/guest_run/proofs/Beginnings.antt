@@ -84,12 +84,12 @@ unfolding with_stack
 stack_mapped m at bytes low ends =
     let pages : Memory = with_bytes m (stack_end - stack_size) (zeros stack_size) in
     let there : maps (with_bytes m (stack_end - stack_size) (zeros stack_size)) at (length bytes) ≡ true =
-      maps-within m (stack_end - stack_size) stack_size at (length bytes) low (omega arith) in
+    maps-within m (stack_end - stack_size) stack_size at (length bytes) low (omega arith) in
     let all : maps (with_bytes m (stack_end - stack_size) (zeros stack_size)) (stack_end - stack_size) stack_size ≡ true =
-      maps-within m (stack_end - stack_size) stack_size (stack_end - stack_size) stack_size (omega arith) (omega arith) in
+    maps-within m (stack_end - stack_size) stack_size (stack_end - stack_size) stack_size (omega arith) (omega arith) in
     maps_by_each (with_bytes (with_bytes m (stack_end - stack_size) (zeros stack_size)) at bytes) (stack_end - stack_size) stack_size
     (λ q from to. same_after_write (with_bytes m (stack_end - stack_size) (zeros stack_size)) at bytes there q
-      ∙ each_by_maps (with_bytes m (stack_end - stack_size) (zeros stack_size)) (stack_end - stack_size) stack_size all q from to)
+    ∙ each_by_maps (with_bytes m (stack_end - stack_size) (zeros stack_size)) (stack_end - stack_size) stack_size all q from to)
 
 -- counts of pages
 abbrev within : ℕ → ℕ → ℕ → Bool
@@ -130,19 +130,19 @@ count_within low high number (suc count) =
     let rest = count_within low high (suc number) count in
     let more = count_on (within low high) number (pages_from (suc number) count) in
     elim (cases_lt number low) [
-      inl below ↦
-        (let none : within low high number ≡ false = grind (arith, nat_tests) in
-         let here : ◌≡◌ {A = ℕ} (cond (within low high number) 1 0) 0 = ap (λ b. cond b 1 0) none in
-         (omega (arith, rest.0, rest.1, more, here), omega (arith, rest.0, rest.1, more, here)))
-    | inr from ↦ elim (cases_lt number high) [
-        inl lt ↦
-          (let yes : within low high number ≡ true = grind (arith, nat_tests) in
-           let here : ◌≡◌ {A = ℕ} (cond (within low high number) 1 0) 1 = ap (λ b. cond b 1 0) yes in
-           (omega (arith, rest.0, rest.1, more, here), omega (arith, rest.0, rest.1, more, here)))
-      | inr above ↦
+      | inl below ↦
           (let none : within low high number ≡ false = grind (arith, nat_tests) in
-           let here : ◌≡◌ {A = ℕ} (cond (within low high number) 1 0) 0 = ap (λ b. cond b 1 0) none in
-           (omega (arith, rest.0, rest.1, more, here), omega (arith, rest.0, rest.1, more, here)))
+          let here : ◌≡◌ {A = ℕ} (cond (within low high number) 1 0) 0 = ap (λ b. cond b 1 0) none in
+          (omega (arith, rest.0, rest.1, more, here), omega (arith, rest.0, rest.1, more, here)))
+      | inr from ↦ elim (cases_lt number high) [
+        | inl lt ↦
+            (let yes : within low high number ≡ true = grind (arith, nat_tests) in
+            let here : ◌≡◌ {A = ℕ} (cond (within low high number) 1 0) 1 = ap (λ b. cond b 1 0) yes in
+            (omega (arith, rest.0, rest.1, more, here), omega (arith, rest.0, rest.1, more, here)))
+        | inr above ↦
+            (let none : within low high number ≡ false = grind (arith, nat_tests) in
+            let here : ◌≡◌ {A = ℕ} (cond (within low high number) 1 0) 0 = ap (λ b. cond b 1 0) none in
+            (omega (arith, rest.0, rest.1, more, here), omega (arith, rest.0, rest.1, more, here)))
       ]
     ]
 
@@ -175,10 +175,10 @@ beside_of segment page gone =
     let first = first_page-is segment in
     let end = page_end-is segment in
     elim (cases_lt page (first_page segment / 4096)) [
-      inl below ↦ inl (omega arith)
-    | inr from ↦ elim (cases_lt page (page_end segment / 4096)) [
-        inl lt ↦ absurd (let is : is_of segment page ≡ true = grind (arith, nat_tests) in cc)
-      | inr above ↦ inr (omega arith)
+      | inl below ↦ inl (omega arith)
+      | inr from ↦ elim (cases_lt page (page_end segment / 4096)) [
+        | inl lt ↦ absurd (let is : is_of segment page ≡ true = grind (arith, nat_tests) in cc)
+        | inr above ↦ inr (omega arith)
       ]
     ]
 
@@ -204,16 +204,16 @@ mapped_page : (program : List ℕ) (segments : List Segment) (at : ℕ) (bytes :
 mapped_page program segments at bytes page beside placed low ends is =
     either (is_of_some segments page) (within 67106816 67108864 page)
     (λ gone.
-      let none = segments_unmapped program segments page placed gone in
-      elim (cases_lt page 67106816) [
-        inl below ↦ absurd (not_mapped (get (with_stack (with_segments program segments) at bytes) (4096 * page)) beside
+    let none = segments_unmapped program segments page placed gone in
+    elim (cases_lt page 67106816) [
+      | inl below ↦ absurd (not_mapped (get (with_stack (with_segments program segments) at bytes) (4096 * page)) beside
           (below_stack (with_segments program segments) at bytes (4096 * page) low (omega arith) ∙ none) is)
       | inr from ↦ elim (cases_lt page 67108864) [
-          inl lt ↦ grind (arith, nat_tests)
+        | inl lt ↦ grind (arith, nat_tests)
         | inr above ↦ absurd (not_mapped (get (with_stack (with_segments program segments) at bytes) (4096 * page)) beside
             (above_stack (with_segments program segments) at bytes (4096 * page) ends (omega arith) ∙ none) is)
-        ]
-      ])
+      ]
+    ])
 
 few_from : (program : List ℕ) (segments : List Segment) (at : ℕ) (bytes : List ℕ) (heap' : Heap) (count : ℕ)
     → All (IsPlaced (length program)) segments → stack_end - stack_size ≤ at → at + length bytes ≡ stack_end
@@ -221,9 +221,9 @@ few_from : (program : List ℕ) (segments : List Segment) (at : ℕ) (bytes : Li
     → count_by (λ page. contains_key (with_stack (with_segments program segments) at bytes) (4096 * page) && is_beside_heap heap' (4096 * page)) (pages_from 0 count) ≤ 67584
 few_from program segments at bytes heap' count placed low ends together =
     let both = count_le
-      (λ page. contains_key (with_stack (with_segments program segments) at bytes) (4096 * page) && is_beside_heap heap' (4096 * page))
-      (is_of_some segments) (within 67106816 67108864) (pages_from 0 count)
-      (λ page is. mapped_page program segments at bytes page (is_beside_heap heap' (4096 * page)) placed low ends is) in
+    (λ page. contains_key (with_stack (with_segments program segments) at bytes) (4096 * page) && is_beside_heap heap' (4096 * page))
+    (is_of_some segments) (within 67106816 67108864) (pages_from 0 count)
+    (λ page is. mapped_page program segments at bytes page (is_beside_heap heap' (4096 * page)) placed low ends is) in
     let some = count_of_some segments (pages_from 0 count) 0 count refl in
     let stack = (count_within 67106816 67108864 0 count).0 in
     omega (arith, both, some, stack)
@@ -240,7 +240,7 @@ few_pages program segments at bytes heap' placed low ends together =
 heap_starts : (program : List ℕ) (image : Image) (at : ℕ) (bytes : List ℕ) (limit : ℕ) → IsSound (length program) image → limit ≤ 2 ^ 30
     → stack_end - stack_size ≤ at
     → IsHeapOf (with_stack (with_segments program image.segments.items) at bytes)
-      (record { first = image.first_break; now = image.first_break; limit = limit })
+    (record { first = image.first_break; now = image.first_break; limit = limit })
 heap_starts program image at bytes limit sound small low =
     let whole = sound.break_aligned in
     let high = sound.break_low in
@@ -251,17 +251,17 @@ heap_starts program image at bytes limit sound small low =
       to = omega arith;
       low = omega arith;
       mapped = maps_by_each (with_stack (with_segments program image.segments.items) at bytes) image.first_break
-        (heap.page_end image.first_break - image.first_break) (λ q from to. absurd (omega arith));
+          (heap.page_end image.first_break - image.first_break) (λ q from to. absurd (omega arith));
       free = λ q from to.
-        below_stack (with_segments program image.segments.items) at bytes q low (omega arith)
-        ∙ unmapped_beside program image.segments.items q sound.placed
+          below_stack (with_segments program image.segments.items) at bytes q low (omega arith)
+          ∙ unmapped_beside program image.segments.items q sound.placed
           (λ k d lt. let above = sound.break_above k d lt in inr (omega arith));
     }
 
 pub fits_start : (program : List ℕ) (args env : List (List ℕ)) (image : Image) (limit : ℕ) → IsSound (length program) image
     → start_size args env ≤ 131072 → limit ≤ 2 ^ 30
     → Fits (with_stack (with_segments program image.segments.items) (stack_pointer args env) (stack_bytes args env))
-      (record { first = image.first_break; now = image.first_break; limit = limit })
+    (record { first = image.first_break; now = image.first_break; limit = limit })
 fits_start program args env image limit sound fits small =
     let low = stack_low args env fits in
     let ends = stack_length args env fits in

@@ -51,22 +51,26 @@ added P name content [] here others absent = record {
 }
 added P name content (file ∷ files) here others absent =
     let Q : List File → Type 0 = λ list.
-      All P list × (length list ≡ length (file ∷ files) + 1) × (sum_by file_size list ≡ sum_by file_size (file ∷ files) + length content) in
+    All P list × (length list ≡ length (file ∷ files) + 1) × (sum_by file_size list ≡ sum_by file_size (file ∷ files) + length content) in
     let cases : (r : Ordering) → cond (is_eq r) (Some file.1) (fin.find bytes_cmp name files) ≡ None
-      → Q (by_order r ((name, content) ∷ file ∷ files) ((file.0, content) ∷ files) (file ∷ fin.put bytes_cmp name content files)) =
-      λ r. elim r as (λ o. cond (is_eq o) (Some file.1) (fin.find bytes_cmp name files) ≡ None
-        → Q (by_order o ((name, content) ∷ file ∷ files) ((file.0, content) ∷ files) (file ∷ fin.put bytes_cmp name content files))) [
-        Less ↦ (λ gone. (all_onto P (name, content) (file ∷ files) here others, omega arith,
-          (let sum = sum_by-cons file_size (name, content) (file ∷ files) in omega (arith, sum))))
+    → Q (by_order r ((name, content) ∷ file ∷ files) ((file.0, content) ∷ files) (file ∷ fin.put bytes_cmp name content files)) =
+    λ r. elim r as (λ o. cond (is_eq o) (Some file.1) (fin.find bytes_cmp name files) ≡ None
+    → Q (by_order o ((name, content) ∷ file ∷ files) ((file.0, content) ∷ files) (file ∷ fin.put bytes_cmp name content files))) [
+      | Less ↦ (λ gone. (
+        all_onto P (name, content) (file ∷ files) here others,
+        omega arith,
+        (let sum = sum_by-cons file_size (name, content) (file ∷ files) in omega (arith, sum)),
+      ))
       | Equal ↦ (λ gone. cc)
       | Greater ↦ (λ gone.
-          let rest = added P name content files here (All-tail P file files others) gone in
-          (all_onto P file (fin.put bytes_cmp name content files) (All-head P file files others) rest.all,
+          let rest = added P name content files here (All-tail P file files others) gone in (
+            all_onto P file (fin.put bytes_cmp name content files) (All-head P file files others) rest.all,
             (let long = rest.longer in omega arith),
             (let one = sum_by-cons file_size file (fin.put bytes_cmp name content files) in
-             let two = sum_by-cons file_size file files in
-             let large = rest.larger in omega (arith, one, two, large))))
-      ] in
+                let two = sum_by-cons file_size file files in
+                let large = rest.larger in omega (arith, one, two, large)),
+          ))
+    ] in
     let all = cases (bytes_cmp name file.0) absent in
     record { all = all.0; longer = all.1; larger = all.2 }
 
@@ -90,6 +94,7 @@ given_more files size name content is named small absent few =
     is_true : (b : Bool) → T b → IsTrue b
     is_true true h = refl
     is_true false h = absurd h
+
     of_true : (b : Bool) → IsTrue b → T b
     of_true true h = tt
     of_true false h = absurd (let gone : false ≡ true = h in cc)
@@ -168,13 +173,13 @@ placed_well : (world : World) (name content : List ℕ) → is_name name ≡ tru
     → is_full world (length content) ≡ false → placed_as world name content ≡ (Ok tt, with_file world name content)
 placed_well world name content is absent room =
     λ i. cond (not (is i)) (Err BadName, world)
-      (cond (absent i) (Err Twice, world) (cond (room i) (Err Full, world) (Ok tt, with_file world name content)))
+    (cond (absent i) (Err Twice, world) (cond (room i) (Err Full, world) (Ok tt, with_file world name content)))
 
 not_full : (world : World) (len : ℕ) → len ≤ MAX_CONTENT → total world + len ≤ MAX_TOTAL → fin.len world.names < MAX_NAMES → is_full world len ≡ false
 not_full world len small room few = full_of (total world) len (fin.len world.names) small room few
   where
     full_of : (t l n : ℕ) → l ≤ 268435456 → t + l ≤ 536870912 → n < 4096
-      → (nat_lt 268435456 l || nat_lt 536870912 (t + l) || nat_le 4096 n) ≡ false
+        → (nat_lt 268435456 l || nat_lt 536870912 (t + l) || nat_le 4096 n) ≡ false
     full_of t l n small' room' few' = grind (arith, nat_tests)
 
 -- what the first of the files leaves
@@ -192,7 +197,7 @@ place_next world file files can =
     let few = can.few in
     ap (λ name. placed_as world name file.1) (stripped_stays file.0 named)
     ∙ placed_well world file.0 file.1 ((and_true (is_name file.0) (not (begins_with_dot_slash file.0)) named).0) (ap is_some fresh)
-      (not_full world (length file.1) small (omega (arith, more)) (omega arith))
+    (not_full world (length file.1) small (omega (arith, more)) (omega arith))
 
 -- a name below all others is none of them
 below_at : (name : List ℕ) (files : List File) → T (below_all bytes_cmp name files) → (k : ℕ) (d : File) → k < length files
@@ -219,10 +224,10 @@ placed_next world file files can =
     let more = size_of_more file files in
     let number = lowest_unused world.files in
     let grown : total (with_file world file.0 file.1) + length (content_of world (lowest_unused world.files)) ≡ total world + length file.1 =
-      total-insert world (lowest_unused world.files) file.1 in
+    total-insert world (lowest_unused world.files) file.1 in
     let longer : fin.len (fin.insert world.names file.0 (lowest_unused world.files)) ≡ fin.len world.names + 1 =
-      fin.len-insert nat_list_cmp_total world.names file.0 (lowest_unused world.files)
-      ∙ ap (λ o. cond (is_some o) (fin.len world.names) (fin.len world.names + 1)) fresh in
+    fin.len-insert nat_list_cmp_total world.names file.0 (lowest_unused world.files)
+    ∙ ap (λ o. cond (is_some o) (fin.len world.names) (fin.len world.names + 1)) fresh in
     let few = can.few in
     let room = can.room in
     record {
@@ -230,12 +235,12 @@ placed_next world file files can =
       named = All-tail (λ f. IsTrue (is_stripped_name f.0)) file files can.named;
       small = All-tail (λ f. length f.1 ≤ MAX_CONTENT) file files can.small;
       fresh = λ k d lt.
-        fin.get-insert nat_list_cmp_total world.names file.0 (lowest_unused world.files) (get_or files k d).0
-        ∙ ap (λ b. cond b (Some (lowest_unused world.files)) (fin.get world.names (get_or files k d).0))
+          fin.get-insert nat_list_cmp_total world.names file.0 (lowest_unused world.files) (get_or files k d).0
+          ∙ ap (λ b. cond b (Some (lowest_unused world.files)) (fin.get world.names (get_or files k d).0))
           ((eq_by_cmp_equiv nat_list_cmp_total).symm (get_or files k d).0 file.0
-            ∙ less_is_not_equal (bytes_cmp file.0 (get_or files k d).0)
-              (below_at file.0 files (of_true (below_all bytes_cmp file.0 files) parts.0) k d lt))
-        ∙ All-tail (λ f. fin.get world.names f.0 ≡ None) file files can.fresh k d lt;
+          ∙ less_is_not_equal (bytes_cmp file.0 (get_or files k d).0)
+          (below_at file.0 files (of_true (below_all bytes_cmp file.0 files) parts.0) k d lt))
+          ∙ All-tail (λ f. fin.get world.names f.0 ≡ None) file files can.fresh k d lt;
       few = omega (arith, longer);
       room = omega (arith, more, grown);
     }

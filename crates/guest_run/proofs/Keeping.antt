@@ -57,13 +57,15 @@ read_keeps s fd buffer (Err errno) is = nothing s _ is
 read_keeps s fd buffer (Ok bytes) is =
     chosen s (length bytes == 0) _ _ (nothing s _ is)
     (chosen_by s (maps s.memory buffer (length bytes)) _ _
-      (λ there. record { is = record {
+    (λ there. record {
+      is = record {
         first = refl;
         limit = refl;
         heap_of = IsHeapOf-same s.memory (with_bytes s.memory buffer bytes) s.heap (same_after_write s.memory buffer bytes there) is;
         beside = λ q apart. same_after_write s.memory buffer bytes there q;
-      } })
-      (λ gone. nothing s _ is))
+      };
+    })
+    (λ gone. nothing s _ is))
 
 write_keeps_from : (s : State) (fd : ℕ) (bytes : Option (List ℕ)) → IsHeapOf s.memory s.heap → Kept s (written_from s fd bytes)
 write_keeps_from s fd None is = nothing s _ is
@@ -81,8 +83,8 @@ inside heap to is = (grind (arith, nat_tests), grind (arith, nat_tests))
 beside_is : (heap : Heap) (q : ℕ) → is_beside_heap heap q ≡ true → (q < heap.first) ⊎ (page_end (heap.first + heap.limit) ≤ q)
 beside_is heap q is =
     elim (cases_lt q heap.first) [
-      inl below ↦ inl below
-    | inr from ↦ inr (grind (arith, nat_tests))
+      | inl below ↦ inl below
+      | inr from ↦ inr (grind (arith, nat_tests))
     ]
 
 resized_beside : (m : Memory) (heap : Heap) (to q : ℕ) → IsHeapOf m heap → heap.first ≤ to → to ≤ heap.first + heap.limit
@@ -90,19 +92,19 @@ resized_beside : (m : Memory) (heap : Heap) (to q : ℕ) → IsHeapOf m heap →
     → get (resized m (page_end heap.now) (page_end to)) q ≡ get m q
 resized_beside m heap to q is from high apart =
     let cases : (b : Bool) → nat_lt (page_end heap.now) (page_end to) ≡ b
-      → get (cond b (with_bytes m (page_end heap.now) (zeros (page_end to - page_end heap.now))) (without m (page_end to) (page_end heap.now - page_end to))) q ≡ get m q =
-      λ b. elim b as (λ v. nat_lt (page_end heap.now) (page_end to) ≡ v
-        → get (cond v (with_bytes m (page_end heap.now) (zeros (page_end to - page_end heap.now))) (without m (page_end to) (page_end heap.now - page_end to))) q ≡ get m q) [
-        true ↦ (λ grows. elim apart [
-          inl below ↦ get-with_bytes_below m (page_end heap.now) (zeros (page_end to - page_end heap.now)) q (omega (arith, is.from))
+    → get (cond b (with_bytes m (page_end heap.now) (zeros (page_end to - page_end heap.now))) (without m (page_end to) (page_end heap.now - page_end to))) q ≡ get m q =
+    λ b. elim b as (λ v. nat_lt (page_end heap.now) (page_end to) ≡ v
+    → get (cond v (with_bytes m (page_end heap.now) (zeros (page_end to - page_end heap.now))) (without m (page_end to) (page_end heap.now - page_end to))) q ≡ get m q) [
+      | true ↦ (λ grows. elim apart [
+        | inl below ↦ get-with_bytes_below m (page_end heap.now) (zeros (page_end to - page_end heap.now)) q (omega (arith, is.from))
         | inr above ↦ get-with_bytes_above m (page_end heap.now) (zeros (page_end to - page_end heap.now)) q
             (let size = length-zeros (page_end to - page_end heap.now) in omega (arith, is.to))
-        ])
+      ])
       | false ↦ (λ falls. elim apart [
-          inl below ↦ get-without_other m (page_end to) (page_end heap.now - page_end to) q (inl (omega arith))
+        | inl below ↦ get-without_other m (page_end to) (page_end heap.now - page_end to) q (inl (omega arith))
         | inr above ↦ get-without_other m (page_end to) (page_end heap.now - page_end to) q (inr (omega (arith, is.to)))
-        ])
-      ] in
+      ])
+    ] in
     cases (nat_lt (page_end heap.now) (page_end to)) refl
 
 break_keeps : (s : State) (to : ℕ) → IsHeapOf s.memory s.heap → Kept s (moved_break s to)
@@ -112,15 +114,15 @@ break_keeps s to is =
       heap = cond v s.heap (record s.heap { now = to });
     }) in
     let cases : (b : Bool) → is_outside s.heap to ≡ b → P b =
-      λ b. elim b as (λ v. is_outside s.heap to ≡ v → P v) [
-        true ↦ (λ was. record { first = refl; limit = refl; heap_of = is; beside = λ q apart. refl })
+    λ b. elim b as (λ v. is_outside s.heap to ≡ v → P v) [
+      | true ↦ (λ was. record { first = refl; limit = refl; heap_of = is; beside = λ q apart. refl })
       | false ↦ (λ was. record {
-          first = refl;
-          limit = refl;
-          heap_of = kept_resized s.memory s.heap is to ((inside s.heap to was).0) ((inside s.heap to was).1);
-          beside = λ q apart. ap is_some (resized_beside s.memory s.heap to q is ((inside s.heap to was).0) ((inside s.heap to was).1) (beside_is s.heap q apart));
-        })
-      ] in
+        first = refl;
+        limit = refl;
+        heap_of = kept_resized s.memory s.heap is to ((inside s.heap to was).0) ((inside s.heap to was).1);
+        beside = λ q apart. ap is_some (resized_beside s.memory s.heap to q is ((inside s.heap to was).0) ((inside s.heap to was).1) (beside_is s.heap q apart));
+      })
+    ] in
     record { is = cases (is_outside s.heap to) refl }
 
 -- a call that ends the run keeps, since it leaves the state

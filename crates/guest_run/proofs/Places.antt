@@ -79,9 +79,9 @@ segment_beside program m segment q placed beside =
     let first = first_page-is segment in
     let end = page_end-is segment in
     outside (with_bytes m (first_page segment) (zeros (paged_size segment))) segment.at (segment_bytes program segment) q
-      (elim beside [ inl below ↦ inl (omega arith) | inr above ↦ inr (omega arith) ])
+    (elim beside [ inl below ↦ inl (omega arith) | inr above ↦ inr (omega arith) ])
     ∙ outside m (first_page segment) (zeros (paged_size segment)) q
-      (elim beside [ inl below ↦ inl below | inr above ↦ inr (omega arith) ])
+    (elim beside [ inl below ↦ inl below | inr above ↦ inr (omega arith) ])
 
 -- an address beside all segments is as before
 folded_beside : (program : List ℕ) (m : Memory) (segments : List Segment) (q : ℕ) → All (IsPlaced (length program)) segments
@@ -107,14 +107,14 @@ free_ahead program segments i d lt placed apart q from to =
     unmapped_beside program (take i segments) q
     (All-take (IsPlaced (length program)) i segments placed)
     (λ k d' lt'.
-      let len = length-take i segments in
-      let at : get_or (take i segments) k d' ≡ get_or segments k d' = get_or-take i segments k d' (omega arith) in
-      let same : get_or segments i d' ≡ get_or segments i d = get_or_default segments i d' d lt in
-      subst (IsBeside q) (sym at)
-      (elim (apart k i d' (omega arith) lt) [
-        inl before ↦ inr (let b : page_end (get_or segments k d') ≤ first_page (get_or segments i d) = subst (λ (s : Segment). page_end (get_or segments k d') ≤ first_page s) same before in omega arith)
+    let len = length-take i segments in
+    let at : get_or (take i segments) k d' ≡ get_or segments k d' = get_or-take i segments k d' (omega arith) in
+    let same : get_or segments i d' ≡ get_or segments i d = get_or_default segments i d' d lt in
+    subst (IsBeside q) (sym at)
+    (elim (apart k i d' (omega arith) lt) [
+      | inl before ↦ inr (let b : page_end (get_or segments k d') ≤ first_page (get_or segments i d) = subst (λ (s : Segment). page_end (get_or segments k d') ≤ first_page s) same before in omega arith)
       | inr after ↦ inl (let b : page_end (get_or segments i d) ≤ first_page (get_or segments k d') = subst (λ (s : Segment). page_end s ≤ first_page (get_or segments k d')) same after in omega arith)
-      ]))
+    ]))
 
 -- the stack's pages are free
 pub stack_free : (program : List ℕ) (segments : List Segment) → All (IsPlaced (length program)) segments

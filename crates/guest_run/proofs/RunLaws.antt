@@ -31,7 +31,7 @@ past_end : (guest last other : GuestState) (count number : ℕ) (why : RunEnd) �
 past_end guest last other count number why lt reached ends there =
     let split : number ≡ count + suc (number - count - 1) = omega arith in
     let none : after guest number ≡ None =
-      ap (after guest) split ∙ after-sum guest last count (suc (number - count - 1)) reached ∙ after-end last why (number - count - 1) ends in
+    ap (after guest) split ∙ after-sum guest last count (suc (number - count - 1)) reached ∙ after-end last why (number - count - 1) ends in
     cc
 
 ends_same : (why what : RunEnd) (one other : GuestState) → one ≡ other → next one ≡ Ends why → next other ≡ Ends what → why ≡ what
@@ -43,13 +43,13 @@ pub one_end-law : (guest last other : GuestState) (count number : ℕ) (why what
     → after guest number ≡ Some other → next other ≡ Ends what → (count ≡ number) × (last ≡ other) × (why ≡ what)
 one_end-law guest last other count number why what reached ends there stops =
     elim (cases_lt count number) [
-      inl lt ↦ absurd (past_end guest last other count number why lt reached ends there)
-    | inr ge ↦ elim (cases_lt number count) [
-        inl lt ↦ absurd (past_end guest other last number count what lt there stops reached)
-      | inr le ↦
-          (let same : count ≡ number = omega arith in
-           let states : last ≡ other = same_Some last other (sym reached ∙ ap (after guest) same ∙ there) in
-           (same, states, ends_same why what last other states ends stops))
+      | inl lt ↦ absurd (past_end guest last other count number why lt reached ends there)
+      | inr ge ↦ elim (cases_lt number count) [
+        | inl lt ↦ absurd (past_end guest other last number count what lt there stops reached)
+        | inr le ↦
+            (let same : count ≡ number = omega arith in
+            let states : last ≡ other = same_Some last other (sym reached ∙ ap (after guest) same ∙ there) in
+            (same, states, ends_same why what last other states ends stops))
       ]
     ]
 
@@ -62,12 +62,12 @@ after-counted guest to (suc count) is =
     from_last (after guest count) refl is (λ last reached. after-counted guest last count reached)
   where
     from_last : (o : Option GuestState) → after guest count ≡ o → option_and_then (λ last. went_to (next last)) o ≡ Some to
-      → ((last : GuestState) → after guest count ≡ Some last → last.steps ≡ guest.steps + count) → to.steps ≡ guest.steps + suc count
+        → ((last : GuestState) → after guest count ≡ Some last → last.steps ≡ guest.steps + count) → to.steps ≡ guest.steps + suc count
     from_last None was goes earlier = cc
     from_last (Some last) was goes earlier =
-      let one = next-counted last to (went (next last) to goes) in
-      let others = earlier last was in
-      omega arith
+        let one = next-counted last to (went (next last) to goes) in
+        let others = earlier last was in
+        omega arith
 
 -- a state that is reached, over a sum
 between_is : (guest between to : GuestState) (first : ℕ) → after guest first ≡ Some between

@@ -41,10 +41,12 @@ ended first last new count most (Trapped cause) reached counted lt is =
 ended first last new count most (UnknownCall number) reached counted lt is =
     (below first last new count most counted lt is.1, reached_at first last new count reached counted is.1, ap next is.1 ∙ is.0)
 ended first last new count most Spent reached counted lt is = absurd (next-never_spent last is.0)
-ended first last new count most OutOfMemory reached counted lt is =
-    (below first last new count most counted lt is.2, reached_at first last new count reached counted is.2,
-      subst (λ (g : GuestState). IsTrue (goes (next g))) (sym is.2) is.0,
-      subst (λ (g : GuestState). TakesMemory g) (sym is.2) is.1)
+ended first last new count most OutOfMemory reached counted lt is = (
+  below first last new count most counted lt is.2,
+  reached_at first last new count reached counted is.2,
+  subst (λ (g : GuestState). IsTrue (goes (next g))) (sym is.2) is.0,
+  subst (λ (g : GuestState). TakesMemory g) (sym is.2) is.1,
+)
 
 -- the states that a run passes
 pub some_steps : (first : GuestState) (most : ℕ) (end : RunEnd) (new : GuestState) → Runs first most end new

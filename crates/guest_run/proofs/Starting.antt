@@ -24,7 +24,7 @@ judge long large state = cond long (Err ArgsTooLong) (cond large (Err BoxTooLarg
 
 judged_by : (program : List ℕ) (setting : Setting) (image : Image) → image_of program ≡ Ok image
     → start_of program setting
-      ≡ judge (nat_lt 131072 (start_size setting.args setting.env)) (nat_lt MAX_TOTAL (files_size setting.files)) (start_state program setting image)
+    ≡ judge (nat_lt 131072 (start_size setting.args setting.env)) (nat_lt MAX_TOTAL (files_size setting.files)) (start_state program setting image)
 unfolding start_of
 judged_by program setting image is = ap (started program setting) is
 

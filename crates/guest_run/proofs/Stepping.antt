@@ -39,9 +39,9 @@ pub at_guest : (guest : GuestState) (left : State) (answer : CallEnd) (number : 
     → IsAnswer (call_number guest) (state guest.hart.memory guest.world guest.heap) left (outcome_of guest) answer
 at_guest guest left answer number arguments memory same-number same-arguments same-memory is =
     let P : ℕ × List ℕ × Memory → Type 0 =
-      λ p. IsAnswer p.0 (state p.2 guest.world guest.heap) left (syscall p.0 p.1 (state p.2 guest.world guest.heap)) answer in
+    λ p. IsAnswer p.0 (state p.2 guest.world guest.heap) left (syscall p.0 p.1 (state p.2 guest.world guest.heap)) answer in
     let same : ◌≡◌ {A = ℕ × List ℕ × Memory} (number, arguments, memory) (call_number guest, call_arguments guest, guest.hart.memory) =
-      λ i. (same-number i, same-arguments i, same-memory i) in
+    λ i. (same-number i, same-arguments i, same-memory i) in
     subst P same is
 
 -- what the guest's step comes to, by the call's answer

@@ -59,14 +59,14 @@ fits-second args env within =
     let a = costs-are args in
     let e = costs-are env in
     elim (cases_lt 131072 (start_size args env)) [
-      inl above ↦
-        (let left : nat_le (sum_by cost env) (131032 - sum_by cost args) ≡ false = grind (arith, nat_tests) in
-         let right : nat_le (start_size args env) 131072 ≡ false = grind (arith, nat_tests) in
-         left ∙ sym right)
-    | inr below ↦
-        (let left : nat_le (sum_by cost env) (131032 - sum_by cost args) ≡ true = grind (arith, nat_tests) in
-         let right : nat_le (start_size args env) 131072 ≡ true = grind (arith, nat_tests) in
-         left ∙ sym right)
+      | inl above ↦
+          (let left : nat_le (sum_by cost env) (131032 - sum_by cost args) ≡ false = grind (arith, nat_tests) in
+          let right : nat_le (start_size args env) 131072 ≡ false = grind (arith, nat_tests) in
+          left ∙ sym right)
+      | inr below ↦
+          (let left : nat_le (sum_by cost env) (131032 - sum_by cost args) ≡ true = grind (arith, nat_tests) in
+          let right : nat_le (start_size args env) 131072 ≡ true = grind (arith, nat_tests) in
+          left ∙ sym right)
     ]
 
 -- the eight bytes of a word

@@ -30,7 +30,7 @@ same_pages : (m n : Memory) (one other : Heap) → other.first ≡ one.first →
 unfolding pages_beside
 same_pages m n one other first limit same =
     let each : (page : ℕ) → (contains_key n (4096 * page) && is_beside_heap other (4096 * page)) ≡ (contains_key m (4096 * page) && is_beside_heap one (4096 * page)) =
-      λ page. at (is_beside_heap one (4096 * page)) refl page in
+    λ page. at (is_beside_heap one (4096 * page)) refl page in
     λ i. count_by (λ page. each page i) (pages_from 0 (2 ^ 26))
   where
     both : (a b c : Bool) → (b ≡ true → a ≡ c) → (a && b) ≡ (c && b)
@@ -39,10 +39,11 @@ same_pages m n one other first limit same =
     both true false false eq = refl
     both false false true eq = refl
     both false false false eq = refl
+
     at : (b : Bool) → b ≡ b → (page : ℕ) → (contains_key n (4096 * page) && is_beside_heap other (4096 * page)) ≡ (contains_key m (4096 * page) && is_beside_heap one (4096 * page))
     at b e page =
-      ap (λ x. contains_key n (4096 * page) && x) (same_beside one other (4096 * page) first limit)
-      ∙ both (contains_key n (4096 * page)) (is_beside_heap one (4096 * page)) (contains_key m (4096 * page)) (same (4096 * page))
+        ap (λ x. contains_key n (4096 * page) && x) (same_beside one other (4096 * page) first limit)
+        ∙ both (contains_key n (4096 * page)) (is_beside_heap one (4096 * page)) (contains_key m (4096 * page)) (same (4096 * page))
 
 -- the stack lies beside the heap
 stack_beside : (m : Memory) (heap : Heap) (q : ℕ) → IsHeapOf m heap → stack_end - stack_size ≤ q → is_beside_heap heap q ≡ true
@@ -57,7 +58,7 @@ pub fits_too : (m n : Memory) (one other : Heap) → Fits m one → other.first 
 fits_too m n one other fits first limit heap_of same = record {
   heap_of = heap_of;
   stack = maps_by_each n (stack_end - stack_size) stack_size
-    (λ q from to. same q (stack_beside m one q fits.heap_of from) ∙ each_by_maps m (stack_end - stack_size) stack_size fits.stack q from to);
+      (λ q from to. same q (stack_beside m one q fits.heap_of from) ∙ each_by_maps m (stack_end - stack_size) stack_size fits.stack q from to);
   few = let pages = same_pages m n one other first limit same in let few = fits.few in omega arith;
 }
 
@@ -81,7 +82,7 @@ fits_act : (guest : GuestState) (an_act : Act) → Fits guest.hart.memory guest.
 fits_act guest (hart.Goes to') fits maps-alike to is =
     subst FitsIn is
     (fits_too guest.hart.memory to'.memory guest.heap guest.heap fits refl refl
-      (IsHeapOf-same guest.hart.memory to'.memory guest.heap (maps-alike to' refl) fits.heap_of) (λ q apart. maps-alike to' refl q))
+    (IsHeapOf-same guest.hart.memory to'.memory guest.heap (maps-alike to' refl) fits.heap_of) (λ q apart. maps-alike to' refl q))
 fits_act guest hart.Calls fits maps-alike to is =
     fits_call guest (outcome_of guest) fits
     (call_keeps (call_number guest) (call_arguments guest) (state guest.hart.memory guest.world guest.heap) fits.heap_of) to is
@@ -103,10 +104,10 @@ unfolding after
 after-fits guest zero to fits is = subst (λ (g : GuestState). Fits g.hart.memory g.heap) (same_Some guest to is) fits
 after-fits guest (suc count) to fits is =
     let earlier : (last : GuestState) → after guest count ≡ Some last → Fits last.hart.memory last.heap =
-      λ last reached. after-fits guest count last fits reached in
+    λ last reached. after-fits guest count last fits reached in
     from_last (after guest count) refl is earlier
   where
     from_last : (o : Option GuestState) → after guest count ≡ o → option_and_then (λ last. went_to (next last)) o ≡ Some to
-      → ((last : GuestState) → after guest count ≡ Some last → Fits last.hart.memory last.heap) → Fits to.hart.memory to.heap
+        → ((last : GuestState) → after guest count ≡ Some last → Fits last.hart.memory last.heap) → Fits to.hart.memory to.heap
     from_last None was goes earlier = cc
     from_last (Some last) was goes earlier = next-fits last to (earlier last was) (went (next last) to goes)

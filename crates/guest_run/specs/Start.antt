@@ -30,7 +30,7 @@ start_state program setting image = record {
     registers = slice_set (replicate 32 0) 2 (stack_pointer setting.args setting.env);
     pc = image.entry;
     memory = with_stack (with_segments program image.segments.items)
-      (stack_pointer setting.args setting.env) (stack_bytes setting.args setting.env);
+        (stack_pointer setting.args setting.env) (stack_bytes setting.args setting.env);
   };
   world = start_world setting.files;
   heap = record { first = image.first_break; now = image.first_break; limit = setting.heap };

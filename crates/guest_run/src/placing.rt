@@ -17,7 +17,11 @@ const PAGE: u64 = 4_096;
 const STACK_PAGES: u64 = 2_048;
 
 /// Maps the pages of every segment and puts the segments' bytes there.
-pub(crate) fn place_segments<R: Ram>(ram: &mut R, program: &[u8], segments: &[Segment]) -> Result<(), OutOfMemory>
+pub(crate) fn place_segments<R: Ram>(
+    ram: &mut R,
+    program: &[u8],
+    segments: &[Segment],
+) -> Result<(), OutOfMemory>
     requires nothing { R.bytes ram.old ≡ map.empty }
     requires placed { All (IsPlaced (length program.now)) segments.now }
     requires apart { AllPairs AreApart segments.now }

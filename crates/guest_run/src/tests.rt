@@ -73,7 +73,12 @@ fn starts_with_an_argument_and_a_file(rt: HostRuntime) -> Result<(), Fail> {
     assert_eq!(rt; guest.reg(2), 0x3f_ffff_ffc0);
     let mut words = [0xffu8; 16];
     assert!(rt; guest.peek(0x3f_ffff_ffc0, &mut words));
-    assert!(rt; words == [1, 0, 0, 0, 0, 0, 0, 0, 0xfe, 0xff, 0xff, 0xff, 0x3f, 0, 0, 0]);
+    assert!(rt;
+        words
+            == [
+                1, 0, 0, 0, 0, 0, 0, 0, 0xfe, 0xff, 0xff, 0xff, 0x3f, 0, 0, 0
+            ]
+    );
     assert_eq!(rt; guest.heap().now, 0x11000);
     assert_eq!(rt; guest.pc(), 0x10078);
     assert!(rt; guest.files().name_after(None) == Some(b"a".as_slice()));

@@ -25,9 +25,9 @@ place_stack-requires-clause-free g c =
 pub place_stack-requires-clause-high : goal.place_stack-requires-clause-high
 place_stack-requires-clause-high g c =
     let at : c.in_ok-stack.stack.at ≡ stack_pointer c.args.setting.now.args c.args.setting.now.env =
-      c.in_ok-stack.ensures.0 ∙ (λ i. stack_pointer (c.args-2.ensures i) (c.env.ensures i)) in
+    c.in_ok-stack.ensures.0 ∙ (λ i. stack_pointer (c.args-2.ensures i) (c.env.ensures i)) in
     let bytes : c.as_slice-2.result.now ≡ stack_bytes c.args.setting.now.args c.args.setting.now.env =
-      c.as_slice-2.ensures.value ∙ c.in_ok-stack.ensures.1 ∙ (λ i. stack_bytes (c.args-2.ensures i) (c.env.ensures i)) in
+    c.as_slice-2.ensures.value ∙ c.in_ok-stack.ensures.1 ∙ (λ i. stack_bytes (c.args-2.ensures i) (c.env.ensures i)) in
     let long : length c.as_slice-2.result.now ≡ length (stack_bytes c.args.setting.now.args c.args.setting.now.env) = ap length bytes in
     let whole = stack_length c.args.setting.now.args c.args.setting.now.env c.requires.texts in
     rw (at, long) (omega (arith, whole))
@@ -35,35 +35,35 @@ place_stack-requires-clause-high g c =
 pub invariant_of-result : goal.invariant_of-result
 invariant_of-result g c =
     let at : c.in_ok-stack.stack.at ≡ stack_pointer c.args.setting.now.args c.args.setting.now.env =
-      c.in_ok-stack.ensures.0 ∙ (λ i. stack_pointer (c.args-2.ensures i) (c.env.ensures i)) in
+    c.in_ok-stack.ensures.0 ∙ (λ i. stack_pointer (c.args-2.ensures i) (c.env.ensures i)) in
     let bytes : c.as_slice-2.result.now ≡ stack_bytes c.args.setting.now.args c.args.setting.now.env =
-      c.as_slice-2.ensures.value ∙ c.in_ok-stack.ensures.1 ∙ (λ i. stack_bytes (c.args-2.ensures i) (c.env.ensures i)) in
+    c.as_slice-2.ensures.value ∙ c.in_ok-stack.ensures.1 ∙ (λ i. stack_bytes (c.args-2.ensures i) (c.env.ensures i)) in
     let segments = c.in_ok-place_segments.ensures ∙ ap (with_segments c.args.program.now) c.as_slice.ensures.value in
     let hart = c.set_reg.ensures ∙ ap (λ (h : HartState). with_register h 2 c.in_ok-stack.stack.at) c.new-hart.ensures in
     let memory : c.set_reg.new.self.memory
-      ≡ with_stack (with_segments c.args.program.now c.args.image.now.segments.items)
-        (stack_pointer c.args.setting.now.args c.args.setting.now.env) (stack_bytes c.args.setting.now.args c.args.setting.now.env) =
-      ap (λ (h : HartState). h.memory) hart ∙ c.in_ok-place_stack.ensures ∙ (λ i. with_stack (segments i) (at i) (bytes i)) in
+    ≡ with_stack (with_segments c.args.program.now c.args.image.now.segments.items)
+    (stack_pointer c.args.setting.now.args c.args.setting.now.env) (stack_bytes c.args.setting.now.args c.args.setting.now.env) =
+    ap (λ (h : HartState). h.memory) hart ∙ c.in_ok-place_stack.ensures ∙ (λ i. with_stack (segments i) (at i) (bytes i)) in
     subst (λ (m : Memory). Fits m (record { first = c.args.image.now.first_break; now = c.args.image.now.first_break; limit = c.heap.result }))
     (sym memory)
     (fits_start c.args.program.now c.args.setting.now.args c.args.setting.now.env c.args.image.now c.heap.result
-      c.requires.sound c.requires.texts c.heap.ensures.small)
+    c.requires.sound c.requires.texts c.heap.ensures.small)
 
 pub returns : goal.returns
 unfolding start_state
 returns g c =
     let at : c.in_ok-stack.stack.at ≡ stack_pointer c.args.setting.now.args c.args.setting.now.env =
-      c.in_ok-stack.ensures.0 ∙ (λ i. stack_pointer (c.args-2.ensures i) (c.env.ensures i)) in
+    c.in_ok-stack.ensures.0 ∙ (λ i. stack_pointer (c.args-2.ensures i) (c.env.ensures i)) in
     let bytes : c.as_slice-2.result.now ≡ stack_bytes c.args.setting.now.args c.args.setting.now.env =
-      c.as_slice-2.ensures.value ∙ c.in_ok-stack.ensures.1 ∙ (λ i. stack_bytes (c.args-2.ensures i) (c.env.ensures i)) in
+    c.as_slice-2.ensures.value ∙ c.in_ok-stack.ensures.1 ∙ (λ i. stack_bytes (c.args-2.ensures i) (c.env.ensures i)) in
     let segments = c.in_ok-place_segments.ensures ∙ ap (with_segments c.args.program.now) c.as_slice.ensures.value in
     let hart = c.set_reg.ensures ∙ ap (λ (h : HartState). with_register h 2 c.in_ok-stack.stack.at) c.new-hart.ensures in
     let memory : c.set_reg.new.self.memory
-      ≡ with_stack (with_segments c.args.program.now c.args.image.now.segments.items)
-        (stack_pointer c.args.setting.now.args c.args.setting.now.env) (stack_bytes c.args.setting.now.args c.args.setting.now.env) =
-      ap (λ (h : HartState). h.memory) hart ∙ c.in_ok-place_stack.ensures ∙ (λ i. with_stack (segments i) (at i) (bytes i)) in
+    ≡ with_stack (with_segments c.args.program.now c.args.image.now.segments.items)
+    (stack_pointer c.args.setting.now.args c.args.setting.now.env) (stack_bytes c.args.setting.now.args c.args.setting.now.env) =
+    ap (λ (h : HartState). h.memory) hart ∙ c.in_ok-place_stack.ensures ∙ (λ i. with_stack (segments i) (at i) (bytes i)) in
     let registers : c.set_reg.new.self.registers ≡ slice_set (replicate 32 0) 2 (stack_pointer c.args.setting.now.args c.args.setting.now.env) =
-      ap (λ (h : HartState). h.registers) hart ∙ ap (λ v. slice_set (replicate 32 0) 2 v) at in
+    ap (λ (h : HartState). h.registers) hart ∙ ap (λ v. slice_set (replicate 32 0) 2 v) at in
     let pc : c.set_reg.new.self.pc ≡ c.args.image.now.entry = ap (λ (h : HartState). h.pc) hart in
     let world = c.in_ok-files.ensures ∙ ap start_world c.files.ensures in
     λ i. record {

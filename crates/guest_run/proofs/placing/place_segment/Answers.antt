@@ -39,9 +39,9 @@ returns g c =
     let taken : c.args.segment.now.offset + c.args.segment.now.in_file - c.args.segment.now.offset ≡ c.args.segment.now.in_file = omega arith in
     on_ok_weaker c.write_mapped.result
     (λ new. new
-      ∙ ap (λ n. with_bytes (g.R.Ram.bytes c.map_zero.new.self) c.args.segment.now.at (take n (drop c.args.segment.now.offset c.args.program.now))) taken
-      ∙ ap (λ m. with_bytes m c.args.segment.now.at (segment_bytes c.args.program.now c.args.segment.now))
-        (c.in_ok-map_zero.ensures.ok
-          ∙ ap (λ n. with_bytes (g.R.Ram.bytes c.args.ram.now) n (zeros (4096 * ((c.args.segment.now.at + c.args.segment.now.in_memory + 4095) / 4096 - c.args.segment.now.at / 4096)))) (sym first)
-          ∙ ap (λ n. with_bytes (g.R.Ram.bytes c.args.ram.now) (first_page c.args.segment.now) (zeros n)) (sym pages)))
+    ∙ ap (λ n. with_bytes (g.R.Ram.bytes c.map_zero.new.self) c.args.segment.now.at (take n (drop c.args.segment.now.offset c.args.program.now))) taken
+    ∙ ap (λ m. with_bytes m c.args.segment.now.at (segment_bytes c.args.program.now c.args.segment.now))
+    (c.in_ok-map_zero.ensures.ok
+    ∙ ap (λ n. with_bytes (g.R.Ram.bytes c.args.ram.now) n (zeros (4096 * ((c.args.segment.now.at + c.args.segment.now.in_memory + 4095) / 4096 - c.args.segment.now.at / 4096)))) (sym first)
+    ∙ ap (λ n. with_bytes (g.R.Ram.bytes c.args.ram.now) (first_page c.args.segment.now) (zeros n)) (sym pages)))
     c.write_mapped.ensures

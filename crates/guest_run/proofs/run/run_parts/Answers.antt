@@ -16,9 +16,10 @@ returns-in-Some g c =
 pub loop-taken-preserved : goal.loop-taken-preserved
 loop-taken-preserved g c =
     let more : c.step.new.steps ≡ c.loop-taken.steps + 1 =
-      next-counted (guest_state c.loop-taken.hart c.loop-taken.files c.loop-taken.heap c.loop-taken.steps)
-        (guest_state c.step.new.hart c.step.new.files c.step.new.heap c.step.new.steps) c.in-None.ensures.step in
-    let counted = c.loop-taken.invariant.1 in
-    (after-on _ (guest_state c.loop-taken.hart c.loop-taken.files c.loop-taken.heap c.loop-taken.steps) _ c.loop-taken.taken c.loop-taken.invariant.0 c.in-None.ensures.step,
+    next-counted (guest_state c.loop-taken.hart c.loop-taken.files c.loop-taken.heap c.loop-taken.steps)
+    (guest_state c.step.new.hart c.step.new.files c.step.new.heap c.step.new.steps) c.in-None.ensures.step in
+    let counted = c.loop-taken.invariant.1 in (
+      after-on _ (guest_state c.loop-taken.hart c.loop-taken.files c.loop-taken.heap c.loop-taken.steps) _ c.loop-taken.taken c.loop-taken.invariant.0 c.in-None.ensures.step,
       omega arith,
-      c.in-None.ensures.kept)
+      c.in-None.ensures.kept,
+    )

@@ -14,7 +14,7 @@ returns-in-Back-clause-step g c =
     let guest : GuestState = guest_state c.args.hart.now c.args.files.now c.args.heap.now c.args.steps.now in
     let left : State = state (g.R.Ram.bytes c.call.new.ram) c.call.new.files c.call.new.heap in
     let is : IsAnswer (call_number guest) (state guest.hart.memory guest.world guest.heap) left (outcome_of guest) (Back c.in-Back.value) =
-      at_guest guest left (Back c.in-Back.value) _ _ _ c.call_regs-regs.ensures.number c.call_regs-regs.ensures.arguments c.ram_mut.ensures.value c.in-Back.ensures.answer in
+    at_guest guest left (Back c.in-Back.value) _ _ _ c.call_regs-regs.ensures.number c.call_regs-regs.ensures.arguments c.ram_mut.ensures.value c.in-Back.ensures.answer in
     next-calls guest c.requires.calls
     ∙ goes_back guest (outcome_of guest) _ c.in-Back.value _ left is
     ∙ ap (λ (hart : HartState). Goes (guest_state hart c.call.new.files c.call.new.heap (c.args.steps.now + 1))) (sym c.answer.ensures)
@@ -24,7 +24,7 @@ returns-in-Exit-clause-step g c =
     let guest : GuestState = guest_state c.args.hart.now c.args.files.now c.args.heap.now c.args.steps.now in
     let left : State = state (g.R.Ram.bytes c.call.new.ram) c.call.new.files c.call.new.heap in
     let is : IsAnswer (call_number guest) (state guest.hart.memory guest.world guest.heap) left (outcome_of guest) (Exit c.in-Exit.status) =
-      at_guest guest left (Exit c.in-Exit.status) _ _ _ c.call_regs-regs.ensures.number c.call_regs-regs.ensures.arguments c.ram_mut.ensures.value c.in-Exit.ensures.answer in
+    at_guest guest left (Exit c.in-Exit.status) _ _ _ c.call_regs-regs.ensures.number c.call_regs-regs.ensures.arguments c.ram_mut.ensures.value c.in-Exit.ensures.answer in
     let both = exits_with guest (outcome_of guest) _ c.in-Exit.status _ left is in
     (next-calls guest c.requires.calls ∙ both.0, left_as_was guest left both.1)
 
@@ -33,7 +33,7 @@ returns-in-Unknown-clause-step g c =
     let guest : GuestState = guest_state c.args.hart.now c.args.files.now c.args.heap.now c.args.steps.now in
     let left : State = state (g.R.Ram.bytes c.call.new.ram) c.call.new.files c.call.new.heap in
     let is : IsAnswer (call_number guest) (state guest.hart.memory guest.world guest.heap) left (outcome_of guest) (Unknown c.in-Unknown.number) =
-      at_guest guest left (Unknown c.in-Unknown.number) _ _ _ c.call_regs-regs.ensures.number c.call_regs-regs.ensures.arguments c.ram_mut.ensures.value c.in-Unknown.ensures.answer in
+    at_guest guest left (Unknown c.in-Unknown.number) _ _ _ c.call_regs-regs.ensures.number c.call_regs-regs.ensures.arguments c.ram_mut.ensures.value c.in-Unknown.ensures.answer in
     let both = unknown_is guest (outcome_of guest) _ c.in-Unknown.number _ left is in
     (next-calls guest c.requires.calls ∙ both.0, left_as_was guest left both.1)
 
@@ -42,8 +42,9 @@ returns-in-OutOfMemory-clause-step g c =
     let guest : GuestState = guest_state c.args.hart.now c.args.files.now c.args.heap.now c.args.steps.now in
     let left : State = state (g.R.Ram.bytes c.call.new.ram) c.call.new.files c.call.new.heap in
     let is : IsAnswer (call_number guest) (state guest.hart.memory guest.world guest.heap) left (outcome_of guest) OutOfMemory =
-      at_guest guest left OutOfMemory _ _ _ c.call_regs-regs.ensures.number c.call_regs-regs.ensures.arguments c.ram_mut.ensures.value c.in-OutOfMemory.ensures.answer in
-    let all = wants_memory guest (outcome_of guest) left is in
-    (subst (λ n. IsTrue (goes n)) (sym (next-calls guest c.requires.calls)) all.0,
+    at_guest guest left OutOfMemory _ _ _ c.call_regs-regs.ensures.number c.call_regs-regs.ensures.arguments c.ram_mut.ensures.value c.in-OutOfMemory.ensures.answer in
+    let all = wants_memory guest (outcome_of guest) left is in (
+      subst (λ n. IsTrue (goes n)) (sym (next-calls guest c.requires.calls)) all.0,
       inr (c.requires.calls, all.1),
-      left_as_was guest left all.2)
+      left_as_was guest left all.2,
+    )

@@ -17,10 +17,10 @@ invariant_of-self-2 c =
     let few : length (keyed (λ name. name.items) c.self.inside.entries.entries) < MAX_NAMES = omega (arith, long, seen, c.requires.few) in
     subst (λ es. IsGiven es (c.self.inside.size + length c.args.content.now)) (sym now)
     (given_more (keyed (λ name. name.items) c.self.inside.entries.entries) c.self.inside.size c.args.name.now c.args.content.now
-      c.self.invariant c.requires.named c.requires.small
-      (absent-given (keyed (λ name. name.items) c.self.inside.entries.entries) c.args.name.now c.self.invariant.sorted
-        (ap (λ m. fin.contains_key m c.args.name.now) c.self.view_is ∙ c.requires.absent))
-      few)
+    c.self.invariant c.requires.named c.requires.small
+    (absent-given (keyed (λ name. name.items) c.self.inside.entries.entries) c.args.name.now c.self.invariant.sorted
+    (ap (λ m. fin.contains_key m c.args.name.now) c.self.view_is ∙ c.requires.absent))
+    few)
 
 pub returns-clause-ok : goal.returns-clause-ok
 returns-clause-ok c =
