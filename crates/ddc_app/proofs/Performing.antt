@@ -1,17 +1,15 @@
 -- How the steps of a command make up the whole.
-use Rattle.std.proofs.Common.{◌≡◌, ◌≢◌, ℕ, ◌+◌, ◌-◌, ◌^◌, ◌≤◌, min, Bool, true, false, IsTrue, IsSomeAnd, ◌⊎◌, inl, inr, Option, Some, None, Result, Ok, Err, List, [], ◌∷◌, refl, sym, ap, subst, ◌∙◌, arith}
+use Rattle.std.proofs.Common.{◌≡◌, ℕ, Bool, true, false, IsTrue, IsSomeAnd, inl, inr, Option, Some, None, Result, Ok, Err, List, refl, sym, subst, arith}
 use Rattle.std.specs.Bool.{OnTrue}
-use Rattle.std.specs.FinMap as map
 use Rattle.ddc_base.specs.declared.outside.Operation.{Operation}
 use Rattle.ddc_base.specs.declared.outside.Operation.TheVariants.{Load, Save}
 use Rattle.ddc_base.specs.declared.outside.Loaded.TheVariants as content
-use Rattle.ddc_base.specs.Outside.{Files, ShelfState, Rose, LoadFails, loaded}
-use Rattle.ddc_app.specs.declared.status.Status.{Status}
+use Rattle.ddc_base.specs.Outside.{Files, ShelfState, loaded}
 use Rattle.ddc_app.specs.declared.answer.Answer.{Answer}
 use Rattle.ddc_app.specs.declared.stop.Stop.{Stop}
 use Rattle.ddc_app.specs.declared.stop.Stop.TheVariants as stop
-use Rattle.ddc_app.specs.Plan.{Plan, answers, needs, sets, outcome, loads, saves, follow}
-use Rattle.ddc_app.specs.Performs.{IsIn, IsSettled, IsFaultIn, Answers, Faults, LosesSave, WantsMemory, Performs, Says, IsRefusal, Fetches}
+use Rattle.ddc_app.specs.Plan.{Plan, answers, needs, sets, outcome, loads, saves}
+use Rattle.ddc_app.specs.Performs.{IsIn, IsSettled, IsFaultIn, Answers, Performs, Says, IsRefusal, Fetches}
 
 -- a fact that holds where the shelf tells, on a shelf that tells
 where_told : {P : Type 0} (tells : Bool) → IsTrue tells → OnTrue tells P → P

@@ -3,8 +3,12 @@ use Rattle.std.specs.Prelude.{ℕ, List, [], ◌∷◌, bytes_eq, codes, if◌th
 use Rattle.ddc_app.specs.Plan.{Plan}
 use Rattle.ddc_app.specs.Words.{usage}
 use Rattle.ddc_app.specs.Hex0.{hex0_plan}
+use Rattle.ddc_app.specs.List.{list_plan}
 
 -- what a command line does
 abbrev pub plan_of : List (List ℕ) → Plan
 plan_of [] = usage
-plan_of (command ∷ words) = if bytes_eq command (codes "hex0") then hex0_plan words else usage
+plan_of (command ∷ words) =
+    if bytes_eq command (codes "hex0") then hex0_plan words
+    else (if bytes_eq command (codes "list") then list_plan words
+    else usage)

@@ -1,6 +1,5 @@
 -- `hex0 SOURCE BINARY`: whether the binary is the hex0 value of the source. docs/reference/command-line.md says the same for people.
-use Rattle.std.specs.Prelude.{ℕ, Bool, ◌&&◌, not, Option, Some, None, List, [], ◌∷◌, length, ◌==◌, nat_le, if◌then◌else◌}
-use Rattle.std.specs.List.{list_any}
+use Rattle.std.specs.Prelude.{ℕ, ◌&&◌, Option, Some, None, List, [], ◌∷◌, length, if◌then◌else◌}
 use Rattle.ddc_base.specs.Difference.{first_difference}
 use Rattle.hex_langs.specs.Hex0.{hex0_of}
 use Rattle.ddc_app.specs.declared.status.Status.TheVariants.{Yes, Differs}

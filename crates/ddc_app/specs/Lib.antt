@@ -4,5 +4,6 @@ pub mod Plan
 pub mod Words
 pub mod Performs
 pub mod Hex0
+pub mod List
 pub mod Commands
 pub mod Run

@@ -1,12 +1,11 @@
 -- What a command does to a shelf, by how it ends, measured against its plan.
-use Rattle.std.specs.Prelude.{◌≡◌, ◌≢◌, ℕ, ◌≤◌, Bool, IsTrue, IsSomeAnd, ◌⊎◌, Option, Result, Ok, Err, List, [], ◌∷◌}
+use Rattle.std.specs.Prelude.{◌≡◌, ◌≢◌, ℕ, ◌≤◌, Bool, IsTrue, IsSomeAnd, ◌⊎◌, Result, Ok, Err, List, [], ◌∷◌, length}
 use Rattle.std.specs.Bool.{OnTrue}
 use Rattle.std.specs.FinMap as map
 use Rattle.ddc_base.specs.declared.outside.Operation.{Operation}
 use Rattle.ddc_base.specs.declared.outside.Operation.TheVariants.{Load, Save}
 use Rattle.ddc_base.specs.declared.outside.Loaded.TheVariants as content
 use Rattle.ddc_base.specs.Outside.{Files, ShelfState, Rose, LoadFails, loaded}
-use Rattle.ddc_app.specs.declared.status.Status.{Status}
 use Rattle.ddc_app.specs.declared.status.Status.TheVariants as status
 use Rattle.ddc_app.specs.declared.answer.Answer.{Answer}
 use Rattle.ddc_app.specs.declared.stop.Stop.{Stop}
@@ -85,7 +84,8 @@ IsRefusal shelf name limit answer =
     ⊎ ((loaded shelf.files name limit ≡ content.TooLong) × (answer.text ≡ too_long_line name)))
 
 abbrev pub FetchesBy : List ℕ → ℕ → ShelfState → ShelfState → Result (List ℕ) Stop → Type 0
-FetchesBy name limit old new (Ok bytes) = (new ≡ old) × OnTrue old.tells (loaded old.files name limit ≡ content.Bytes bytes)
+FetchesBy name limit old new (Ok bytes) =
+    (new ≡ old) × OnTrue old.tells (loaded old.files name limit ≡ content.Bytes bytes) × (length bytes ≤ limit)
 FetchesBy name limit old new (Err (stop.Answered answer)) = (new ≡ old) × IsRefusal old name limit answer
 FetchesBy name limit old new (Err (stop.ShelfFault text)) = LoadFails name old new × (text ≡ shelf_fault_line name)
 FetchesBy name limit old new (Err stop.OutOfMemory) = (new ≡ old) ⊎ LoadFails name old new

@@ -1,8 +1,7 @@
 -- What the top call leaves, by its status. docs/reference/command-line.md says the same for people.
-use Rattle.std.specs.Prelude.{◌≡◌, ℕ, ◌⊎◌, Option, IsSomeAnd, List, [], ◌∷◌, ◌++◌, take, map}
+use Rattle.std.specs.Prelude.{◌≡◌, ℕ, ◌⊎◌, IsSomeAnd, List, ◌++◌, take, map}
 use Rattle.std.specs.Bool.{OnTrue}
 use Rattle.std.specs.Borrow.{Bor}
-use Rattle.ddc_base.specs.declared.outside.Operation.{Operation}
 use Rattle.ddc_base.specs.Outside.{ShelfState, SinkState, Takes, TakesFront}
 use Rattle.ddc_app.specs.declared.status.Status.{Status}
 use Rattle.ddc_app.specs.declared.status.Status.TheVariants.{OutFault, OutOfMemory}

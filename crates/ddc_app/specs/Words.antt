@@ -1,5 +1,5 @@
 -- The words of a command line. docs/reference/command-line.md says the same for people.
-use Rattle.std.specs.Prelude.{ℕ, Bool, ◌&&◌, not, List, [], ◌∷◌, length, ◌==◌, nat_le}
+use Rattle.std.specs.Prelude.{ℕ, Bool, ◌&&◌, not, List, length, ◌==◌, nat_le}
 use Rattle.std.specs.List.{list_any}
 use Rattle.ddc_app.specs.declared.status.Status.TheVariants.{Usage}
 use Rattle.ddc_app.specs.Texts.{usage_line}

@@ -1,2 +1,3 @@
 //! The commands, a module for each.
 pub(crate) mod hex0;
+pub(crate) mod list;

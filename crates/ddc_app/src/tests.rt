@@ -1,6 +1,7 @@
 use super::*;
 use ddc_base::{MemShelf, MemSink, OutOfMemory, Shelf, Sink};
 use std::alloc::Global;
+use std::process::Abort;
 use std::test::Fail;
 
 /// A shelf with the files of the worked examples.
@@ -10,14 +11,29 @@ fn worked_shelf(alloc: Global) -> Result<MemShelf, OutOfMemory> {
     shelf.set("pair", &[0x7F, 0x45])?;
     shelf.set("empty", b"")?;
     shelf.set("zero", &[0])?;
+    shelf.set("exits", &[0x13, 5, 0, 0, 0x93, 8, 0xD0, 5, 0x73, 0, 0, 0])?;
+    shelf.set("no word", &[0xFF, 0xFF, 0xFF, 0xFF, 1])?;
     Ok(shelf)
 }
 
-#[test]
-fn worked_examples(rt: HostRuntime) -> Result<(), Fail> {
-    let alloc = rt.alloc();
+/// Runs each line of words on the worked files, and compares its status and text.
+fn answers(
+    rt: &impl Abort,
+    alloc: Global,
+    table: &[(&[&str], Status, &str)],
+) -> Result<(), OutOfMemory> {
     let mut shelf = worked_shelf(alloc)?;
-    let table: [(&[&str], Status, &str); 9] = [
+    for (words, status, text) in table {
+        let mut out = MemSink::new(alloc);
+        assert_eq!(rt; run(alloc, words, &mut shelf, &mut out), *status);
+        assert_eq!(rt; out.written(), text.as_bytes());
+    }
+    Ok(())
+}
+
+#[test]
+fn values_are_compared(rt: HostRuntime) -> Result<(), Fail> {
+    let table: [(&[&str], Status, &str); 5] = [
         (&["hex0", "commented", "pair"], Status::Yes, "equal 2\n"),
         (&["hex0", "empty", "empty"], Status::Yes, "equal 0\n"),
         (
@@ -35,16 +51,40 @@ fn worked_examples(rt: HostRuntime) -> Result<(), Fail> {
             Status::FileRefused,
             "file refused none absent\n",
         ),
+    ];
+    answers(&rt, rt.alloc(), &table)?;
+    Ok(())
+}
+
+#[test]
+fn words_are_listed(rt: HostRuntime) -> Result<(), Fail> {
+    let exits =
+        "00000000 00000513 addi x10, x0, 0\n00000004 05d00893 addi x17, x0, 93\n00000008 00000073 ecall\n";
+    let no_word = "00000000 ffffffff ?\n00000004 rest 01\n";
+    let table: [(&[&str], Status, &str); 4] = [
+        (&["list", "exits"], Status::Yes, exits),
+        (&["list", "no word"], Status::Yes, no_word),
+        (&["list", "empty"], Status::Yes, ""),
+        (
+            &["list", "none"],
+            Status::FileRefused,
+            "file refused none absent\n",
+        ),
+    ];
+    answers(&rt, rt.alloc(), &table)?;
+    Ok(())
+}
+
+#[test]
+fn other_words_are_usage(rt: HostRuntime) -> Result<(), Fail> {
+    let table: [(&[&str], Status, &str); 5] = [
         (&["hex0", "commented"], Status::Usage, "usage\n"),
         (&["hex0", "comm\0ented", "pair"], Status::Usage, "usage\n"),
         (&["hex1", "commented", "pair"], Status::Usage, "usage\n"),
+        (&["list"], Status::Usage, "usage\n"),
         (&[], Status::Usage, "usage\n"),
     ];
-    for (words, status, text) in table {
-        let mut out = MemSink::new(alloc);
-        assert_eq!(rt; run(alloc, words, &mut shelf, &mut out), status);
-        assert_eq!(rt; out.written(), text.as_bytes());
-    }
+    answers(&rt, rt.alloc(), &table)?;
     Ok(())
 }
 

@@ -1,6 +1,12 @@
 -- The heap in its memory: what a new break asks of the memory, and that the heap's condition stays.
-use Rattle.std.proofs.Common.{◌≡◌, ℕ, ◌+◌, ◌-◌, ◌*◌, ◌/◌, ◌%◌, ◌^◌, ◌<◌, ◌≤◌, Bool, true, false, cond, Option, None, Some, IsSome, is_some, List, length, refl, sym, ap, subst, ◌∙◌, arith, ◌⊎◌, inl, inr}
-use Rattle.std.specs.FinMap.{get}
+use Rattle.std.proofs.Common.{◌≡◌, ℕ, ◌+◌, ◌-◌, ◌<◌, ◌≤◌, Bool, true, false, cond, Option, None, Some, IsSome, is_some, List, length, refl, sym, ap, subst, ◌∙◌, arith, ◌⊎◌, inl, inr}
+use Rattle.std.specs.Prelude.{⊤}
+use Rattle.std.specs.Ordering.{nat_cmp}
+use Rattle.std.specs.FinMap.{get, empty, get-empty}
+use Rattle.std.proofs.Common.{Result, Ok, Err}
+use Rattle.paged_mem.specs.Ram.{Writes}
+use Rattle.paged_mem.specs.declared.ram.StoreRefusal.{StoreRefusal}
+use Rattle.paged_mem.specs.declared.ram.StoreRefusal.TheVariants.{Unmapped, OutOfMemory}
 use Rattle.std.specs.Prelude.{nat_lt}
 use Rattle.std.proofs.lemmas.Bool.{cases_lt}
 use borrow.Author.Tests.{ltb-true, ltb-false}
@@ -81,3 +87,25 @@ module _ (m : Memory) (heap : Heap) (is : IsHeapOf m heap) (to : ℕ) (from_firs
       by_test : (t : Bool) → nat_lt (page_end heap.now) (page_end to) ≡ t → IsHeapOf (cond t (with_bytes m (page_end heap.now) (zeros (page_end to - page_end heap.now))) (without m (page_end to) (page_end heap.now - page_end to))) (record heap { now = to })
       by_test true was = grown (ltb-true (page_end heap.now) (page_end to) was)
       by_test false was = shrunk (ltb-false (page_end heap.now) (page_end to) was)
+
+-- a write, whatever it answers, keeps the heap
+pub IsHeapOf-writes : (m n : Memory) (at : ℕ) (bytes : List ℕ) (heap : Heap) (r : Result ⊤ StoreRefusal) → Writes m at bytes r n → IsHeapOf m heap → IsHeapOf n heap
+IsHeapOf-writes m n at bytes heap (Ok done) writes is =
+    subst (λ n. IsHeapOf n heap) (sym writes.1) (IsHeapOf-same m (with_bytes m at bytes) heap (same_after_write m at bytes writes.0) is)
+IsHeapOf-writes m n at bytes heap (Err Unmapped) writes is = subst (λ n. IsHeapOf n heap) (sym writes.1) is
+IsHeapOf-writes m n at bytes heap (Err OutOfMemory) writes is = subst (λ n. IsHeapOf n heap) (sym writes.1) is
+
+-- an empty heap above two pages
+pub IsHeapOf-fresh : (m : Memory) → m ≡ with_bytes empty 65536 (zeros 8192) → IsHeapOf m (record { first = 131072; now = 131072; limit = 65536 })
+IsHeapOf-fresh m e = record {
+  aligned = refl;
+  small = omega arith;
+  from = omega arith;
+  to = omega arith;
+  low = omega arith;
+  mapped = maps_by_each m 131072 0 (λ q low high. absurd (omega arith));
+  free = λ q low high.
+      ap (λ m. get m q) e
+      ∙ get-with_bytes_above empty 65536 (zeros 8192) q (omega (arith, length-zeros 8192))
+      ∙ get-empty nat_cmp q;
+}

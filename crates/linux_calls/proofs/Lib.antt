@@ -1,3 +1,5 @@
+pub mod BreakLaws
+pub mod ErrorLaw
 pub mod Heaps
 pub mod Texts
 pub mod Writing

@@ -1,11 +1,11 @@
 -- Reading a text byte by byte.
-use Rattle.std.proofs.Common.{◌≡◌, ◌≢◌, ℕ, zero, suc, ◌+◌, ◌-◌, ◌<◌, ◌≤◌, ◌==◌, Bool, true, false, cond, eqb, Option, None, Some, Result, Ok, Err, List, [], ◌∷◌, ◌++◌, length, refl, sym, ap, ◌∙◌, arith, append_assoc}
+use Rattle.std.proofs.Common.{◌≡◌, ◌≢◌, ℕ, zero, suc, ◌<◌, ◌≤◌, ◌==◌, Bool, true, false, cond, Option, None, Some, Result, Ok, Err, List, [], ◌∷◌, ◌++◌, length, refl, sym, ap, ◌∙◌, arith, append_assoc}
 use Rattle.std.specs.Prelude.{not, nat_le, ◌&&◌, ◌||◌, IsTrue}
 use Rattle.std.specs.List.{list_any}
-use Rattle.std.proofs.Common.{◌⊎◌, inl, inr}
+use Rattle.std.proofs.Common.{◌⊎◌}
 use Rattle.std.proofs.lemmas.Bool.{ne_eqb, cases_eq}
 use Rattle.std.proofs.lemmas.Bool.Decides.{nat_tests}
-use Rattle.mem_files.specs.Names.{stripped, is_name, is_stripped_name, begins_with_dot_slash}
+use Rattle.mem_files.specs.Names.{stripped, is_stripped_name, begins_with_dot_slash}
 use Rattle.std.specs.FinMap.{get}
 use Rattle.paged_mem.specs.Memory.{Memory, reads, bytes_at, number_of, prepended}
 use Rattle.std.specs.Option.{option_map}

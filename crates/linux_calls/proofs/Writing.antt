@@ -1,5 +1,5 @@
 -- What a write that is allowed comes to.
-use Rattle.std.proofs.Common.{◌≡◌, ◌≢◌, ℕ, ◌<◌, ◌==◌, Bool, true, false, cond, Option, None, Some, Result, Ok, Err, IsOk, IsOkAnd, is_ok, is_some, List, length, refl, sym, ap, subst, ◌∙◌, arith, inl, inr}
+use Rattle.std.proofs.Common.{◌≡◌, ◌≢◌, ℕ, ◌<◌, true, cond, Option, None, Some, Result, Ok, Err, IsOk, IsOkAnd, is_ok, is_some, List, refl, sym, ap, subst, ◌∙◌, arith, inl, inr}
 use Rattle.std.specs.FinMap.{get}
 use Rattle.std.proofs.lemmas.Bool.{ne_eqb}
 use Rattle.paged_mem.specs.Memory.{Memory, bytes_at, maps}
@@ -10,7 +10,7 @@ use Rattle.linux_calls.specs.declared.Heap.{Heap}
 use Rattle.linux_calls.specs.declared.CallEnd.{CallEnd}
 use Rattle.linux_calls.specs.declared.CallEnd.TheVariants.{Back, OutOfMemory}
 use Rattle.linux_calls.specs.declared.TheConstants.{SYS_WRITE}
-use Rattle.linux_calls.specs.Calls.{State, state, Outcome, goes, back, answer_of, answering, written_at, written_from}
+use Rattle.linux_calls.specs.Calls.{state, Outcome, goes, back, answer_of, answering, written_at, written_from}
 use Rattle.linux_calls.specs.Answer.{IsAnswer}
 
 module _ (m : Memory) (w : World) (fd buffer count : ℕ) (done : Unit {0}) (writable : fits w fd 0 ≡ Ok done) (some : count ≢ 0) (heap : Heap) where

@@ -1,5 +1,5 @@
 -- How an answer that may also be out of memory fits what is meant.
-use Rattle.std.specs.Prelude.{◌≡◌, ℕ, ◌<◌, ◌⊎◌, Result, IsOk, IfOk, IsOkAnd}
+use Rattle.std.specs.Prelude.{◌≡◌, ℕ, ◌<◌, ◌⊎◌, Result, IsOk, IsOkAnd}
 use Rattle.mem_files.specs.World.{World}
 use Rattle.paged_mem.specs.Memory.{Memory}
 use Rattle.linux_calls.specs.declared.Heap.{Heap}

@@ -1,6 +1,6 @@
 -- The call table: what each call answers, and the memory, files and heap after it, by the first rule that fits
 -- (docs/reference/calls.md, "The table"). An error changes nothing.
-use Rattle.std.specs.Prelude.{ℕ, ◌+◌, ◌-◌, ◌%◌, ◌^◌, Bool, nat_lt, ◌==◌, if◌then◌else◌, Option, Some, None, Result, Ok, Err, List, length, slice_index, bit_and}
+use Rattle.std.specs.Prelude.{◌≡◌, ⊤, IsErr, ℕ, ◌-◌, ◌%◌, ◌^◌, nat_lt, ◌==◌, if◌then◌else◌, Option, Some, None, Result, Ok, Err, List, length, slice_index, bit_and}
 use Rattle.std.specs.Int.{cast_signed, w64}
 use Rattle.std.specs.FinMap.{get, contains_key}
 use Rattle.paged_mem.specs.Memory.{Memory, bytes_at, maps, with_bytes}
@@ -112,3 +112,9 @@ syscall number a s =
     else (if number == SYS_EXIT_GROUP then exits (arg 0 % 256)
     else (if number == SYS_BRK then moved_break s (arg 0)
     else is_unknown number))))))))))
+
+-- an outcome that is an error leaves the state
+abbrev pub LeavesOnError : State → Outcome → Type 0
+LeavesOnError s (goes answer next) = IsErr answer → next ≡ s
+LeavesOnError s (exits status) = ⊤
+LeavesOnError s (is_unknown n) = ⊤

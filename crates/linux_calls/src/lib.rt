@@ -3,6 +3,7 @@
 //! docs/reference/calls.md has the rules for a reader, and specs/Calls.antt the same for the prover.
 #![tactic(auto)]
 
+pub mod laws;
 mod names;
 mod path;
 mod program_break;
@@ -68,3 +69,6 @@ pub const SYS_EXIT: u64 = 93;
 pub const SYS_EXIT_GROUP: u64 = 94;
 
 pub const SYS_BRK: u64 = 214;
+
+#[cfg(test)]
+mod tests;

@@ -1,5 +1,5 @@
 -- What a call leaves is sound, where what is meant is.
-use Rattle.std.proofs.Common.{◌≡◌, ℕ, Result, Ok, Err, ap, sym, subst}
+use Rattle.std.proofs.Common.{ℕ, Result, Ok, Err, ap, sym, subst}
 use Rattle.mem_files.specs.declared.slot.FileRefusal.{FileRefusal}
 use Rattle.mem_files.specs.declared.slot.FileRefusal.TheVariants as file
 use Rattle.mem_files.specs.declared.slot.PlaceRefusal.{PlaceRefusal}

@@ -1,13 +1,13 @@
 -- A list of cells, of which some hold a value, as the map from their numbers to what they hold.
-use Rattle.std.proofs.Common.{◌≡◌, ◌≢◌, ℕ, zero, suc, ◌+◌, ◌-◌, ◌<◌, ◌≤◌, Bool, true, false, cond, ◌||◌, eqb, List, [], ◌∷◌, ◌++◌, length, get_or, set, map, Option, Some, None, option_map, refl, sym, ap, ◌∙◌, subst, arith}
+use Rattle.std.proofs.Common.{◌≡◌, ◌≢◌, ℕ, zero, suc, ◌+◌, ◌<◌, Bool, true, false, cond, ◌||◌, eqb, List, [], ◌∷◌, ◌++◌, length, get_or, set, Option, Some, None, refl, sym, ap, ◌∙◌, arith}
 use Rattle.std.proofs.lemmas.List.{get_or-set_same, get_or-set_other}
-use Rattle.std.specs.Ordering.{nat_cmp, eq_by_cmp}
-use Rattle.std.specs.Cmp.{nat_cmp_total, unsigned_tied, both_ways}
+use Rattle.std.specs.Ordering.{nat_cmp}
+use Rattle.std.specs.Cmp.{nat_cmp_total, both_ways}
 use Rattle.std.specs.Option.{option_map_or}
 use Rattle.std.specs.List.{list_any}
 use Rattle.std.proofs.lemmas.Bool.{false≢true}
 use Rattle.std.proofs.lemmas.Option.{none-some}
-use Rattle.std.specs.FinMap.{FinMap, get, insert, remove, values, find, get-from_entries, same_map, nat_cmp-IsAntisymmetric}
+use Rattle.std.specs.FinMap.{get, insert, remove, values, find, get-from_entries}
 use Rattle.mem_files.specs.Cells.{numbered, map_of}
 use Rattle.mem_files.proofs.Maps.{find_apart, find_here, get-insert_nat, get-remove_nat, same_nat_map, any_at, key_of_any}
 use Rattle.std.proofs.lemmas.Bool.Decides.{nat_tests}
@@ -72,9 +72,9 @@ module _ {X : Type 0} (p : X → Bool) where
   cell_passes (c ∷ cells) zero x is passes = ap (λ cell. option_map_or p cell false || list_any (λ cell. option_map_or p cell false) cells) is ∙ ap (λ b. b || list_any (λ cell. option_map_or p cell false) cells) passes
   cell_passes (c ∷ cells) (suc k) x is passes = or_true (option_map_or p c false) _ (cell_passes cells k x is passes)
     where
-    or_true : (a b : Bool) → b ≡ true → (a || b) ≡ true
-    or_true true b h = refl
-    or_true false b h = h
+      or_true : (a b : Bool) → b ≡ true → (a || b) ≡ true
+      or_true true b h = refl
+      or_true false b h = h
 
   pub any-map_of : (cells : List (Option X)) → list_any p (values (map_of cells)) ≡ list_any (λ cell. option_map_or p cell false) cells
   any-map_of cells = both_ways _ _

@@ -1,5 +1,5 @@
 -- What each change of a table does to its world, and that the table stays consistent.
-use Rattle.std.proofs.Common.{◌≡◌, ◌≢◌, ℕ, zero, suc, ◌+◌, ◌-◌, ◌<◌, ◌≤◌, Bool, true, false, cond, not, eqb, T, List, [], ◌∷◌, ◌++◌, length, get_or, set, map, Option, Some, None, Result, Ok, Err, IsSome, is_some, unwrap_or, sum_by, refl, sym, ap, ◌∙◌, subst, arith, inl, inr, eq-eqb, eqb-true}
+use Rattle.std.proofs.Common.{◌≡◌, ◌≢◌, ℕ, zero, suc, ◌+◌, ◌-◌, ◌<◌, ◌≤◌, Bool, true, false, cond, not, eqb, T, List, [], ◌∷◌, ◌++◌, length, get_or, set, map, Option, Some, None, Result, Ok, Err, IsSome, is_some, unwrap_or, refl, sym, ap, ◌∙◌, subst, arith, inl, inr, eq-eqb, eqb-true}
 use Rattle.std.specs.Result.{OnErr}
 use Rattle.std.specs.Option.{option_map_or}
 use Rattle.std.specs.List.{list_any}
@@ -21,7 +21,7 @@ use Rattle.mem_files.specs.World.{World, total, content_of, is_of, is_named, is_
 use Rattle.mem_files.specs.Cells.{map_of, with_room}
 use Rattle.mem_files.specs.Table.{Parts, world_of, IsConsistent}
 use Rattle.mem_files.specs.Stored.{content_in, name_in}
-use Rattle.mem_files.proofs.Maps.{get-insert_nat, get-remove_nat, get-lowest_unused, below-lowest_unused, lowest_unused-is, lowest_unused-le-len, size_at, sum_by-insert, sum_by-remove, any_at, key_of_any}
+use Rattle.mem_files.proofs.Maps.{get-lowest_unused, below-lowest_unused, lowest_unused-is, lowest_unused-le-len, any_at, key_of_any}
 use Rattle.mem_files.proofs.Totals.{total-insert, total-remove}
 use Rattle.mem_files.proofs.CellMaps.{get-map_of, map_of-fill, map_of-empty, map_of-push, at_set, at_push, any-map_of}
 use Rattle.mem_files.proofs.Directory.{from_sorted-put, from_sorted-where_key, len-from_sorted, bytes_cmp-IsAntisymmetric, equal}
@@ -34,9 +34,9 @@ on_err (Err e) h = h
 -- a full cell is there
 pub within : {X : Type 0} (cells : List (Option X)) (k : ℕ) → IsSome (get_or cells k None) → k < length cells
 within cells k full = elim (cases_lt k (length cells)) as (λ _. k < length cells) [
-    | inl h ↦ h
-    | inr h ↦ absurd (false≢true (sym (ap is_some (get_or_past cells k None h)) ∙ full))
-  ]
+  | inl h ↦ h
+  | inr h ↦ absurd (false≢true (sym (ap is_some (get_or_past cells k None h)) ∙ full))
+]
 
 -- the cell of a file, as the world sees it
 at_map : {X Y : Type 0} (f : Option X → Option Y) → f None ≡ None → (cells : List (Option X)) (k : ℕ) → get_or (map f cells) k None ≡ f (get_or cells k None)
@@ -287,8 +287,8 @@ module _ (p : Parts) (w : World) (is : world_of p ≡ w) (ok : IsConsistent p) w
         ] refl;
   }
     where
-    vacant : name_in (get_or p.files at None) ≡ None
-    vacant = empty_cell (get_or p.files at None) (sym (get-file p at) ∙ subst (λ (v : World). fin.get v.files at ≡ None) (sym is) free)
+      vacant : name_in (get_or p.files at None) ≡ None
+      vacant = empty_cell (get_or p.files at None) (sym (get-file p at) ∙ subst (λ (v : World). fin.get v.files at ≡ None) (sym is) free)
 
   -- a file loses its name
   pub unname-world : (name : List ℕ) (at : ℕ) (cell : Option Stored) → content_in cell ≡ content_in (get_or p.files at None)
@@ -328,11 +328,11 @@ module _ (p : Parts) (w : World) (is : world_of p ≡ w) (ok : IsConsistent p) w
         ] refl;
   }
     where
-    here : fin.get (world_of p).names name ≡ Some at
-    here = subst (λ (v : World). fin.get v.names name ≡ Some at) (sym is) held
+      here : fin.get (world_of p).names name ≡ Some at
+      here = subst (λ (v : World). fin.get v.names name ≡ Some at) (sym is) held
 
-    inside : at < length p.files
-    inside = within p.files at (named_full (get_or p.files at None) name (ok.found name at here))
+      inside : at < length p.files
+      inside = within p.files at (named_full (get_or p.files at None) name (ok.found name at here))
 
   -- what is looked up
   pub slot-is : (fd : ℕ) → fin.get w.slots fd ≡ get_or p.slots fd None
@@ -394,22 +394,21 @@ module _ (p : Parts) (w : World) (is : world_of p ≡ w) (ok : IsConsistent p) w
   -- a place for the lowest unused number
   lowest_slot : lowest_unused w.slots ≤ length p.slots
   lowest_slot = elim (cases_lt (length p.slots) (lowest_unused w.slots)) as (λ _. lowest_unused w.slots ≤ length p.slots) [
-      | inl h ↦ absurd (false≢true (sym (ap is_some (slot-is (length p.slots) ∙ get_or_past p.slots (length p.slots) None (omega arith))) ∙ below-lowest_unused w.slots (length p.slots) h))
-      | inr h ↦ h
-    ]
+    | inl h ↦ absurd (false≢true (sym (ap is_some (slot-is (length p.slots) ∙ get_or_past p.slots (length p.slots) None (omega arith))) ∙ below-lowest_unused w.slots (length p.slots) h))
+    | inr h ↦ h
+  ]
 
   lowest_number : lowest_unused w.files ≤ length p.files
   lowest_number = elim (cases_lt (length p.files) (lowest_unused w.files)) as (λ _. lowest_unused w.files ≤ length p.files) [
-      | inl h ↦ absurd (false≢true (sym (ap is_some (file-is (length p.files) ∙ ap content_in (get_or_past p.files (length p.files) None (omega arith)))) ∙ below-lowest_unused w.files (length p.files) h))
-      | inr h ↦ h
-    ]
+    | inl h ↦ absurd (false≢true (sym (ap is_some (file-is (length p.files) ∙ ap content_in (get_or_past p.files (length p.files) None (omega arith)))) ∙ below-lowest_unused w.files (length p.files) h))
+    | inr h ↦ h
+  ]
 
   pub slot_reached : (fd : ℕ) → fd ≡ lowest_unused w.slots → fd ≤ length p.slots
   slot_reached fd lowest = omega (arith, lowest_slot)
 
   pub number_reached : (number : ℕ) → number ≡ lowest_unused w.files → number ≤ length p.files
   number_reached number lowest = omega (arith, lowest_number)
-
 
 -- what is added at the lowest unused descriptor, with room made for it
 module _ (p : Parts) (w : World) (is : world_of p ≡ w) (ok : IsConsistent p)
@@ -424,7 +423,7 @@ module _ (p : Parts) (w : World) (is : world_of p ≡ w) (ok : IsConsistent p)
   pub added_slot-consistent : IsConsistent (record p { slots = set cells fd (Some slot); slot_count = p.slot_count + 1 })
   added_slot-consistent =
       subst (λ (l : List (Option Slot)). IsConsistent (record p { slots = set l fd (Some slot); slot_count = p.slot_count + 1 })) (sym reached)
-          (let there = slot_room _ refl in add_slot-consistent (record p { slots = with_room p.slots fd }) w there.2 there.1 fd slot there.0 (ap (fin.get w.slots) lowest ∙ get-lowest_unused w.slots))
+      (let there = slot_room _ refl in add_slot-consistent (record p { slots = with_room p.slots fd }) w there.2 there.1 fd slot there.0 (ap (fin.get w.slots) lowest ∙ get-lowest_unused w.slots))
 
   pub added_slot-world : world_of (record p { slots = set cells fd (Some slot); slot_count = p.slot_count + 1 }) ≡ record w { slots = fin.insert w.slots fd slot }
   added_slot-world =
@@ -455,8 +454,8 @@ module _ (p : Parts) (w : World) (is : world_of p ≡ w) (ok : IsConsistent p)
     pub added_file-consistent : IsConsistent (record p { names = names; files = set cells at (Some file); total = bytes })
     added_file-consistent =
         subst (λ (l : List (List ℕ × ℕ)). IsConsistent (record p { names = l; files = set cells at (Some file); total = bytes })) (sym listed)
-            (add_file-consistent (record p { files = cells }) w roomy_files-world roomy_files-consistent name at file bytes added_file-within absent (ap (fin.get w.files) lowest ∙ get-lowest_unused w.files) named
-                (sums ∙ ap (λ l. p.total + length l) (sym same_content)))
+        (add_file-consistent (record p { files = cells }) w roomy_files-world roomy_files-consistent name at file bytes added_file-within absent (ap (fin.get w.files) lowest ∙ get-lowest_unused w.files) named
+        (sums ∙ ap (λ l. p.total + length l) (sym same_content)))
 
     pub added_file-world : world_of (record p { names = names; files = set cells at (Some file); total = bytes }) ≡ record w { names = fin.insert w.names name at; files = fin.insert w.files at content }
     added_file-world =

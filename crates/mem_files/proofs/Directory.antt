@@ -1,14 +1,13 @@
 -- The entries of the tree of names, in order, as the map from names to numbers.
-use Rattle.std.proofs.Common.{◌≡◌, ℕ, Bool, true, false, cond, not, ◌&&◌, T, List, [], ◌∷◌, length, map, Option, Some, None, refl, sym, ap, ◌∙◌, subst}
-use Rattle.std.specs.List.{filter}
-use Rattle.std.specs.Ordering.{nat_cmp, eq_by_cmp, is_eq, is_lt, match_ordering}
+use Rattle.std.proofs.Common.{◌≡◌, ℕ, Bool, true, false, cond, not, ◌&&◌, T, List, [], ◌∷◌, length, map, Some, None, refl, sym, ap, ◌∙◌, subst}
+use Rattle.std.specs.Ordering.{eq_by_cmp, is_eq, is_lt, match_ordering}
 use Rattle.std.specs.declared.cmp.Ordering.{Ordering}
 use Rattle.std.specs.declared.cmp.Ordering.TheVariants.{Less, Equal, Greater}
 use Rattle.std.specs.Cmp.{alike_right, eq_by_cmp_equiv}
 use Rattle.std.specs.Cmp.Lexicographic.{nat_list_cmp_total}
 use Rattle.std.specs.BTreeMap.{insert_entry}
 use Rattle.std.specs.Map.{lookup, remove_entry}
-use Rattle.std.specs.FinMap.{FinMap, IsAntisymmetric, nat_cmp-IsAntisymmetric, slice_cmp-IsAntisymmetric, get, insert, remove, entries, from_sorted, entries-from_sorted, get-from_sorted, entries-insert, same_entries_map, same_map, get-remove, find, put, is_sorted, len, len-entries}
+use Rattle.std.specs.FinMap.{FinMap, IsAntisymmetric, nat_cmp-IsAntisymmetric, slice_cmp-IsAntisymmetric, get, insert, remove, from_sorted, entries-from_sorted, get-from_sorted, entries-insert, same_entries_map, same_map, get-remove, find, put, is_sorted, len, len-entries}
 use Rattle.std.specs.FinMap.Entries.{by_order, below_all, where_key, is_sorted-where_key, is_sorted-put, find-where_key}
 use Rattle.mem_files.specs.Names.{bytes_cmp}
 use Rattle.mem_files.specs.Cells.{keyed}
@@ -46,7 +45,7 @@ module _ {K X : Type 0} (view : K → List ℕ) where
   keyed-insert [] k v = refl
   keyed-insert (e ∷ es) k v =
       elim (bytes_cmp (view k) (view e.0)) as (λ r. keyed view (match_ordering r ((k, v) ∷ e ∷ es) ((e.0, v) ∷ es) (e ∷ insert_entry (λ a b. bytes_cmp (view a) (view b)) es k v))
-          ≡ by_order r ((view k, v) ∷ (view e.0, e.1) ∷ keyed view es) ((view e.0, v) ∷ keyed view es) ((view e.0, e.1) ∷ put bytes_cmp (view k) v (keyed view es))) [
+      ≡ by_order r ((view k, v) ∷ (view e.0, e.1) ∷ keyed view es) ((view e.0, v) ∷ keyed view es) ((view e.0, e.1) ∷ put bytes_cmp (view k) v (keyed view es))) [
         | Less ↦ refl
         | Equal ↦ refl
         | Greater ↦ ap (λ rest. (view e.0, e.1) ∷ rest) (keyed-insert es k v)
@@ -85,11 +84,11 @@ module _ {X : Type 0} (es : List (List ℕ × X)) (s : T (is_sorted bytes_cmp es
   from_sorted-where_key k =
       let others : List ℕ → Bool = λ y. not (eq_by_cmp bytes_cmp k y) in
       same_name_map _ _ (λ q. get-from_sorted bytes_cmp (where_key bytes_cmp others es) q (is_sorted-where_key bytes_cmp others es s)
-          ∙ find-where_key bytes_cmp others q (λ x t. ap (λ r. not (is_eq r)) (sym (alike_right nat_list_cmp_total q x k t))) es
-          ∙ turned (eq_by_cmp bytes_cmp k q) (find bytes_cmp q es) None
-          ∙ ap (λ b. cond b None (find bytes_cmp q es)) ((eq_by_cmp_equiv nat_list_cmp_total).symm k q)
-          ∙ ap (cond (eq_by_cmp bytes_cmp q k) None) (sym (get-from_sorted bytes_cmp es q s))
-          ∙ sym (get-remove nat_list_cmp_total (from_sorted es) k q))
+      ∙ find-where_key bytes_cmp others q (λ x t. ap (λ r. not (is_eq r)) (sym (alike_right nat_list_cmp_total q x k t))) es
+      ∙ turned (eq_by_cmp bytes_cmp k q) (find bytes_cmp q es) None
+      ∙ ap (λ b. cond b None (find bytes_cmp q es)) ((eq_by_cmp_equiv nat_list_cmp_total).symm k q)
+      ∙ ap (cond (eq_by_cmp bytes_cmp q k) None) (sym (get-from_sorted bytes_cmp es q s))
+      ∙ sym (get-remove nat_list_cmp_total (from_sorted es) k q))
 
   pub len-from_sorted : len (from_sorted {R = bytes_cmp} es) ≡ length es
   len-from_sorted = len-entries (from_sorted es) ∙ ap length (entries-from_sorted bytes_cmp es s)

@@ -1,5 +1,5 @@
 -- What stands in a finite map after a change, case by case.
-use Rattle.std.proofs.Common.{◌≡◌, ◌≢◌, ℕ, Bool, true, false, cond, ◌||◌, ◌⊎◌, inl, inr, List, Option, Some, None, IsSome, is_some, refl, sym, ap, ◌∙◌, subst, arith}
+use Rattle.std.proofs.Common.{◌≡◌, ◌≢◌, ℕ, true, false, cond, ◌⊎◌, inl, inr, List, Option, Some, None, IsSome, is_some, refl, sym, ap, ◌∙◌}
 use Rattle.std.proofs.lemmas.Bool.{false≢true}
 use Rattle.std.proofs.lemmas.Option.{none-some, same_Some}
 use Rattle.std.specs.Ordering.{eq_by_cmp, is_eq, nat_cmp}
@@ -23,9 +23,9 @@ module _ {K : Type 0} {R : K → K → Ordering} (o : IsTotalOrder R) (same : Is
 
   by_tie : {P : Type 0} (q k : K) → (q ≡ k → P) → (q ≢ k → P) → P
   by_tie {P} q k here there = elim (eq_by_cmp R q k) as (λ b. eq_by_cmp R q k ≡ b → P) [
-      | true ↦ λ t. here (same q k (equal (R q k) t))
-      | false ↦ λ f. there (λ e. false≢true (sym f ∙ tie q k e))
-    ] refl
+    | true ↦ λ t. here (same q k (equal (R q k) t))
+    | false ↦ λ f. there (λ e. false≢true (sym f ∙ tie q k e))
+  ] refl
 
   apart : (q k : K) → q ≢ k → eq_by_cmp R q k ≡ false
   apart q k ne = elim (eq_by_cmp R q k) as (λ b. eq_by_cmp R q k ≡ b → b ≡ false) [ true ↦ λ t. absurd (ne (same q k (equal (R q k) t))) | false ↦ λ _. refl ] refl

@@ -1,13 +1,10 @@
 -- The first table: no files, and three descriptors.
-use Rattle.std.proofs.Common.{◌≡◌, ℕ, ◌+◌, sum_by, map, Bool, true, false, cond, List, [], ◌∷◌, length, Some, None, refl, sym, ap, ◌∙◌, arith, rules}
+use Rattle.std.proofs.Common.{◌≡◌, ℕ, ◌+◌, sum_by, map, List, [], ◌∷◌, length, Some, refl, sym, ap, ◌∙◌, arith, rules}
 use Rattle.std.proofs.lemmas.Option.{none-some}
 use Rattle.std.specs.Ordering.{nat_cmp}
-use Rattle.std.specs.Cmp.{nat_cmp_total}
 use Rattle.std.specs.FinMap as fin
-use Rattle.mem_files.specs.declared.slot.Slot.{Slot}
 use Rattle.mem_files.specs.declared.slot.Slot.TheVariants.{Input, Stream1, Stream2}
 use Rattle.mem_files.specs.Names.{bytes_cmp}
-use Rattle.mem_files.specs.World.{World, total}
 use Rattle.mem_files.specs.Calls.{first_world}
 use Rattle.mem_files.specs.Cells.{map_of}
 use Rattle.mem_files.specs.Table.{Parts, world_of, IsConsistent}

@@ -1,5 +1,5 @@
 -- What is read after a write at the same place, and after a name is removed.
-use Rattle.std.proofs.Common.{◌≡◌, ◌≢◌, ℕ, ◌+◌, ◌-◌, ◌^◌, ◌<◌, ◌≤◌, min, Bool, true, false, cond, ◌||◌, ◌==◌, eqb, nat_lt, ℤ, pos, negsuc, ◌+ℤ◌, if◌then◌else◌, List, [], ◌∷◌, ◌++◌, length, take, drop, replicate, Option, Some, None, Result, Ok, Err, IsTrue, unwrap_or, refl, sym, ap, ◌∙◌, subst, arith, append_assoc, eq-eqb, eqb-true}
+use Rattle.std.proofs.Common.{◌≡◌, ℕ, ◌+◌, ◌-◌, ◌^◌, ◌<◌, true, false, cond, ◌||◌, ◌==◌, eqb, nat_lt, pos, if◌then◌else◌, List, [], ◌∷◌, ◌++◌, length, take, drop, replicate, Option, Some, None, Result, Ok, Err, IsTrue, unwrap_or, refl, sym, ap, ◌∙◌, arith, append_assoc, eq-eqb, eqb-true}
 use Rattle.std.proofs.lemmas.List.{length-append, length-take, length-replicate}
 use Rattle.std.proofs.Math.Seq.{drop-append_seam, take-append_seam}
 use Rattle.std.proofs.lemmas.Bool.{false≢true}
@@ -7,9 +7,9 @@ use Rattle.std.proofs.lemmas.Bool.Decides.{nat_tests}
 use Rattle.std.specs.FinMap as fin
 use Rattle.mem_files.specs.declared.slot.Slot.{Slot}
 use Rattle.mem_files.specs.declared.slot.Slot.TheVariants.{Input, Stream1, Stream2, File}
-use Rattle.mem_files.specs.declared.TheConstants.{SEEK_SET, MAY_READ, MAY_WRITE, APPENDS, EBADF, EINVAL}
+use Rattle.mem_files.specs.declared.TheConstants.{SEEK_SET, MAY_READ, APPENDS, EBADF}
 use Rattle.mem_files.specs.World.{World, content_of, is_named, is_open}
-use Rattle.mem_files.specs.Calls.{has, fits, write_cursor, filled, written, written_if, moved, sought, sought_at, ready, ready_at, removed, removed_at, without_unused, overwritten, with_bytes}
+use Rattle.mem_files.specs.Calls.{has, fits, write_cursor, filled, written, written_if, moved, sought, sought_at, ready, ready_at, removed, removed_at, overwritten, with_bytes}
 use Rattle.mem_files.specs.Sound.{IsSound}
 use Rattle.mem_files.proofs.Entries.{here, left}
 use Rattle.mem_files.proofs.Soundness.{open_by, neither}
@@ -41,59 +41,59 @@ pub written_read : (w new : World) (fd number cursor flags : ℕ) (bytes : List 
     → written w fd bytes ≡ (Ok tt, new) → ready (sought new fd (pos cursor) SEEK_SET).1 fd (length bytes) ≡ Ok bytes
 written_read w new fd number cursor flags bytes s at may ends done = at_fit (fits w fd (length bytes)) refl done
   where
-  small : cursor < 2 ^ 63
-  small = (s.good_slots fd (File number cursor flags) at).1.1
+    small : cursor < 2 ^ 63
+    small = (s.good_slots fd (File number cursor flags) at).1.1
 
-  after : (v : World) (now : ℕ) → fin.get v.slots fd ≡ Some (File number now flags) → take (length bytes) (drop cursor (content_of v number)) ≡ bytes → ready (sought v fd (pos cursor) SEEK_SET).1 fd (length bytes) ≡ Ok bytes
-  after v now held same = ap (λ (u : World). ready u fd (length bytes)) (set_back v fd number now flags cursor held small) ∙ read_there v fd number cursor flags (length bytes) bytes may same
+    after : (v : World) (now : ℕ) → fin.get v.slots fd ≡ Some (File number now flags) → take (length bytes) (drop cursor (content_of v number)) ≡ bytes → ready (sought v fd (pos cursor) SEEK_SET).1 fd (length bytes) ≡ Ok bytes
+    after v now held same = ap (λ (u : World). ready u fd (length bytes)) (set_back v fd number now flags cursor held small) ∙ read_there v fd number cursor flags (length bytes) bytes may same
 
-  nothing : (l : List ℕ) → length l ≡ 0 → l ≡ []
-  nothing [] h = refl
-  nothing (x ∷ l) h = absurd (omega arith)
+    nothing : (l : List ℕ) → length l ≡ 0 → l ≡ []
+    nothing [] h = refl
+    nothing (x ∷ l) h = absurd (omega arith)
 
-  full : World
-  full = with_bytes w fd number flags bytes (write_cursor flags (length (content_of w number)) cursor)
+    full : World
+    full = with_bytes w fd number flags bytes (write_cursor flags (length (content_of w number)) cursor)
 
-  filled_full : filled w fd bytes (fin.get w.slots fd) ≡ full
-  filled_full = ap (filled w fd bytes) at
+    filled_full : filled w fd bytes (fin.get w.slots fd) ≡ full
+    filled_full = ap (filled w fd bytes) at
 
-  full_content : content_of full number ≡ overwritten (content_of w number) cursor bytes
-  full_content = ap (λ o. unwrap_or o []) (here w.files number _) ∙ ap (λ b. overwritten (content_of w number) (if b then length (content_of w number) else cursor) bytes) ends
+    full_content : content_of full number ≡ overwritten (content_of w number) cursor bytes
+    full_content = ap (λ o. unwrap_or o []) (here w.files number _) ∙ ap (λ b. overwritten (content_of w number) (if b then length (content_of w number) else cursor) bytes) ends
 
-  at_fit : (r : Result (Unit {0}) ℕ) → fits w fd (length bytes) ≡ r → written_if w fd bytes r ≡ (Ok tt, new) → ready (sought new fd (pos cursor) SEEK_SET).1 fd (length bytes) ≡ Ok bytes
-  at_fit (Err errno) e d = absurd (not_err errno (ap (λ p. p.0) d))
-    where
-    not_err : (n : ℕ) → ◌≡◌ {A = Result (Unit {0}) ℕ} (Err n) (Ok tt) → ⊥
-    not_err n e = cc
-  at_fit (Ok unit) e d =
-      let world : (if length bytes == 0 then w else filled w fd bytes (fin.get w.slots fd)) ≡ new = ap (λ p. p.1) d in
-      elim (eqb (length bytes) 0) as (λ b. eqb (length bytes) 0 ≡ b → cond b w (filled w fd bytes (fin.get w.slots fd)) ≡ new → ready (sought new fd (pos cursor) SEEK_SET).1 fd (length bytes) ≡ Ok bytes) [
-        | true ↦ λ t same.
-            let none = nothing bytes (eqb-true (length bytes) 0 t) in
-            after new cursor (ap (λ (u : World). fin.get u.slots fd) (sym same) ∙ at) (ap (λ l. take (length l) (drop cursor (content_of new number))) none ∙ sym none)
-        | false ↦ λ _ same.
-            let is : full ≡ new = sym filled_full ∙ same in
-            after new _ (ap (λ (u : World). fin.get u.slots fd) (sym is) ∙ here w.slots fd _)
-                (ap (λ (u : World). take (length bytes) (drop cursor (content_of u number))) (sym is) ∙ ap (λ l. take (length bytes) (drop cursor l)) full_content ∙ read_back (content_of w number) cursor bytes)
-      ] refl world
+    at_fit : (r : Result (Unit {0}) ℕ) → fits w fd (length bytes) ≡ r → written_if w fd bytes r ≡ (Ok tt, new) → ready (sought new fd (pos cursor) SEEK_SET).1 fd (length bytes) ≡ Ok bytes
+    at_fit (Err errno) e d = absurd (not_err errno (ap (λ p. p.0) d))
+      where
+        not_err : (n : ℕ) → ◌≡◌ {A = Result (Unit {0}) ℕ} (Err n) (Ok tt) → ⊥
+        not_err n e = cc
+    at_fit (Ok unit) e d =
+        let world : (if length bytes == 0 then w else filled w fd bytes (fin.get w.slots fd)) ≡ new = ap (λ p. p.1) d in
+        elim (eqb (length bytes) 0) as (λ b. eqb (length bytes) 0 ≡ b → cond b w (filled w fd bytes (fin.get w.slots fd)) ≡ new → ready (sought new fd (pos cursor) SEEK_SET).1 fd (length bytes) ≡ Ok bytes) [
+          | true ↦ λ t same.
+              let none = nothing bytes (eqb-true (length bytes) 0 t) in
+              after new cursor (ap (λ (u : World). fin.get u.slots fd) (sym same) ∙ at) (ap (λ l. take (length l) (drop cursor (content_of new number))) none ∙ sym none)
+          | false ↦ λ _ same.
+              let is : full ≡ new = sym filled_full ∙ same in
+              after new _ (ap (λ (u : World). fin.get u.slots fd) (sym is) ∙ here w.slots fd _)
+              (ap (λ (u : World). take (length bytes) (drop cursor (content_of u number))) (sym is) ∙ ap (λ l. take (length bytes) (drop cursor l)) full_content ∙ read_back (content_of w number) cursor bytes)
+        ] refl world
 
 pub removed_read : (w : World) (name : List ℕ) (fd count : ℕ) → ready (removed w name).1 fd count ≡ ready w fd count
 removed_read w name fd count = at_name (fin.get w.names name)
   where
-  kept : (number : ℕ) → is_open w number ≡ false → (o : Option Slot) → fin.get w.slots fd ≡ o → ready_at (record w { names = fin.remove w.names name; files = fin.remove w.files number }) count o ≡ ready_at w count o
-  kept number unused None e = refl
-  kept number unused (Some Input) e = refl
-  kept number unused (Some Stream1) e = refl
-  kept number unused (Some Stream2) e = refl
-  kept number unused (Some (File held cursor flags)) e =
-      ap (λ o. if has flags MAY_READ then Ok (take count (drop cursor (unwrap_or o []))) else Err EBADF)
-          (left w.files number held (λ same. false≢true (sym unused ∙ open_by w fd (File held cursor flags) number e (eq-eqb held number same))))
+    kept : (number : ℕ) → is_open w number ≡ false → (o : Option Slot) → fin.get w.slots fd ≡ o → ready_at (record w { names = fin.remove w.names name; files = fin.remove w.files number }) count o ≡ ready_at w count o
+    kept number unused None e = refl
+    kept number unused (Some Input) e = refl
+    kept number unused (Some Stream1) e = refl
+    kept number unused (Some Stream2) e = refl
+    kept number unused (Some (File held cursor flags)) e =
+        ap (λ o. if has flags MAY_READ then Ok (take count (drop cursor (unwrap_or o []))) else Err EBADF)
+        (left w.files number held (λ same. false≢true (sym unused ∙ open_by w fd (File held cursor flags) number e (eq-eqb held number same))))
 
-  at_name : (o : Option ℕ) → ready (removed_at w name o).1 fd count ≡ ready w fd count
-  at_name None = refl
-  at_name (Some number) =
-      let v : World = record w { names = fin.remove w.names name } in
-      elim (is_named v number || is_open v number) as (λ b. (is_named v number || is_open v number) ≡ b → ready (cond b v (record v { files = fin.remove v.files number })) fd count ≡ ready w fd count) [
-        | true ↦ λ _. refl
-        | false ↦ λ unused. kept number (neither (is_named v number) (is_open v number) unused).1 (fin.get w.slots fd) refl
-      ] refl
+    at_name : (o : Option ℕ) → ready (removed_at w name o).1 fd count ≡ ready w fd count
+    at_name None = refl
+    at_name (Some number) =
+        let v : World = record w { names = fin.remove w.names name } in
+        elim (is_named v number || is_open v number) as (λ b. (is_named v number || is_open v number) ≡ b → ready (cond b v (record v { files = fin.remove v.files number })) fd count ≡ ready w fd count) [
+          | true ↦ λ _. refl
+          | false ↦ λ unused. kept number (neither (is_named v number) (is_open v number) unused).1 (fin.get w.slots fd) refl
+        ] refl

@@ -1,11 +1,11 @@
 -- Finite maps: totals over their values, tests of their values, and the lowest unused number.
-use Rattle.std.proofs.Common.{◌≡◌, ◌≢◌, ℕ, suc, ◌+◌, ◌-◌, ◌<◌, ◌≤◌, Bool, true, false, cond, not, ◌||◌, ◌&&◌, ◌==◌, eqb, T, List, [], ◌∷◌, ◌++◌, length, map, Option, Some, None, IsSome, is_some, unwrap_or, refl, sym, ap, ◌∙◌, subst, arith, sum_by, inl, inr, eq-eqb, ⊎_elim}
+use Rattle.std.proofs.Common.{◌≡◌, ◌≢◌, ℕ, ◌+◌, ◌<◌, ◌≤◌, Bool, true, false, cond, ◌||◌, ◌&&◌, eqb, T, List, [], ◌∷◌, map, Option, Some, None, IsSome, is_some, refl, sym, ap, ◌∙◌, subst, arith, sum_by, inl, inr, eq-eqb}
 use Rattle.std.specs.List.{list_any}
 use Rattle.std.specs.Ordering.{nat_cmp, eq_by_cmp, is_eq, is_lt, MatchOrdering}
 use Rattle.std.specs.declared.cmp.Ordering.{Ordering}
 use Rattle.std.specs.declared.cmp.Ordering.TheVariants.{Less, Equal, Greater}
 use Rattle.std.specs.Cmp.{IsTotalOrder, nat_cmp_total, unsigned_tied, ranks, tied_itself}
-use Rattle.std.specs.FinMap.{FinMap, IsAntisymmetric, nat_cmp-IsAntisymmetric, get, insert, remove, values, keys, entries, entries-insert, entries_sorted, get-entries, get-insert, get-remove, same_map, find, put, is_sorted, contains_key-keys, len, len-entries}
+use Rattle.std.specs.FinMap.{FinMap, nat_cmp-IsAntisymmetric, get, insert, remove, values, keys, entries, entries-insert, entries_sorted, get-entries, get-insert, get-remove, same_map, find, put, is_sorted, contains_key-keys, len, len-entries}
 use Rattle.std.specs.FinMap.Entries.{below_all, by_order}
 use Rattle.std.proofs.lemmas.Bool.{cases_lt, false≢true}
 use Rattle.std.proofs.lemmas.Bool.Decides.{nat_tests}
@@ -29,27 +29,27 @@ same_nat_map m n is = same_map nat_cmp_total nat_cmp-IsAntisymmetric m n is
 pub remove-insert : {X : Type 0} (m : FinMap nat_cmp X) (k : ℕ) (v : X) → get m k ≡ None → remove (insert m k v) k ≡ m
 remove-insert m k v none =
     same_nat_map _ m (λ q. get-remove_nat (insert m k v) k q ∙ ap (cond (eqb q k) None) (get-insert_nat m k v q)
-        ∙ elim (eqb q k) as (λ b. eqb q k ≡ b → cond b None (cond b (Some v) (get m q)) ≡ get m q) [
-          | true ↦ λ e. let p : q ≡ k = (grind (arith, nat_tests)) in sym none ∙ ap (get m) (sym p)
-          | false ↦ λ e. refl
-        ] refl)
+    ∙ elim (eqb q k) as (λ b. eqb q k ≡ b → cond b None (cond b (Some v) (get m q)) ≡ get m q) [
+      | true ↦ λ e. let p : q ≡ k = (grind (arith, nat_tests)) in sym none ∙ ap (get m) (sym p)
+      | false ↦ λ e. refl
+    ] refl)
 
 -- a map is what it is without a key, and that key
 pub insert-remove : {X : Type 0} (m : FinMap nat_cmp X) (k : ℕ) (v : X) → get m k ≡ Some v → insert (remove m k) k v ≡ m
 insert-remove m k v is =
     same_nat_map _ m (λ q. get-insert_nat (remove m k) k v q ∙ ap (cond (eqb q k) (Some v)) (get-remove_nat m k q)
-        ∙ elim (eqb q k) as (λ b. eqb q k ≡ b → cond b (Some v) (cond b None (get m q)) ≡ get m q) [
-          | true ↦ λ e. let p : q ≡ k = (grind (arith, nat_tests)) in sym is ∙ ap (get m) (sym p)
-          | false ↦ λ e. refl
-        ] refl)
+    ∙ elim (eqb q k) as (λ b. eqb q k ≡ b → cond b (Some v) (cond b None (get m q)) ≡ get m q) [
+      | true ↦ λ e. let p : q ≡ k = (grind (arith, nat_tests)) in sym is ∙ ap (get m) (sym p)
+      | false ↦ λ e. refl
+    ] refl)
 
 pub remove_absent : {X : Type 0} (m : FinMap nat_cmp X) (k : ℕ) → get m k ≡ None → remove m k ≡ m
 remove_absent m k none =
     same_nat_map _ m (λ q. get-remove_nat m k q
-        ∙ elim (eqb q k) as (λ b. eqb q k ≡ b → cond b None (get m q) ≡ get m q) [
-          | true ↦ λ e. let p : q ≡ k = (grind (arith, nat_tests)) in sym none ∙ ap (get m) (sym p)
-          | false ↦ λ e. refl
-        ] refl)
+    ∙ elim (eqb q k) as (λ b. eqb q k ≡ b → cond b None (get m q) ≡ get m q) [
+      | true ↦ λ e. let p : q ≡ k = (grind (arith, nat_tests)) in sym none ∙ ap (get m) (sym p)
+      | false ↦ λ e. refl
+    ] refl)
 
 -- entries in order
 both : (a b : Bool) → T (a && b) → T a × T b
@@ -133,9 +133,9 @@ module _ {X : Type 0} (m : FinMap nat_cmp X) where
   unfolding gap IsFrom
   get-lowest_unused = get-entries m _ ∙ gap_free 0 (entries m) (entries_sorted m) (from_zero (entries m))
     where
-    from_zero : (es : List (ℕ × X)) → IsFrom 0 es
-    from_zero [] = tt
-    from_zero (e ∷ es) = omega arith
+      from_zero : (es : List (ℕ × X)) → IsFrom 0 es
+      from_zero [] = tt
+      from_zero (e ∷ es) = omega arith
 
   pub below-lowest_unused : (q : ℕ) → q < lowest_unused m → IsSome (get m q)
   unfolding gap
@@ -152,13 +152,13 @@ module _ {X : Type 0} (m : FinMap nat_cmp X) where
         ]
       ]
     where
-    absent : (o : Option X) → o ≡ None → IsSome o → ⊥
-    absent o none some = false≢true (sym (ap is_some none) ∙ some)
+      absent : (o : Option X) → o ≡ None → IsSome o → ⊥
+      absent o none some = false≢true (sym (ap is_some none) ∙ some)
 
   pub lowest_unused-le-len : lowest_unused m ≤ len m
   lowest_unused-le-len =
       let known : (q : ℕ) → q < lowest_unused m → list_any (eqb q) (keys m) ≡ true =
-          λ q h. sym (λ i. list_any (λ x. unsigned_tied q x i) (keys m)) ∙ sym (contains_key-keys m q) ∙ below-lowest_unused q h in
+      λ q h. sym (λ i. list_any (λ x. unsigned_tied q x i) (keys m)) ∙ sym (contains_key-keys m q) ∙ below-lowest_unused q h in
       omega (arith, le-length_from_below (keys m) (lowest_unused m) known, length-map (entries m) (λ e. e.0), len-entries m)
 
 -- totals
@@ -184,7 +184,7 @@ counted_put f k v [] s = omega arith
 counted_put f k v (e ∷ es) s =
     let ordered = both (below_all nat_cmp e.0 es) (is_sorted nat_cmp es) s in
     elim (nat_cmp k e.0) as (λ r. nat_cmp k e.0 ≡ r → MatchOrdering r (k < e.0) (k ≡ e.0) (e.0 < k)
-        → counted f (by_order r ((k, v) ∷ e ∷ es) ((e.0, v) ∷ es) (e ∷ put nat_cmp k v es)) + size_at f (find nat_cmp k (e ∷ es)) ≡ f e.1 + counted f es + f v) [
+    → counted f (by_order r ((k, v) ∷ e ∷ es) ((e.0, v) ∷ es) (e ∷ put nat_cmp k v es)) + size_at f (find nat_cmp k (e ∷ es)) ≡ f e.1 + counted f es + f v) [
       | Less ↦ λ is less.
           let none : size_at f (find nat_cmp k (e ∷ es)) ≡ 0 = ap (size_at f) (find_apart k e es (omega arith) ∙ find_low k e.0 es (omega arith) ordered.0) in
           let sums : (f v + (f e.1 + counted f es)) + size_at f (find nat_cmp k (e ∷ es)) ≡ (f e.1 + counted f es) + f v = omega arith in sums
@@ -219,9 +219,9 @@ module _ {K X : Type 0} {R : K → K → Ordering} (o : IsTotalOrder R) (p : X �
         | false ↦ λ h. or_true (p e.1) _ (some_here q v es h passes)
       ] is
     where
-    or_true : (a b : Bool) → b ≡ true → (a || b) ≡ true
-    or_true true b h = refl
-    or_true false b h = h
+      or_true : (a b : Bool) → b ≡ true → (a || b) ≡ true
+      or_true true b h = refl
+      or_true false b h = h
 
   -- a value at a key
   pub any_at : (m : FinMap R X) (q : K) (v : X) → get m q ≡ Some v → p v ≡ true → list_any p (values m) ≡ true
@@ -231,32 +231,32 @@ module _ {K X : Type 0} {R : K → K → Ordering} (o : IsTotalOrder R) (p : X �
   pub key_of_any : (m : FinMap R X) → list_any p (values m) ≡ true → (q : K) × (v : X) × (get m q ≡ Some v) × (p v ≡ true)
   key_of_any m h = let found = passes_there (entries m) (entries_sorted m) h in (found.0, found.1, get-entries m found.0 ∙ found.2, found.3)
     where
-    equal : (r : Ordering) → is_eq r ≡ true → r ≡ Equal
-    equal Less e = absurd (false≢true e)
-    equal Equal e = refl
-    equal Greater e = absurd (false≢true e)
+      equal : (r : Ordering) → is_eq r ≡ true → r ≡ Equal
+      equal Less e = absurd (false≢true e)
+      equal Equal e = refl
+      equal Greater e = absurd (false≢true e)
 
-    less : (r : Ordering) → T (is_lt r) → r ≡ Less
-    less Less e = refl
-    less Equal e = absurd e
-    less Greater e = absurd e
+      less : (r : Ordering) → T (is_lt r) → r ≡ Less
+      less Less e = refl
+      less Equal e = absurd e
+      less Greater e = absurd e
 
-    none_above : (q x : K) (es : List (K × X)) → R q x ≡ Equal → T (below_all R x es) → find R q es ≡ None
-    none_above q x [] tie below = refl
-    none_above q x (e ∷ es) tie below =
-        let parts = both (is_lt (R x e.0)) (below_all R x es) below in
-        ap (λ r. cond (is_eq r) (Some e.1) (find R q es)) (o.congr q x e.0 tie ∙ less _ parts.0) ∙ none_above q x es tie parts.1
+      none_above : (q x : K) (es : List (K × X)) → R q x ≡ Equal → T (below_all R x es) → find R q es ≡ None
+      none_above q x [] tie below = refl
+      none_above q x (e ∷ es) tie below =
+          let parts = both (is_lt (R x e.0)) (below_all R x es) below in
+          ap (λ r. cond (is_eq r) (Some e.1) (find R q es)) (o.congr q x e.0 tie ∙ less _ parts.0) ∙ none_above q x es tie parts.1
 
-    passes_there : (es : List (K × X)) → T (is_sorted R es) → list_any p (map (λ e. e.1) es) ≡ true → (q : K) × (v : X) × (find R q es ≡ Some v) × (p v ≡ true)
-    passes_there [] s h = absurd (false≢true h)
-    passes_there (e ∷ es) s h =
-        let ordered = both (below_all R e.0 es) (is_sorted R es) s in
-        elim (p e.1) as (λ b. p e.1 ≡ b → (b || list_any p (map (λ e. e.1) es)) ≡ true → (q : K) × (v : X) × (find R q (e ∷ es) ≡ Some v) × (p v ≡ true)) [
-          | true ↦ λ passes _. (e.0, e.1, ap (λ r. cond (is_eq r) (Some e.1) (find R e.0 es)) (tied_itself o e.0), passes)
-          | false ↦ λ fails later.
-              let found = passes_there es ordered.1 later in
-              elim (eq_by_cmp R found.0 e.0) as (λ b. eq_by_cmp R found.0 e.0 ≡ b → (q : K) × (v : X) × (find R q (e ∷ es) ≡ Some v) × (p v ≡ true)) [
-                | true ↦ λ tie. absurd (none-some found.1 (sym (none_above found.0 e.0 es (equal _ tie) ordered.0) ∙ found.2))
-                | false ↦ λ apart. (found.0, found.1, ap (λ b. cond b (Some e.1) (find R found.0 es)) apart ∙ found.2, found.3)
-              ] refl
-        ] refl h
+      passes_there : (es : List (K × X)) → T (is_sorted R es) → list_any p (map (λ e. e.1) es) ≡ true → (q : K) × (v : X) × (find R q es ≡ Some v) × (p v ≡ true)
+      passes_there [] s h = absurd (false≢true h)
+      passes_there (e ∷ es) s h =
+          let ordered = both (below_all R e.0 es) (is_sorted R es) s in
+          elim (p e.1) as (λ b. p e.1 ≡ b → (b || list_any p (map (λ e. e.1) es)) ≡ true → (q : K) × (v : X) × (find R q (e ∷ es) ≡ Some v) × (p v ≡ true)) [
+            | true ↦ λ passes _. (e.0, e.1, ap (λ r. cond (is_eq r) (Some e.1) (find R e.0 es)) (tied_itself o e.0), passes)
+            | false ↦ λ fails later.
+                let found = passes_there es ordered.1 later in
+                elim (eq_by_cmp R found.0 e.0) as (λ b. eq_by_cmp R found.0 e.0 ≡ b → (q : K) × (v : X) × (find R q (e ∷ es) ≡ Some v) × (p v ≡ true)) [
+                  | true ↦ λ tie. absurd (none-some found.1 (sym (none_above found.0 e.0 es (equal _ tie) ordered.0) ∙ found.2))
+                  | false ↦ λ apart. (found.0, found.1, ap (λ b. cond b (Some e.1) (find R found.0 es)) apart ∙ found.2, found.3)
+                ] refl
+          ] refl h

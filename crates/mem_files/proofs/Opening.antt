@@ -1,5 +1,5 @@
 -- A descriptor that is taken back where no file can be made.
-use Rattle.std.proofs.Common.{◌≡◌, ℕ, ◌<◌, ◌≤◌, Bool, true, false, cond, not, nat_le, List, [], Some, None, Result, Ok, Err, IsOk, IsSome, refl, sym, ap, ◌∙◌, subst, arith}
+use Rattle.std.proofs.Common.{◌≡◌, ℕ, ◌<◌, true, false, cond, not, nat_le, List, [], None, Result, Err, IsOk, IsSome, refl, sym, ap, ◌∙◌, subst, arith}
 use Rattle.std.proofs.lemmas.Bool.Decides.{nat_tests}
 use Rattle.std.specs.FinMap as fin
 use Rattle.mem_files.specs.declared.slot.Slot.{Slot}
@@ -19,7 +19,7 @@ module _ (w v : World) (fd : ℕ) (slot : Slot) (lowest : fd ≡ lowest_unused w
 pub absent_opens : (w : World) (name : List ℕ) (flags : ℕ) → has flags O_CREAT ≡ true → fin.len w.names < MAX_NAMES → IsOk (opened_at w name flags None).0
 absent_opens w name flags creates few =
     subst (λ b. IsOk (cond {A = Result ℕ ℕ × World} (not b) (Err ENOENT, w) (cond (nat_le MAX_NAMES (fin.len w.names)) (Err ENOSPC, w) (with_descriptor (with_file w name []) (lowest_unused w.files) flags))).0) (sym creates)
-        (subst (λ b. IsOk (cond {A = Result ℕ ℕ × World} b (Err ENOSPC, w) (with_descriptor (with_file w name []) (lowest_unused w.files) flags)).0) (sym room) refl)
+    (subst (λ b. IsOk (cond {A = Result ℕ ℕ × World} b (Err ENOSPC, w) (with_descriptor (with_file w name []) (lowest_unused w.files) flags)).0) (sym room) refl)
   where
-  room : nat_le MAX_NAMES (fin.len w.names) ≡ false
-  room = grind (arith, nat_tests)
+    room : nat_le MAX_NAMES (fin.len w.names) ≡ false
+    room = grind (arith, nat_tests)

@@ -1,7 +1,7 @@
 -- Bytes that are written at a place, after zeros up to their end.
-use Rattle.std.proofs.Common.{◌≡◌, ℕ, ◌+◌, ◌-◌, ◌<◌, ◌≤◌, List, [], ◌++◌, length, take, drop, replicate, refl, sym, ap, ◌∙◌, arith, inl, inr}
-use Rattle.std.proofs.lemmas.List.{take-append-le, drop-append-le, take-replicate, take_all, append-nil, length-take, length-drop, length-append, length-replicate}
-use Rattle.std.proofs.Math.Seq.{take-append-add, drop-append-add, drop-length}
+use Rattle.std.proofs.Common.{◌≡◌, ℕ, ◌+◌, ◌-◌, ◌≤◌, List, ◌++◌, length, take, drop, replicate, sym, ap, ◌∙◌, arith, inl, inr}
+use Rattle.std.proofs.lemmas.List.{take-append-le, take-replicate, take_all, append-nil, length-take, length-drop, length-append, length-replicate}
+use Rattle.std.proofs.Math.Seq.{take-append-add}
 use Rattle.std.proofs.Math.ListN.{drop_of_length-le}
 use Rattle.std.proofs.lemmas.Bool.{cases_lt}
 use Rattle.mem_files.specs.Calls.{overwritten}
@@ -43,6 +43,6 @@ put_is old bytes items copied place n grown is len =
 pub length-overwritten : (old : List ℕ) (place : ℕ) (bytes : List ℕ) → length (overwritten old place bytes) ≡ length old + (place + length bytes - length old)
 length-overwritten old place bytes =
     let parts : length (overwritten old place bytes) ≡ length (take place old) + length (replicate {A = ℕ} (place - length old) 0) + length bytes + length (drop (place + length bytes) old) =
-        length-append (take place old ++ replicate (place - length old) 0 ++ bytes) (drop (place + length bytes) old)
-        ∙ omega (arith, length-append (take place old ++ replicate (place - length old) 0) bytes, length-append (take place old) (replicate {A = ℕ} (place - length old) 0)) in
+    length-append (take place old ++ replicate (place - length old) 0 ++ bytes) (drop (place + length bytes) old)
+    ∙ omega (arith, length-append (take place old ++ replicate (place - length old) 0) bytes, length-append (take place old) (replicate {A = ℕ} (place - length old) 0)) in
     omega (arith, length-take place old, length-replicate {A = ℕ} (place - length old) 0, length-drop (place + length bytes) old)

@@ -1,5 +1,5 @@
 -- Each call that adds or writes keeps the limits, and keeps names, files and descriptors fitting together.
-use Rattle.std.proofs.Common.{◌≡◌, ◌≢◌, ℕ, ◌+◌, ◌-◌, ◌*◌, ◌%◌, ◌^◌, ◌<◌, ◌≤◌, Bool, true, false, cond, not, ◌||◌, ◌&&◌, ◌==◌, eqb, nat_lt, nat_le, ◌⊎◌, inl, inr, List, [], ◌∷◌, ◌++◌, length, map, Option, Some, None, Result, Ok, Err, IsOk, IsOkAnd, IfSome, take, drop, IsSome, is_some, IsTrue, unwrap_or, bit_and, ℤ, pos, negsuc, ◌+ℤ◌, option_and_then, if◌then◌else◌, refl, sym, ap, ◌∙◌, subst, arith, eq-eqb, eqb-true}
+use Rattle.std.proofs.Common.{◌≡◌, ◌≢◌, ℕ, ◌+◌, ◌-◌, ◌%◌, ◌^◌, ◌<◌, ◌≤◌, Bool, true, false, cond, not, ◌||◌, ◌&&◌, ◌==◌, eqb, nat_lt, nat_le, inl, inr, List, [], ◌∷◌, ◌++◌, length, Option, Some, None, Result, Ok, Err, IsOkAnd, take, drop, IsSome, is_some, IsTrue, unwrap_or, bit_and, ℤ, pos, negsuc, ◌+ℤ◌, option_and_then, if◌then◌else◌, refl, sym, ap, ◌∙◌, subst, arith, eq-eqb, eqb-true}
 use Rattle.std.proofs.lemmas.List.{length-append, length-take, length-drop}
 use Rattle.std.proofs.lemmas.Bool.{false≢true}
 use Rattle.std.proofs.lemmas.Bool.Decides.{nat_tests}
@@ -10,7 +10,7 @@ use Rattle.std.specs.Cmp.Lexicographic.{nat_list_cmp_total}
 use Rattle.std.specs.FinMap as fin
 use Rattle.mem_files.specs.declared.slot.Slot.{Slot}
 use Rattle.mem_files.specs.declared.slot.Slot.TheVariants.{Input, Stream1, Stream2, File}
-use Rattle.mem_files.specs.declared.TheConstants.{MAX_SLOTS, MAX_NAMES, MAX_CONTENT, MAX_TOTAL, O_ACCMODE, O_RDONLY, O_WRONLY, O_APPEND, O_CREAT, O_EXCL, O_TRUNC, EINVAL, EMFILE, EEXIST, ENOENT, ENOSPC, EBADF, EFBIG, MAY_READ, MAY_WRITE, APPENDS, SEEK_SET, SEEK_CUR, SEEK_END}
+use Rattle.mem_files.specs.declared.TheConstants.{MAX_SLOTS, MAX_NAMES, MAX_CONTENT, MAX_TOTAL, O_ACCMODE, O_RDONLY, O_WRONLY, O_APPEND, O_CREAT, O_EXCL, O_TRUNC, EINVAL, EMFILE, EEXIST, ENOENT, ENOSPC, EBADF, EFBIG, MAY_READ, MAY_WRITE, SEEK_SET, SEEK_CUR, SEEK_END}
 use Rattle.mem_files.specs.Names.{bytes_cmp, is_stripped_name, is_name, stripped, begins_with_dot_slash}
 use Rattle.mem_files.specs.declared.slot.PlaceRefusal.{PlaceRefusal}
 use Rattle.mem_files.specs.declared.slot.PlaceRefusal.TheVariants.{BadName, Twice, Full}
@@ -21,7 +21,7 @@ use Rattle.mem_files.specs.Calls.{first_world, with_file, with_descriptor, flag_
 use Rattle.mem_files.specs.Sound.{HasFile, IsSlotAt, IsSound}
 use Rattle.mem_files.proofs.Totals.{total-insert}
 use Rattle.mem_files.proofs.Maps.{get-lowest_unused, lowest_unused-le-len}
-use Rattle.mem_files.proofs.Entries.{some_of, is_some_of, here, there, insert_cases, insert_some, name_here, name_there, name_insert_cases}
+use Rattle.mem_files.proofs.Entries.{is_some_of, here, there, insert_cases, insert_some, name_here, name_there, name_insert_cases}
 use Rattle.mem_files.proofs.Overwrites.{length-overwritten}
 use Rattle.mem_files.proofs.Soundness.{or_left, or_right, or_cases, named_by, open_by, name_of, slot_of, by_eq, slot_kept, lowest_number-le, neither}
 
@@ -31,9 +31,12 @@ pub set_content-sound : (w : World) (number : ℕ) (content : List ℕ) → IsSo
 set_content-sound w number content s held small room =
     let v : World = record w { files = fin.insert w.files number content } in
     let old : (n : ℕ) → IsSome (fin.get v.files n) → IsSome (fin.get w.files n) =
-        λ n h. by_eq n number (λ e. subst (λ k. IsSome (fin.get w.files k)) (sym e) held) (λ ne. sym (ap is_some (there w.files number content n ne)) ∙ h) in
+    λ n h. by_eq n number (λ e. subst (λ k. IsSome (fin.get w.files k)) (sym e) held) (λ ne. sym (ap is_some (there w.files number content n ne)) ∙ h) in
     record {
-      few_names = s.few_names; few_slots = s.few_slots; small_stream1 = s.small_stream1; small_stream2 = s.small_stream2;
+      few_names = s.few_names;
+      few_slots = s.few_slots;
+      small_stream1 = s.small_stream1;
+      small_stream2 = s.small_stream2;
       small_files = λ n bytes e. elim (insert_cases w.files number content n bytes e) as (λ _. length bytes ≤ MAX_CONTENT) [
         | inl same ↦ subst (λ (l : List ℕ). length l ≤ MAX_CONTENT) same.1 small
         | inr other ↦ s.small_files n bytes other.1
@@ -57,7 +60,9 @@ with_file-sound w name content s good absent few low small room =
     let vacant : (n : ℕ) → IsSome (fin.get w.files n) → n ≢ number = λ n h e. false≢true (sym (ap is_some (ap (fin.get w.files) e ∙ free)) ∙ h) in
     record {
       few_names = omega (arith, fin.len-insert nat_list_cmp_total w.names name number ∙ ap (λ b. cond b (fin.len w.names) (fin.len w.names + 1)) (ap is_some absent));
-      few_slots = s.few_slots; small_stream1 = s.small_stream1; small_stream2 = s.small_stream2;
+      few_slots = s.few_slots;
+      small_stream1 = s.small_stream1;
+      small_stream2 = s.small_stream2;
       small_files = λ n bytes e. elim (insert_cases w.files number content n bytes e) as (λ _. length bytes ≤ MAX_CONTENT) [
         | inl same ↦ subst (λ (l : List ℕ). length l ≤ MAX_CONTENT) same.1 small
         | inr other ↦ s.small_files n bytes other.1
@@ -85,9 +90,9 @@ with_file-sound w name content s good absent few low small room =
       used = λ n h. by_eq n number
           (λ e. or_left _ (is_open v n) (named_by v name n (name_here w.names name number ∙ ap (λ k. Some k) (sym e))))
           (λ ne. or_cases (is_named w n) (is_open w n) (s.used n (sym (ap is_some (there w.files number content n ne)) ∙ h))
-            (λ named. or_left _ (is_open v n) (let by = name_of w n named in
-                named_by v by.0 n (name_there w.names name number by.0 (λ k. none-some n (sym absent ∙ ap (fin.get w.names) (sym k) ∙ by.1)) ∙ by.1)))
-            (λ opened_by. or_right (is_named v n) _ opened_by));
+          (λ named. or_left _ (is_open v n) (let by = name_of w n named in
+          named_by v by.0 n (name_there w.names name number by.0 (λ k. none-some n (sym absent ∙ ap (fin.get w.names) (sym k) ∙ by.1)) ∙ by.1)))
+          (λ opened_by. or_right (is_named v n) _ opened_by));
       low_numbers = λ n h. by_eq n number (λ e. omega arith) (λ ne. s.low_numbers n (sym (ap is_some (there w.files number content n ne)) ∙ h));
     }
 
@@ -117,8 +122,13 @@ with_descriptor-sound w number flags s held few =
     record {
       few_names = s.few_names;
       few_slots = omega (arith, fin.len-insert nat_cmp_total w.slots fd new ∙ ap (λ b. cond b (fin.len w.slots) (fin.len w.slots + 1)) (ap is_some free));
-      small_stream1 = s.small_stream1; small_stream2 = s.small_stream2; small_files = s.small_files; small_total = s.small_total;
-      good_names = s.good_names; held = s.held; named_once = s.named_once;
+      small_stream1 = s.small_stream1;
+      small_stream2 = s.small_stream2;
+      small_files = s.small_files;
+      small_total = s.small_total;
+      good_names = s.good_names;
+      held = s.held;
+      named_once = s.named_once;
       good_slots = λ other slot e. elim (insert_cases w.slots fd new other slot e) as (λ _. (other < MAX_SLOTS) × IsSlotAt v other slot) [
         | inl same ↦ subst (λ (x : Slot). (other < MAX_SLOTS) × IsSlotAt v other x) same.1 (omega (arith, lowest_unused-le-len w.slots), (held, omega arith, (flags_good flags).0, (flags_good flags).1))
         | inr before ↦ ((s.good_slots other slot before.1).0, slot_kept w v other slot (λ n of h. h) (s.good_slots other slot before.1).1)
@@ -126,7 +136,7 @@ with_descriptor-sound w number flags s held few =
       used = λ n h. or_cases (is_named w n) (is_open w n) (s.used n h)
           (λ named. or_left (is_named w n) _ named)
           (λ opened_by. or_right (is_named w n) _ (let by = slot_of w n opened_by in
-              open_by v by.0 by.1 n (there w.slots fd new by.0 (λ k. none-some by.1 (sym free ∙ ap (fin.get w.slots) (sym k) ∙ by.2)) ∙ by.2) by.3));
+          open_by v by.0 by.1 n (there w.slots fd new by.0 (λ k. none-some by.1 (sym free ∙ ap (fin.get w.slots) (sym k) ∙ by.2)) ∙ by.2) by.3));
       low_numbers = s.low_numbers;
     }
 
@@ -139,8 +149,13 @@ set_cursor-sound w fd number cursor flags to s at small =
     record {
       few_names = s.few_names;
       few_slots = omega (arith, fin.len-insert nat_cmp_total w.slots fd new ∙ ap (λ b. cond b (fin.len w.slots) (fin.len w.slots + 1)) (ap is_some at), s.few_slots);
-      small_stream1 = s.small_stream1; small_stream2 = s.small_stream2; small_files = s.small_files; small_total = s.small_total;
-      good_names = s.good_names; held = s.held; named_once = s.named_once;
+      small_stream1 = s.small_stream1;
+      small_stream2 = s.small_stream2;
+      small_files = s.small_files;
+      small_total = s.small_total;
+      good_names = s.good_names;
+      held = s.held;
+      named_once = s.named_once;
       good_slots = λ other slot e. elim (insert_cases w.slots fd new other slot e) as (λ _. (other < MAX_SLOTS) × IsSlotAt v other slot) [
         | inl same ↦ subst (λ (x : Slot). (other < MAX_SLOTS) × IsSlotAt v other x) same.1 (omega (arith, good.0), (good.1.0, small, good.1.2, good.1.3))
         | inr before ↦ ((s.good_slots other slot before.1).0, slot_kept w v other slot (λ n of h. h) (s.good_slots other slot before.1).1)
@@ -148,40 +163,50 @@ set_cursor-sound w fd number cursor flags to s at small =
       used = λ n h. or_cases (is_named w n) (is_open w n) (s.used n h)
           (λ named. or_left (is_named w n) _ named)
           (λ opened_by. or_right (is_named w n) _ (let by = slot_of w n opened_by in by_eq by.0 fd
-              (λ k. open_by v fd new n (here w.slots fd new) (ap (is_of n) (same_Some (File number cursor flags) by.1 (sym at ∙ ap (fin.get w.slots) (sym k) ∙ by.2)) ∙ by.3))
-              (λ ne. open_by v by.0 by.1 n (there w.slots fd new by.0 ne ∙ by.2) by.3)));
+          (λ k. open_by v fd new n (here w.slots fd new) (ap (is_of n) (same_Some (File number cursor flags) by.1 (sym at ∙ ap (fin.get w.slots) (sym k) ∙ by.2)) ∙ by.3))
+          (λ ne. open_by v by.0 by.1 n (there w.slots fd new by.0 ne ∙ by.2) by.3)));
       low_numbers = s.low_numbers;
     }
 
 -- bytes more in a stream
 pub stream1-sound : (w : World) (bytes : List ℕ) → IsSound w → length w.stream1 + length bytes ≤ MAX_CONTENT → total w + length bytes ≤ MAX_TOTAL → IsSound (record w { stream1 = w.stream1 ++ bytes })
 stream1-sound w bytes s small room = record {
-  few_names = s.few_names; few_slots = s.few_slots;
+  few_names = s.few_names;
+  few_slots = s.few_slots;
   small_stream1 = omega (arith, length-append w.stream1 bytes);
-  small_stream2 = s.small_stream2; small_files = s.small_files;
+  small_stream2 = s.small_stream2;
+  small_files = s.small_files;
   small_total = omega (arith, length-append w.stream1 bytes);
-  good_names = s.good_names; held = s.held; named_once = s.named_once;
+  good_names = s.good_names;
+  held = s.held;
+  named_once = s.named_once;
   good_slots = λ fd slot e. ((s.good_slots fd slot e).0, slot_kept w (record w { stream1 = w.stream1 ++ bytes }) fd slot (λ n of h. h) (s.good_slots fd slot e).1);
-  used = s.used; low_numbers = s.low_numbers;
+  used = s.used;
+  low_numbers = s.low_numbers;
 }
 
 pub stream2-sound : (w : World) (bytes : List ℕ) → IsSound w → length w.stream2 + length bytes ≤ MAX_CONTENT → total w + length bytes ≤ MAX_TOTAL → IsSound (record w { stream2 = w.stream2 ++ bytes })
 stream2-sound w bytes s small room = record {
-  few_names = s.few_names; few_slots = s.few_slots; small_stream1 = s.small_stream1;
+  few_names = s.few_names;
+  few_slots = s.few_slots;
+  small_stream1 = s.small_stream1;
   small_stream2 = omega (arith, length-append w.stream2 bytes);
   small_files = s.small_files;
   small_total = omega (arith, length-append w.stream2 bytes);
-  good_names = s.good_names; held = s.held; named_once = s.named_once;
+  good_names = s.good_names;
+  held = s.held;
+  named_once = s.named_once;
   good_slots = λ fd slot e. ((s.good_slots fd slot e).0, slot_kept w (record w { stream2 = w.stream2 ++ bytes }) fd slot (λ n of h. h) (s.good_slots fd slot e).1);
-  used = s.used; low_numbers = s.low_numbers;
+  used = s.used;
+  low_numbers = s.low_numbers;
 }
 
 -- a file has few bytes
 pub content_small : (w : World) (number : ℕ) → IsSound w → length (content_of w number) ≤ MAX_CONTENT
 content_small w number s = elim (fin.get w.files number) as (λ o. fin.get w.files number ≡ o → length (unwrap_or o []) ≤ MAX_CONTENT) [
-    | None ↦ λ _. omega arith
-    | Some content ↦ λ e. s.small_files number content e
-  ] refl
+  | None ↦ λ _. omega arith
+  | Some content ↦ λ e. s.small_files number content e
+] refl
 
 -- a write to an open file
 pub with_bytes-sound : (w : World) (fd number cursor flags : ℕ) (bytes : List ℕ) (place : ℕ) → IsSound w → fin.get w.slots fd ≡ Some (File number cursor flags) → place + length bytes ≤ MAX_CONTENT
@@ -192,14 +217,15 @@ with_bytes-sound w fd number cursor flags bytes place s at small room =
     let after : World = record w { files = fin.insert w.files number (overwritten (content_of w number) place bytes) } in
     let long = length-overwritten (content_of w number) place bytes in
     set_cursor-sound after fd number cursor flags (place + length bytes)
-        (set_content-sound w number (overwritten (content_of w number) place bytes) s held (omega (arith, old)) (omega (arith, s.small_total))) at (omega arith)
+    (set_content-sound w number (overwritten (content_of w number) place bytes) s held (omega (arith, old)) (omega (arith, s.small_total))) at (omega arith)
 
 -- no files, and three descriptors
 pub first-sound : IsSound first_world
 first-sound = record {
   few_names = omega (arith, fin.len-empty bytes_cmp ℕ);
   few_slots = omega (arith, three);
-  small_stream1 = omega arith; small_stream2 = omega arith;
+  small_stream1 = omega arith;
+  small_stream2 = omega arith;
   small_files = λ n content e. absurd (none-some content (sym (fin.get-empty nat_cmp n) ∙ e));
   small_total = omega (arith, first_parts-consistent.bytes_counted, ap total first_parts-world);
   good_names = λ name n e. absurd (none-some n (sym (fin.get-empty bytes_cmp name) ∙ e));
@@ -207,7 +233,7 @@ first-sound = record {
   named_once = λ name other n e f. absurd (none-some n (sym (fin.get-empty bytes_cmp name) ∙ e));
   good_slots = λ fd slot e.
       let at : ((number : ℕ) (s : Slot) → fd ≡ number → number < 3 → IsSlotAt first_world number s → s ≡ slot → (fd < MAX_SLOTS) × IsSlotAt first_world fd slot) =
-          λ number s k few good same. (omega arith, subst (λ (x : Slot). IsSlotAt first_world fd x) same (subst (λ n. IsSlotAt first_world n s) (sym k) good)) in
+      λ number s k few good same. (omega arith, subst (λ (x : Slot). IsSlotAt first_world fd x) same (subst (λ n. IsSlotAt first_world n s) (sym k) good)) in
       elim (insert_cases (fin.insert (fin.insert fin.empty 2 Stream2) 1 Stream1) 0 Input fd slot e) as (λ _. (fd < MAX_SLOTS) × IsSlotAt first_world fd slot) [
         | inl zero_th ↦ at 0 Input zero_th.0 (omega arith) refl zero_th.1
         | inr more ↦ elim (insert_cases (fin.insert fin.empty 2 Stream2) 1 Stream1 fd slot more.1) as (λ _. (fd < MAX_SLOTS) × IsSlotAt first_world fd slot) [
@@ -233,53 +259,53 @@ opened-sound w name flags s good =
       ] refl
     ]
   where
-  emptied : (number : ℕ) → IsSome (fin.get w.files number) → (b : Bool) → IsSound (emptied_if b w number) × IsSome (fin.get (emptied_if b w number).files number) × (fin.len (emptied_if b w number).slots ≡ fin.len w.slots)
-  emptied number held true = (set_content-sound w number [] s held (omega arith) (omega (arith, s.small_total)), insert_some w.files number [] number held, refl)
-  emptied number held false = (s, held, refl)
+    emptied : (number : ℕ) → IsSome (fin.get w.files number) → (b : Bool) → IsSound (emptied_if b w number) × IsSome (fin.get (emptied_if b w number).files number) × (fin.len (emptied_if b w number).slots ≡ fin.len w.slots)
+    emptied number held true = (set_content-sound w number [] s held (omega arith) (omega (arith, s.small_total)), insert_some w.files number [] number held, refl)
+    emptied number held false = (s, held, refl)
 
-  at_name : fin.len w.slots < MAX_SLOTS → (o : Option ℕ) → fin.get w.names name ≡ o → IsSound (opened_at w name flags o).1
-  at_name few (Some number) e =
-      elim (has flags O_CREAT && has flags O_EXCL) as (λ b. IsSound (cond b (Err EEXIST, w) (with_descriptor (emptied_if (has flags O_TRUNC) w number) number flags)).1) [
-        | true ↦ s
-        | false ↦ let there = emptied number (s.held name number e) (has flags O_TRUNC) in with_descriptor-sound (emptied_if (has flags O_TRUNC) w number) number flags there.0 there.1 (omega (arith, there.2))
-      ]
-  at_name few None e =
-      elim (not (has flags O_CREAT)) as (λ b. IsSound (cond b (Err ENOENT, w) (if nat_le MAX_NAMES (fin.len w.names) then (Err ENOSPC, w) else with_descriptor (with_file w name []) (lowest_unused w.files) flags)).1) [
-        | true ↦ s
-        | false ↦ elim (nat_le MAX_NAMES (fin.len w.names)) as (λ b. nat_le MAX_NAMES (fin.len w.names) ≡ b → IsSound (cond b (Err ENOSPC, w) (with_descriptor (with_file w name []) (lowest_unused w.files) flags)).1) [
-          | true ↦ λ _. s
-          | false ↦ λ n.
-              let names : fin.len w.names < MAX_NAMES = (grind (arith, nat_tests)) in
-              with_descriptor-sound (with_file w name []) (lowest_unused w.files) flags
-                  (with_file-sound w name [] s good e names (omega (arith, lowest_number-le w s)) (omega arith) (omega (arith, s.small_total)))
-                  (is_some_of [] (here w.files (lowest_unused w.files) [])) few
-        ] refl
-      ]
+    at_name : fin.len w.slots < MAX_SLOTS → (o : Option ℕ) → fin.get w.names name ≡ o → IsSound (opened_at w name flags o).1
+    at_name few (Some number) e =
+        elim (has flags O_CREAT && has flags O_EXCL) as (λ b. IsSound (cond b (Err EEXIST, w) (with_descriptor (emptied_if (has flags O_TRUNC) w number) number flags)).1) [
+          | true ↦ s
+          | false ↦ let there = emptied number (s.held name number e) (has flags O_TRUNC) in with_descriptor-sound (emptied_if (has flags O_TRUNC) w number) number flags there.0 there.1 (omega (arith, there.2))
+        ]
+    at_name few None e =
+        elim (not (has flags O_CREAT)) as (λ b. IsSound (cond b (Err ENOENT, w) (if nat_le MAX_NAMES (fin.len w.names) then (Err ENOSPC, w) else with_descriptor (with_file w name []) (lowest_unused w.files) flags)).1) [
+          | true ↦ s
+          | false ↦ elim (nat_le MAX_NAMES (fin.len w.names)) as (λ b. nat_le MAX_NAMES (fin.len w.names) ≡ b → IsSound (cond b (Err ENOSPC, w) (with_descriptor (with_file w name []) (lowest_unused w.files) flags)).1) [
+            | true ↦ λ _. s
+            | false ↦ λ n.
+                let names : fin.len w.names < MAX_NAMES = (grind (arith, nat_tests)) in
+                with_descriptor-sound (with_file w name []) (lowest_unused w.files) flags
+                (with_file-sound w name [] s good e names (omega (arith, lowest_number-le w s)) (omega arith) (omega (arith, s.small_total)))
+                (is_some_of [] (here w.files (lowest_unused w.files) [])) few
+          ] refl
+        ]
 
 pub sought-sound : (w : World) (fd : ℕ) (offset : ℤ) (whence : ℕ) → IsSound w → IsSound (sought w fd offset whence).1
 sought-sound w fd offset whence s = at_slot (fin.get w.slots fd) refl
   where
-  small : (z : ℤ) (to : ℕ) → as_cursor z ≡ Some to → to < 2 ^ 63
-  small (negsuc n) to e = absurd (none-some to e)
-  small (pos n) to e = elim (nat_lt n (2 ^ 63)) as (λ b. nat_lt n (2 ^ 63) ≡ b → cond b (Some n) None ≡ Some to → to < 2 ^ 63) [
+    small : (z : ℤ) (to : ℕ) → as_cursor z ≡ Some to → to < 2 ^ 63
+    small (negsuc n) to e = absurd (none-some to e)
+    small (pos n) to e = elim (nat_lt n (2 ^ 63)) as (λ b. nat_lt n (2 ^ 63) ≡ b → cond b (Some n) None ≡ Some to → to < 2 ^ 63) [
       | true ↦ λ t f. let same = same_Some n to f in let less : n < 2 ^ 63 = (grind (arith, nat_tests)) in omega arith
       | false ↦ λ _ f. absurd (none-some to f)
     ] refl e
 
-  at_cursor : (number cursor flags : ℕ) → fin.get w.slots fd ≡ Some (File number cursor flags) → (o : Option ℕ) → ((to : ℕ) → o ≡ Some to → to < 2 ^ 63) → IsSound (moved w fd number flags o).1
-  at_cursor number cursor flags at None h = s
-  at_cursor number cursor flags at (Some to) h = set_cursor-sound w fd number cursor flags to s at (h to refl)
+    at_cursor : (number cursor flags : ℕ) → fin.get w.slots fd ≡ Some (File number cursor flags) → (o : Option ℕ) → ((to : ℕ) → o ≡ Some to → to < 2 ^ 63) → IsSound (moved w fd number flags o).1
+    at_cursor number cursor flags at None h = s
+    at_cursor number cursor flags at (Some to) h = set_cursor-sound w fd number cursor flags to s at (h to refl)
 
-  from_base : (o : Option ℕ) (to : ℕ) → option_and_then (λ base. as_cursor (pos base +ℤ offset)) o ≡ Some to → to < 2 ^ 63
-  from_base None to e = absurd (none-some to e)
-  from_base (Some base) to e = small (pos base +ℤ offset) to e
+    from_base : (o : Option ℕ) (to : ℕ) → option_and_then (λ base. as_cursor (pos base +ℤ offset)) o ≡ Some to → to < 2 ^ 63
+    from_base None to e = absurd (none-some to e)
+    from_base (Some base) to e = small (pos base +ℤ offset) to e
 
-  at_slot : (o : Option Slot) → fin.get w.slots fd ≡ o → IsSound (sought_at w fd offset whence o).1
-  at_slot None e = s
-  at_slot (Some Input) e = s
-  at_slot (Some Stream1) e = s
-  at_slot (Some Stream2) e = s
-  at_slot (Some (File number cursor flags)) e = at_cursor number cursor flags e _ (from_base (seek_base whence cursor (length (content_of w number))))
+    at_slot : (o : Option Slot) → fin.get w.slots fd ≡ o → IsSound (sought_at w fd offset whence o).1
+    at_slot None e = s
+    at_slot (Some Input) e = s
+    at_slot (Some Stream1) e = s
+    at_slot (Some Stream2) e = s
+    at_slot (Some (File number cursor flags)) e = at_cursor number cursor flags e _ (from_base (seek_base whence cursor (length (content_of w number))))
 
 -- a cursor that rises by what was read
 skip_small : (content : List ℕ) (cursor count : ℕ) → length (take count (drop cursor content)) ≡ count → length content ≤ MAX_CONTENT → cursor < 2 ^ 63 → cursor + count < 2 ^ 63
@@ -288,32 +314,32 @@ skip_small content cursor count read few small = omega (arith, length-take count
 pub skipped-sound : (w : World) (fd count : ℕ) → IsSound w → IsOkAnd (ready w fd count) (λ bytes. length bytes ≡ count) → IsSound (skipped w fd count)
 skipped-sound w fd count s read = at_slot (fin.get w.slots fd) refl read
   where
-  at_slot : (o : Option Slot) → fin.get w.slots fd ≡ o → IsOkAnd (ready_at w count o) (λ bytes. length bytes ≡ count) → IsSound (skipped_at w fd count o)
-  at_slot None e h = s
-  at_slot (Some Input) e h = s
-  at_slot (Some Stream1) e h = s
-  at_slot (Some Stream2) e h = s
-  at_slot (Some (File number cursor flags)) e h = set_cursor-sound w fd number cursor flags (cursor + count) s e (
-      elim (has flags MAY_READ) as (λ b. IsOkAnd (cond b (Ok (take count (drop cursor (content_of w number)))) (Err EBADF)) (λ bytes. length bytes ≡ count) → cursor + count < 2 ^ 63) [
-        | true ↦ λ l. skip_small (content_of w number) cursor count l (content_small w number s) (s.good_slots fd (File number cursor flags) e).1.1
-        | false ↦ λ l. absurd l
-      ] h)
+    at_slot : (o : Option Slot) → fin.get w.slots fd ≡ o → IsOkAnd (ready_at w count o) (λ bytes. length bytes ≡ count) → IsSound (skipped_at w fd count o)
+    at_slot None e h = s
+    at_slot (Some Input) e h = s
+    at_slot (Some Stream1) e h = s
+    at_slot (Some Stream2) e h = s
+    at_slot (Some (File number cursor flags)) e h = set_cursor-sound w fd number cursor flags (cursor + count) s e (
+        elim (has flags MAY_READ) as (λ b. IsOkAnd (cond b (Ok (take count (drop cursor (content_of w number)))) (Err EBADF)) (λ bytes. length bytes ≡ count) → cursor + count < 2 ^ 63) [
+          | true ↦ λ l. skip_small (content_of w number) cursor count l (content_small w number s) (s.good_slots fd (File number cursor flags) e).1.1
+          | false ↦ λ l. absurd l
+        ] h)
 
 -- what fits stays within the limits
 pub within_limits : (w : World) (count len place : ℕ) (done : Unit {0}) → fits_at w count (Some (len, place)) ≡ Ok done → count ≢ 0 → (place + count ≤ MAX_CONTENT) × (total w + (place + count - len) ≤ MAX_TOTAL)
 within_limits w count len place done e some =
     elim (eqb count 0) as (λ b. eqb count 0 ≡ b → cond b (Ok tt) (if nat_lt MAX_CONTENT (place + count) then Err EFBIG else (if nat_lt MAX_TOTAL (total w + (place + count - len)) then Err ENOSPC else Ok tt)) ≡ Ok done
-        → (place + count ≤ MAX_CONTENT) × (total w + (place + count - len) ≤ MAX_TOTAL)) [
+    → (place + count ≤ MAX_CONTENT) × (total w + (place + count - len) ≤ MAX_TOTAL)) [
       | true ↦ λ zero_count _. absurd (some (eqb-true count 0 zero_count))
       | false ↦ λ _ f. elim (nat_lt MAX_CONTENT (place + count)) as (λ b. nat_lt MAX_CONTENT (place + count) ≡ b → cond b (Err EFBIG) (if nat_lt MAX_TOTAL (total w + (place + count - len)) then Err ENOSPC else Ok tt) ≡ Ok done
           → (place + count ≤ MAX_CONTENT) × (total w + (place + count - len) ≤ MAX_TOTAL)) [
-        | true ↦ λ _ g. absurd (cc)
-        | false ↦ λ small g. elim (nat_lt MAX_TOTAL (total w + (place + count - len))) as (λ b. nat_lt MAX_TOTAL (total w + (place + count - len)) ≡ b → cond b (Err ENOSPC) (Ok tt) ≡ Ok done
-            → (place + count ≤ MAX_CONTENT) × (total w + (place + count - len) ≤ MAX_TOTAL)) [
-          | true ↦ λ _ h. absurd (cc)
-          | false ↦ λ room _. (omega (arith, ltb-false MAX_CONTENT (place + count) small), omega (arith, ltb-false MAX_TOTAL (total w + (place + count - len)) room))
-        ] refl g
-      ] refl f
+            | true ↦ λ _ g. absurd (cc)
+            | false ↦ λ small g. elim (nat_lt MAX_TOTAL (total w + (place + count - len))) as (λ b. nat_lt MAX_TOTAL (total w + (place + count - len)) ≡ b → cond b (Err ENOSPC) (Ok tt) ≡ Ok done
+                → (place + count ≤ MAX_CONTENT) × (total w + (place + count - len) ≤ MAX_TOTAL)) [
+                  | true ↦ λ _ h. absurd (cc)
+                  | false ↦ λ room _. (omega (arith, ltb-false MAX_CONTENT (place + count) small), omega (arith, ltb-false MAX_TOTAL (total w + (place + count - len)) room))
+                ] refl g
+          ] refl f
     ] refl e
 
 -- where a write to a file fits
@@ -329,21 +355,21 @@ file_limits w fd number cursor flags count done at fit some =
 pub filled-sound : (w : World) (fd : ℕ) (bytes : List ℕ) (done : Unit {0}) → IsSound w → fits w fd (length bytes) ≡ Ok done → length bytes ≢ 0 → IsSound (filled w fd bytes (fin.get w.slots fd))
 filled-sound w fd bytes done s fit some = at_slot (fin.get w.slots fd) refl fit
   where
-  at_slot : (o : Option Slot) → fin.get w.slots fd ≡ o → fits_at w (length bytes) (write_place w o) ≡ Ok done → IsSound (filled w fd bytes o)
-  at_slot None e f = s
-  at_slot (Some Input) e f = s
-  at_slot (Some Stream1) e f = let l = within_limits w (length bytes) (length w.stream1) (length w.stream1) done f some in stream1-sound w bytes s (omega (arith, l.0)) (omega (arith, l.1))
-  at_slot (Some Stream2) e f = let l = within_limits w (length bytes) (length w.stream2) (length w.stream2) done f some in stream2-sound w bytes s (omega (arith, l.0)) (omega (arith, l.1))
-  at_slot (Some (File number cursor flags)) e f =
-      let l = file_limits w fd number cursor flags (length bytes) done e fit some in
-      with_bytes-sound w fd number cursor flags bytes (write_cursor flags (length (content_of w number)) cursor) s e l.0 l.1
+    at_slot : (o : Option Slot) → fin.get w.slots fd ≡ o → fits_at w (length bytes) (write_place w o) ≡ Ok done → IsSound (filled w fd bytes o)
+    at_slot None e f = s
+    at_slot (Some Input) e f = s
+    at_slot (Some Stream1) e f = let l = within_limits w (length bytes) (length w.stream1) (length w.stream1) done f some in stream1-sound w bytes s (omega (arith, l.0)) (omega (arith, l.1))
+    at_slot (Some Stream2) e f = let l = within_limits w (length bytes) (length w.stream2) (length w.stream2) done f some in stream2-sound w bytes s (omega (arith, l.0)) (omega (arith, l.1))
+    at_slot (Some (File number cursor flags)) e f =
+        let l = file_limits w fd number cursor flags (length bytes) done e fit some in
+        with_bytes-sound w fd number cursor flags bytes (write_cursor flags (length (content_of w number)) cursor) s e l.0 l.1
 
 pub written-sound : (w : World) (fd : ℕ) (bytes : List ℕ) → IsSound w → IsSound (written w fd bytes).1
 written-sound w fd bytes s = at_fit (fits w fd (length bytes)) refl
   where
-  at_fit : (r : Result (Unit {0}) ℕ) → fits w fd (length bytes) ≡ r → IsSound (written_if w fd bytes r).1
-  at_fit (Err errno) e = s
-  at_fit (Ok done) e = elim (eqb (length bytes) 0) as (λ b. eqb (length bytes) 0 ≡ b → IsSound (cond b w (filled w fd bytes (fin.get w.slots fd)))) [
+    at_fit : (r : Result (Unit {0}) ℕ) → fits w fd (length bytes) ≡ r → IsSound (written_if w fd bytes r).1
+    at_fit (Err errno) e = s
+    at_fit (Ok done) e = elim (eqb (length bytes) 0) as (λ b. eqb (length bytes) 0 ≡ b → IsSound (cond b w (filled w fd bytes (fin.get w.slots fd)))) [
       | true ↦ λ _. s
       | false ↦ λ f. filled-sound w fd bytes done s e (λ zero_len. false≢true (sym f ∙ eq-eqb (length bytes) 0 zero_len))
     ] refl
@@ -360,9 +386,9 @@ pub stripped-is : (name : List ℕ) → begins_with_dot_slash (stripped name) �
 stripped-is [] = refl
 stripped-is (a ∷ []) = refl
 stripped-is (a ∷ (b ∷ rest)) = elim (eqb a 46 && eqb b 47) as (λ t. (eqb a 46 && eqb b 47) ≡ t → begins_with_dot_slash (cond t (stripped rest) (a ∷ (b ∷ rest))) ≡ false) [
-    | true ↦ λ _. stripped-is rest
-    | false ↦ λ f. f
-  ] refl
+  | true ↦ λ _. stripped-is rest
+  | false ↦ λ f. f
+] refl
 
 abbrev Placing : Type 0
 Placing = Result (Unit {0}) PlaceRefusal × World
@@ -382,8 +408,8 @@ placed-sound w name content s =
       ] refl
     ] refl
   where
-  good_name : is_name (stripped name) ≡ true → IsTrue (is_stripped_name (stripped name))
-  good_name h = ap (λ b. b && not (begins_with_dot_slash (stripped name))) h ∙ ap not (stripped-is name)
+    good_name : is_name (stripped name) ≡ true → IsTrue (is_stripped_name (stripped name))
+    good_name h = ap (λ b. b && not (begins_with_dot_slash (stripped name))) h ∙ ap not (stripped-is name)
 
 -- a descriptor's file stays when the descriptor goes
 pub has_file : (w : World) (fd : ℕ) (slot : Slot) → IsSound w → Some slot ≡ fin.get w.slots fd → HasFile (record w { slots = fin.remove w.slots fd }) slot

@@ -1,5 +1,5 @@
 -- How an answer that may also be out of memory fits the answer that is meant.
-use Rattle.std.specs.Prelude.{◌≡◌, ℕ, ◌+◌, ◌<◌, Option, Result, Ok, Err, IsOk, IfSome, List, length}
+use Rattle.std.specs.Prelude.{◌≡◌, ℕ, ◌+◌, ◌<◌, Result, Ok, Err, IsOk, IfSome}
 use Rattle.std.specs.FinMap as map
 use Rattle.mem_files.specs.declared.slot.FileRefusal.{FileRefusal}
 use Rattle.mem_files.specs.declared.slot.FileRefusal.TheVariants as file

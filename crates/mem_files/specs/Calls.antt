@@ -1,7 +1,7 @@
 -- What each call answers, and the files after it: the first rule that fits (docs/reference/files.md, "Calls").
 -- An answer that is an error leaves the files as they were.
-use Rattle.std.specs.Prelude.{◌≡◌, ℕ, ◌+◌, ◌-◌, ◌^◌, ℤ, pos, negsuc, ◌+ℤ◌, Bool, true, ◌&&◌, ◌||◌, not, ◌==◌, nat_lt, nat_le, if◌then◌else◌, Option, Some, None, option_and_then, Result, Ok, Err, List, [], ◌∷◌, ◌++◌, length, take, drop, replicate, bit_and, find}
-use Rattle.std.specs.Ordering.{is_lt, nat_cmp}
+use Rattle.std.specs.Prelude.{ℕ, ◌+◌, ◌-◌, ◌^◌, ℤ, pos, negsuc, ◌+ℤ◌, Bool, true, ◌&&◌, ◌||◌, not, ◌==◌, nat_lt, nat_le, if◌then◌else◌, Option, Some, None, option_and_then, Result, Ok, Err, List, [], ◌∷◌, ◌++◌, length, take, drop, replicate, bit_and, find}
+use Rattle.std.specs.Ordering.{is_lt}
 use Rattle.std.specs.FinMap as map
 use Rattle.mem_files.specs.declared.slot.Slot.{Slot}
 use Rattle.mem_files.specs.declared.slot.Slot.TheVariants.{Input, Stream1, Stream2, File}
@@ -32,10 +32,11 @@ with_file w name content = record w {
   files = map.insert w.files (lowest_unused w.files) content;
 }
 
--- `place`
+-- `place`: would a file of so many bytes pass a limit?
 abbrev pub is_full : World → ℕ → Bool
 is_full w len = nat_lt MAX_CONTENT len || nat_lt MAX_TOTAL (total w + len) || nat_le MAX_NAMES (map.len w.names)
 
+-- a file under a name without `./`
 abbrev pub placed_as : World → List ℕ → List ℕ → Result (Unit {0}) PlaceRefusal × World
 placed_as w name content =
     if not (is_name name) then (Err BadName, w)
@@ -43,6 +44,7 @@ placed_as w name content =
     else (if is_full w (length content) then (Err Full, w)
     else (Ok tt, with_file w name content)))
 
+-- `place`
 abbrev pub placed : World → List ℕ → List ℕ → Result (Unit {0}) PlaceRefusal × World
 placed w name content = placed_as w (stripped name) content
 
@@ -51,29 +53,32 @@ abbrev pub without_unused : World → ℕ → World
 without_unused w number =
     if is_named w number || is_open w number then w else record w { files = map.remove w.files number }
 
--- `remove`
+-- `remove`, by the number that has the name
 abbrev pub removed_at : World → List ℕ → Option ℕ → Result (Unit {0}) ℕ × World
 removed_at w name None = (Err ENOENT, w)
 removed_at w name (Some number) = (Ok tt, without_unused (record w { names = map.remove w.names name }) number)
 
+-- `remove`
 abbrev pub removed : World → List ℕ → Result (Unit {0}) ℕ × World
 removed w name = removed_at w name (map.get w.names name)
 
--- `close`
+-- the file that a closed descriptor stood for goes, where nothing else has it
 abbrev pub released : World → Slot → World
 released w Input = w
 released w Stream1 = w
 released w Stream2 = w
 released w (File number cursor flags) = without_unused w number
 
+-- `close`, by what stands at the descriptor
 abbrev pub closed_at : World → ℕ → Option Slot → Result (Unit {0}) ℕ × World
 closed_at w fd None = (Err EBADF, w)
 closed_at w fd (Some slot) = (Ok tt, released (record w { slots = map.remove w.slots fd }) slot)
 
+-- `close`
 abbrev pub closed : World → ℕ → Result (Unit {0}) ℕ × World
 closed w fd = closed_at w fd (map.get w.slots fd)
 
--- `open_name`: the flags of the descriptor, from those of the call
+-- the flags of a descriptor, from those of openat(2)
 abbrev pub flag_byte : ℕ → ℕ
 flag_byte flags =
     (if bit_and flags O_ACCMODE == O_WRONLY then 0 else MAY_READ)
@@ -85,10 +90,11 @@ abbrev pub with_descriptor : World → ℕ → ℕ → Result ℕ ℕ × World
 with_descriptor w number flags =
     (Ok (lowest_unused w.slots), record w { slots = map.insert w.slots (lowest_unused w.slots) (File number 0 (flag_byte flags)) })
 
--- a present file
+-- O_TRUNC empties a present file
 abbrev pub emptied_if : Bool → World → ℕ → World
 emptied_if truncate w number = if truncate then record w { files = map.insert w.files number [] } else w
 
+-- `open_name`, by the number that has the name
 abbrev pub opened_at : World → List ℕ → ℕ → Option ℕ → Result ℕ ℕ × World
 opened_at w name flags (Some number) =
     if has flags O_CREAT && has flags O_EXCL then (Err EEXIST, w)
@@ -98,13 +104,14 @@ opened_at w name flags None =
     else (if nat_le MAX_NAMES (map.len w.names) then (Err ENOSPC, w)
     else with_descriptor (with_file w name []) (lowest_unused w.files) flags)
 
+-- `open_name`
 abbrev pub opened : World → List ℕ → ℕ → Result ℕ ℕ × World
 opened w name flags =
     if bit_and flags O_ACCMODE == O_ACCMODE then (Err EINVAL, w)
     else (if nat_le MAX_SLOTS (map.len w.slots) then (Err EMFILE, w)
     else opened_at w name flags (map.get w.names name))
 
--- `seek`: the number that the offset counts from
+-- the number that an offset counts from: 0, the cursor or the length
 abbrev pub seek_base : ℕ → ℕ → ℕ → Option ℕ
 seek_base whence cursor len =
     if whence == SEEK_SET then Some 0
@@ -117,10 +124,12 @@ abbrev pub as_cursor : ℤ → Option ℕ
 as_cursor (pos n) = if nat_lt n (2 ^ 63) then Some n else None
 as_cursor (negsuc n) = None
 
+-- `seek`, by where the cursor goes
 abbrev pub moved : World → ℕ → ℕ → ℕ → Option ℕ → Result ℕ ℕ × World
 moved w fd number flags None = (Err EINVAL, w)
 moved w fd number flags (Some cursor) = (Ok cursor, record w { slots = map.insert w.slots fd (File number cursor flags) })
 
+-- `seek`, by what stands at the descriptor
 abbrev pub sought_at : World → ℕ → ℤ → ℕ → Option Slot → Result ℕ ℕ × World
 sought_at w fd offset whence None = (Err EBADF, w)
 sought_at w fd offset whence (Some Input) = (Err ESPIPE, w)
@@ -129,10 +138,11 @@ sought_at w fd offset whence (Some Stream2) = (Err ESPIPE, w)
 sought_at w fd offset whence (Some (File number cursor flags)) =
     moved w fd number flags (option_and_then (λ base. as_cursor (pos base +ℤ offset)) (seek_base whence cursor (length (content_of w number))))
 
+-- `seek`
 abbrev pub sought : World → ℕ → ℤ → ℕ → Result ℕ ℕ × World
 sought w fd offset whence = sought_at w fd offset whence (map.get w.slots fd)
 
--- `ready`: what a read of at most `count` bytes gives
+-- `ready`, by what stands at the descriptor: at most `count` bytes from the cursor on
 abbrev pub ready_at : World → ℕ → Option Slot → Result (List ℕ) ℕ
 ready_at w count None = Err EBADF
 ready_at w count (Some Input) = Ok []
@@ -141,10 +151,11 @@ ready_at w count (Some Stream2) = Err EBADF
 ready_at w count (Some (File number cursor flags)) =
     if has flags MAY_READ then Ok (take count (drop cursor (content_of w number))) else Err EBADF
 
+-- `ready`
 abbrev pub ready : World → ℕ → ℕ → Result (List ℕ) ℕ
 ready w fd count = ready_at w count (map.get w.slots fd)
 
--- `skip`: the cursor rises by `count`
+-- `skip`, by what stands at the descriptor: the cursor rises by `count`
 abbrev pub skipped_at : World → ℕ → ℕ → Option Slot → World
 skipped_at w fd count None = w
 skipped_at w fd count (Some Input) = w
@@ -153,6 +164,7 @@ skipped_at w fd count (Some Stream2) = w
 skipped_at w fd count (Some (File number cursor flags)) =
     record w { slots = map.insert w.slots fd (File number (cursor + count) flags) }
 
+-- `skip`
 abbrev pub skipped : World → ℕ → ℕ → World
 skipped w fd count = skipped_at w fd count (map.get w.slots fd)
 
@@ -171,7 +183,7 @@ write_place w (Some (File number cursor flags)) =
     then Some (length (content_of w number), write_cursor flags (length (content_of w number)) cursor)
     else None
 
--- `fits`: what refuses a write of `count` bytes
+-- `fits`, by where the write goes: what refuses a write of `count` bytes
 abbrev pub fits_at : World → ℕ → Option (ℕ × ℕ) → Result (Unit {0}) ℕ
 fits_at w count None = Err EBADF
 fits_at w count (Some (len, place)) =
@@ -180,6 +192,7 @@ fits_at w count (Some (len, place)) =
     else (if nat_lt MAX_TOTAL (total w + (place + count - len)) then Err ENOSPC
     else Ok tt))
 
+-- `fits`
 abbrev pub fits : World → ℕ → ℕ → Result (Unit {0}) ℕ
 fits w fd count = fits_at w count (write_place w (map.get w.slots fd))
 
@@ -194,6 +207,7 @@ with_bytes w fd number flags bytes place = record w {
   slots = map.insert w.slots fd (File number (place + length bytes) flags);
 }
 
+-- bytes that fit are written, by what stands at the descriptor
 abbrev pub filled : World → ℕ → List ℕ → Option Slot → World
 filled w fd bytes None = w
 filled w fd bytes (Some Input) = w
@@ -202,26 +216,28 @@ filled w fd bytes (Some Stream2) = record w { stream2 = w.stream2 ++ bytes }
 filled w fd bytes (Some (File number cursor flags)) =
     with_bytes w fd number flags bytes (write_cursor flags (length (content_of w number)) cursor)
 
--- `write`: a write of no byte changes nothing
+-- `write`, by what refuses it: a write of no byte changes nothing
 abbrev pub written_if : World → ℕ → List ℕ → Result (Unit {0}) ℕ → Result (Unit {0}) ℕ × World
 written_if w fd bytes (Err errno) = (Err errno, w)
 written_if w fd bytes (Ok done) = (Ok done, (if length bytes == 0 then w else filled w fd bytes (map.get w.slots fd)))
 
+-- `write`
 abbrev pub written : World → ℕ → List ℕ → Result (Unit {0}) ℕ × World
 written w fd bytes = written_if w fd bytes (fits w fd (length bytes))
 
--- `content`
+-- `content`: the bytes of the file that has the name
 abbrev pub content_at : World → List ℕ → Option (List ℕ)
 content_at w name = option_and_then (map.get w.files) (map.get w.names name)
 
--- `stream`
+-- `stream`: what was written to stream 1, or 2
 abbrev pub stream : World → ℕ → List ℕ
 stream w which = if which == 1 then w.stream1 else w.stream2
 
--- `name_after`: the first name, in their order, that comes after the given one; without one, the first of all
+-- does a name come after the given one? Each does where none is given
 abbrev pub is_after : Option (List ℕ) → List ℕ → Bool
 is_after None name = true
 is_after (Some given) name = is_lt (bytes_cmp given name)
 
+-- `name_after`: the first name, in their order, that comes after the given one; without one, the first of all
 abbrev pub name_after : World → Option (List ℕ) → Option (List ℕ)
 name_after w given = find (is_after given) (map.keys w.names)

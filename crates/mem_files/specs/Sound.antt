@@ -1,5 +1,5 @@
 -- What every `Files` keeps: the limits, and that names, files and descriptors fit together.
-use Rattle.std.specs.Prelude.{◌≡◌, ◌≢◌, ℕ, ◌+◌, ◌%◌, ◌^◌, ◌<◌, ◌≤◌, ◌||◌, List, length, Option, Some, IsSome, IsTrue}
+use Rattle.std.specs.Prelude.{◌≡◌, ◌≢◌, ℕ, ◌+◌, ◌%◌, ◌^◌, ◌<◌, ◌≤◌, ◌||◌, List, length, Some, IsSome, IsTrue}
 use Rattle.std.specs.FinMap as map
 use Rattle.mem_files.specs.declared.slot.Slot.{Slot}
 use Rattle.mem_files.specs.declared.slot.Slot.TheVariants.{Input, Stream1, Stream2, File}
@@ -23,6 +23,7 @@ IsSlotAt w fd Stream2 = fd ≡ 2
 IsSlotAt w fd (File number cursor flags) =
     IsSome (map.get w.files number) × (cursor < 2 ^ 63) × (flags < 8) × (flags % 4 ≢ 0)
 
+-- the limits are kept, and names, files and descriptors fit together
 pub record IsSound (w : World) : Type 0 where
   pub few_names : map.len w.names ≤ MAX_NAMES
   pub few_slots : map.len w.slots ≤ MAX_SLOTS

@@ -20,6 +20,7 @@ pub record Parts : Type 0 where
   pub stream2 : List ℕ
   pub total : ℕ
 
+-- the parts of a table
 abbrev pub parts_of : Inside → Parts
 parts_of a = record {
   names = keyed (λ name. name.items) a.names.entries;
@@ -31,6 +32,7 @@ parts_of a = record {
   total = a.total;
 }
 
+-- the world of a table
 abbrev pub world_of : Parts → World
 world_of p = record {
   names = from_sorted p.names;

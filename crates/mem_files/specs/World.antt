@@ -1,5 +1,5 @@
 -- The files of a guest as one value: equal files are equal values (docs/reference/files.md, "What is kept").
-use Rattle.std.specs.Prelude.{◌≡◌, ℕ, ◌+◌, Bool, false, ◌||◌, ◌==◌, if◌then◌else◌, Option, Some, None, unwrap_or, List, [], ◌∷◌, length, sum_by, refl}
+use Rattle.std.specs.Prelude.{ℕ, ◌+◌, Bool, false, ◌==◌, if◌then◌else◌, unwrap_or, List, [], ◌∷◌, length, sum_by, refl}
 use Rattle.std.specs.List.{list_any}
 use Rattle.std.specs.Ordering.{nat_cmp}
 use Rattle.std.specs.FinMap as map
@@ -25,16 +25,18 @@ content_of w number = unwrap_or (map.get w.files number) []
 abbrev pub total : World → ℕ
 total w = length w.stream1 + length w.stream2 + sum_by length (map.values w.files)
 
--- does a descriptor stand for this file?
+-- does what a descriptor stands for have this file number?
 abbrev pub is_of : ℕ → Slot → Bool
 is_of number Input = false
 is_of number Stream1 = false
 is_of number Stream2 = false
 is_of number (File held cursor flags) = held == number
 
+-- does a file have a name?
 abbrev pub is_named : World → ℕ → Bool
 is_named w number = list_any (λ held. held == number) (map.values w.names)
 
+-- does a descriptor stand for a file?
 abbrev pub is_open : World → ℕ → Bool
 is_open w number = list_any (is_of number) (map.values w.slots)
 
@@ -51,7 +53,7 @@ lowest_unused m = first_gap 0 (map.keys m)
 abbrev pub world_code : Coded World
 world_code =
     code_by (map.FinMap bytes_cmp ℕ × (map.FinMap nat_cmp (List ℕ) × (map.FinMap nat_cmp Slot × (List ℕ × List ℕ))))
-        (coded× (map.code (coded_list coded_ℕ) coded_ℕ) (coded× (map.code coded_ℕ (coded_list coded_ℕ)) (coded× (map.code coded_ℕ slot.the_row.coded) (coded× (coded_list coded_ℕ) (coded_list coded_ℕ)))))
-        (λ w. (w.names, (w.files, (w.slots, (w.stream1, w.stream2)))))
-        (λ p. record { names = p.0; files = p.1.0; slots = p.1.1.0; stream1 = p.1.1.1.0; stream2 = p.1.1.1.1 })
-        (λ _. refl)
+    (coded× (map.code (coded_list coded_ℕ) coded_ℕ) (coded× (map.code coded_ℕ (coded_list coded_ℕ)) (coded× (map.code coded_ℕ slot.the_row.coded) (coded× (coded_list coded_ℕ) (coded_list coded_ℕ)))))
+    (λ w. (w.names, (w.files, (w.slots, (w.stream1, w.stream2)))))
+    (λ p. record { names = p.0; files = p.1.0; slots = p.1.1.0; stream1 = p.1.1.1.0; stream2 = p.1.1.1.1 })
+    (λ _. refl)

@@ -1,8 +1,7 @@
 //! The calls, over a table: the first rule that fits.
-ghost use Rattle.std.specs.Prelude.{◌≡◌, ◌+◌, ◌-◌, ◌<◌, ◌≤◌, ◌≢◌, ◌^◌, pos, ◌+ℤ◌, IsTrue, IfOk, IsOkAnd, IsSome, IfSome, OnOk, OnErr, MatchResult, Ok, Err, Some, None, length, take, drop, []};
-ghost use Rattle.std.specs.Option.{option_copied, option_and_then, option_map};
+ghost use Rattle.std.specs.Prelude.{◌≡◌, ◌+◌, ◌-◌, ◌<◌, ◌≢◌, ◌^◌, pos, ◌+ℤ◌, IfOk, IsOkAnd, IsSome, OnOk, OnErr, MatchResult, Ok, Err, Some, None, length, take, drop, []};
+ghost use Rattle.std.specs.Option.{option_copied};
 ghost use Rattle.std.specs.FinMap as map;
-ghost use Rattle.mem_files.specs.World.{content_of};
 ghost use Rattle.mem_files.specs.Calls.{placed, is_full, opened, opened_at, flag_byte, has, closed, released, without_unused, sought, seek_base, as_cursor, ready, skipped, fits, write_place, write_cursor, filled, written, removed, content_at};
 ghost use Rattle.mem_files.specs.Answers.{Answers, Places, Grows};
 ghost use Rattle.mem_files.specs.Sound.{IsSound, HasFile};
@@ -10,9 +9,9 @@ ghost use Rattle.mem_files.specs.Sound.{IsSound, HasFile};
 use crate::names::{is_name, strip};
 use crate::table::Table;
 use crate::{
-    APPENDS, EBADF, EEXIST, EFBIG, EINVAL, EMFILE, ENOENT, ENOSPC, ESPIPE, FileRefusal, MAX_CONTENT,
-    MAX_NAMES, MAX_SLOTS, MAX_TOTAL, MAY_READ, MAY_WRITE, O_ACCMODE, O_APPEND, O_CREAT, O_EXCL,
-    O_RDONLY, O_TRUNC, O_WRONLY, PlaceRefusal, SEEK_CUR, SEEK_END, SEEK_SET, Slot,
+    APPENDS, EBADF, EEXIST, EFBIG, EINVAL, EMFILE, ENOENT, ENOSPC, ESPIPE, FileRefusal,
+    MAX_CONTENT, MAX_NAMES, MAX_SLOTS, MAX_TOTAL, MAY_READ, MAY_WRITE, O_ACCMODE, O_APPEND,
+    O_CREAT, O_EXCL, O_RDONLY, O_TRUNC, O_WRONLY, PlaceRefusal, SEEK_CUR, SEEK_END, SEEK_SET, Slot,
 };
 use std::alloc::AllocError;
 
@@ -106,7 +105,11 @@ impl Table {
         if has(flags, O_CREAT) && has(flags, O_EXCL) {
             return Err(FileRefusal::Errno(EEXIST));
         }
-        let fd = self.add_slot(Slot::File { number, cursor: 0, flags: flag_byte(flags) })?;
+        let fd = self.add_slot(Slot::File {
+            number,
+            cursor: 0,
+            flags: flag_byte(flags),
+        })?;
         if has(flags, O_TRUNC) {
             self.empty(number);
         }
@@ -126,7 +129,11 @@ impl Table {
             return Err(FileRefusal::Errno(ENOSPC));
         }
         let number = self.free_number();
-        let fd = self.add_slot(Slot::File { number, cursor: 0, flags: flag_byte(flags) })?;
+        let fd = self.add_slot(Slot::File {
+            number,
+            cursor: 0,
+            flags: flag_byte(flags),
+        })?;
         if let Err(error) = self.add_file(name, &[]) {
             self.clear_slot(fd);
             return Err(error.into());
@@ -187,7 +194,13 @@ impl Table {
             Some(Slot::Input) => Err(ESPIPE),
             Some(Slot::Stream1) => Err(ESPIPE),
             Some(Slot::Stream2) => Err(ESPIPE),
-            Some(Slot::File { number, cursor, flags }) => {
+            Some(
+                Slot::File {
+                    number,
+                    cursor,
+                    flags,
+                },
+            ) => {
                 let len = self.content(number).len() as u64;
                 let Some(base) = seek_base(whence, cursor, len) else {
                     return Err(EINVAL);
@@ -195,7 +208,14 @@ impl Table {
                 let Some(cursor) = moved_cursor(base, offset) else {
                     return Err(EINVAL);
                 };
-                self.set_slot(fd, Slot::File { number, cursor, flags });
+                self.set_slot(
+                    fd,
+                    Slot::File {
+                        number,
+                        cursor,
+                        flags,
+                    },
+                );
                 Ok(cursor)
             }
         }
@@ -209,9 +229,13 @@ impl Table {
     {
         match self.slot(fd) {
             Some(Slot::Input) => Ok(&[]),
-            Some(Slot::File { number, cursor, flags }) if flags & MAY_READ != 0 => {
-                Ok(part(self.content(number), cursor, count))
-            }
+            Some(
+                Slot::File {
+                    number,
+                    cursor,
+                    flags,
+                },
+            ) if flags & MAY_READ != 0 => { Ok(part(self.content(number), cursor, count)) }
             _ => Err(EBADF),
         }
     }
@@ -221,9 +245,23 @@ impl Table {
         requires ready { IsOkAnd (ready self.old fd count) (λ bytes. length bytes ≡ count) }
         ensures { self.new ≡ skipped self.old fd count }
     {
-        if let Some(Slot::File { number, cursor, flags }) = self.slot(fd) {
+        if let Some(
+            Slot::File {
+                number,
+                cursor,
+                flags,
+            },
+        ) = self.slot(fd)
+        {
             let cursor = cursor + count;
-            self.set_slot(fd, Slot::File { number, cursor, flags });
+            self.set_slot(
+                fd,
+                Slot::File {
+                    number,
+                    cursor,
+                    flags,
+                },
+            );
         }
     }
 
@@ -240,7 +278,13 @@ impl Table {
                 let len = self.stream(2).len() as u64;
                 Some((len, len))
             }
-            Some(Slot::File { number, cursor, flags }) if flags & MAY_WRITE != 0 => {
+            Some(
+                Slot::File {
+                    number,
+                    cursor,
+                    flags,
+                },
+            ) if flags & MAY_WRITE != 0 => {
                 let len = self.content(number).len() as u64;
                 Some((len, write_cursor(flags, len, cursor)))
             }
@@ -294,12 +338,25 @@ impl Table {
         match self.slot(fd) {
             Some(Slot::Stream1) => self.extend_stream1(bytes)?,
             Some(Slot::Stream2) => self.extend_stream2(bytes)?,
-            Some(Slot::File { number, cursor, flags }) => {
+            Some(
+                Slot::File {
+                    number,
+                    cursor,
+                    flags,
+                },
+            ) => {
                 let end = self.content(number).len() as u64;
                 let place = write_cursor(flags, end, cursor);
                 self.overwrite(number, place as usize, bytes)?;
                 let cursor = place + bytes.len() as u64;
-                self.set_slot(fd, Slot::File { number, cursor, flags });
+                self.set_slot(
+                    fd,
+                    Slot::File {
+                        number,
+                        cursor,
+                        flags,
+                    },
+                );
             }
             _ => {}
         }

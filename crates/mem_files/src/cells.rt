@@ -1,5 +1,5 @@
 //! Lists of cells, of which some hold a value.
-ghost use Rattle.std.specs.Prelude.{◌≡◌, ◌≤◌, ◌<◌, ℕ, OnOk, OnErr, IsSome, Option, Some, None, length, slice_index_or};
+ghost use Rattle.std.specs.Prelude.{◌≡◌, ◌≤◌, ◌<◌, ℕ, OnOk, OnErr, IsSome, Option, None, length, slice_index_or};
 ghost use Rattle.std.specs.Option.{option_copied};
 ghost use Rattle.mem_files.specs.Cells.{with_room};
 

@@ -1,10 +1,11 @@
 //! The files of a guest, with what each call answers.
-ghost use Rattle.std.specs.Prelude.{◌≡◌, ◌⊎◌, ℕ, IsTrue, IfOk, IsOkAnd, MatchResult, Ok, Err, Some, length};
-ghost use Rattle.std.specs.Option.{option_copied, option_map};
+ghost use Rattle.std.specs.Prelude.{◌≡◌, ◌⊎◌, IsTrue, IfOk, IsOkAnd, MatchResult, Ok, Err, length};
+ghost use Rattle.std.specs.Option.{option_copied};
 ghost use Rattle.std.specs.FinMap as map;
 ghost use Rattle.mem_files.specs.Names.{is_stripped_name};
 ghost use Rattle.mem_files.specs.Calls.{first_world, placed, opened, closed, sought, ready, skipped, fits, written, removed, content_at, stream, name_after};
 ghost use Rattle.mem_files.specs.Answers.{Answers, Places, Grows};
+ghost use Rattle.mem_files.specs.Sound.{IsSound};
 
 use crate::table::Table;
 use crate::{FileRefusal, PlaceRefusal};
@@ -133,7 +134,9 @@ impl Files {
     /// The bytes that were written to a stream, 1 or 2.
     pub fn stream(&self, which: u8) -> &[u8]
         requires { (which ≡ 1) ⊎ (which ≡ 2) }
-        ensures { result.now ≡ stream self.now which }
+        ensures bytes { result.now ≡ stream self.now which }
+        // The limits are kept, and names, files and descriptors fit together.
+        ensures sound { IsSound self.now }
     {
         self.table.stream(which)
     }

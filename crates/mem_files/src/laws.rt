@@ -15,19 +15,16 @@ pub fn written_bytes_are_read()
         → IsTrue (has flags MAY_READ) → has flags APPENDS ≡ false
         → written w fd bytes ≡ (Ok tt, new)
         → ready (sought new fd (pos cursor) SEEK_SET).1 fd (length bytes) ≡ Ok bytes }
-{
-}
+{}
 
 /// To remove a name changes nothing of what a descriptor reads.
 pub fn removed_file_is_read()
     ensures { (w : World) (name : List ℕ) (fd count : ℕ)
         → ready (removed w name).1 fd count ≡ ready w fd count }
-{
-}
+{}
 
 /// A number has at most one name.
 pub fn number_has_one_name()
     ensures { (w : World) (name other : List ℕ) (number : ℕ) → IsSound w
         → map.get w.names name ≡ Some number → map.get w.names other ≡ Some number → name ≡ other }
-{
-}
+{}

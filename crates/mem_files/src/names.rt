@@ -1,7 +1,7 @@
 //! Names of files.
 ghost use Rattle.std.specs.Prelude.{◌≡◌, ◌==◌};
 ghost use Rattle.std.specs.List.{list_any};
-ghost use Rattle.mem_files.specs.Names.{stripped, is_name};
+ghost use Rattle.mem_files.specs.Names.{stripped, is_name, is_stripped_name, begins_with_dot_slash};
 
 use crate::MAX_NAME;
 
@@ -23,6 +23,23 @@ pub fn is_name(name: &[u8]) -> bool
         return false;
     }
     !has_zero(name)
+}
+
+/// Is this a guest file name that doesn't begin with `./`?
+pub fn is_stripped_name(name: &[u8]) -> bool
+    ensures { result ≡ is_stripped_name name.now }
+{
+    is_name(name) && !begins_with_dot_slash(name)
+}
+
+/// Does a name begin with `./`?
+fn begins_with_dot_slash(name: &[u8]) -> bool
+    ensures { result ≡ begins_with_dot_slash name.now }
+{
+    match name {
+        [b'.', b'/', ..] => true,
+        _ => false,
+    }
 }
 
 /// Is there a zero byte?

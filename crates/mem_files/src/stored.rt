@@ -20,7 +20,10 @@ impl Stored {
     {
         let name = Vec::from_slice(alloc, name)?;
         let content = Vec::from_slice(alloc, content)?;
-        Ok(Stored { name: Some(name), content })
+        Ok(Stored {
+            name: Some(name),
+            content,
+        })
     }
 
     pub fn content(&self) -> &[u8]

@@ -1,9 +1,8 @@
 //! Names, files, descriptors and streams as they lie in memory: each call here is one change of the world.
-ghost use Rattle.std.specs.Prelude.{◌≡◌, ◌+◌, ◌-◌, ◌<◌, ◌≤◌, ◌^◌, ℕ, IfOk, OnOk, OnErr, IsSome, Option, Some, None, length, false, slice_index_or, find, map as map_list, [], ◌++◌};
+ghost use Rattle.std.specs.Prelude.{◌≡◌, ◌+◌, ◌-◌, ◌<◌, ◌^◌, IfOk, OnOk, OnErr, IsSome, Option, Some, None, length, false, find, map as map_list, [], ◌++◌};
 ghost use Rattle.std.specs.List.{list_any};
 ghost use Rattle.std.specs.Option.{option_copied, option_map_or};
 ghost use Rattle.std.specs.FinMap as map;
-ghost use Rattle.mem_files.specs.Cells.{with_room};
 ghost use Rattle.mem_files.specs.World.{content_of, is_of, total, is_named, is_open, lowest_unused};
 ghost use Rattle.mem_files.specs.Calls.{first_world, with_file, overwritten, stream, name_after, is_after};
 

@@ -1,17 +1,17 @@
 -- A row's wanted bits and an instruction's fields at their places, as one sum: what the sum reads, form by form.
-use Rattle.std.proofs.Common.{◌≡◌, ℕ, ◌+◌, ◌-◌, ◌*◌, ◌/◌, ◌%◌, ◌^◌, ◌<◌, ◌≤◌, Bool, true, false, ◌&&◌, refl, sym, ap, ◌∙◌, arith}
+use Rattle.std.proofs.Common.{◌≡◌, ℕ, ◌+◌, ◌*◌, ◌/◌, ◌%◌, ◌^◌, ◌<◌, true, refl, ap, ◌∙◌, arith}
 use Rattle.std.specs.Prelude.{◌==◌, bit_and, ℤ, pos, if◌then◌else◌}
 use Rattle.std.specs.Int.{w64, cast_unsigned}
 use Rattle.std.proofs.lemmas.Bool.{and_parts, and_from, eqb-true, eq-eqb}
 use Rattle.rv64_table.specs.declared.Form.{Form}
 use Rattle.rv64_table.specs.declared.Form.TheVariants.{R, I, H, K, S, B, U, J, E}
 use Rattle.rv64_table.specs.Table.{mask_of}
-use Rattle.rv64_table.specs.Lookup.{has_fields, fits_funct3, fits_funct7, fits_fields}
+use Rattle.rv64_table.specs.Lookup.{has_fields, fits_funct3, fits_funct7}
 use Rattle.rv64_table.proofs.RowsByField.{fits-form}
 use Rattle.rv64_table.proofs.Masks.{and-fixed}
 use Rattle.rv64_table.proofs.Places.{Wants}
-use Rattle.rv64_decode.specs.Fields.{bits, signed, immediate, has_rd, has_rs1, has_rs2}
-use Rattle.rv64_decode.specs.Encode.{placed, has_immediate, is_signed, is_unsigned, is_multiple}
+use Rattle.rv64_decode.specs.Fields.{bits, branch_offset, jump_offset, signed, immediate, has_rd, has_rs1, has_rs2}
+use Rattle.rv64_decode.specs.Encode.{placed, has_immediate, is_signed, is_multiple}
 use Rattle.rv64_decode.proofs.Signed.{signed-code, unsigned-code, multiple-2, multiple-4096}
 
 -- what is known of a row's wanted bits and an instruction's fields
@@ -115,7 +115,7 @@ reads B want d a b z w g e =
     let funct7 : want / 2 ^ 25 ≡ 0 = eqb-true _ _ wants.funct7 in
     let range = and_parts (is_signed 13 z) (is_multiple 2 z) g.imm in
     let unit : low z % 2 ≡ 0 = multiple-2 z range.1 in
-    let number : bits w 31 31 * 2 ^ 12 + bits w 7 7 * 2 ^ 11 + bits w 30 25 * 2 ^ 5 + bits w 11 8 * 2 ^ 1 ≡ low z % 2 ^ 13 = omega arith in
+    let number : branch_offset w ≡ low z % 2 ^ 13 = omega arith in
     let below : w < 2 ^ 32 = omega arith in
     record {
       below = below;
@@ -147,7 +147,7 @@ reads J want d a b z w g e =
     let funct3 : want / 2 ^ 12 % 2 ^ 3 ≡ 0 = eqb-true _ _ wants.funct3 in
     let range = and_parts (is_signed 21 z) (is_multiple 2 z) g.imm in
     let unit : low z % 2 ≡ 0 = multiple-2 z range.1 in
-    let number : bits w 31 31 * 2 ^ 20 + bits w 19 12 * 2 ^ 12 + bits w 20 20 * 2 ^ 11 + bits w 30 21 * 2 ^ 1 ≡ low z % 2 ^ 21 = omega arith in
+    let number : jump_offset w ≡ low z % 2 ^ 21 = omega arith in
     let below : w < 2 ^ 32 = omega arith in
     record {
       below = below;

@@ -1,6 +1,6 @@
 -- No two words of a row have the same fields.
-use Rattle.std.proofs.Common.{◌≡◌, ℕ, ◌+◌, ◌-◌, ◌*◌, ◌/◌, ◌%◌, ◌^◌, ◌<◌, ◌≤◌, Bool, true, false, ◌&&◌, Some, refl, sym, ap, ◌∙◌, arith}
-use Rattle.std.specs.Prelude.{◌==◌, bit_and, ℤ, pos, if◌then◌else◌}
+use Rattle.std.proofs.Common.{◌≡◌, ℕ, ◌+◌, ◌-◌, ◌*◌, ◌/◌, ◌%◌, ◌^◌, ◌<◌, true, refl, sym, ◌∙◌, arith}
+use Rattle.std.specs.Prelude.{◌==◌, bit_and, pos, if◌then◌else◌}
 use Rattle.std.proofs.lemmas.Bool.{and_parts, eqb-true}
 use Rattle.rv64_table.specs.declared.Form.{Form}
 use Rattle.rv64_table.specs.declared.Form.TheVariants.{R, I, H, K, S, B, U, J, E}
@@ -8,7 +8,7 @@ use Rattle.rv64_table.specs.Table.{mask_of}
 use Rattle.rv64_table.specs.Lookup.{has_fields, fits_funct3, fits_funct7}
 use Rattle.rv64_table.proofs.RowsByField.{fits-form}
 use Rattle.rv64_table.proofs.Masks.{and-fixed}
-use Rattle.rv64_decode.specs.Fields.{bits, signed, immediate, has_rd, has_rs1, has_rs2}
+use Rattle.rv64_decode.specs.Fields.{bits, branch_offset, jump_offset, immediate, has_rd, has_rs1, has_rs2}
 use Rattle.rv64_decode.proofs.Signed.{signed-same}
 
 -- what a word that fits has in its fixed fields
@@ -37,7 +37,7 @@ pub record Alike (form : Form) (want v w : ℕ) : Type 0 where
   pub imm : immediate form v ≡ immediate form w
 
 -- a branch's offset has bits 31..25 and 11..7, a jump's bits 31..12
-branch-bits : (v w : ℕ) → v < 2 ^ 32 → w < 2 ^ 32 → bits v 31 31 * 2 ^ 12 + bits v 7 7 * 2 ^ 11 + bits v 30 25 * 2 ^ 5 + bits v 11 8 * 2 ^ 1 ≡ bits w 31 31 * 2 ^ 12 + bits w 7 7 * 2 ^ 11 + bits w 30 25 * 2 ^ 5 + bits w 11 8 * 2 ^ 1
+branch-bits : (v w : ℕ) → v < 2 ^ 32 → w < 2 ^ 32 → branch_offset v ≡ branch_offset w
     → (v / 2 ^ 25 ≡ w / 2 ^ 25) × (v / 2 ^ 7 % 2 ^ 5 ≡ w / 2 ^ 7 % 2 ^ 5)
 branch-bits v w hv hw e =
     let top : bits v 31 31 ≡ bits w 31 31 = omega arith in
@@ -46,7 +46,7 @@ branch-bits v w hv hw e =
     let low : bits v 11 8 ≡ bits w 11 8 = omega arith in
     (omega (arith, top, high), omega (arith, next, low))
 
-jump-bits : (v w : ℕ) → v < 2 ^ 32 → w < 2 ^ 32 → bits v 31 31 * 2 ^ 20 + bits v 19 12 * 2 ^ 12 + bits v 20 20 * 2 ^ 11 + bits v 30 21 * 2 ^ 1 ≡ bits w 31 31 * 2 ^ 20 + bits w 19 12 * 2 ^ 12 + bits w 20 20 * 2 ^ 11 + bits w 30 21 * 2 ^ 1
+jump-bits : (v w : ℕ) → v < 2 ^ 32 → w < 2 ^ 32 → jump_offset v ≡ jump_offset w
     → v / 2 ^ 12 ≡ w / 2 ^ 12
 jump-bits v w hv hw e =
     let top : bits v 31 31 ≡ bits w 31 31 = omega arith in
@@ -103,7 +103,7 @@ one-word B want v w g =
     let fw = fixed B want w g.below_w refl g.fits_w in
     let v3 : v / 2 ^ 12 % 2 ^ 3 ≡ want / 2 ^ 12 % 2 ^ 3 = eqb-true _ _ fv.funct3 in
     let w3 : w / 2 ^ 12 % 2 ^ 3 ≡ want / 2 ^ 12 % 2 ^ 3 = eqb-true _ _ fw.funct3 in
-    let same : bits v 31 31 * 2 ^ 12 + bits v 7 7 * 2 ^ 11 + bits v 30 25 * 2 ^ 5 + bits v 11 8 * 2 ^ 1 ≡ bits w 31 31 * 2 ^ 12 + bits w 7 7 * 2 ^ 11 + bits w 30 25 * 2 ^ 5 + bits w 11 8 * 2 ^ 1 = signed-same 13 _ _ (omega arith) (omega arith) g.imm in
+    let same : branch_offset v ≡ branch_offset w = signed-same 13 _ _ (omega arith) (omega arith) g.imm in
     let parts = branch-bits v w g.below_v g.below_w same in
     omega (arith, parts)
 one-word U want v w g =
@@ -114,7 +114,7 @@ one-word U want v w g =
 one-word J want v w g =
     let fv = fixed J want v g.below_v refl g.fits_v in
     let fw = fixed J want w g.below_w refl g.fits_w in
-    let same : bits v 31 31 * 2 ^ 20 + bits v 19 12 * 2 ^ 12 + bits v 20 20 * 2 ^ 11 + bits v 30 21 * 2 ^ 1 ≡ bits w 31 31 * 2 ^ 20 + bits w 19 12 * 2 ^ 12 + bits w 20 20 * 2 ^ 11 + bits w 30 21 * 2 ^ 1 = signed-same 21 _ _ (omega arith) (omega arith) g.imm in
+    let same : jump_offset v ≡ jump_offset w = signed-same 21 _ _ (omega arith) (omega arith) g.imm in
     let parts = jump-bits v w g.below_v g.below_w same in
     omega (arith, parts)
 one-word E want v w g =

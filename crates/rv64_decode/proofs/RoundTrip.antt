@@ -1,7 +1,6 @@
 -- An instruction that lies in its form has one word, and a word's instruction lies in its form.
-use Rattle.std.proofs.Common.{◌≡◌, ℕ, ◌+◌, ◌*◌, ◌%◌, ◌^◌, ◌<◌, Bool, true, false, ◌&&◌, cond, Option, Some, None, refl, sym, ap, ◌∙◌, arith, slice_index_or}
+use Rattle.std.proofs.Common.{◌≡◌, ℕ, ◌+◌, ◌*◌, ◌^◌, ◌<◌, Bool, true, false, Option, Some, None, refl, sym, ap, ◌∙◌, arith, slice_index_or}
 use Rattle.std.specs.Prelude.{◌==◌, nat_lt, bit_and, option_map, if◌then◌else◌}
-use Rattle.std.specs.Option.{option_map_or}
 use Rattle.std.proofs.lemmas.Bool.{and_parts, and_from, ltb-true, lt-ltb}
 use Rattle.rv64_table.specs.declared.Row.{Row}
 use Rattle.rv64_table.specs.declared.Op.TheVariants.{Lui}
@@ -12,13 +11,13 @@ use Rattle.rv64_table.proofs.Apart.{row_for-fits}
 use Rattle.rv64_table.proofs.OpRows.{row_with-at, op-at}
 use Rattle.rv64_table.proofs.Places.{find-listed, regular-at, row_with-row_for}
 use Rattle.rv64_decode.specs.declared.Inst.{Inst}
-use Rattle.rv64_decode.specs.Fields.{bits, signed, immediate, has_rd, has_rs1, has_rs2}
+use Rattle.rv64_decode.specs.Fields.{bits, branch_offset, jump_offset, immediate, has_rd, has_rs1, has_rs2}
 use Rattle.rv64_decode.specs.Decode.{instruction, decoded}
 use Rattle.rv64_decode.specs.Encode.{placed, joined, has_immediate, fits_form, is_encodable}
 use Rattle.rv64_decode.specs.Laws.{IsWordOf, HasOneWord, HasWordInForm}
 use Rattle.rv64_decode.proofs.Signed.{signed-range, unsigned-range, signed-multiple}
-use Rattle.rv64_decode.proofs.Encoded.{Given, Reads, reads, low}
-use Rattle.rv64_decode.proofs.OneWord.{Alike, one-word}
+use Rattle.rv64_decode.proofs.Encoded.{Given, reads, low}
+use Rattle.rv64_decode.proofs.OneWord.{one-word}
 use Rattle.rv64_decode.proofs.Decoding.{decoded-row}
 
 -- a register that a form may lack lies in its range
@@ -34,13 +33,13 @@ immediate-fits H w = unsigned-range 6 (bits w 25 20) (omega arith)
 immediate-fits K w = unsigned-range 5 (bits w 24 20) (omega arith)
 immediate-fits S w = signed-range 12 (bits w 31 25 * 2 ^ 5 + bits w 11 7) (omega arith) (omega arith) (omega arith)
 immediate-fits B w =
-    let offset = bits w 31 31 * 2 ^ 12 + bits w 7 7 * 2 ^ 11 + bits w 30 25 * 2 ^ 5 + bits w 11 8 * 2 ^ 1 in
+    let offset = branch_offset w in
     and_from _ _ (signed-range 13 offset (omega arith) (omega arith) (omega arith)) (signed-multiple 13 1 offset (omega arith) (omega arith) (omega arith))
 immediate-fits U w =
     let value = bits w 31 12 * 2 ^ 12 in
     and_from _ _ (signed-range 32 value (omega arith) (omega arith) (omega arith)) (signed-multiple 32 12 value (omega arith) (omega arith) (omega arith))
 immediate-fits J w =
-    let offset = bits w 31 31 * 2 ^ 20 + bits w 19 12 * 2 ^ 12 + bits w 20 20 * 2 ^ 11 + bits w 30 21 * 2 ^ 1 in
+    let offset = jump_offset w in
     and_from _ _ (signed-range 21 offset (omega arith) (omega arith) (omega arith)) (signed-multiple 21 1 offset (omega arith) (omega arith) (omega arith))
 immediate-fits E w = refl
 

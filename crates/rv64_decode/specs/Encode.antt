@@ -1,7 +1,7 @@
 -- Which instructions have a word, and where the immediate stands in it.
 -- The source: RISC-V Unprivileged ISA, "Base Instruction Formats" and "Immediate Encoding Variants".
 -- docs/reference/instructions.md says the same for readers.
-use Rattle.std.specs.Prelude.{ℕ, ◌+◌, ◌-◌, ◌*◌, ◌%◌, ◌^◌, Bool, true, false, ◌&&◌, ◌==◌, nat_lt, ℤ, pos, neg_ℤ, int_lt, int_le, unsigned_abs, if◌then◌else◌}
+use Rattle.std.specs.Prelude.{ℕ, ◌+◌, ◌-◌, ◌*◌, ◌%◌, ◌^◌, Bool, false, ◌&&◌, ◌==◌, nat_lt, ℤ, pos, neg_ℤ, int_lt, int_le, unsigned_abs, if◌then◌else◌}
 use Rattle.std.specs.Option.{option_map_or}
 use Rattle.rv64_table.specs.declared.Form.{Form}
 use Rattle.rv64_table.specs.declared.Form.TheVariants.{R, I, H, K, S, B, U, J, E}

@@ -1,6 +1,6 @@
 //! Bit ranges of a word, and the registers and the immediate that a form holds in them.
 
-ghost use Rattle.std.specs.Prelude.{if◌then◌else◌, ◌≡◌, ◌+◌, ◌-◌, ◌*◌, ◌^◌, ◌<◌, ◌≤◌};
+ghost use Rattle.std.specs.Prelude.{if◌then◌else◌, ◌≡◌, ◌+◌, ◌-◌, ◌^◌, ◌<◌, ◌≤◌};
 ghost use Rattle.rv64_decode.specs.Fields as fields;
 
 use rv64_table::Form;
@@ -83,7 +83,7 @@ pub fn immediate(form: Form, word: u32) -> i64
 }
 
 fn branch_offset(word: u32) -> u32
-    ensures value { result ≡ fields.bits word 31 31 * 2 ^ 12 + fields.bits word 7 7 * 2 ^ 11 + fields.bits word 30 25 * 2 ^ 5 + fields.bits word 11 8 * 2 ^ 1 }
+    ensures value { result ≡ fields.branch_offset word }
     ensures below { result < 2 ^ 13 }
 {
     (bits(word, 31, 31) << 12)
@@ -93,7 +93,7 @@ fn branch_offset(word: u32) -> u32
 }
 
 fn jump_offset(word: u32) -> u32
-    ensures value { result ≡ fields.bits word 31 31 * 2 ^ 20 + fields.bits word 19 12 * 2 ^ 12 + fields.bits word 20 20 * 2 ^ 11 + fields.bits word 30 21 * 2 ^ 1 }
+    ensures value { result ≡ fields.jump_offset word }
     ensures below { result < 2 ^ 21 }
 {
     (bits(word, 31, 31) << 20)

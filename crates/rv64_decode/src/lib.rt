@@ -7,6 +7,8 @@
 mod field;
 pub mod laws;
 mod reading;
+#[cfg(test)]
+mod tests;
 mod text;
 mod writing;
 

@@ -17,7 +17,7 @@ pub fn decode(word: u32) -> Option<Inst>
     ensures encodable { IfSome result (λ inst. IsTrue (is_encodable inst)) }
 {
     let op = row_of(word)?;
-    let form = op.row().form;
+    let form = op.form();
     Some(Inst {
         op,
         rd: register(has_rd(form), word, 11, 7),

@@ -31,7 +31,8 @@ impl InstText {
 
     /// The bytes of the text.
     pub fn as_slice(&self) -> &[u8]
-        ensures { result.now ≡ self.now }
+        ensures bytes { result.now ≡ self.now }
+        ensures short { length result.now ≤ 48 }
     {
         self.bytes.as_slice()
     }

@@ -64,13 +64,19 @@ pub row_with-row_for : (w : ℕ) (r : Row) → row_for w ≡ Some r → row_with
 row_with-row_for w r e = let found = find-listed (λ s. fits s w) table r e in row_with-listed found.place r found.at
 
 -- the row of a word of which the operation is known
-found-op : (w : ℕ) (op : Op) (r : Row) (found : Option Row) → row_for w ≡ found → option_map (λ s. s.op) found ≡ Some op → row_with op ≡ Some r
-    → found ≡ Some r
-found-op w op r None f e t = cc
-found-op w op r (Some s) f e t = let own : row_with s.op ≡ Some s = row_with-row_for w s f in let same : s.op ≡ op = cc in let table : row_with s.op ≡ Some r = rw same t in cc
+pub record IsFound (w : ℕ) (op : Op) (r : Row) : Type 0 where
+  pub found : row_for w ≡ Some r
+  pub same : r.op ≡ op
+  pub own : row_with op ≡ Some r
 
-pub row_for-op : (w : ℕ) (op : Op) (r : Row) → option_map (λ s. s.op) (row_for w) ≡ Some op → row_with op ≡ Some r → row_for w ≡ Some r
-row_for-op w op r e t = found-op w op r (row_for w) refl e t
+found-op : (w : ℕ) (op : Op) (o : Option Row) → row_for w ≡ o → option_map (λ s. s.op) o ≡ Some op → (r : Row) × IsFound w op r
+found-op w op None f e = cc
+found-op w op (Some s) f e =
+    let same : s.op ≡ op = cc in
+    (s, record { found = f; same = same; own = rw (← same) (row_with-row_for w s f) })
+
+pub row_for-op : (w : ℕ) (op : Op) → option_map (λ s. s.op) (row_for w) ≡ Some op → (r : Row) × IsFound w op r
+row_for-op w op e = found-op w op (row_for w) refl e
 
 -- a row of this form wants its own fields, as it must to fit any word, and 0 elsewhere
 abbrev pub is_regular : Row → Bool

@@ -35,7 +35,7 @@ pub enum Form {
     E,
 }
 
-/// The operations, in the order of the table.
+/// The operations, named after the standard's mnemonics, in the order of the table.
 #[derive(Clone, Copy, PartialEq, Eq, Debug)]
 pub enum Op {
     Lui,
@@ -105,9 +105,34 @@ pub enum Op {
     Remuw,
 }
 
+macro_rules! forms {
+    ($op:expr; $($form:ident: $($variant:ident)*;)*) => {
+        match $op { $($(Op::$variant => Form::$form),*),* }
+    };
+}
+
 impl Op {
-    ghost use Rattle.std.specs.Prelude.{Some};
+    ghost use Rattle.std.specs.Prelude.{Some, option_map};
     ghost use Rattle.rv64_table.specs.Table.{row_with};
+
+    /// The form of this operation's row. A match, so that a decoder that has just found the operation need not look.
+    #[tactic(auto, unfolding(crate::specs::Table::table))]
+    pub fn form(self) -> Form
+        ensures { option_map (λ r. r.form) (row_with self) ≡ Some result }
+    {
+        forms! { self;
+            R: Add Sub Sll Slt Sltu Xor Srl Sra Or And Addw Subw Sllw Srlw Sraw Mul Mulh Mulhsu
+                Mulhu Div Divu Rem Remu Mulw Divw Divuw Remw Remuw;
+            I: Jalr Lb Lh Lw Ld Lbu Lhu Lwu Addi Slti Sltiu Xori Ori Andi Fence Addiw;
+            H: Slli Srli Srai;
+            K: Slliw Srliw Sraiw;
+            S: Sb Sh Sw Sd;
+            B: Beq Bne Blt Bge Bltu Bgeu;
+            U: Lui Auipc;
+            J: Jal;
+            E: Ecall Ebreak;
+        }
+    }
 
     /// The row of this operation.
     pub fn row(self) -> Row

@@ -1,4 +1,4 @@
-use Rattle.std.proofs.Common.{◌≡◌, ◌≢◌, ap, sym, ◌∙◌, arith, length}
+use Rattle.std.proofs.Common.{◌≡◌, ◌≢◌, ap, sym, ◌∙◌, length}
 use Rattle.std.proofs.lemmas.Bool.{eqb-false}
 use Rattle.mem_files.specs.Names.{stripped}
 use Rattle.linux_calls.specs.Paths.{and_then, not_empty}

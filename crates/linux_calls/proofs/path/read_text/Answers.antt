@@ -1,8 +1,8 @@
-use Rattle.std.proofs.Common.{◌≡◌, ◌+◌, ◌-◌, ◌++◌, ◌≤◌, ◌^◌, suc, zero, Some, None, Ok, Err, List, [], ◌∷◌, sym, ap, ◌∙◌, arith, refl, append-nil}
+use Rattle.std.proofs.Common.{◌≡◌, ◌+◌, ◌-◌, suc, Some, None, Ok, sym, ap, ◌∙◌, arith, append-nil}
 use Rattle.std.specs.FinMap.{get}
 use Rattle.paged_mem.proofs.MemoryLaws.{get-past}
-use Rattle.linux_calls.specs.Paths.{text_at, text_from}
-use Rattle.linux_calls.proofs.Texts.{after, after-nil, after-push, text_at-step, text_at-unmapped, text_at-none, reads-one}
+use Rattle.linux_calls.specs.Paths.{text_at}
+use Rattle.linux_calls.proofs.Texts.{after, after-push, text_at-step, text_at-unmapped, text_at-none, reads-one}
 use Rattle.linux_calls.proofs.path.read_text.Goals as goal
 
 pub returns-in_default : goal.returns-in_default

@@ -1,4 +1,4 @@
-use Rattle.std.proofs.Common.{◌≡◌, ◌+◌, ◌-◌, ◌++◌, length}
+use Rattle.std.proofs.Common.{◌≡◌, ◌+◌, ◌-◌, length}
 use Rattle.linux_calls.specs.Paths.{text_at}
 use Rattle.linux_calls.proofs.Texts.{after}
 use Rattle.linux_calls.proofs.path.read_text.Given as goal

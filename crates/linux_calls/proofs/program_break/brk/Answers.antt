@@ -1,4 +1,4 @@
-use Rattle.std.proofs.Common.{◌≡◌, ◌≤◌, ◌-◌, true, ap, subst, sym, ◌∙◌, arith}
+use Rattle.std.proofs.Common.{◌-◌, ap, subst, sym, ◌∙◌, arith}
 use Rattle.paged_mem.specs.Memory.{maps}
 use Rattle.linux_calls.specs.HeapOf.{IsHeapOf, page_end, resized}
 use Rattle.linux_calls.proofs.Heaps.{mapped_above, kept_resized}

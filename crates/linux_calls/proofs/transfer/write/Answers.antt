@@ -5,7 +5,7 @@ use Rattle.linux_calls.proofs.transfer.write.Goals as goal
 pub returns-in-Err-fits : goal.returns-in-Err-fits
 returns-in-Err-fits g c heap =
     fits_refused (g.R.Ram.bytes c.args.ram.now) c.args.files.now c.args.fd c.args.buffer c.args.count _ (sym c.fits.ensures ∙ c.in_default.is) c.if-count-eq0.false heap
-      (sym c.mapped.ensures ∙ c.if-not-mapped.false) c.in-Err-fits.errno c.back-in-Err-fits.result (sym c.fits-2.ensures ∙ c.in-Err-fits.is) c.back-in-Err-fits.ensures
+    (sym c.mapped.ensures ∙ c.if-not-mapped.false) c.in-Err-fits.errno c.back-in-Err-fits.result (sym c.fits-2.ensures ∙ c.in-Err-fits.is) c.back-in-Err-fits.ensures
 
 pub returns-in_default-copy_of : goal.returns-in_default-copy_of
 returns-in_default-copy_of g c heap =

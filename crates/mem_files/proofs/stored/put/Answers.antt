@@ -1,4 +1,4 @@
-use Rattle.std.proofs.Common.{arith, length, ap, ◌≡◌, vec_len}
+use Rattle.std.proofs.Common.{arith}
 use Rattle.mem_files.proofs.Overwrites.{put_is}
 use Rattle.mem_files.proofs.stored.put.Goals as goal
 

@@ -1,5 +1,4 @@
 use Rattle.std.proofs.Common.{sym, subst}
-use Rattle.mem_files.specs.World.{World}
 use Rattle.mem_files.specs.Sound.{IsSound}
 use Rattle.mem_files.proofs.SoundCalls.{first-sound}
 use Rattle.mem_files.proofs.files.Files.new.Goals as goal

@@ -1,5 +1,4 @@
 use Rattle.std.proofs.Common.{◌∙◌, sym, ap, Some, None, unwrap_or, []}
-use Rattle.mem_files.specs.Stored.{content_in}
 use Rattle.mem_files.proofs.Changes.{content-is}
 use Rattle.mem_files.proofs.table.Table.content.Goals as goal
 

@@ -1,4 +1,4 @@
-use Rattle.std.proofs.Common.{◌≡◌, ℕ, length, None, get_or, arith}
+use Rattle.std.proofs.Common.{◌≡◌, length, None, arith}
 use Rattle.std.proofs.lemmas.List.{get_or_read}
 use Rattle.mem_files.specs.World.{content_of}
 use Rattle.mem_files.proofs.Changes.{file_within, cell_len, content_le_total, drop_file-consistent, drop_file-world}

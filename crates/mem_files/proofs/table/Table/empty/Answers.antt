@@ -1,4 +1,4 @@
-use Rattle.std.proofs.Common.{◌≡◌, ◌∙◌, ap, ℕ, length, None, [], get_or, arith}
+use Rattle.std.proofs.Common.{◌≡◌, ◌∙◌, ap, length, None, [], arith}
 use Rattle.std.proofs.lemmas.List.{get_or_read}
 use Rattle.mem_files.specs.World.{content_of}
 use Rattle.mem_files.specs.Stored.{name_in}
@@ -29,7 +29,7 @@ invariant_of-self c =
     let now = get_or_read c.self.inside.files.items c.args.number c.index_mut.result.now there c.index_mut.ensures.value None in
     let len : c.len.result ≡ length (content_of c.args.self.now c.args.number) = cell_len _ _ c.self.view_is c.self.invariant c.args.number c.index.result.now c.len.result here c.len.ensures in
     set_file-consistent _ _ c.self.view_is c.self.invariant c.args.number c.empty.new.cell [] _ there c.empty.ensures.content (c.empty.ensures.name ∙ ap name_in now)
-        (omega (arith, content_le_total _ _ c.self.view_is c.self.invariant c.args.number))
+    (omega (arith, content_le_total _ _ c.self.view_is c.self.invariant c.args.number))
 
 pub returns : goal.returns
 returns c = set_file-world _ _ c.self.view_is c.self.invariant c.args.number c.empty.new.cell [] (file_within _ _ c.self.view_is c.self.invariant c.args.number c.requires) c.empty.ensures.content

@@ -1,4 +1,4 @@
-use Rattle.std.proofs.Common.{◌∙◌, sym, ap}
+use Rattle.std.proofs.Common.{◌∙◌, sym}
 use Rattle.std.proofs.lemmas.List.{length-map}
 use Rattle.mem_files.proofs.Changes.{names_len-is}
 use Rattle.mem_files.proofs.table.Table.name_count.Goals as goal

@@ -1,7 +1,4 @@
-use Rattle.std.proofs.Common.{◌≡◌, ◌∙◌, ap, sym, subst, map}
-use Rattle.mem_files.specs.Cells.{keyed}
-use Rattle.mem_files.specs.Table.{Parts, world_of, IsConsistent}
-use Rattle.mem_files.proofs.First.{first_parts, first_parts-consistent, first_parts-world}
+use Rattle.mem_files.proofs.First.{first_parts-consistent, first_parts-world}
 use Rattle.mem_files.proofs.table.Table.new.Goals as goal
 
 pub invariant_of-result : goal.invariant_of-result

@@ -16,5 +16,7 @@ clear_slot-requires c = taken c.args.self.now c.add_file.new.self c.in_ok-fd.fd 
 pub returns-in-Err : goal.returns-in-Err
 returns-in-Err c =
     let creates : has c.args.flags O_CREAT ≡ true = sym c.has.ensures ∙ c.if-not-has.false in
-    rw c.into.ensures (absent_opens c.args.self.now c.args.name.now c.args.flags creates (omega arith),
-        c.clear_slot.ensures ∙ taken_back c.args.self.now c.add_file.new.self c.in_ok-fd.fd _ c.in_ok-fd.ensures.ok.0 (c.in-Err.ensures.err ∙ c.in_ok-fd.ensures.ok.1))
+    rw c.into.ensures (
+      absent_opens c.args.self.now c.args.name.now c.args.flags creates (omega arith),
+      c.clear_slot.ensures ∙ taken_back c.args.self.now c.add_file.new.self c.in_ok-fd.fd _ c.in_ok-fd.ensures.ok.0 (c.in-Err.ensures.err ∙ c.in_ok-fd.ensures.ok.1),
+    )

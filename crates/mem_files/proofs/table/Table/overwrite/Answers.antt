@@ -1,4 +1,4 @@
-use Rattle.std.proofs.Common.{◌≡◌, ◌∙◌, ◌+◌, ◌-◌, ◌<◌, sym, ap, ℕ, length, None, Some, [], get_or, arith}
+use Rattle.std.proofs.Common.{◌∙◌, ◌+◌, ◌<◌, sym, ap, length, None, Some, arith}
 use Rattle.std.proofs.lemmas.List.{get_or_read}
 use Rattle.mem_files.specs.World.{content_of, total}
 use Rattle.mem_files.specs.Calls.{overwritten}
@@ -39,8 +39,8 @@ invariant_of-self-2 c =
     let now = get_or_read c.self.inside.files.items c.args.number c.index_mut.result.now there c.index_mut.ensures.value None in
     let old = content-is _ _ c.self.view_is c.self.invariant c.args.number c.index_mut.result.now now in
     set_file-consistent _ _ c.self.view_is c.self.invariant c.args.number c.overwrite.new.cell (overwritten (content_of c.args.self.now c.args.number) c.args.place c.args.bytes.now) _ there
-        (c.in_ok-added.ensures.ok ∙ ap (λ l. Some (overwritten l c.args.place c.args.bytes.now)) (sym old)) (c.in_ok-added.ensures.name ∙ ap name_in now)
-        (omega (arith, c.in_ok-added.ensures.added, ap length old, length-overwritten (content_of c.args.self.now c.args.number) c.args.place c.args.bytes.now))
+    (c.in_ok-added.ensures.ok ∙ ap (λ l. Some (overwritten l c.args.place c.args.bytes.now)) (sym old)) (c.in_ok-added.ensures.name ∙ ap name_in now)
+    (omega (arith, c.in_ok-added.ensures.added, ap length old, length-overwritten (content_of c.args.self.now c.args.number) c.args.place c.args.bytes.now))
 
 pub returns-clause-ok : goal.returns-clause-ok
 returns-clause-ok c =
@@ -48,7 +48,7 @@ returns-clause-ok c =
     let now = get_or_read c.self.inside.files.items c.args.number c.index_mut.result.now there c.index_mut.ensures.value None in
     let old = content-is _ _ c.self.view_is c.self.invariant c.args.number c.index_mut.result.now now in
     set_file-world _ _ c.self.view_is c.self.invariant c.args.number c.overwrite.new.cell (overwritten (content_of c.args.self.now c.args.number) c.args.place c.args.bytes.now) there
-        (c.in_ok-added.ensures.ok ∙ ap (λ l. Some (overwritten l c.args.place c.args.bytes.now)) (sym old))
+    (c.in_ok-added.ensures.ok ∙ ap (λ l. Some (overwritten l c.args.place c.args.bytes.now)) (sym old))
 
 pub returns-in_err-added-clause-short : goal.returns-in_err-added-clause-short
 returns-in_err-added-clause-short c =

@@ -6,5 +6,5 @@ use Rattle.mem_files.proofs.table.Table.seek.Goals as goal
 pub moved_cursor-requires : goal.moved_cursor-requires
 moved_cursor-requires c =
     base_small c.args.whence c.in-Some-File.cursor _ c.in-Some.base
-        (c.requires.good_slots c.args.fd (File c.in-Some-File.number c.in-Some-File.cursor c.in-Some-File.flags) (sym (rw c.in-Some-File.field-0-is at c.in-Some-File.ensures))).1.1
-        (omega (arith, ap length c.content.ensures, content_small c.args.self.now c.in-Some-File.number c.requires)) c.in-Some.ensures
+    (c.requires.good_slots c.args.fd (File c.in-Some-File.number c.in-Some-File.cursor c.in-Some-File.flags) (sym (rw c.in-Some-File.field-0-is at c.in-Some-File.ensures))).1.1
+    (omega (arith, ap length c.content.ensures, content_small c.args.self.now c.in-Some-File.number c.requires)) c.in-Some.ensures

@@ -1,8 +1,7 @@
-use Rattle.std.proofs.Common.{◌≡◌, ◌∙◌, ap, sym, subst, None, List, ℕ, arith}
+use Rattle.std.proofs.Common.{◌∙◌, ap, None, arith}
 use Rattle.std.proofs.lemmas.List.{get_or_read}
 use Rattle.mem_files.specs.Stored.{content_in}
 use Rattle.mem_files.specs.Cells.{keyed}
-use Rattle.mem_files.specs.Table.{world_of, IsConsistent, parts_of}
 use Rattle.mem_files.proofs.Directory.{keyed-remove}
 use Rattle.mem_files.proofs.Changes.{in_order, named_within, unname-consistent, unname-world}
 use Rattle.mem_files.proofs.table.Table.unname.Goals as goal

@@ -1,4 +1,4 @@
-use Rattle.std.proofs.Common.{◌≡◌, ℕ, ◌+◌, ◌-◌, ◌*◌, ◌/◌, ◌%◌, ◌^◌, ◌<◌, ◌≤◌, ◌++◌, List, [], ◌∷◌, length, append_assoc, length-append, refl, sym, ap, ◌∙◌, arith, rules}
+use Rattle.std.proofs.Common.{◌≡◌, ℕ, ◌+◌, ◌-◌, ◌*◌, ◌/◌, ◌%◌, ◌^◌, ◌++◌, List, [], ◌∷◌, length, append_assoc, length-append, refl, ap, ◌∙◌, arith, rules}
 use Rattle.std.proofs.lemmas.Nat.{and_mask}
 use Rattle.rv64_decode.specs.Text.{hex_digit, hex_digits}
 use Rattle.rv64_decode.proofs.Hex.{length-hex_digits, hex_digits-more}

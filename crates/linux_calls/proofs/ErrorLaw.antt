@@ -1,0 +1,186 @@
+-- An error changes nothing: each definition of a call gives back the state in an error.
+use Rattle.std.proofs.Common.{◌≡◌, ℕ, ℤ, Bool, true, false, cond, Option, None, Some, Result, Ok, Err, IsErr, List, length, refl, ap}
+use Rattle.std.specs.Prelude.{nat_le, bit_and, ◌%◌, ◌==◌, ◌&&◌, not, slice_index}
+use Rattle.std.specs.FinMap as map
+use Rattle.std.specs.Int.{cast_signed, w64}
+use Rattle.paged_mem.specs.Memory.{bytes_at, maps}
+use Rattle.mem_files.specs.World.{World}
+use Rattle.mem_files.specs.declared.slot.Slot.{Slot}
+use Rattle.mem_files.specs.declared.slot.Slot.TheVariants.{Input, Stream1, Stream2, File}
+use Rattle.mem_files.specs.declared.TheConstants.{MAX_SLOTS, MAX_NAMES, O_ACCMODE, O_CREAT, O_EXCL}
+use Rattle.mem_files.specs.Calls.{removed, removed_at, opened, opened_at, closed, closed_at, sought, sought_at, moved as moved_cursor, ready, write_place, written, written_if, fits, has}
+use Rattle.linux_calls.specs.declared.TheConstants.{SYS_UNLINKAT, SYS_FACCESSAT, SYS_FCHMODAT, SYS_OPENAT, SYS_CLOSE, SYS_LSEEK, SYS_READ, SYS_WRITE, SYS_EXIT, SYS_EXIT_GROUP, SYS_BRK}
+use Rattle.linux_calls.specs.Paths.{low, named, name_at, in_directory}
+use Rattle.linux_calls.specs.Calls.{State, Outcome, exits, is_unknown, back, answering, unlinked, accessed, mode_changed, opened_in, opened_as, moved, written_from, written_at, moved_break, syscall, LeavesOnError}
+
+-- a pair whose error leaves the files
+abbrev Leaves : {A : Type 0} → World → Result A ℕ × World → Type 0
+Leaves w r = IsErr r.0 → r.1 ≡ w
+
+leaves-if : {A : Type 0} (w : World) (b : Bool) (x y : Result A ℕ × World) → Leaves w x → Leaves w y → Leaves w (cond b x y)
+leaves-if w true x y p q = p
+leaves-if w false x y p q = q
+
+leaves-answering : {A : Type 0} (w : World) (value : ℕ) (r : Result A ℕ) (files : World) → Leaves w (r, files) → Leaves w (answering value (r, files))
+leaves-answering w value (Ok done) files p = λ e. cc
+leaves-answering w value (Err errno) files p = p
+
+leaves-removed : (w : World) (name : List ℕ) → Leaves w (removed w name)
+leaves-removed w name = at (map.get w.names name)
+  where
+    at : (o : Option ℕ) → Leaves w (removed_at w name o)
+    at None = λ e. refl
+    at (Some number) = λ e. cc
+
+leaves-closed : (w : World) (fd : ℕ) → Leaves w (closed w fd)
+leaves-closed w fd = at (map.get w.slots fd)
+  where
+    at : (o : Option Slot) → Leaves w (closed_at w fd o)
+    at None = λ e. refl
+    at (Some slot) = λ e. cc
+
+leaves-sought : (w : World) (fd : ℕ) (offset : ℤ) (whence : ℕ) → Leaves w (sought w fd offset whence)
+leaves-sought w fd offset whence = at (map.get w.slots fd)
+  where
+    to : (number flags : ℕ) (o : Option ℕ) → Leaves w (moved_cursor w fd number flags o)
+    to number flags None = λ e. refl
+    to number flags (Some cursor) = λ e. cc
+
+    at : (o : Option Slot) → Leaves w (sought_at w fd offset whence o)
+    at None = λ e. refl
+    at (Some Input) = λ e. refl
+    at (Some Stream1) = λ e. refl
+    at (Some Stream2) = λ e. refl
+    at (Some (File number cursor flags)) = to number flags _
+
+leaves-opened : (w : World) (name : List ℕ) (flags : ℕ) → Leaves w (opened w name flags)
+leaves-opened w name flags =
+    leaves-if w (bit_and flags O_ACCMODE == O_ACCMODE) _ _ (λ e. refl) (leaves-if w (nat_le MAX_SLOTS (map.len w.slots)) _ _ (λ e. refl) (at (map.get w.names name)))
+  where
+    at : (o : Option ℕ) → Leaves w (opened_at w name flags o)
+    at (Some number) = leaves-if w (has flags O_CREAT && has flags O_EXCL) _ _ (λ e. refl) (λ e. cc)
+    at None = leaves-if w (not (has flags O_CREAT)) _ _ (λ e. refl) (leaves-if w (nat_le MAX_NAMES (map.len w.names)) _ _ (λ e. refl) (λ e. cc))
+
+leaves-written : (w : World) (fd : ℕ) (bytes : List ℕ) → Leaves w (written w fd bytes)
+leaves-written w fd bytes = at (fits w fd (length bytes))
+  where
+    at : (r : Result (Unit {0}) ℕ) → Leaves w (written_if w fd bytes r)
+    at (Ok done) = λ e. cc
+    at (Err errno) = λ e. refl
+
+leaves-unlinked : (w : World) (flags : ℕ) (r : Result (List ℕ) ℕ) → Leaves w (unlinked w flags r)
+leaves-unlinked w flags (Err errno) = λ e. refl
+leaves-unlinked w flags (Ok name) = leaves-if w (low flags == 0) _ _ (leaves-answering w 0 (removed w name).0 (removed w name).1 (leaves-removed w name)) (λ e. refl)
+
+leaves-opened_as : (w : World) (dir flags : ℕ) (r : Result (List ℕ) ℕ) → Leaves w (opened_as w dir flags r)
+leaves-opened_as w dir flags (Err errno) = λ e. refl
+leaves-opened_as w dir flags (Ok name) = leaves-if w (bit_and (low flags) O_ACCMODE == O_ACCMODE) _ _ (λ e. refl) (inside (in_directory w dir name))
+  where
+    inside : (r : Result (List ℕ) ℕ) → Leaves w (opened_in w flags r)
+    inside (Err errno) = λ e. refl
+    inside (Ok name) = leaves-opened w name (low flags)
+
+leaves-back : (s : State) (meant : Result ℕ ℕ × World) → Leaves s.files meant → LeavesOnError s (back s meant)
+leaves-back s meant p = λ e. ap (λ files. record s { files = files }) (p e)
+
+outcome-if : (s : State) (b : Bool) (x y : Outcome) → LeavesOnError s x → LeavesOnError s y → LeavesOnError s (cond b x y)
+outcome-if s true x y p q = p
+outcome-if s false x y p q = q
+
+leaves-moved : (s : State) (fd buffer : ℕ) (r : Result (List ℕ) ℕ) → LeavesOnError s (moved s fd buffer r)
+leaves-moved s fd buffer (Err errno) = λ e. refl
+leaves-moved s fd buffer (Ok bytes) = outcome-if s (length bytes == 0) _ _ (λ e. refl) (outcome-if s (maps s.memory buffer (length bytes)) _ _ (λ e. cc) (λ e. refl))
+
+leaves-written_at : (s : State) (fd buffer count : ℕ) (o : Option (ℕ × ℕ)) → LeavesOnError s (written_at s fd buffer count o)
+leaves-written_at s fd buffer count None = λ e. refl
+leaves-written_at s fd buffer count (Some place) = outcome-if s (count == 0) _ _ (λ e. refl) (from (bytes_at s.memory buffer count))
+  where
+    from : (o : Option (List ℕ)) → LeavesOnError s (written_from s fd o)
+    from None = λ e. refl
+    from (Some bytes) = leaves-back s (answering (length bytes) (written s.files fd bytes)) (leaves-answering s.files (length bytes) (written s.files fd bytes).0 (written s.files fd bytes).1 (leaves-written s.files fd bytes))
+
+leaves-same : (s : State) (r : Result ℕ ℕ) → LeavesOnError s (back s (r, s.files))
+leaves-same s r = λ e. refl
+
+leaves-break : (s : State) (to : ℕ) → LeavesOnError s (moved_break s to)
+leaves-break s to = λ e. cc
+
+leaves-exit : (s : State) (status : ℕ) → LeavesOnError s (exits status)
+leaves-exit s status = tt
+
+leaves-unknown : (s : State) (n : ℕ) → LeavesOnError s (is_unknown n)
+leaves-unknown s n = tt
+
+-- the table, row by row from its end
+module _ (number : ℕ) (a : List ℕ) (s : State) where
+  abbrev w : World
+  w = s.files
+
+  abbrev arg : ℕ → ℕ
+  arg = slice_index a
+
+  abbrev name : Result (List ℕ) ℕ
+  name = named s.memory w (arg 0) (arg 1)
+
+  abbrev after_exit_group : Outcome
+  after_exit_group = cond (number == SYS_BRK) (moved_break s (arg 0)) (is_unknown number)
+
+  after_exit_group-leaves : LeavesOnError s after_exit_group
+  after_exit_group-leaves = outcome-if s (number == SYS_BRK) (moved_break s (arg 0)) (is_unknown number) (leaves-break s (arg 0)) (leaves-unknown s number)
+
+  abbrev after_exit : Outcome
+  after_exit = cond (number == SYS_EXIT_GROUP) (exits (arg 0 % 256)) (after_exit_group)
+
+  after_exit-leaves : LeavesOnError s after_exit
+  after_exit-leaves = outcome-if s (number == SYS_EXIT_GROUP) (exits (arg 0 % 256)) (after_exit_group) (leaves-exit s (arg 0 % 256)) (after_exit_group-leaves)
+
+  abbrev after_write : Outcome
+  after_write = cond (number == SYS_EXIT) (exits (arg 0 % 256)) (after_exit)
+
+  after_write-leaves : LeavesOnError s after_write
+  after_write-leaves = outcome-if s (number == SYS_EXIT) (exits (arg 0 % 256)) (after_exit) (leaves-exit s (arg 0 % 256)) (after_exit-leaves)
+
+  abbrev after_read : Outcome
+  after_read = cond (number == SYS_WRITE) (written_at s (low (arg 0)) (arg 1) (arg 2) (write_place w (map.get w.slots (low (arg 0))))) (after_write)
+
+  after_read-leaves : LeavesOnError s after_read
+  after_read-leaves = outcome-if s (number == SYS_WRITE) (written_at s (low (arg 0)) (arg 1) (arg 2) (write_place w (map.get w.slots (low (arg 0))))) (after_write) (leaves-written_at s (low (arg 0)) (arg 1) (arg 2) (write_place w (map.get w.slots (low (arg 0))))) (after_write-leaves)
+
+  abbrev after_lseek : Outcome
+  after_lseek = cond (number == SYS_READ) (moved s (low (arg 0)) (arg 1) (ready w (low (arg 0)) (arg 2))) (after_read)
+
+  after_lseek-leaves : LeavesOnError s after_lseek
+  after_lseek-leaves = outcome-if s (number == SYS_READ) (moved s (low (arg 0)) (arg 1) (ready w (low (arg 0)) (arg 2))) (after_read) (leaves-moved s (low (arg 0)) (arg 1) (ready w (low (arg 0)) (arg 2))) (after_read-leaves)
+
+  abbrev after_close : Outcome
+  after_close = cond (number == SYS_LSEEK) (back s (sought w (low (arg 0)) (cast_signed w64 (arg 1)) (low (arg 2)))) (after_lseek)
+
+  after_close-leaves : LeavesOnError s after_close
+  after_close-leaves = outcome-if s (number == SYS_LSEEK) (back s (sought w (low (arg 0)) (cast_signed w64 (arg 1)) (low (arg 2)))) (after_lseek) (leaves-back s (sought w (low (arg 0)) (cast_signed w64 (arg 1)) (low (arg 2))) (leaves-sought w (low (arg 0)) (cast_signed w64 (arg 1)) (low (arg 2)))) (after_lseek-leaves)
+
+  abbrev after_openat : Outcome
+  after_openat = cond (number == SYS_CLOSE) (back s (answering 0 (closed w (low (arg 0))))) (after_close)
+
+  after_openat-leaves : LeavesOnError s after_openat
+  after_openat-leaves = outcome-if s (number == SYS_CLOSE) (back s (answering 0 (closed w (low (arg 0))))) (after_close) (leaves-back s (answering 0 (closed w (low (arg 0)))) (leaves-answering w 0 (closed w (low (arg 0))).0 (closed w (low (arg 0))).1 (leaves-closed w (low (arg 0))))) (after_close-leaves)
+
+  abbrev after_fchmodat : Outcome
+  after_fchmodat = cond (number == SYS_OPENAT) (back s (opened_as w (arg 0) (arg 2) (name_at s.memory (arg 1)))) (after_openat)
+
+  after_fchmodat-leaves : LeavesOnError s after_fchmodat
+  after_fchmodat-leaves = outcome-if s (number == SYS_OPENAT) (back s (opened_as w (arg 0) (arg 2) (name_at s.memory (arg 1)))) (after_openat) (leaves-back s (opened_as w (arg 0) (arg 2) (name_at s.memory (arg 1))) (leaves-opened_as w (arg 0) (arg 2) (name_at s.memory (arg 1)))) (after_openat-leaves)
+
+  abbrev after_faccessat : Outcome
+  after_faccessat = cond (number == SYS_FCHMODAT) (back s (mode_changed w name, w)) (after_fchmodat)
+
+  after_faccessat-leaves : LeavesOnError s after_faccessat
+  after_faccessat-leaves = outcome-if s (number == SYS_FCHMODAT) (back s (mode_changed w name, w)) (after_fchmodat) (leaves-same s (mode_changed w name)) (after_fchmodat-leaves)
+
+  abbrev after_unlinkat : Outcome
+  after_unlinkat = cond (number == SYS_FACCESSAT) (back s (accessed w (arg 2) name, w)) (after_faccessat)
+
+  after_unlinkat-leaves : LeavesOnError s after_unlinkat
+  after_unlinkat-leaves = outcome-if s (number == SYS_FACCESSAT) (back s (accessed w (arg 2) name, w)) (after_faccessat) (leaves-same s (accessed w (arg 2) name)) (after_faccessat-leaves)
+
+  pub leaves-syscall : LeavesOnError s (syscall number a s)
+  leaves-syscall = outcome-if s (number == SYS_UNLINKAT) (back s (unlinked w (arg 2) name)) (after_unlinkat) (leaves-back s (unlinked w (arg 2) name) (leaves-unlinked w (arg 2) name)) (after_unlinkat-leaves)

@@ -1,0 +1,118 @@
+//! Words with the texts that the GNU assembler and objdump give them; tests/instructions/expected.py makes both tables.
+
+use crate::{decode, encode, laws, print};
+use std::test::Fail;
+
+/// Where the first word of the table stands: the addresses pass 2^64 - 1.
+const START: u64 = 0xffff_ffff_ffff_ff80;
+
+static ROWS: [(u32, &str); 77] = [
+    (0x00012537, "lui x10, 00012"),
+    (0xffffff97, "auipc x31, fffff"),
+    (0x000010ef, "jal x1, 0000000000000f88"),
+    (0xffc280e7, "jalr x1, -4(x5)"),
+    (0x00208863, "beq x1, x2, ffffffffffffffa0"),
+    (0xfe4198e3, "bne x3, x4, ffffffffffffff84"),
+    (0x7e62cfe3, "blt x5, x6, 0000000000000f96"),
+    (0x8083d063, "bge x7, x8, ffffffffffffef9c"),
+    (0x00a4e0e3, "bltu x9, x10, 00000000000007a0"),
+    (0xfec5ffe3, "bgeu x11, x12, ffffffffffffffa2"),
+    (0x00010083, "lb x1, 0(x2)"),
+    (0x00221183, "lh x3, 2(x4)"),
+    (0xffc32283, "lw x5, -4(x6)"),
+    (0x00843383, "ld x7, 8(x8)"),
+    (0x7ff54483, "lbu x9, 2047(x10)"),
+    (0x80065583, "lhu x11, -2048(x12)"),
+    (0x01076683, "lwu x13, 16(x14)"),
+    (0x001100a3, "sb x1, 1(x2)"),
+    (0xfe321f23, "sh x3, -2(x4)"),
+    (0x7e532fa3, "sw x5, 2047(x6)"),
+    (0x80743023, "sd x7, -2048(x8)"),
+    (0xffb10093, "addi x1, x2, -5"),
+    (0x7ff22193, "slti x3, x4, 2047"),
+    (0x80033293, "sltiu x5, x6, -2048"),
+    (0xfff44393, "xori x7, x8, -1"),
+    (0x00156493, "ori x9, x10, 1"),
+    (0x0ff67593, "andi x11, x12, 255"),
+    (0x03f71693, "slli x13, x14, 63"),
+    (0x02085793, "srli x15, x16, 32"),
+    (0x42195893, "srai x17, x18, 33"),
+    (0x003100b3, "add x1, x2, x3"),
+    (0x40628233, "sub x4, x5, x6"),
+    (0x009413b3, "sll x7, x8, x9"),
+    (0x00c5a533, "slt x10, x11, x12"),
+    (0x00f736b3, "sltu x13, x14, x15"),
+    (0x0128c833, "xor x16, x17, x18"),
+    (0x015a59b3, "srl x19, x20, x21"),
+    (0x418bdb33, "sra x22, x23, x24"),
+    (0x01bd6cb3, "or x25, x26, x27"),
+    (0x01eefe33, "and x28, x29, x30"),
+    (0x0ff0000f, "fence"),
+    (0x00000073, "ecall"),
+    (0x00100073, "ebreak"),
+    (0x8001009b, "addiw x1, x2, -2048"),
+    (0x01f2119b, "slliw x3, x4, 31"),
+    (0x0013529b, "srliw x5, x6, 1"),
+    (0x4104539b, "sraiw x7, x8, 16"),
+    (0x003100bb, "addw x1, x2, x3"),
+    (0x4062823b, "subw x4, x5, x6"),
+    (0x009413bb, "sllw x7, x8, x9"),
+    (0x00c5d53b, "srlw x10, x11, x12"),
+    (0x40f756bb, "sraw x13, x14, x15"),
+    (0x023100b3, "mul x1, x2, x3"),
+    (0x02629233, "mulh x4, x5, x6"),
+    (0x029423b3, "mulhsu x7, x8, x9"),
+    (0x02c5b533, "mulhu x10, x11, x12"),
+    (0x02f746b3, "div x13, x14, x15"),
+    (0x0328d833, "divu x16, x17, x18"),
+    (0x035a69b3, "rem x19, x20, x21"),
+    (0x038bfb33, "remu x22, x23, x24"),
+    (0x03bd0cbb, "mulw x25, x26, x27"),
+    (0x03eece3b, "divw x28, x29, x30"),
+    (0x02105fbb, "divuw x31, x0, x1"),
+    (0x0241e13b, "remw x2, x3, x4"),
+    (0x027372bb, "remuw x5, x6, x7"),
+    (0xabcde037, "lui x0, abcde"),
+    (0x80000097, "auipc x1, 80000"),
+    (0x8000006f, "jal x0, fffffffffff0008c"),
+    (0x7fffffef, "jal x31, 000000000010008e"),
+    (0x001000ef, "jal x1, 0000000000000894"),
+    (0xfffff0ef, "jal x1, 0000000000000096"),
+    (0x7fff8067, "jalr x0, 2047(x31)"),
+    (0x00011093, "slli x1, x2, 0"),
+    (0x43f15093, "srai x1, x2, 63"),
+    (0x0210000f, "fence"),
+    (0x8330000f, "fence"),
+    (0x41ff8fb3, "sub x31, x31, x31"),
+];
+
+/// Words of other extensions, and near misses of rows.
+static OTHERS: [u32; 35] = [
+    0x0000100f, 0x30001073, 0x003ff0f3, 0x100120af, 0x100130af, 0x183130af, 0x003120af, 0x00012087,
+    0x00113427, 0x003170d3, 0x223170c3, 0x30200073, 0x10500073, 0x00850085, 0x90029002, 0x00000000,
+    0xffffffff, 0x042081b3, 0x402091b3, 0x6220c1b3, 0x0420913b, 0x0220913b, 0x04111093, 0x44115093,
+    0x0211109b, 0x4211509b, 0x0001209b, 0x00012063, 0x00017003, 0x00014023, 0x00011067, 0x000000f3,
+    0x00008073, 0x00300073, 0x00100072,
+];
+
+#[test]
+fn instructions_as_objdump_prints_them(rt: HostRuntime) -> Result<(), Fail> {
+    laws::no_instruction_has_two_words();
+    laws::the_instructions_in_form_have_words();
+    let mut pc = START;
+    for (word, want) in ROWS {
+        let inst = decode(word).ok_or("a row has no word")?;
+        assert_eq!(rt;
+            print(&inst, pc).as_slice(),
+            want.as_bytes(),
+            "at {word:08x}"
+        );
+        assert!(rt; inst.is_encodable());
+        assert_eq!(rt; encode(&inst), word);
+        pc = pc.wrapping_add(4);
+    }
+    for word in OTHERS {
+        assert_eq!(rt; decode(word), None, "at {word:08x}");
+    }
+    Ok(())
+}
