@@ -88,14 +88,3 @@ meaning Divw a b i pc = Put (word (quotient 32 (low_word a) (low_word b)))
 meaning Divuw a b i pc = Put (word (quotient_unsigned 32 (low_word a) (low_word b)))
 meaning Remw a b i pc = Put (word (remainder 32 (low_word a) (low_word b)))
 meaning Remuw a b i pc = Put (word (remainder_unsigned (low_word a) (low_word b)))
-
--- the value that an effect puts into rd, 0 where it puts none
-abbrev pub value_put : Effect → ℕ
-value_put (Put value) = value
-value_put _ = 0
-
--- the value that a row computes from a, b and i, 0 where it computes none from them alone
-abbrev pub computed : Op → ℕ → ℕ → ℕ → ℕ
-computed Lui a b i = 0
-computed Auipc a b i = 0
-computed op a b i = value_put (meaning op a b i 0)

@@ -3,7 +3,7 @@ ghost use Rattle.paged_mem.specs.Memory.{reads};
 ghost use Rattle.paged_mem.specs.Ram.{count_of};
 ghost use Rattle.paged_mem.specs.declared.ram.Width.{Width};
 ghost use Rattle.rv64_decode.specs.Decode.{decoded};
-ghost use Rattle.rv64_machine.specs.Hart.{act, effect_at, Goes, HartState, is_store, runs};
+ghost use Rattle.rv64_machine.specs.Hart.{act, effect_at, Goes, HartState, is_store, runs, Steps};
 ghost use Rattle.rv64_machine.specs.declared.effect.Effect.TheVariants.{Store};
 ghost use Rattle.std.specs.FinMap.{contains_key, get};
 ghost use Rattle.std.specs.Prelude.{◌≡◌, ◌≢◌, ℕ, ◌+◌, ◌*◌, ◌%◌, ◌^◌, ◌<◌, ◌≤◌, ◌⊎◌, false, Some};
@@ -19,7 +19,9 @@ pub fn equal_harts_step_alike<R: Ram, S: Ram>(
     other: &mut Hart<S>,
 ) -> (StepEnd, StepEnd)
     requires { one.old ≡ other.old }
-    ensures { result.0 ≢ StepEnd.OutOfMemory → result.1 ≢ StepEnd.OutOfMemory
+    ensures one { Steps one.old result.0 one.new }
+    ensures other { Steps other.old result.1 other.new }
+    ensures alike { result.0 ≢ StepEnd.OutOfMemory → result.1 ≢ StepEnd.OutOfMemory
         → (result.0 ≡ result.1) × (one.new ≡ other.new) }
 {
     (one.step(), other.step())

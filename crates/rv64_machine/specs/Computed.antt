@@ -1,0 +1,18 @@
+-- What the rows that compute a value compute, taken from the table of meanings; it serves the code's split of that table.
+use Rattle.std.specs.Prelude.{ℕ}
+use Rattle.rv64_table.specs.declared.Op.{Op}
+use Rattle.rv64_table.specs.declared.Op.TheVariants.{Lui, Auipc}
+use Rattle.rv64_machine.specs.declared.effect.Effect.{Effect}
+use Rattle.rv64_machine.specs.declared.effect.Effect.TheVariants.{Put}
+use Rattle.rv64_machine.specs.Meaning.{meaning}
+
+-- the value that an effect puts into rd, 0 where it puts none
+abbrev pub value_put : Effect → ℕ
+value_put (Put value) = value
+value_put _ = 0
+
+-- the value that a row computes from a, b and i, 0 where it computes none from them alone
+abbrev pub computed : Op → ℕ → ℕ → ℕ → ℕ
+computed Lui a b i = 0
+computed Auipc a b i = 0
+computed op a b i = value_put (meaning op a b i 0)
