@@ -1,8 +1,8 @@
 -- Files that are given, as a sorted list: one more of them, and how they are placed in turn.
-use Rattle.std.proofs.Common.{◌≡◌, ◌≢◌, ℕ, zero, suc, ◌+◌, ◌-◌, ◌*◌, ◌<◌, ◌≤◌, ◌==◌, Bool, true, false, cond, not, ◌&&◌, ◌||◌, T, Option, None, Some, is_some, IsSome, List, [], ◌∷◌, ◌++◌, length, map, get_or, refl, sym, ap, ◌∙◌, subst, arith, ◌⊎◌, inl, inr, Result, Ok, Err}
+use Rattle.std.proofs.Common.{◌≡◌, ℕ, zero, suc, ◌+◌, ◌<◌, ◌≤◌, Bool, true, false, cond, not, ◌&&◌, ◌||◌, T, Option, None, Some, is_some, List, [], ◌∷◌, length, map, get_or, refl, sym, ap, ◌∙◌, arith, Ok, Err}
 use Rattle.std.specs.Prelude.{All, IsTrue, sum_by, nat_lt, nat_le}
 use Rattle.std.specs.List.{fold}
-use Rattle.std.specs.Ordering.{eq_by_cmp, is_eq, is_lt, nat_cmp}
+use Rattle.std.specs.Ordering.{is_eq, is_lt, nat_cmp}
 use Rattle.std.specs.declared.cmp.Ordering.{Ordering}
 use Rattle.std.specs.declared.cmp.Ordering.TheVariants.{Less, Equal, Greater}
 use Rattle.std.specs.Cmp.{eq_by_cmp_equiv}
@@ -15,10 +15,8 @@ use Rattle.std.proofs.lemmas.List.Sums.{sum_by-cons}
 use Rattle.mem_files.specs.Names.{begins_with_dot_slash, bytes_cmp, is_name, is_stripped_name, stripped}
 use Rattle.mem_files.specs.World.{World, content_of, lowest_unused, total}
 use Rattle.mem_files.specs.Calls.{first_world, is_full, placed, placed_as, with_file}
-use Rattle.mem_files.specs.declared.slot.PlaceRefusal.{PlaceRefusal}
 use Rattle.mem_files.specs.declared.TheConstants.{MAX_CONTENT, MAX_NAMES, MAX_TOTAL}
-use Rattle.mem_files.proofs.Directory.{equal, from_sorted-put, len-from_sorted}
-use Rattle.mem_files.proofs.Maps.{get-lowest_unused}
+use Rattle.mem_files.proofs.Directory.{from_sorted-put, len-from_sorted}
 use Rattle.mem_files.proofs.SoundCalls.{stripped-is}
 use Rattle.mem_files.specs.declared.slot.PlaceRefusal.TheVariants.{BadName, Twice, Full}
 use Rattle.mem_files.proofs.Totals.{total-insert}

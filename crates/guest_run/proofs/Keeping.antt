@@ -1,17 +1,17 @@
 -- What a step keeps of a valid state.
-use Rattle.std.proofs.Common.{◌≡◌, ℕ, zero, suc, ◌+◌, ◌-◌, ◌*◌, ◌%◌, ◌^◌, ◌<◌, ◌≤◌, ◌==◌, Bool, true, false, cond, ◌&&◌, ◌||◌, Option, None, Some, is_some, List, [], ◌∷◌, length, refl, sym, ap, ◌∙◌, subst, arith, ◌⊎◌, inl, inr, Result, Ok, Err}
-use Rattle.std.specs.Prelude.{nat_le, nat_lt, slice_index}
-use Rattle.std.specs.FinMap.{get, contains_key}
+use Rattle.std.proofs.Common.{◌≡◌, ℕ, ◌+◌, ◌-◌, ◌%◌, ◌<◌, ◌≤◌, ◌==◌, Bool, true, false, cond, Option, None, Some, is_some, List, length, refl, ap, arith, ◌⊎◌, inl, inr, Result, Ok, Err}
+use Rattle.std.specs.Prelude.{nat_lt, slice_index}
+use Rattle.std.specs.FinMap.{get}
 use Rattle.std.proofs.lemmas.Bool.{cases_lt}
 use Rattle.std.proofs.lemmas.Bool.Decides.{nat_tests}
 use Rattle.paged_mem.specs.Memory.{Memory, bytes_at, maps, with_bytes, without, zeros}
 use Rattle.paged_mem.specs.Held.{get-with_bytes_below, get-with_bytes_above}
 use Rattle.paged_mem.proofs.Mapped.{length-zeros}
-use Rattle.paged_mem.proofs.Maps.{each_by_maps, get-without_other, maps_by_each}
+use Rattle.paged_mem.proofs.Maps.{get-without_other}
 use Rattle.mem_files.specs.World.{World}
-use Rattle.mem_files.specs.Calls.{skipped, write_place, ready}
+use Rattle.mem_files.specs.Calls.{write_place, ready}
 use Rattle.linux_calls.specs.declared.Heap.{Heap}
-use Rattle.linux_calls.specs.HeapOf.{break_heap, break_memory, is_outside, IsHeapOf, page_end, resized}
+use Rattle.linux_calls.specs.HeapOf.{is_outside, IsHeapOf, page_end, resized}
 use Rattle.linux_calls.specs.Calls.{Outcome, State, back, moved, moved_break, syscall, written_at, written_from}
 use Rattle.linux_calls.specs.Calls as call
 use Rattle.linux_calls.specs.Paths.{low}

@@ -1,21 +1,20 @@
 -- Where segments and the stack lie in memory.
-use Rattle.std.proofs.Common.{◌≡◌, ◌≤◌, ◌<◌, ℕ, zero, suc, ◌+◌, ◌-◌, ◌*◌, ◌/◌, ◌%◌, ◌^◌, List, [], ◌∷◌, ◌++◌, length, get_or, drop, take, refl, sym, ap, ◌∙◌, arith, true, Option, None, Some, IsSome, is_some, ◌⊎◌, inl, inr, length-take, length-drop, subst}
+use Rattle.std.proofs.Common.{◌≡◌, ◌≤◌, ◌<◌, ℕ, suc, ◌+◌, ◌-◌, ◌*◌, ◌/◌, ◌^◌, List, [], ◌∷◌, length, get_or, drop, take, refl, sym, ap, ◌∙◌, arith, true, None, IsSome, is_some, ◌⊎◌, inl, inr, length-take, length-drop, subst}
 use Rattle.std.specs.Prelude.{All, AllPairs}
 use Rattle.std.specs.List.{fold}
 use Rattle.std.specs.FinMap.{empty, get, get-empty}
 use Rattle.std.specs.Ordering.{nat_cmp}
-use Rattle.std.proofs.lemmas.Bool.{cases_lt}
 use Rattle.paged_mem.specs.Memory.{Memory, IsFree, maps, with_bytes, zeros}
 use Rattle.paged_mem.specs.Held.{get-with_bytes, get-with_bytes_below, get-with_bytes_above}
 use Rattle.paged_mem.proofs.Mapped.{length-zeros}
 use Rattle.paged_mem.proofs.Maps.{maps_by_each}
 use Rattle.elf_load.specs.declared.Segment.{Segment}
-use Rattle.elf_load.specs.Segments.{end_of, first_page, page_end, paged_size, AreApart, IsPlaced}
+use Rattle.elf_load.specs.Segments.{first_page, page_end, paged_size, AreApart, IsPlaced}
 use Rattle.elf_load.proofs.Pages.{first_below_end, low_of}
 use Rattle.std.proofs.lemmas.List.{get_or-take, get_or_default}
 use Rattle.std.proofs.lemmas.List.Elements.{All-take}
 use Rattle.guest_run.specs.Stack.{stack_end, stack_size}
-use Rattle.guest_run.specs.Placed.{segment_bytes, with_segment, with_segments, with_stack}
+use Rattle.guest_run.specs.Placed.{segment_bytes, with_segment, with_segments}
 
 -- where a segment's pages are, as numbers of pages
 pub first_page-is : (segment : Segment) → first_page segment ≡ segment.at / 4096 * 4096

@@ -1,12 +1,12 @@
 -- Laws of many steps.
-use Rattle.std.proofs.Common.{◌≡◌, ◌≢◌, ℕ, zero, suc, ◌+◌, ◌-◌, ◌<◌, ◌≤◌, Option, None, Some, refl, sym, ap, ◌∙◌, subst, arith, ◌⊎◌, inl, inr}
+use Rattle.std.proofs.Common.{◌≡◌, ◌≢◌, ℕ, zero, suc, ◌+◌, ◌-◌, ◌<◌, ◌≤◌, Option, None, Some, refl, sym, ap, ◌∙◌, arith, inl, inr}
 use Rattle.std.specs.Prelude.{option_and_then}
 use Rattle.std.proofs.lemmas.Bool.{cases_lt}
 use Rattle.std.proofs.lemmas.Option.{same_Some}
 use Rattle.guest_run.specs.declared.run.RunEnd.{RunEnd}
 use Rattle.guest_run.specs.declared.run.RunEnd.TheVariants.{Exited, Trapped, UnknownCall, Spent, OutOfMemory}
 use Rattle.guest_run.specs.State.{GuestState}
-use Rattle.guest_run.specs.Run.{Next, Goes, Ends, after, next, Runs, steps_between, went_to}
+use Rattle.guest_run.specs.Run.{Ends, after, next, Runs, steps_between, went_to}
 use Rattle.guest_run.proofs.Stepping.{next-counted}
 use Rattle.guest_run.proofs.Validity.{went}
 

@@ -1,12 +1,12 @@
 -- Many steps of a guest.
-use Rattle.std.proofs.Common.{◌≡◌, ℕ, zero, suc, ◌+◌, ◌-◌, ◌<◌, ◌≤◌, Option, None, Some, refl, sym, ap, ◌∙◌, subst, arith, add-one, add-zero, add-suc}
+use Rattle.std.proofs.Common.{◌≡◌, ℕ, ◌+◌, ◌<◌, Some, refl, sym, ap, ◌∙◌, subst, arith, add-one}
 use Rattle.std.specs.Prelude.{option_and_then}
 use Rattle.guest_run.specs.declared.run.RunEnd.{RunEnd}
 use Rattle.guest_run.specs.declared.run.RunEnd.TheVariants.{Exited, Trapped, UnknownCall, Spent, OutOfMemory}
 use Rattle.guest_run.specs.State.{GuestState}
 use Rattle.std.specs.Prelude.{IsTrue}
-use Rattle.guest_run.specs.Run.{Next, Goes, Ends, after, FirstEnd, goes, next, Runs, Steps, steps_between, TakesMemory, went_to}
-use Rattle.guest_run.proofs.Stepping.{next-counted, next-never_spent}
+use Rattle.guest_run.specs.Run.{Goes, after, goes, next, Runs, Steps, steps_between, TakesMemory, went_to}
+use Rattle.guest_run.proofs.Stepping.{next-never_spent}
 
 pub after-none : (guest : GuestState) → after guest 0 ≡ Some guest
 unfolding after

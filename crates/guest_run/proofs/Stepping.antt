@@ -1,22 +1,19 @@
 -- One step of a guest, by what its hart's act and its call come to.
-use Rattle.std.proofs.Common.{◌≡◌, ℕ, ◌+◌, ◌-◌, ◌<◌, Bool, true, false, Option, None, Some, List, [], ◌∷◌, refl, sym, ap, ◌∙◌, subst, arith, ◌⊎◌, inl, inr}
+use Rattle.std.proofs.Common.{◌≡◌, ℕ, ◌+◌, true, false, List, refl, sym, ap, subst}
 use Rattle.std.specs.Prelude.{IsTrue}
 use Rattle.paged_mem.specs.Memory.{Memory}
-use Rattle.mem_files.specs.World.{World}
 use Rattle.rv64_machine.specs.Hart.{Act, HartState, act, effect_at, goes_on, is_store}
 use Rattle.rv64_machine.specs.Hart as hart
 use Rattle.rv64_machine.specs.declared.answer.Cause.{Cause}
-use Rattle.linux_calls.specs.declared.Heap.{Heap}
 use Rattle.linux_calls.specs.declared.CallEnd.{CallEnd}
 use Rattle.linux_calls.specs.declared.CallEnd.TheVariants.{Back, Exit, Unknown}
 use Rattle.linux_calls.specs.declared.CallEnd.TheVariants as end
 use Rattle.linux_calls.specs.Answer.{IsAnswer}
 use Rattle.linux_calls.specs.Calls.{Outcome, State, answer_of, state, syscall}
 use Rattle.linux_calls.specs.Calls as call
-use Rattle.guest_run.specs.declared.run.RunEnd.{RunEnd}
-use Rattle.guest_run.specs.declared.run.RunEnd.TheVariants.{Exited, Trapped, UnknownCall, Spent, OutOfMemory}
+use Rattle.guest_run.specs.declared.run.RunEnd.TheVariants.{Exited, Trapped, UnknownCall, Spent}
 use Rattle.guest_run.specs.State.{GuestState, guest_state}
-use Rattle.guest_run.specs.Run.{Next, Goes, Ends, after_act, after_call, answered, call_arguments, call_number, CallTakesMemory, goes, next, outcome_of, TakesMemory}
+use Rattle.guest_run.specs.Run.{Next, Goes, Ends, after_act, after_call, answered, call_arguments, call_number, CallTakesMemory, goes, next, outcome_of}
 
 -- the step, by the act
 pub next-goes : (guest : GuestState) (to : HartState) → act guest.hart ≡ hart.Goes to

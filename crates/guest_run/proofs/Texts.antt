@@ -1,15 +1,15 @@
 -- Texts in a row, taken one at a time.
-use Rattle.std.proofs.Common.{◌≡◌, ◌≤◌, ◌<◌, ℕ, zero, suc, ◌+◌, ◌-◌, ◌*◌, ◌/◌, ◌^◌, List, [], ◌∷◌, ◌++◌, length, get_or, drop, take, refl, sym, ap, ◌∙◌, arith, false, true, Option, None, Some, is_some, w64, replicate, zero-add, lit≤, ◌⊎◌, inl, inr, drop-cons, add-one, append_assoc, length-append}
+use Rattle.std.proofs.Common.{◌≡◌, ◌≤◌, ◌<◌, ℕ, zero, suc, ◌+◌, ◌-◌, ◌*◌, ◌/◌, List, [], ◌∷◌, ◌++◌, length, get_or, drop, refl, sym, ap, ◌∙◌, arith, false, true, Option, None, Some, is_some, w64, replicate, zero-add, lit≤, inl, inr, drop-cons, add-one, append_assoc, length-append}
 use Rattle.std.specs.Prelude.{sum_by, nat_le, SomeIff}
 use Rattle.std.specs.Int.{to_le_bytes}
 use Rattle.std.proofs.lemmas.Bool.{cases_lt}
 use Rattle.std.proofs.lemmas.Bool.Decides.{nat_tests}
 use Rattle.paged_mem.proofs.Numbers.{take-to_le_bytes}
 use Rattle.std.specs.List.{flat_map}
-use Rattle.std.proofs.lemmas.Grind.{common_steps, flat_map-append}
+use Rattle.std.proofs.lemmas.Grind.{flat_map-append}
 use Rattle.std.proofs.lemmas.List.Sums.{sum_by-cons}
 use Rattle.paged_mem.specs.Memory.{bytes_of, zeros}
-use Rattle.guest_run.specs.Stack.{addresses, cost, ended, gap, joined, stack_bytes, stack_end, stack_pointer, start_size, texts_at, word_count, words}
+use Rattle.guest_run.specs.Stack.{addresses, cost, ended, gap, joined, stack_bytes, stack_end, start_size}
 
 -- the text at an index, and those after it
 pub joined-on : (texts : List (List ℕ)) (i : ℕ) (d : List ℕ) → i < length texts

@@ -1,9 +1,9 @@
 -- Steps keep a state valid.
-use Rattle.std.proofs.Common.{◌≡◌, ℕ, zero, suc, ◌+◌, ◌-◌, ◌*◌, ◌%◌, ◌^◌, ◌<◌, ◌≤◌, Bool, true, false, cond, ◌&&◌, ◌||◌, Option, None, Some, IsSome, is_some, List, [], ◌∷◌, length, refl, sym, ap, ◌∙◌, subst, arith, ◌⊎◌, inl, inr}
+use Rattle.std.proofs.Common.{◌≡◌, ℕ, zero, suc, ◌+◌, ◌-◌, ◌*◌, ◌^◌, ◌≤◌, Bool, true, false, ◌&&◌, ◌||◌, Option, None, Some, refl, ap, ◌∙◌, subst, arith}
 use Rattle.std.specs.Prelude.{count_by, nat_le, nat_lt, option_and_then}
-use Rattle.std.specs.FinMap.{get, contains_key}
+use Rattle.std.specs.FinMap.{contains_key}
 use Rattle.std.proofs.lemmas.Bool.Decides.{nat_tests}
-use Rattle.paged_mem.specs.Memory.{Memory, maps}
+use Rattle.paged_mem.specs.Memory.{Memory}
 use Rattle.paged_mem.proofs.Maps.{each_by_maps, maps_by_each}
 use Rattle.rv64_machine.specs.Hart.{Act, HartState, act}
 use Rattle.rv64_machine.specs.Hart as hart
@@ -18,7 +18,7 @@ use Rattle.guest_run.specs.Valid.{Fits, is_beside_heap, pages_beside, pages_from
 use Rattle.guest_run.specs.Run.{Next, Goes, Ends, after, after_act, after_call, next, outcome_of, call_number, call_arguments, went_to}
 use Rattle.rv64_machine.proofs.ActLemmas.{act-mapping}
 use Rattle.std.proofs.lemmas.Option.{same_Some}
-use Rattle.guest_run.proofs.Keeping.{call_keeps, Keeps, OutcomeKeeps}
+use Rattle.guest_run.proofs.Keeping.{call_keeps, OutcomeKeeps}
 
 -- heaps at one place with one limit have the same pages beside them
 same_beside : (one other : Heap) (q : ℕ) → other.first ≡ one.first → other.limit ≡ one.limit → is_beside_heap other q ≡ is_beside_heap one q

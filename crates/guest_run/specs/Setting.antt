@@ -1,13 +1,13 @@
 -- What a program is given when it starts.
 -- docs/reference/running.md says the same for people.
-use Rattle.std.specs.Prelude.{◌≡◌, ℕ, ◌*◌, ◌^◌, ◌≤◌, ◌==◌, Bool, false, ◌||◌, nat_le, nat_lt, not, if◌then◌else◌, IsTrue, Option, Some, None, List, length, All, Result, Ok, Err, sum_by, refl}
+use Rattle.std.specs.Prelude.{◌≡◌, ℕ, ◌*◌, ◌^◌, ◌≤◌, ◌==◌, false, ◌||◌, nat_le, nat_lt, not, if◌then◌else◌, IsTrue, Option, Some, None, List, length, All, Result, Ok, Err, sum_by, refl}
 use Rattle.std.specs.List.{list_any}
 use Rattle.std.specs.FinMap as map
 use Rattle.std.specs.Coded.{Coded, code_by, coded×, coded_ℕ, coded_list}
 use Rattle.mem_files.specs.declared.slot.PlaceRefusal.{PlaceRefusal}
 use Rattle.mem_files.specs.declared.slot.PlaceRefusal.TheVariants.{BadName, Twice, Full, OutOfMemory}
 use Rattle.mem_files.specs.declared.TheConstants.{MAX_CONTENT, MAX_NAMES}
-use Rattle.mem_files.specs.Names.{bytes_cmp, is_name, is_stripped_name, stripped}
+use Rattle.mem_files.specs.Names.{bytes_cmp, is_name, is_stripped_name}
 
 -- files by name
 abbrev pub FileMap : Type 0

@@ -1,6 +1,6 @@
 -- The state in which a program starts, or why it does not.
 -- docs/reference/running.md says the same for people.
-use Rattle.std.specs.Prelude.{◌≡◌, ℕ, ◌^◌, nat_lt, if◌then◌else◌, Result, Ok, Err, IsOk, List, [], ◌∷◌, length, replicate, slice_set}
+use Rattle.std.specs.Prelude.{◌≡◌, ℕ, nat_lt, if◌then◌else◌, Result, Ok, Err, IsOk, List, replicate, slice_set}
 use Rattle.std.specs.List.{fold}
 use Rattle.std.specs.FinMap as map
 use Rattle.mem_files.specs.World.{World}

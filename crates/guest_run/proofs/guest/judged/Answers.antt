@@ -1,4 +1,4 @@
-use Rattle.std.proofs.Common.{◌≡◌, ◌≤◌, ◌<◌, true, false, sym, ap, ◌∙◌, arith, subst}
+use Rattle.std.proofs.Common.{◌≡◌, ◌≤◌, ◌<◌, true, false, sym, arith}
 use Rattle.std.specs.Prelude.{nat_le}
 use Rattle.mem_files.specs.declared.TheConstants.{MAX_TOTAL}
 use Rattle.guest_run.specs.Stack.{start_size}

@@ -1,11 +1,10 @@
-use Rattle.std.proofs.Common.{◌≡◌, ◌≤◌, ◌+◌, ◌-◌, ℕ, List, length, replicate, ap, ◌∙◌, sym, subst, arith, refl}
+use Rattle.std.proofs.Common.{◌≡◌, ◌-◌, length, replicate, ap, ◌∙◌, sym, subst, arith}
 use Rattle.std.specs.Prelude.{AllPairs, slice_set}
 use Rattle.paged_mem.specs.Memory.{IsFree, Memory}
 use Rattle.rv64_machine.specs.Hart.{HartState, with_register}
 use Rattle.elf_load.specs.Segments.{AreApart}
 use Rattle.guest_run.specs.Stack.{stack_bytes, stack_end, stack_pointer, stack_size}
 use Rattle.guest_run.specs.Placed.{with_segments, with_stack}
-use Rattle.guest_run.specs.State.{GuestState}
 use Rattle.guest_run.specs.Start.{start_state, start_world}
 use Rattle.guest_run.specs.Valid.{Fits}
 use Rattle.guest_run.proofs.Beginnings.{fits_start, stack_length}

@@ -1,7 +1,3 @@
-use Rattle.std.proofs.Common.{subst, sym}
-use Rattle.paged_mem.specs.Memory.{Memory, IsFree}
-use Rattle.elf_load.specs.Segments.{first_page, paged_size}
-use Rattle.std.proofs.Common.{get_or}
 use Rattle.guest_run.proofs.Places.{free_ahead}
 use Rattle.guest_run.proofs.placing.place_segments.Goals as goal
 

@@ -1,6 +1,5 @@
-use Rattle.std.proofs.Common.{◌≡◌, ◌+◌, refl, arith, Some, ◌<◌, ℕ}
-use Rattle.guest_run.specs.State.{GuestState, guest_state}
-use Rattle.guest_run.specs.Run.{after, next, Steps}
+use Rattle.std.proofs.Common.{◌≡◌, ◌+◌, arith}
+use Rattle.guest_run.specs.State.{guest_state}
 use Rattle.guest_run.proofs.Running.{after-none, after-on, ended}
 use Rattle.guest_run.proofs.Stepping.{next-counted}
 use Rattle.guest_run.proofs.run.run_parts.Goals as goal

@@ -1,11 +1,11 @@
-use Rattle.std.proofs.Common.{◌≡◌, ◌+◌, ap, sym, ◌∙◌, subst, inr}
+use Rattle.std.proofs.Common.{◌+◌, ap, sym, ◌∙◌, subst, inr}
 use Rattle.std.specs.Prelude.{IsTrue}
 use Rattle.rv64_machine.specs.Hart.{HartState}
 use Rattle.linux_calls.specs.declared.CallEnd.TheVariants.{Back, Exit, Unknown, OutOfMemory}
 use Rattle.linux_calls.specs.Answer.{IsAnswer}
 use Rattle.linux_calls.specs.Calls.{State, state}
 use Rattle.guest_run.specs.State.{GuestState, guest_state}
-use Rattle.guest_run.specs.Run.{call_number, Goes, goes, next, outcome_of}
+use Rattle.guest_run.specs.Run.{call_number, Goes, goes, outcome_of}
 use Rattle.guest_run.proofs.Stepping.{at_guest, exits_with, goes_back, left_as_was, next-calls, unknown_is, wants_memory}
 use Rattle.guest_run.proofs.run.serve.Goals as goal
 

@@ -1,8 +1,8 @@
-use Rattle.std.proofs.Common.{◌≡◌, ap, subst, sym, inl}
+use Rattle.std.proofs.Common.{ap, subst, sym, inl}
 use Rattle.rv64_machine.specs.Hart.{HartState}
 use Rattle.linux_calls.specs.HeapOf.{IsHeapOf}
 use Rattle.linux_calls.proofs.Heaps.{IsHeapOf-same}
-use Rattle.guest_run.specs.State.{GuestState, guest_state}
+use Rattle.guest_run.specs.State.{guest_state}
 use Rattle.guest_run.proofs.Stepping.{next-goes, next-store, next-traps}
 use Rattle.guest_run.proofs.run.step.Goals as goal
 

@@ -1,4 +1,4 @@
-use Rattle.std.proofs.Common.{◌≡◌, ◌∙◌, ◌-◌, ap, sym}
+use Rattle.std.proofs.Common.{◌∙◌, ap}
 use Rattle.std.specs.Prelude.{nat_le, sum_by}
 use Rattle.guest_run.specs.Stack.{cost}
 use Rattle.guest_run.proofs.Texts.{fits-first, fits-second, some_le}

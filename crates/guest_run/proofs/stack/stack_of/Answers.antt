@@ -1,4 +1,4 @@
-use Rattle.std.proofs.Common.{◌≡◌, refl}
+use Rattle.std.proofs.Common.{refl}
 use Rattle.guest_run.proofs.Texts.{assembled}
 use Rattle.guest_run.proofs.stack.stack_of.Goals as goal
 

@@ -1,6 +1,5 @@
-use Rattle.std.proofs.Common.{◌≡◌, ◌+◌, ◌<◌, ap, ◌∙◌, sym, refl, length, subst, arith, None}
+use Rattle.std.proofs.Common.{◌+◌, ◌<◌, ap, ◌∙◌, sym, length, subst, arith}
 use Rattle.std.specs.FinMap as fin
-use Rattle.mem_files.specs.Names.{bytes_cmp}
 use Rattle.mem_files.specs.Cells.{keyed}
 use Rattle.mem_files.specs.declared.TheConstants.{MAX_NAMES}
 use Rattle.mem_files.proofs.Directory.{keyed-insert}

@@ -1,11 +1,9 @@
-use Rattle.std.proofs.Common.{◌≡◌, ◌≤◌, ◌∷◌, ap, ◌∙◌, sym, subst, arith}
+use Rattle.std.proofs.Common.{◌≡◌, ap, ◌∙◌, sym, subst, arith}
 use Rattle.std.specs.List.{fold}
 use Rattle.std.specs.Map.Iter.{deref_pair}
 use Rattle.std.proofs.lemmas.Map.Iter.{rest_more}
 use Rattle.mem_files.specs.Cells.{keyed}
-use Rattle.mem_files.specs.World.{World}
 use Rattle.mem_files.specs.Calls.{first_world, with_file}
-use Rattle.mem_files.specs.declared.TheConstants.{MAX_TOTAL}
 use Rattle.guest_run.specs.Start.{start_world, with_given}
 use Rattle.guest_run.proofs.GivenLists.{can_start, CanPlace, place_next, placed_next, size-given, world-given}
 use Rattle.guest_run.proofs.given.GivenFiles.start_files.Goals as goal

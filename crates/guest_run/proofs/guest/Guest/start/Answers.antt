@@ -1,7 +1,7 @@
-use Rattle.std.proofs.Common.{◌≡◌, ap, ◌∙◌, sym, subst, refl, Ok}
+use Rattle.std.proofs.Common.{ap, ◌∙◌, sym, subst, refl, Ok}
 use Rattle.std.specs.Prelude.{IsOk}
 use Rattle.std.proofs.lemmas.Result.{err_from_is_err_and}
-use Rattle.guest_run.specs.Start.{start_of, Starts}
+use Rattle.guest_run.specs.Start.{start_of}
 use Rattle.guest_run.specs.State.{GuestState}
 use Rattle.guest_run.proofs.Starting.{refuses, steps_at_start}
 use Rattle.guest_run.proofs.guest.Guest.start.Goals as goal
