@@ -1,0 +1,10 @@
+pub mod Beginnings
+pub mod GivenLists
+pub mod Keeping
+pub mod Places
+pub mod RunLaws
+pub mod Running
+pub mod Starting
+pub mod Stepping
+pub mod Texts
+pub mod Validity

@@ -1,0 +1,74 @@
+-- The answers of a start, by the rule that decides.
+use Rattle.std.proofs.Common.{◌≡◌, ◌≢◌, ℕ, ◌<◌, ◌≤◌, Bool, true, false, cond, List, Result, Ok, Err, refl, ap, ◌∙◌, arith}
+use Rattle.std.specs.Prelude.{nat_le, nat_lt}
+use Rattle.std.proofs.lemmas.Bool.Decides.{nat_tests}
+use Rattle.mem_files.specs.declared.TheConstants.{MAX_TOTAL}
+use Rattle.elf_load.specs.declared.Image.{Image}
+use Rattle.elf_load.specs.declared.refusal.ElfRefusal.{ElfRefusal}
+use Rattle.elf_load.specs.Image.{image_of}
+use Rattle.guest_run.specs.declared.guest.StartRefusal.{StartRefusal}
+use Rattle.guest_run.specs.declared.guest.StartRefusal.TheVariants.{Elf, ArgsTooLong, BoxTooLarge, OutOfMemory}
+use Rattle.guest_run.specs.Stack.{start_size}
+use Rattle.guest_run.specs.Setting.{files_size, Setting}
+use Rattle.guest_run.specs.State.{GuestState}
+use Rattle.guest_run.specs.Start.{start_of, start_state, started, Starts}
+
+pub no_program : (program : List ℕ) (setting : Setting) (refusal : ElfRefusal) → image_of program ≡ Err refusal
+    → start_of program setting ≡ Err (Elf refusal)
+unfolding start_of
+no_program program setting refusal is = ap (started program setting) is
+
+-- the later rules, by their tests
+abbrev judge : Bool → Bool → GuestState → Result GuestState StartRefusal
+judge long large state = cond long (Err ArgsTooLong) (cond large (Err BoxTooLarge) (Ok state))
+
+judged_by : (program : List ℕ) (setting : Setting) (image : Image) → image_of program ≡ Ok image
+    → start_of program setting
+    ≡ judge (nat_lt 131072 (start_size setting.args setting.env)) (nat_lt MAX_TOTAL (files_size setting.files)) (start_state program setting image)
+unfolding start_of
+judged_by program setting image is = ap (started program setting) is
+
+pub args_too_long : (program : List ℕ) (setting : Setting) (image : Image) → image_of program ≡ Ok image
+    → nat_le (start_size setting.args setting.env) 131072 ≡ false → start_of program setting ≡ Err ArgsTooLong
+args_too_long program setting image is long =
+    judged_by program setting image is
+    ∙ ap (λ b. judge b (nat_lt MAX_TOTAL (files_size setting.files)) (start_state program setting image)) (above (start_size setting.args setting.env) long)
+  where
+    above : (n : ℕ) → nat_le n 131072 ≡ false → nat_lt 131072 n ≡ true
+    above n h = grind (arith, nat_tests)
+
+not_above : (n : ℕ) → n ≤ 131072 → nat_lt 131072 n ≡ false
+not_above n h = grind (arith, nat_tests)
+
+pub box_too_large : (program : List ℕ) (setting : Setting) (image : Image) → image_of program ≡ Ok image
+    → start_size setting.args setting.env ≤ 131072 → MAX_TOTAL < files_size setting.files → start_of program setting ≡ Err BoxTooLarge
+box_too_large program setting image is fits large =
+    judged_by program setting image is
+    ∙ (λ i. judge (not_above (start_size setting.args setting.env) fits i) (above (files_size setting.files) large i) (start_state program setting image))
+  where
+    above : (n : ℕ) → 536870912 < n → nat_lt 536870912 n ≡ true
+    above n h = grind (arith, nat_tests)
+
+pub starts : (program : List ℕ) (setting : Setting) (image : Image) → image_of program ≡ Ok image
+    → start_size setting.args setting.env ≤ 131072 → files_size setting.files ≤ MAX_TOTAL
+    → start_of program setting ≡ Ok (start_state program setting image)
+starts program setting image is fits small =
+    judged_by program setting image is
+    ∙ (λ i. judge (not_above (start_size setting.args setting.env) fits i) (below (files_size setting.files) small i) (start_state program setting image))
+  where
+    below : (n : ℕ) → n ≤ 536870912 → nat_lt 536870912 n ≡ false
+    below n h = grind (arith, nat_tests)
+
+pub fits_if : (n : ℕ) → nat_le n 131072 ≡ true → n ≤ 131072
+fits_if n h = grind (arith, nat_tests)
+
+-- a refusal that is no want of memory is the answer
+pub refuses : (meant : Result GuestState StartRefusal) (refusal : StartRefusal) → meant ≡ Err refusal → refusal ≢ OutOfMemory → Starts meant (Err refusal)
+refuses meant (Elf refusal) is other = is
+refuses meant ArgsTooLong is other = is
+refuses meant BoxTooLarge is other = is
+refuses meant OutOfMemory is other = absurd (other refl)
+
+pub steps_at_start : (program : List ℕ) (setting : Setting) (image : Image) → (start_state program setting image).steps ≡ 0
+unfolding start_state
+steps_at_start program setting image = refl

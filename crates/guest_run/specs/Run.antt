@@ -1,0 +1,105 @@
+-- One step of a guest, many steps, and how a run ends.
+-- docs/reference/running.md says the same for people.
+use Rattle.std.specs.Prelude.{◌≡◌, ℕ, zero, suc, ◌+◌, ◌-◌, ◌<◌, ◌≤◌, ◌⊎◌, Bool, true, false, IsTrue, Option, None, Some, option_and_then, List, [], ◌∷◌, slice_index}
+use Rattle.rv64_machine.specs.Hart.{Act, HartState, act, effect_at, following, goes_on, is_store, with_register}
+use Rattle.rv64_machine.specs.Hart as hart
+use Rattle.linux_calls.specs.Calls.{Outcome, answer_of, state, syscall}
+use Rattle.linux_calls.specs.Calls as call
+use Rattle.linux_calls.specs.Answer as taking
+use Rattle.guest_run.specs.declared.run.RunEnd.{RunEnd}
+use Rattle.guest_run.specs.declared.run.RunEnd.TheVariants.{Exited, Trapped, UnknownCall, Spent, OutOfMemory}
+use Rattle.guest_run.specs.State.{GuestState}
+
+-- what a step comes to: the guest goes on in a state, or its run ends and leaves the state
+pub data Next : Type 0 where
+  Goes : GuestState → Next
+  Ends : RunEnd → Next
+
+-- a call's number stands in x17, its arguments in x10 to x15
+abbrev pub call_number : GuestState → ℕ
+call_number guest = slice_index guest.hart.registers 17
+
+abbrev pub call_arguments : GuestState → List ℕ
+call_arguments guest =
+    slice_index guest.hart.registers 10 ∷ slice_index guest.hart.registers 11 ∷ slice_index guest.hart.registers 12
+    ∷ slice_index guest.hart.registers 13 ∷ slice_index guest.hart.registers 14 ∷ slice_index guest.hart.registers 15 ∷ []
+
+-- what the call that the guest makes comes to
+abbrev pub outcome_of : GuestState → Outcome
+outcome_of guest = syscall (call_number guest) (call_arguments guest) (state guest.hart.memory guest.world guest.heap)
+
+-- the hart after a call: x10 has the value, and the next instruction follows
+abbrev pub answered : HartState → ℕ → HartState
+answered hart value = record (with_register hart 10 value) { pc = following hart }
+
+-- the step of a call that comes to this
+abbrev pub after_call : GuestState → Outcome → Next
+after_call guest (call.goes answer left) = Goes (record {
+  hart = answered (record guest.hart { memory = left.memory }) (answer_of answer);
+  world = left.files;
+  heap = left.heap;
+  steps = guest.steps + 1;
+})
+after_call guest (call.exits status) = Ends (Exited status)
+after_call guest (call.is_unknown number) = Ends (UnknownCall number)
+
+-- the step of an act
+abbrev pub after_act : GuestState → Act → Next
+after_act guest (hart.Goes next) = Goes (record guest { hart = next; steps = guest.steps + 1 })
+after_act guest hart.Calls = after_call guest (outcome_of guest)
+after_act guest (hart.Traps cause) = Ends (Trapped cause)
+
+-- one step: an instruction, or a call together with all that the system does for it
+unfoldable pub next : GuestState → Next
+next guest = after_act guest (act guest.hart)
+
+-- the state in which a step went on
+abbrev pub went_to : Next → Option GuestState
+went_to (Goes guest) = Some guest
+went_to (Ends end) = None
+
+-- the state after so many steps that went on; none where one of them ended the run
+unfoldable pub after : GuestState → ℕ → Option GuestState
+after guest zero = Some guest
+after guest (suc count) = option_and_then (λ last. went_to (next last)) (after guest count)
+
+-- the run from a state ends so at its step `count`, and at no step before
+abbrev pub FirstEnd : GuestState → ℕ → RunEnd → Type 0
+FirstEnd guest count end =
+    (last : GuestState) × (1 ≤ count) × (after guest (count - 1) ≡ Some last) × (next last ≡ Ends end)
+
+-- the call comes to this, and takes memory of the host
+abbrev pub CallTakesMemory : GuestState → Outcome → Type 0
+CallTakesMemory guest (call.goes answer left) =
+    taking.TakesMemory (call_number guest) (state guest.hart.memory guest.world guest.heap) answer left
+CallTakesMemory guest (call.exits status) = ⊥
+CallTakesMemory guest (call.is_unknown number) = ⊥
+
+-- the step takes memory of the host: it is a store, or a call that does
+abbrev pub TakesMemory : GuestState → Type 0
+TakesMemory guest =
+    IsTrue (is_store (effect_at guest.hart)) ⊎ ((act guest.hart ≡ hart.Calls) × CallTakesMemory guest (outcome_of guest))
+
+-- whether a step goes on
+abbrev pub goes : Next → Bool
+goes (Goes guest) = true
+goes (Ends end) = false
+
+-- what a step answers, none where the guest went on, and the state that it leaves; want of memory hides no end
+abbrev pub Steps : GuestState → Option RunEnd → GuestState → Type 0
+Steps old None new = next old ≡ Goes new
+Steps old (Some OutOfMemory) new = IsTrue (goes (next old)) × TakesMemory old × (new ≡ old)
+Steps old (Some end) new = (next old ≡ Ends end) × (new ≡ old)
+
+-- how many steps lie between two states
+abbrev pub steps_between : GuestState → GuestState → ℕ
+steps_between old new = new.steps - old.steps
+
+-- what a run of at most `most` steps answers, and the state that it leaves: the first end within them, else that they
+-- are spent; or want of memory, in a step that would have gone on
+abbrev pub Runs : GuestState → ℕ → RunEnd → GuestState → Type 0
+Runs old most Spent new = after old most ≡ Some new
+Runs old most OutOfMemory new =
+    (steps_between old new < most) × (after old (steps_between old new) ≡ Some new) × IsTrue (goes (next new)) × TakesMemory new
+Runs old most end new =
+    (steps_between old new < most) × (after old (steps_between old new) ≡ Some new) × (next new ≡ Ends end)

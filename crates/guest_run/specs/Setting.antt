@@ -1,0 +1,73 @@
+-- What a program is given when it starts.
+-- docs/reference/running.md says the same for people.
+use Rattle.std.specs.Prelude.{◌≡◌, ℕ, ◌*◌, ◌^◌, ◌≤◌, ◌==◌, false, ◌||◌, nat_le, nat_lt, not, if◌then◌else◌, IsTrue, Option, Some, None, List, length, All, Result, Ok, Err, sum_by, refl}
+use Rattle.std.specs.List.{list_any}
+use Rattle.std.specs.FinMap as map
+use Rattle.std.specs.Coded.{Coded, code_by, coded×, coded_ℕ, coded_list}
+use Rattle.mem_files.specs.declared.slot.PlaceRefusal.{PlaceRefusal}
+use Rattle.mem_files.specs.declared.slot.PlaceRefusal.TheVariants.{BadName, Twice, Full, OutOfMemory}
+use Rattle.mem_files.specs.declared.TheConstants.{MAX_CONTENT, MAX_NAMES}
+use Rattle.mem_files.specs.Names.{bytes_cmp, is_name, is_stripped_name}
+
+-- files by name
+abbrev pub FileMap : Type 0
+FileMap = map.FinMap bytes_cmp (List ℕ)
+
+abbrev pub file_map_code : Coded FileMap
+file_map_code = map.code (coded_list coded_ℕ) (coded_list coded_ℕ)
+
+-- arguments, environment, files, and the most bytes of the heap
+pub record Setting : Type 0 where
+  pub args : List (List ℕ)
+  pub env : List (List ℕ)
+  pub files : FileMap
+  pub heap : ℕ
+
+-- a setting is stored as its four parts
+abbrev pub setting_code : Coded Setting
+setting_code =
+    code_by (List (List ℕ) × (List (List ℕ) × (FileMap × ℕ)))
+    (coded× (coded_list (coded_list coded_ℕ)) (coded× (coded_list (coded_list coded_ℕ)) (coded× file_map_code coded_ℕ)))
+    (λ s. (s.args, (s.env, (s.files, s.heap)))) (λ p. record { args = p.0; env = p.1.0; files = p.1.1.0; heap = p.1.1.1 }) (λ _. refl)
+
+-- a text has no zero byte
+abbrev pub IsText : List ℕ → Type 0
+IsText text = list_any (λ byte. byte == 0) text ≡ false
+
+-- the bytes of all files
+abbrev pub file_size : List ℕ × List ℕ → ℕ
+file_size file = length file.1
+
+abbrev pub files_size : FileMap → ℕ
+files_size files = sum_by file_size (map.entries files)
+
+-- a list of files, in order and with `size` bytes together: few and small, under names that guests have
+pub record IsGiven (files : List (List ℕ × List ℕ)) (size : ℕ) : Type 0 where
+  pub sorted : IsTrue (map.is_sorted bytes_cmp files)
+  pub named : All (λ file. IsTrue (is_stripped_name file.0)) files
+  pub small : All (λ file. length file.1 ≤ MAX_CONTENT) files
+  pub few : length files ≤ MAX_NAMES
+  pub counted : size ≡ sum_by file_size files
+  pub bounded : size ≤ MAX_CONTENT * length files
+
+-- what every setting keeps of its texts and its heap
+pub record IsSetting (setting : Setting) : Type 0 where
+  pub args : All IsText setting.args
+  pub env : All IsText setting.env
+  pub heap : setting.heap ≤ 2 ^ 30
+
+-- why a file is not placed, under its name without the `./` that it begins with
+abbrev pub place_refusal : FileMap → List ℕ → List ℕ → Option PlaceRefusal
+place_refusal files name content =
+    if not (is_name name) then Some BadName
+    else (if map.contains_key files name then Some Twice
+    else (if nat_lt MAX_CONTENT (length content) || nat_le MAX_NAMES (map.len files) then Some Full
+    else None))
+
+-- a file is placed, or refused, or memory was out where it would be placed; both of the latter change nothing
+abbrev pub PlacesIn : FileMap → List ℕ → List ℕ → Result (Unit {0}) PlaceRefusal → FileMap → Type 0
+PlacesIn old name content (Ok done) new = (place_refusal old name content ≡ None) × (new ≡ map.insert old name content)
+PlacesIn old name content (Err BadName) new = (place_refusal old name content ≡ Some BadName) × (new ≡ old)
+PlacesIn old name content (Err Twice) new = (place_refusal old name content ≡ Some Twice) × (new ≡ old)
+PlacesIn old name content (Err Full) new = (place_refusal old name content ≡ Some Full) × (new ≡ old)
+PlacesIn old name content (Err OutOfMemory) new = (place_refusal old name content ≡ None) × (new ≡ old)

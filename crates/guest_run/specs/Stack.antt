@@ -1,0 +1,60 @@
+-- The stack of a program that starts: its texts, and below them the words that tell where they are.
+-- Public source: System V ABI, "Process Initialization". docs/reference/running.md says the same for people, with a picture.
+use Rattle.std.specs.Prelude.{ℕ, ◌+◌, ◌-◌, ◌*◌, ◌/◌, ◌^◌, List, [], ◌∷◌, ◌++◌, length}
+use Rattle.std.specs.List.{flat_map}
+use Rattle.paged_mem.specs.Memory.{bytes_of, zeros}
+
+-- the stack ends here, and has these bytes
+abbrev pub stack_end : ℕ
+stack_end = 2 ^ 38
+
+abbrev pub stack_size : ℕ
+stack_size = 2048 * 4096
+
+-- a text with the zero byte that ends it
+abbrev pub ended : List ℕ → List ℕ
+ended text = text ++ 0 ∷ []
+
+-- texts in a row, each with its zero byte
+abbrev pub joined : List (List ℕ) → List ℕ
+joined texts = flat_map ended texts
+
+-- where each text begins, of texts in a row from an address on
+abbrev pub addresses : ℕ → List (List ℕ) → List ℕ
+addresses at [] = []
+addresses at (text ∷ texts) = at ∷ addresses (at + (length text + 1)) texts
+
+-- how many words stand below the texts: the count, the addresses, and five zeros but one
+abbrev pub word_count : List (List ℕ) → List (List ℕ) → ℕ
+word_count args env = 5 + length args + length env
+
+-- the bytes of the texts and of the words together
+abbrev pub start_size : List (List ℕ) → List (List ℕ) → ℕ
+start_size args env = length (joined args) + length (joined env) + 8 * word_count args env
+
+-- where the first text begins: the texts end at the stack's end, arguments before environment
+abbrev pub texts_at : List (List ℕ) → List (List ℕ) → ℕ
+texts_at args env = stack_end - length (joined args) - length (joined env)
+
+-- the words: how many arguments, their addresses, 0, the addresses of the environment, 0, and an empty auxiliary vector
+abbrev pub words : List (List ℕ) → List (List ℕ) → List ℕ
+words args env =
+    length args ∷ addresses (texts_at args env) args
+    ++ 0 ∷ addresses (texts_at args env + length (joined args)) env
+    ++ 0 ∷ 0 ∷ 0 ∷ []
+
+-- where the words begin: a multiple of 16
+abbrev pub stack_pointer : List (List ℕ) → List (List ℕ) → ℕ
+stack_pointer args env = (texts_at args env - 8 * word_count args env) / 16 * 16
+
+-- the zero bytes between the words and the texts
+abbrev pub gap : List (List ℕ) → List (List ℕ) → ℕ
+gap args env = texts_at args env - 8 * word_count args env - stack_pointer args env
+
+-- the bytes from the stack pointer to the stack's end
+unfoldable pub stack_bytes : List (List ℕ) → List (List ℕ) → List ℕ
+stack_bytes args env = flat_map (bytes_of 8) (words args env) ++ zeros (gap args env) ++ joined args ++ joined env
+
+-- what a text takes of these bytes: its own, its zero byte and its address
+abbrev pub cost : List ℕ → ℕ
+cost text = length text + 9

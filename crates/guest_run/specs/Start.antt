@@ -1,0 +1,55 @@
+-- The state in which a program starts, or why it does not.
+-- docs/reference/running.md says the same for people.
+use Rattle.std.specs.Prelude.{◌≡◌, ℕ, nat_lt, if◌then◌else◌, Result, Ok, Err, IsOk, List, replicate, slice_set}
+use Rattle.std.specs.List.{fold}
+use Rattle.std.specs.FinMap as map
+use Rattle.mem_files.specs.World.{World}
+use Rattle.mem_files.specs.Calls.{first_world, with_file}
+use Rattle.mem_files.specs.declared.TheConstants.{MAX_TOTAL}
+use Rattle.elf_load.specs.declared.Image.{Image}
+use Rattle.elf_load.specs.declared.refusal.ElfRefusal.{ElfRefusal}
+use Rattle.elf_load.specs.Image.{image_of}
+use Rattle.guest_run.specs.declared.guest.StartRefusal.{StartRefusal}
+use Rattle.guest_run.specs.declared.guest.StartRefusal.TheVariants.{Elf, ArgsTooLong, BoxTooLarge, OutOfMemory}
+use Rattle.guest_run.specs.Stack.{stack_bytes, stack_pointer, start_size}
+use Rattle.guest_run.specs.Placed.{with_segments, with_stack}
+use Rattle.guest_run.specs.Setting.{FileMap, Setting, files_size}
+use Rattle.guest_run.specs.State.{GuestState}
+
+-- the files of a guest that starts: each gets the lowest unused number, in the order of their names' bytes
+abbrev pub with_given : World → List ℕ × List ℕ → World
+with_given world given = with_file world given.0 given.1
+
+unfoldable pub start_world : FileMap → World
+start_world files = fold with_given first_world (map.entries files)
+
+-- the state of a program with this image: x2 is the stack pointer, all other registers are 0, the pc is the entry
+unfoldable pub start_state : List ℕ → Setting → Image → GuestState
+start_state program setting image = record {
+  hart = record {
+    registers = slice_set (replicate 32 0) 2 (stack_pointer setting.args setting.env);
+    pc = image.entry;
+    memory = with_stack (with_segments program image.segments.items)
+        (stack_pointer setting.args setting.env) (stack_bytes setting.args setting.env);
+  };
+  world = start_world setting.files;
+  heap = record { first = image.first_break; now = image.first_break; limit = setting.heap };
+  steps = 0;
+}
+
+-- the refusals, in the order in which they are tried, or else the state
+abbrev pub started : List ℕ → Setting → Result Image ElfRefusal → Result GuestState StartRefusal
+started program setting (Err refusal) = Err (Elf refusal)
+started program setting (Ok image) =
+    if nat_lt 131072 (start_size setting.args setting.env) then Err ArgsTooLong
+    else (if nat_lt MAX_TOTAL (files_size setting.files) then Err BoxTooLarge
+    else Ok (start_state program setting image))
+
+unfoldable pub start_of : List ℕ → Setting → Result GuestState StartRefusal
+start_of program setting = started program setting (image_of program)
+
+-- what a start answers: the state or its refusal, or want of memory where it would have started
+abbrev pub Starts : Result GuestState StartRefusal → Result GuestState StartRefusal → Type 0
+Starts meant (Ok guest) = meant ≡ Ok guest
+Starts meant (Err OutOfMemory) = IsOk meant
+Starts meant (Err refusal) = meant ≡ Err refusal

@@ -1,0 +1,35 @@
+-- The states that a start and steps can reach: what stands in memory besides the segments, and how much of it.
+-- docs/reference/running.md says the same for people.
+use Rattle.std.specs.Prelude.{◌≡◌, ℕ, zero, suc, ◌+◌, ◌-◌, ◌*◌, ◌^◌, ◌≤◌, Bool, true, ◌&&◌, ◌||◌, nat_le, nat_lt, List, [], ◌∷◌, count_by}
+use Rattle.std.specs.FinMap.{contains_key}
+use Rattle.paged_mem.specs.Memory.{Memory, maps}
+use Rattle.rv64_machine.specs.Hart.{IsHart}
+use Rattle.linux_calls.specs.declared.Heap.{Heap}
+use Rattle.linux_calls.specs.HeapOf.{IsHeapOf, page_end}
+use Rattle.guest_run.specs.Stack.{stack_end, stack_size}
+use Rattle.guest_run.specs.State.{GuestState}
+
+-- the numbers of `count` pages, from `number` on
+unfoldable pub pages_from : ℕ → ℕ → List ℕ
+pages_from number zero = []
+pages_from number (suc count) = number ∷ pages_from (suc number) count
+
+-- the address is in none of the pages that the heap has or may have
+abbrev pub is_beside_heap : Heap → ℕ → Bool
+is_beside_heap heap address = nat_lt address heap.first || nat_le (page_end (heap.first + heap.limit)) address
+
+-- how many pages are mapped beside the heap
+unfoldable pub pages_beside : Memory → Heap → ℕ
+pages_beside memory heap =
+    count_by (λ page. contains_key memory (4096 * page) && is_beside_heap heap (4096 * page)) (pages_from 0 (2 ^ 26))
+
+-- memory and heap fit together, the stack is mapped, and segments and stack together are small
+pub record Fits (memory : Memory) (heap : Heap) : Type 0 where
+  pub heap_of : IsHeapOf memory heap
+  pub stack : maps memory (stack_end - stack_size) stack_size ≡ true
+  pub few : pages_beside memory heap ≤ 67584
+
+-- a valid state: a hart, and a memory that fits its heap
+pub record IsValid (guest : GuestState) : Type 0 where
+  pub hart : IsHart guest.hart
+  pub fits : Fits guest.hart.memory guest.heap

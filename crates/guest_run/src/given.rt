@@ -1,0 +1,112 @@
+//! The files that a program is given.
+ghost use Rattle.guest_run.specs.Setting.{files_size};
+ghost use Rattle.guest_run.specs.Start.{start_world, with_given};
+ghost use Rattle.mem_files.specs.Calls.{placed, with_file};
+ghost use Rattle.mem_files.specs.declared.TheConstants.{MAX_CONTENT as MOST_CONTENT, MAX_NAMES as MOST_NAMES, MAX_TOTAL as MOST_TOTAL};
+ghost use Rattle.mem_files.specs.Names.{is_stripped_name};
+ghost use Rattle.std.specs.FinMap as map;
+ghost use Rattle.std.specs.Prelude.{◌≡◌, ◌<◌, ◌≤◌, false, length, IsTrue, Ok, IfOk, OnErr, OnOk};
+
+use ddc_base::{Bytes, OutOfMemory};
+use mem_files::{Files, PlaceRefusal};
+use std::alloc::Global;
+use std::collections::BTreeMap;
+use std::marker::Model;
+
+/// Files by name, in the order of the names' bytes.
+#[derive(Drop)]
+pub(crate) struct GivenFiles {
+    entries: BTreeMap<Vec<u8>, Bytes>,
+    size: u64,
+    alloc: Global,
+}
+
+impl Model for GivenFiles {
+    ghost use Rattle.std.specs.FinMap.{from_sorted};
+    ghost use Rattle.mem_files.specs.Cells.{keyed};
+    ghost use Rattle.guest_run.specs.Setting.{FileMap, file_map_code, IsGiven};
+
+    ghost Value = { FileMap };
+
+    ghost coded = { file_map_code };
+
+    ghost view = { λ files. from_sorted (keyed (λ name. name.items) files.entries.entries) };
+
+    ghost invariant = { λ files. IsGiven (keyed (λ name. name.items) files.entries.entries) files.size };
+}
+
+impl GivenFiles {
+    /// No files. It takes no memory.
+    pub(crate) fn new(alloc: Global) -> GivenFiles
+        ensures { result ≡ map.empty }
+    {
+        GivenFiles {
+            entries: BTreeMap::new(alloc),
+            size: 0,
+            alloc,
+        }
+    }
+
+    /// Whether a file has this name.
+    pub(crate) fn holds(&self, name: &[u8]) -> bool
+        ensures { result ≡ map.contains_key self.now name.now }
+    {
+        self.entries.contains_key(name)
+    }
+
+    /// How many files there are.
+    pub(crate) fn len(&self) -> usize
+        ensures { result ≡ map.len self.now }
+    {
+        self.entries.len()
+    }
+
+    /// The bytes of all files.
+    pub(crate) fn size(&self) -> u64
+        ensures { result ≡ files_size self.now }
+    {
+        self.size
+    }
+
+    /// Adds a file; want of memory leaves the files as they were.
+    pub(crate) fn insert(&mut self, name: &[u8], content: &[u8]) -> Result<(), OutOfMemory>
+        requires absent { map.contains_key self.old name.now ≡ false }
+        requires named { IsTrue (is_stripped_name name.now) }
+        requires small { length content.now ≤ MOST_CONTENT }
+        requires few { map.len self.old < MOST_NAMES }
+        ensures ok { OnOk result (self.new ≡ map.insert self.old name.now content.now) }
+        ensures err { OnErr result (self.new ≡ self.old) }
+    {
+        let key = Vec::from_slice(self.alloc, name)?;
+        let held = Bytes::from_slice(self.alloc, content)?;
+        self.entries.insert(key, held)?;
+        self.size += content.len() as u64;
+        Ok(())
+    }
+
+    /// The files of a guest that starts with these.
+    pub(crate) fn start_files(&self, alloc: Global) -> Result<Files, OutOfMemory>
+        requires { files_size self.now ≤ MOST_TOTAL }
+        ensures { IfOk result (λ files. files ≡ start_world self.now) }
+    {
+        let mut files = Files::new(alloc)?;
+        for (name, content) in &self.entries {
+            place_given(&mut files, name.as_slice(), content.as_slice())?;
+        }
+        Ok(files)
+    }
+}
+
+/// Places a file that no rule refuses.
+fn place_given(files: &mut Files, name: &[u8], content: &[u8]) -> Result<(), OutOfMemory>
+    requires { placed files.old name.now content.now ≡ (Ok tt, with_file files.old name.now content.now) }
+    ensures { OnOk result (files.new ≡ with_file files.old name.now content.now) }
+{
+    match files.place(name, content) {
+        Ok(()) => Ok(()),
+        Err(PlaceRefusal::BadName) => unreachable!(),
+        Err(PlaceRefusal::Twice) => unreachable!(),
+        Err(PlaceRefusal::Full) => unreachable!(),
+        Err(PlaceRefusal::OutOfMemory) => Err(OutOfMemory),
+    }
+}

@@ -1,0 +1,205 @@
+ghost use Rattle.guest_run.specs.Run.{Runs};
+ghost use Rattle.elf_load.specs.Image.{IsSound};
+ghost use Rattle.guest_run.specs.Setting.{files_size};
+ghost use Rattle.guest_run.specs.Stack.{start_size};
+ghost use Rattle.guest_run.specs.Start.{start_of, start_state, Starts};
+ghost use Rattle.guest_run.specs.Valid.{IsValid};
+ghost use Rattle.mem_files.specs.declared.TheConstants.{MAX_TOTAL as MOST_TOTAL};
+ghost use Rattle.paged_mem.specs.Memory.{bytes_at, maps};
+ghost use Rattle.std.specs.Prelude.{◌≡◌, ◌+◌, ◌^◌, ◌<◌, ◌≤◌, ◌≢◌, length, slice_index, unwrap_or, Ok, Err, IfErr, IfOk, OnOk};
+
+use crate::placing::{place_segments, place_stack};
+use crate::run::{RunEnd, run_parts};
+use crate::run_box::RunBox;
+use crate::stack;
+use ddc_base::OutOfMemory;
+use elf_load::{ElfRefusal, Image, read_image};
+use linux_calls::Heap;
+use mem_files::{Files, MAX_TOTAL};
+use paged_mem::Ram;
+use rv64_machine::Hart;
+use std::alloc::Global;
+use std::marker::Model;
+
+/// A program that was started: its hart with its memory, its files, its heap and how many steps it
+/// has taken. Two guests that are equal in these behave alike, over whatever memories they stand.
+#[derive(Drop)]
+pub struct Guest<R: Ram> {
+    hart: Hart<R>,
+    files: Files,
+    heap: Heap,
+    steps: u64,
+    alloc: Global,
+}
+
+impl<R: Ram> Model for Guest<R> {
+    ghost use Rattle.guest_run.specs.State.{GuestState, guest_code};
+    ghost use Rattle.guest_run.specs.Valid.{Fits};
+
+    ghost Value = { GuestState };
+
+    ghost coded = { guest_code };
+
+    ghost view = { λ g. record { hart = g.hart; world = g.files; heap = g.heap; steps = g.steps } };
+
+    ghost invariant = { λ g. Fits g.hart.memory g.heap };
+}
+
+impl<R: Ram> Guest<R> {
+    /// Starts a program with what it is given.
+    ///
+    /// Refuses a file that is no program, then texts that are too long, then files that are too large
+    /// together. Want of memory comes only where the program would have started.
+    pub fn start(alloc: Global, program: &[u8], setting: &RunBox) -> Result<Guest<R>, StartRefusal>
+        ensures answer { Starts (start_of program.now setting.now) result }
+        ensures fresh { IfOk result (λ guest. guest.steps ≡ 0) }
+    {
+        let image = judged(program, setting)?;
+        match started(alloc, program, setting, &image) {
+            Ok(guest) => Ok(guest),
+            Err(OutOfMemory) => Err(StartRefusal::OutOfMemory),
+        }
+    }
+
+    /// Takes at most `most` steps, until one ends the run.
+    ///
+    /// The answer is the first end within them, and comes again, or `Spent` exactly where there is
+    /// none. Want of memory can come only in a step that would have gone on.
+    pub fn run(&mut self, most: u64) -> RunEnd
+        requires some { 1 ≤ most }
+        requires counted { self.old.steps + most < 2 ^ 64 }
+        ensures answer { Runs self.old most result self.new }
+        ensures rises { self.old.steps ≤ self.new.steps }
+        ensures few { self.new.steps ≤ self.old.steps + most }
+    {
+        run_parts(
+            self.alloc,
+            &mut self.hart,
+            &mut self.files,
+            &mut self.heap,
+            &mut self.steps,
+            most,
+        )
+    }
+
+    /// How many steps were taken that did not end the run.
+    pub fn steps(&self) -> u64
+        ensures value { result ≡ self.now.steps }
+        // Every guest is in a valid state.
+        ensures valid { IsValid self.now }
+    {
+        let _pc = self.hart.pc();
+        self.steps
+    }
+
+    /// The value of a register.
+    pub fn reg(&self, number: u8) -> u64
+        requires { number < 32 }
+        ensures { result ≡ slice_index self.now.hart.registers number }
+    {
+        self.hart.reg(number)
+    }
+
+    /// The address of the next instruction.
+    pub fn pc(&self) -> u64
+        ensures { result ≡ self.now.hart.pc }
+    {
+        self.hart.pc()
+    }
+
+    /// Fills `out` with the bytes from `at` on; `false`, with `out` as it was, where one is unmapped.
+    pub fn peek(&self, at: u64, out: &mut [u8]) -> bool
+        ensures answer { result ≡ maps self.now.hart.memory at (length out.old) }
+        ensures moved { out.new ≡ unwrap_or (bytes_at self.now.hart.memory at (length out.old)) out.old }
+    {
+        self.hart.ram().read_into(at, out)
+    }
+
+    /// The files.
+    pub fn files(&self) -> &Files
+        ensures { result.now ≡ self.now.world }
+    {
+        &self.files
+    }
+
+    /// The hart, with the memory.
+    pub fn hart(&self) -> &Hart<R>
+        ensures { result.now ≡ self.now.hart }
+    {
+        &self.hart
+    }
+
+    /// The heap.
+    pub fn heap(&self) -> Heap
+        ensures { result ≡ self.now.heap }
+    {
+        self.heap
+    }
+}
+
+/// Why a program does not start.
+#[derive(Clone, Copy, Debug, PartialEq, Eq)]
+pub enum StartRefusal {
+    /// The file is no program that can be loaded.
+    Elf(ElfRefusal),
+    /// The texts, a zero byte for each, and the words below them take more than 131,072 bytes.
+    ArgsTooLong,
+    /// The files have more than 536,870,912 bytes together.
+    BoxTooLarge,
+    /// Want of memory of this process.
+    OutOfMemory,
+}
+
+/// The image of a program that starts, or the first refusal.
+fn judged(program: &[u8], setting: &RunBox) -> Result<Image, StartRefusal>
+    ensures sound { IfOk result (IsSound (length program.now)) }
+    ensures texts { OnOk result (start_size setting.now.args setting.now.env ≤ 131072) }
+    ensures files { OnOk result (files_size setting.now.files ≤ MOST_TOTAL) }
+    ensures state { IfOk result (λ image. start_of program.now setting.now ≡ Ok (start_state program.now setting.now image)) }
+    ensures refusal { IfErr result (λ refusal. (start_of program.now setting.now ≡ Err refusal) × (refusal ≢ StartRefusal.OutOfMemory)) }
+{
+    let image = match read_image(program) {
+        Ok(image) => image,
+        Err(refusal) => return Err(StartRefusal::Elf(refusal)),
+    };
+    if !stack::fits(setting.args(), setting.env()) {
+        return Err(StartRefusal::ArgsTooLong);
+    }
+    if setting.files().size() > MAX_TOTAL {
+        return Err(StartRefusal::BoxTooLarge);
+    }
+    Ok(image)
+}
+
+/// The guest of a program that no rule refuses.
+fn started<R: Ram>(
+    alloc: Global,
+    program: &[u8],
+    setting: &RunBox,
+    image: &Image,
+) -> Result<Guest<R>, OutOfMemory>
+    requires sound { IsSound (length program.now) image.now }
+    requires texts { start_size setting.now.args setting.now.env ≤ 131072 }
+    requires files { files_size setting.now.files ≤ MOST_TOTAL }
+    ensures { IfOk result (λ guest. guest ≡ start_state program.now setting.now image.now) }
+{
+    let stack = stack::stack_of(alloc, setting.args(), setting.env())?;
+    let files = setting.files().start_files(alloc)?;
+    let mut ram = R::empty(alloc);
+    place_segments(&mut ram, program, image.segments.as_slice())?;
+    place_stack(&mut ram, stack.at, stack.bytes.as_slice())?;
+    let mut hart = Hart::new(ram, image.entry);
+    hart.set_reg(2, stack.at);
+    let heap = Heap {
+        first: image.first_break,
+        now: image.first_break,
+        limit: setting.heap(),
+    };
+    Ok(Guest {
+        hart,
+        files,
+        heap,
+        steps: 0,
+        alloc,
+    })
+}

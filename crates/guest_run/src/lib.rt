@@ -1,0 +1,21 @@
+//! A program of a guest: how it starts, and how it runs.
+//!
+//! The rules, with their public sources, are in docs/reference/running.md.
+#![tactic(auto)]
+
+mod given;
+mod guest;
+pub mod laws;
+mod placing;
+mod run;
+mod run_box;
+mod stack;
+#[cfg(test)]
+mod tests;
+
+pub use guest::{Guest, StartRefusal};
+pub use run::RunEnd;
+pub use run_box::RunBox;
+
+/// The memory over which programs are run.
+pub type RunRam = paged_mem::FlatRam;

@@ -1,0 +1,124 @@
+//! The steps of a guest, over its parts.
+ghost use Rattle.guest_run.specs.Run.{Runs, Steps};
+ghost use Rattle.guest_run.specs.State.{guest_state};
+ghost use Rattle.linux_calls.specs.HeapOf.{IsHeapOf};
+ghost use Rattle.rv64_machine.specs.Hart.{act};
+ghost use Rattle.rv64_machine.specs.Hart as machine;
+ghost use Rattle.std.specs.Prelude.{◌≡◌, ◌+◌, ◌^◌, ◌<◌, [], ◌∷◌, slice_index};
+
+use linux_calls::{CallEnd, CallRegs, Heap, call};
+use mem_files::Files;
+use paged_mem::Ram;
+use rv64_machine::{Cause, Hart, StepEnd};
+use std::alloc::Global;
+
+/// How a run ended. An end leaves the guest as it was, so that it comes again.
+#[derive(Clone, Copy, Debug, PartialEq, Eq)]
+pub enum RunEnd {
+    /// The program called exit or exit_group; the status is the low 8 bits of its argument.
+    Exited(u8),
+    /// The hart could not go on.
+    Trapped(Cause),
+    /// The program made a call of this number, which is none of the table.
+    UnknownCall(u64),
+    /// All steps that were asked for were taken.
+    Spent,
+    /// Want of memory of this process, which the guest doesn't see. The steps that were done stand.
+    OutOfMemory,
+}
+
+/// At most `most` steps: the first end within them, else that they are spent.
+pub(crate) fn run_parts<R: Ram>(
+    alloc: Global,
+    hart: &mut Hart<R>,
+    files: &mut Files,
+    heap: &mut Heap,
+    steps: &mut u64,
+    most: u64,
+) -> RunEnd
+    requires heap_of { IsHeapOf hart.old.memory heap.old }
+    requires counted { steps.old + most < 2 ^ 64 }
+    ensures { Runs (guest_state hart.old files.old heap.old steps.old) most result
+        (guest_state hart.new files.new heap.new steps.new) }
+{
+    for taken in 0..most {
+        match step(alloc, hart, files, heap, steps) {
+            None => {}
+            Some(end) => return end,
+        }
+    }
+    RunEnd::Spent
+}
+
+/// One step; none where the guest went on, else why it did not.
+fn step<R: Ram>(
+    alloc: Global,
+    hart: &mut Hart<R>,
+    files: &mut Files,
+    heap: &mut Heap,
+    steps: &mut u64,
+) -> Option<RunEnd>
+    requires heap_of { IsHeapOf hart.old.memory heap.old }
+    requires counted { steps.old + 1 < 2 ^ 64 }
+    ensures step { Steps (guest_state hart.old files.old heap.old steps.old) result
+        (guest_state hart.new files.new heap.new steps.new) }
+    ensures kept { IsHeapOf hart.new.memory heap.new }
+{
+    match hart.step() {
+        StepEnd::Done => {
+            *steps += 1;
+            None
+        }
+        StepEnd::Call => serve(alloc, hart, files, heap, steps),
+        StepEnd::Trap(cause) => Some(RunEnd::Trapped(cause)),
+        StepEnd::OutOfMemory => Some(RunEnd::OutOfMemory),
+    }
+}
+
+/// The step of a guest that makes a call.
+fn serve<R: Ram>(
+    alloc: Global,
+    hart: &mut Hart<R>,
+    files: &mut Files,
+    heap: &mut Heap,
+    steps: &mut u64,
+) -> Option<RunEnd>
+    requires calls { act hart.old ≡ machine.Calls }
+    requires heap_of { IsHeapOf hart.old.memory heap.old }
+    requires counted { steps.old + 1 < 2 ^ 64 }
+    ensures step { Steps (guest_state hart.old files.old heap.old steps.old) result
+        (guest_state hart.new files.new heap.new steps.new) }
+    ensures kept { IsHeapOf hart.new.memory heap.new }
+{
+    let regs = call_regs(hart);
+    match call(alloc, &regs, hart.ram_mut(), files, heap) {
+        CallEnd::Back(value) => {
+            hart.answer(value);
+            *steps += 1;
+            None
+        }
+        CallEnd::Exit(status) => Some(RunEnd::Exited(status)),
+        CallEnd::Unknown(number) => Some(RunEnd::UnknownCall(number)),
+        CallEnd::OutOfMemory => Some(RunEnd::OutOfMemory),
+    }
+}
+
+/// The registers of a call: its number in x17, its arguments in x10 to x15.
+fn call_regs<R: Ram>(hart: &Hart<R>) -> CallRegs
+    ensures number { result.number ≡ slice_index hart.now.registers 17 }
+    ensures arguments { result.a ≡ slice_index hart.now.registers 10 ∷ slice_index hart.now.registers 11
+        ∷ slice_index hart.now.registers 12 ∷ slice_index hart.now.registers 13
+        ∷ slice_index hart.now.registers 14 ∷ slice_index hart.now.registers 15 ∷ [] }
+{
+    CallRegs {
+        number: hart.reg(17),
+        a: [
+            hart.reg(10),
+            hart.reg(11),
+            hart.reg(12),
+            hart.reg(13),
+            hart.reg(14),
+            hart.reg(15),
+        ],
+    }
+}

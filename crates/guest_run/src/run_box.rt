@@ -1,0 +1,140 @@
+ghost use Rattle.guest_run.specs.Setting.{IsText, PlacesIn};
+ghost use Rattle.mem_files.specs.Names.{is_name, stripped};
+ghost use Rattle.std.specs.FinMap as map;
+ghost use Rattle.std.specs.Prelude.{◌≡◌, ◌^◌, ◌≤◌, [], ◌∷◌, ◌++◌, OnErr, OnOk};
+
+use crate::given::GivenFiles;
+use ddc_base::{Bytes, OutOfMemory};
+use mem_files::{MAX_CONTENT, MAX_NAME, MAX_NAMES, PlaceRefusal, strip};
+use std::alloc::Global;
+use std::marker::Model;
+
+/// What a program is given when it starts: arguments, environment texts, files by name, and the most
+/// bytes of its heap.
+///
+/// It keeps the allocator that its constructor took.
+#[derive(Drop)]
+pub struct RunBox {
+    args: Vec<Bytes>,
+    env: Vec<Bytes>,
+    files: GivenFiles,
+    heap: u64,
+    alloc: Global,
+}
+
+impl Model for RunBox {
+    ghost use Rattle.guest_run.specs.Setting.{IsSetting, Setting, setting_code};
+
+    ghost Value = { Setting };
+
+    ghost coded = { setting_code };
+
+    ghost view = { λ b. record { args = b.args.items; env = b.env.items; files = b.files; heap = b.heap } };
+
+    ghost invariant = { λ b. IsSetting (record { args = b.args.items; env = b.env.items; files = b.files; heap = b.heap }) };
+}
+
+impl RunBox {
+    /// An empty box with a heap of at most `heap` bytes. It takes no memory.
+    pub fn new(alloc: Global, heap: u64) -> RunBox
+        requires { heap ≤ 2 ^ 30 }
+        ensures { result ≡ record { args = []; env = []; files = map.empty; heap = heap } }
+    {
+        RunBox {
+            args: Vec::new(alloc),
+            env: Vec::new(alloc),
+            files: GivenFiles::new(alloc),
+            heap,
+            alloc,
+        }
+    }
+
+    /// Adds an argument; want of memory leaves the box as it was.
+    pub fn push_arg(&mut self, text: &[u8]) -> Result<(), OutOfMemory>
+        requires { IsText text.now }
+        ensures ok { OnOk result (self.new ≡ record self.old { args = self.old.args ++ text.now ∷ [] }) }
+        ensures err { OnErr result (self.new ≡ self.old) }
+    {
+        let text = Bytes::from_slice(self.alloc, text)?;
+        self.args.push(text)?;
+        Ok(())
+    }
+
+    /// Adds a text of the environment; want of memory leaves the box as it was.
+    pub fn push_env(&mut self, text: &[u8]) -> Result<(), OutOfMemory>
+        requires { IsText text.now }
+        ensures ok { OnOk result (self.new ≡ record self.old { env = self.old.env ++ text.now ∷ [] }) }
+        ensures err { OnErr result (self.new ≡ self.old) }
+    {
+        let text = Bytes::from_slice(self.alloc, text)?;
+        self.env.push(text)?;
+        Ok(())
+    }
+
+    /// Adds a file by its name, without the `./` that the name begins with.
+    ///
+    /// Refuses as placing a file in a guest does, but the bytes of all files together are not limited
+    /// here: the start tests them. A refusal leaves the box as it was.
+    pub fn place(&mut self, name: &[u8], content: &[u8]) -> Result<(), PlaceRefusal>
+        ensures files { PlacesIn self.old.files (stripped name.now) content.now result self.new.files }
+        ensures others { self.new ≡ record self.old { files = self.new.files } }
+    {
+        place_in(&mut self.files, name, content)
+    }
+
+    /// The arguments.
+    pub(crate) fn args(&self) -> &[Bytes]
+        ensures { result.now ≡ self.now.args }
+    {
+        self.args.as_slice()
+    }
+
+    /// The texts of the environment.
+    pub(crate) fn env(&self) -> &[Bytes]
+        ensures { result.now ≡ self.now.env }
+    {
+        self.env.as_slice()
+    }
+
+    /// The files.
+    pub(crate) fn files(&self) -> &GivenFiles
+        ensures { result.now ≡ self.now.files }
+    {
+        &self.files
+    }
+
+    /// The most bytes of the heap.
+    pub(crate) fn heap(&self) -> u64
+        ensures value { result ≡ self.now.heap }
+        ensures small { result ≤ 2 ^ 30 }
+    {
+        self.heap
+    }
+}
+
+/// Adds a file under its name without the `./` that it begins with.
+fn place_in(files: &mut GivenFiles, name: &[u8], content: &[u8]) -> Result<(), PlaceRefusal>
+    ensures { PlacesIn files.old (stripped name.now) content.now result files.new }
+{
+    let name = strip(name);
+    if !is_file_name(name) {
+        return Err(PlaceRefusal::BadName);
+    }
+    if files.holds(name) {
+        return Err(PlaceRefusal::Twice);
+    }
+    if content.len() as u64 > MAX_CONTENT || files.len() >= MAX_NAMES {
+        return Err(PlaceRefusal::Full);
+    }
+    match files.insert(name, content) {
+        Ok(()) => Ok(()),
+        Err(OutOfMemory) => Err(PlaceRefusal::OutOfMemory),
+    }
+}
+
+/// Whether this is a guest file name: 1 to 255 bytes without a zero byte.
+fn is_file_name(name: &[u8]) -> bool
+    ensures { result ≡ is_name name.now }
+{
+    !name.is_empty() && name.len() <= MAX_NAME && !name.contains(&0)
+}
