@@ -112,42 +112,63 @@ fn starts_with_an_argument_and_a_file(rt: HostRuntime) -> Result<(), Fail> {
     Ok(())
 }
 
+/// A store rewrites the next instruction.
+const REWRITING: [u32; 7] = [
+    0x0070_02b7,
+    0x5132_8293,
+    0x0001_0337,
+    0x0853_2423,
+    0x0010_0513,
+    0x05d0_0893,
+    0x0000_0073,
+];
+
+/// brk(0); brk(0x13000); 5A is stored at 0x12000; brk(0x11000); a load there.
+const SHRINKING: [u32; 11] = [
+    0x0d60_0893,
+    0x0000_0513,
+    0x0000_0073,
+    0x0001_3537,
+    0x0000_0073,
+    0x0001_22b7,
+    0x05a0_0313,
+    0x0062_8023,
+    0x0001_1537,
+    0x0000_0073,
+    0x0002_c383,
+];
+
+/// brk(0x13000); 5A is stored at 0x12000; brk(0x11000); brk(0x13000); a load there; brk(1).
+const GROWING: [u32; 13] = [
+    0x0d60_0893,
+    0x0001_3537,
+    0x0000_0073,
+    0x0001_22b7,
+    0x05a0_0313,
+    0x0062_8023,
+    0x0001_1537,
+    0x0000_0073,
+    0x0001_3537,
+    0x0000_0073,
+    0x0002_c383,
+    0x0010_0513,
+    0x0000_0073,
+];
+
 #[test]
-fn stores_into_code_and_moves_the_break(rt: HostRuntime) -> Result<(), Fail> {
+fn stores_into_code(rt: HostRuntime) -> Result<(), Fail> {
     let alloc = rt.alloc();
-    // The store rewrites the next instruction.
-    let rewriting = program_of(
-        alloc,
-        &[
-            0x0070_02b7,
-            0x5132_8293,
-            0x0001_0337,
-            0x0853_2423,
-            0x0010_0513,
-            0x05d0_0893,
-            0x0000_0073,
-        ],
-    )?;
-    assert!(rt; run_of(alloc, &rewriting, 7)? == (RunEnd::Exited(7), 6));
-    // brk(0); brk(0x13000); 5A is stored at 0x12000; brk(0x11000); a load there.
-    let shrinking = program_of(
-        alloc,
-        &[
-            0x0d60_0893,
-            0x0000_0513,
-            0x0000_0073,
-            0x0001_3537,
-            0x0000_0073,
-            0x0001_22b7,
-            0x05a0_0313,
-            0x0062_8023,
-            0x0001_1537,
-            0x0000_0073,
-            0x0002_c383,
-        ],
-    )?;
-    let mut setting = RunBox::new(alloc, 1_048_576);
-    let Ok(mut guest) = Guest::<RunRam>::start(alloc, &shrinking, &setting) else {
+    let program = program_of(alloc, &REWRITING)?;
+    assert!(rt; run_of(alloc, &program, 7)? == (RunEnd::Exited(7), 6));
+    Ok(())
+}
+
+#[test]
+fn takes_memory_away_at_a_lower_break(rt: HostRuntime) -> Result<(), Fail> {
+    let alloc = rt.alloc();
+    let program = program_of(alloc, &SHRINKING)?;
+    let setting = RunBox::new(alloc, 1_048_576);
+    let Ok(mut guest) = Guest::<RunRam>::start(alloc, &program, &setting) else {
         return Err("no start".into());
     };
     assert!(rt; guest.run(3) == RunEnd::Spent);
@@ -156,37 +177,33 @@ fn stores_into_code_and_moves_the_break(rt: HostRuntime) -> Result<(), Fail> {
     assert_eq!(rt; guest.reg(10), 77_824);
     assert!(rt; guest.run(9) == RunEnd::Trapped(Cause::LoadUnmapped(0x12000)));
     assert_eq!(rt; guest.steps(), 10);
-    // The same, then brk(0x13000), the load, and brk(1).
-    let growing = program_of(
-        alloc,
-        &[
-            0x0d60_0893,
-            0x0001_3537,
-            0x0000_0073,
-            0x0001_22b7,
-            0x05a0_0313,
-            0x0062_8023,
-            0x0001_1537,
-            0x0000_0073,
-            0x0001_3537,
-            0x0000_0073,
-            0x0002_c383,
-            0x0010_0513,
-            0x0000_0073,
-        ],
-    )?;
-    let Ok(mut guest) = Guest::<RunRam>::start(alloc, &growing, &setting) else {
+    Ok(())
+}
+
+#[test]
+fn gives_zeros_at_a_higher_break(rt: HostRuntime) -> Result<(), Fail> {
+    let alloc = rt.alloc();
+    let program = program_of(alloc, &GROWING)?;
+    let setting = RunBox::new(alloc, 1_048_576);
+    let Ok(mut guest) = Guest::<RunRam>::start(alloc, &program, &setting) else {
         return Err("no start".into());
     };
     assert!(rt; guest.run(13) == RunEnd::Spent);
     assert_eq!(rt; guest.reg(7), 0);
     assert_eq!(rt; guest.reg(10), 77_824);
+    Ok(())
+}
+
+#[test]
+fn limits_the_texts(rt: HostRuntime) -> Result<(), Fail> {
+    let alloc = rt.alloc();
     // 131,023 bytes, a zero byte and six words are 131,072.
+    let mut setting = RunBox::new(alloc, 0);
     setting.push_arg(&long_text(alloc, 131_023)?)?;
-    assert!(rt; Guest::<RunRam>::start(alloc, &growing, &setting).is_ok());
+    assert!(rt; Guest::<RunRam>::start(alloc, &EXIT, &setting).is_ok());
     let mut longer = RunBox::new(alloc, 0);
     longer.push_arg(&long_text(alloc, 131_024)?)?;
-    let refusal = Guest::<RunRam>::start(alloc, &growing, &longer).err();
+    let refusal = Guest::<RunRam>::start(alloc, &EXIT, &longer).err();
     assert!(rt; refusal == Some(StartRefusal::ArgsTooLong));
     Ok(())
 }
