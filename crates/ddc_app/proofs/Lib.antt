@@ -1,2 +1,6 @@
 pub mod Performing
 pub mod Listing
+pub mod RunWords
+pub mod LeftNames
+pub mod Ending
+pub mod Arguments

@@ -4,6 +4,7 @@ use Rattle.ddc_app.specs.Plan.{Plan}
 use Rattle.ddc_app.specs.Words.{usage}
 use Rattle.ddc_app.specs.Hex0.{hex0_plan}
 use Rattle.ddc_app.specs.List.{list_plan}
+use Rattle.ddc_app.specs.RunProgram.{run_plan}
 
 -- what a command line does
 abbrev pub plan_of : List (List ℕ) → Plan
@@ -11,4 +12,5 @@ plan_of [] = usage
 plan_of (command ∷ words) =
     if bytes_eq command (codes "hex0") then hex0_plan words
     else (if bytes_eq command (codes "list") then list_plan words
-    else usage)
+    else (if bytes_eq command (codes "run") then run_plan words
+    else usage))

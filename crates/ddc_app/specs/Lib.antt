@@ -5,5 +5,6 @@ pub mod Words
 pub mod Performs
 pub mod Hex0
 pub mod List
+pub mod RunProgram
 pub mod Commands
 pub mod Run

@@ -4,6 +4,7 @@
 mod answer;
 mod command;
 mod commands;
+mod run_texts;
 mod status;
 mod stop;
 #[cfg(test)]

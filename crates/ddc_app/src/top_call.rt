@@ -6,7 +6,7 @@ ghost use Rattle.ddc_app.specs.Run.{asked, due, IsDue, PutEnds, Grows, GrowsByFr
 
 use crate::answer::Answer;
 use crate::command;
-use crate::commands::{hex0, list};
+use crate::commands::{hex0, list, run};
 use crate::status::Status;
 use crate::stop::Stop;
 use ddc_base::{PutFail, Shelf, Sink};
@@ -70,6 +70,7 @@ fn perform<S: Shelf>(alloc: Global, words: &[&str], shelf: &mut S) -> Result<Ans
     match *first {
         "hex0" => hex0::perform(alloc, words, shelf),
         "list" => list::perform(alloc, words, shelf),
+        "run" => run::perform(alloc, words, shelf),
         _ => command::usage(alloc),
     }
 }
