@@ -1,5 +1,5 @@
 -- Each call leaves sound files sound.
-use Rattle.std.proofs.Common.{◌≡◌, ◌≢◌, ℕ, ◌%◌, ◌==◌, ◌||◌, Bool, true, false, cond, Option, None, Some, Result, Ok, Err, IsOkAnd, IsTrue, List, [], ◌∷◌, length, take, drop, refl, sym, ap, ◌∙◌, subst, arith}
+use Rattle.std.proofs.Common.{◌≡◌, ◌≢◌, ℕ, ◌==◌, ◌||◌, Bool, true, false, cond, Option, None, Some, Result, Ok, Err, IsOkAnd, IsTrue, List, [], ◌∷◌, length, take, drop, refl, ap, subst, arith}
 use Rattle.std.specs.Prelude.{bit_and, slice_index}
 use Rattle.std.specs.FinMap.{get, contains_key}
 use Rattle.std.proofs.lemmas.List.{length-take}
@@ -10,13 +10,13 @@ use Rattle.mem_files.specs.declared.slot.Slot.TheVariants.{Input, Stream1, Strea
 use Rattle.mem_files.specs.declared.TheConstants.{EBADF, EINVAL, MAY_READ, O_ACCMODE}
 use Rattle.mem_files.specs.Names.{stripped, is_stripped_name}
 use Rattle.mem_files.specs.World.{World, content_of}
-use Rattle.mem_files.specs.Calls.{has, closed, opened, ready, ready_at, removed, sought, write_place, written}
+use Rattle.mem_files.specs.Calls.{has, closed, ready, ready_at, removed, write_place, written}
 use Rattle.mem_files.specs.Sound.{IsSound}
 use Rattle.mem_files.proofs.Soundness.{closed-sound, removed-sound}
 use Rattle.mem_files.proofs.SoundCalls.{opened-sound, skipped-sound, sought-sound, written-sound}
 use Rattle.linux_calls.specs.declared.TheConstants.{AT_FDCWD, ENOTDIR, SYS_UNLINKAT, SYS_FACCESSAT, SYS_FCHMODAT, SYS_OPENAT, SYS_CLOSE, SYS_LSEEK, SYS_READ, SYS_WRITE, SYS_EXIT, SYS_EXIT_GROUP, SYS_BRK}
 use Rattle.linux_calls.specs.Paths.{and_then, in_directory, is_absolute, low, name_at, named, not_empty, text_at}
-use Rattle.linux_calls.specs.Calls.{State, Outcome, exits, is_unknown, back, answering, unlinked, accessed, mode_changed, opened_in, opened_as, moved, written_from, written_at, moved_break, syscall, LeavesSound}
+use Rattle.linux_calls.specs.Calls.{State, Outcome, is_unknown, back, answering, unlinked, opened_in, opened_as, moved, written_from, written_at, moved_break, syscall, LeavesSound}
 use Rattle.linux_calls.proofs.Texts.{text_at-is, name_of_text}
 
 -- a path names what files hold
