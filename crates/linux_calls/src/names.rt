@@ -29,7 +29,8 @@ pub fn unlinkat<R: Ram>(
 ) -> Result<u64, u16>
     ensures { unlinked files.old flags (named (R.bytes ram.now) files.old dir at) ≡ (result, files.new) }
 {
-    let path = read_path_in(ram, files, dir, at)?;
+    let path = read_path(ram, at)?;
+    check_directory(files, dir, strip(&path))?;
     if low(flags) != 0 {
         return Err(EINVAL);
     }

@@ -263,6 +263,25 @@ const LIMITS: [Row; 9] = [
     (SYS_WRITE, [3, BUFFER, 2], -27),
 ];
 
+const FULL: [Row; 16] = [
+    (SYS_OPENAT, [CWD, F, 66], 3),
+    (SYS_LSEEK, [3, 268_435_455, 0], 268_435_455),
+    (SYS_WRITE, [3, BUFFER, 1], 1),
+    (SYS_WRITE, [3, BUFFER, 1], -27),
+    (SYS_OPENAT, [CWD, G, 66], 4),
+    (SYS_LSEEK, [4, 268_435_452, 0], 268_435_452),
+    (SYS_WRITE, [4, BUFFER, 1], 1),
+    (SYS_WRITE, [1, BUFFER, 4], -28),
+    (SYS_WRITE, [1, BUFFER, 3], 3),
+    (SYS_WRITE, [1, BUFFER, 1], -28),
+    (SYS_WRITE, [4, BUFFER, 3], -28),
+    (SYS_WRITE, [4, BUFFER, 4], -27),
+    (SYS_WRITE, [4, NOWHERE, 1], -14),
+    (SYS_WRITE, [4, BUFFER, 0], 0),
+    (SYS_LSEEK, [4, 0, 0], 0),
+    (SYS_WRITE, [4, BUFFER, 8], 8),
+];
+
 const TOO_MANY: [Row; 8] = [
     (SYS_OPENAT, [CWD, F, 64], -24),
     (SYS_OPENAT, [CWD, F, 192], -24),
@@ -304,6 +323,14 @@ fn as_this_project(rt: HostRuntime) {
         let mut guest = with_texts(rt.alloc()).expect(&rt, "memory");
         guest.run(&rt, rt.alloc(), rows);
     }
+}
+
+/// One file of the most bytes, and writes that end at the limit of all files and streams, and one byte past it. A file that
+/// is too large is refused before too many bytes in all.
+#[test]
+fn the_last_byte(rt: HostRuntime) {
+    let mut guest = with_texts(rt.alloc()).expect(&rt, "memory");
+    guest.run(&rt, rt.alloc(), &FULL);
 }
 
 /// A path of 256 bytes that ends with the last mapped byte is too long, and one of 255 bytes runs into the unmapped page.

@@ -1,9 +1,7 @@
 -- What each change of a table does to its world, and that the table stays consistent.
-use Rattle.std.proofs.Common.{◌≡◌, ◌≢◌, ℕ, zero, suc, ◌+◌, ◌-◌, ◌<◌, ◌≤◌, Bool, true, false, cond, not, eqb, T, List, [], ◌∷◌, ◌++◌, length, get_or, set, map, Option, Some, None, Result, Ok, Err, IsSome, is_some, unwrap_or, refl, sym, ap, ◌∙◌, subst, arith, inl, inr, eq-eqb, eqb-true}
+use Rattle.std.proofs.Common.{◌≡◌, ◌≢◌, ℕ, zero, suc, ◌+◌, ◌-◌, ◌<◌, ◌≤◌, Bool, true, false, cond, not, eqb, T, List, [], ◌∷◌, ◌++◌, length, take, get_or, set, map, Option, Some, None, Result, Ok, Err, IsSome, is_some, unwrap_or, refl, sym, ap, ◌∙◌, subst, arith, inl, inr, eq-eqb, eqb-true}
 use Rattle.std.specs.Result.{OnErr}
-use Rattle.std.specs.Option.{option_map_or}
-use Rattle.std.specs.List.{list_any}
-use Rattle.std.proofs.lemmas.List.{length-set, get_or_past, get_or-set_same, get_or-set_other, map-set, map-append, length-append, length-map}
+use Rattle.std.proofs.lemmas.List.{take_all, length-set, get_or_past, get_or-set_same, get_or-set_other, map-set, map-append, length-append, length-map}
 use Rattle.std.proofs.lemmas.Bool.{cases_lt, false≢true}
 use Rattle.std.proofs.Math.Seq.{map-set_same}
 use Rattle.std.proofs.lemmas.Bool.Decides.{nat_tests}
@@ -15,16 +13,23 @@ use Rattle.std.specs.FinMap as fin
 use Rattle.std.specs.FinMap.Entries.{is_sorted-put, is_sorted-where_key, where_key}
 use Rattle.mem_files.specs.declared.slot.Slot.{Slot}
 use Rattle.mem_files.specs.declared.stored.Stored.{Stored}
-use Rattle.mem_files.specs.declared.TheConstants.{MAX_SLOTS, MAX_NAMES}
+use Rattle.mem_files.specs.declared.TheConstants.{MAX_SLOTS, MAX_NAMES, MAX_NAME}
 use Rattle.mem_files.specs.Names.{bytes_cmp}
 use Rattle.mem_files.specs.World.{World, total, content_of, is_of, is_named, is_open, lowest_unused}
 use Rattle.mem_files.specs.Cells.{map_of, with_room}
-use Rattle.mem_files.specs.Table.{Parts, world_of, IsConsistent}
+use Rattle.mem_files.specs.Counts.{opens_in}
+use Rattle.mem_files.specs.Table.{Parts, world_of, Uses, AreSlots, IsConsistent}
 use Rattle.mem_files.specs.Stored.{content_in, name_in}
 use Rattle.mem_files.proofs.Maps.{get-lowest_unused, below-lowest_unused, lowest_unused-is, lowest_unused-le-len, any_at, key_of_any}
+use Rattle.mem_files.proofs.Counting.{any_opens, opens_few, opens_push, opens_set}
+use Rattle.mem_files.proofs.Soundness.{by_eq}
 use Rattle.mem_files.proofs.Totals.{total-insert, total-remove}
 use Rattle.mem_files.proofs.CellMaps.{get-map_of, map_of-fill, map_of-empty, map_of-push, at_set, at_push, any-map_of}
 use Rattle.mem_files.proofs.Directory.{from_sorted-put, from_sorted-where_key, len-from_sorted, bytes_cmp-IsAntisymmetric, equal}
+
+-- a short name is a key as a whole
+pub whole_key : (name key : List ℕ) → length name ≤ MAX_NAME → key ≡ take MAX_NAME name → key ≡ name
+whole_key name key short is = is ∙ take_all MAX_NAME name short
 
 -- what holds anyway holds on an error
 pub on_err : {T E P : Type 0} (r : Result T E) → P → OnErr r P
@@ -68,6 +73,30 @@ name_kept cells at cell h same q =
       | false ↦ λ _. refl
     ] refl
 
+is_some-content : (cell : Option Stored) → is_some (content_in cell) ≡ is_some cell
+is_some-content None = refl
+is_some-content (Some file) = refl
+
+alike_by_content : (one other : Option Stored) → content_in one ≡ content_in other → is_some one ≡ is_some other
+alike_by_content one other same = sym (is_some-content one) ∙ ap is_some same ∙ is_some-content other
+
+is_none : {X : Type 0} (o : Option X) → is_some o ≡ false → o ≡ None
+is_none None h = refl
+is_none (Some x) h = absurd (false≢true (sym h))
+
+-- a number whose cell is written
+pub uses_set : {X : Type 0} (used : List Bool) (cells : List (Option X)) (at : ℕ) (value : Bool) (cell : Option X) → Uses used cells → at < length cells → at < length used → value ≡ is_some cell → Uses (set used at value) (set cells at cell)
+uses_set used cells at value cell uses inside within same = λ q.
+    by_eq q at
+    (λ here. ap (λ k. get_or (set used at value) k false) here ∙ get_or-set_same used at value false within ∙ same ∙ sym (ap is_some (ap (λ k. get_or (set cells at cell) k None) here ∙ get_or-set_same cells at cell None inside)))
+    (λ apart. get_or-set_other used at q value false apart ∙ uses q ∙ ap is_some (sym (get_or-set_other cells at q cell None apart)))
+
+uses_same : {X : Type 0} (used : List Bool) (cells : List (Option X)) (at : ℕ) (cell : Option X) → Uses used cells → at < length cells → is_some (get_or cells at None) ≡ is_some cell → Uses used (set cells at cell)
+uses_same used cells at cell uses inside same = λ q.
+    by_eq q at
+    (λ here. uses q ∙ ap is_some (ap (λ k. get_or cells k None) here) ∙ same ∙ sym (ap is_some (ap (λ k. get_or (set cells at cell) k None) here ∙ get_or-set_same cells at cell None inside)))
+    (λ apart. uses q ∙ ap is_some (sym (get_or-set_other cells at q cell None apart)))
+
 empty_cell : (cell : Option Stored) → content_in cell ≡ None → name_in cell ≡ None
 empty_cell None h = refl
 empty_cell (Some file) h = absurd (none-some file.content.items (sym h))
@@ -93,74 +122,105 @@ module _ (p : Parts) (w : World) (is : world_of p ≡ w) (ok : IsConsistent p) w
   pub file_within : (number : ℕ) → IsSome (fin.get w.files number) → number < length p.files
   file_within number held = within p.files number (full_from_content _ (sym (ap is_some (get-file p number)) ∙ subst (λ (v : World). IsSome (fin.get v.files number)) (sym is) held))
 
-  -- a descriptor that is held stands for something else
-  pub set_slot-consistent : (fd : ℕ) (slot : Slot) → IsSome (fin.get w.slots fd) → IsConsistent (record p { slots = set p.slots fd (Some slot) })
-  set_slot-consistent fd slot held = record {
+  -- what is looked up
+  pub file-is : (number : ℕ) → fin.get w.files number ≡ content_in (get_or p.files number None)
+  file-is number = ap (λ (v : World). fin.get v.files number) (sym is) ∙ get-file p number
+
+  pub slot-is : (fd : ℕ) → fin.get w.slots fd ≡ get_or p.slots fd None
+  slot-is fd = ap (λ (v : World). fin.get v.slots fd) (sym is) ∙ get-map_of p.slots fd
+
+  -- other cells of descriptors
+  with_slots : (slots : List (Option Slot)) (used : List Bool) (count : ℕ) (opens : List ℕ) → AreSlots slots used count opens → IsConsistent (record p { slots = slots; used_slots = used; slot_count = count; open_counts = opens })
+  with_slots slots used count opens fit = record {
     sorted = ok.sorted;
-    few_slots = omega (arith, length-set p.slots fd (Some slot), ok.few_slots);
+    short = ok.short;
+    slots_fit = fit;
     few_files = ok.few_files;
-    slots_counted = ok.slots_counted ∙ sym (ap fin.len (map_of-fill p.slots fd slot (slot_within fd held)) ∙ fin.len-insert nat_cmp_total (map_of p.slots) fd slot
-        ∙ ap (λ b. cond b (fin.len (map_of p.slots)) (fin.len (map_of p.slots) + 1)) (subst (λ (v : World). IsSome (fin.get v.slots fd)) (sym is) held));
+    enough_files = ok.enough_files;
+    files_used = ok.files_used;
     bytes_counted = ok.bytes_counted;
     found = ok.found;
     holds = ok.holds;
   }
+
+  -- a descriptor that is held stands for something else, of the same file
+  pub set_slot-consistent : (fd : ℕ) (slot : Slot) → IsSome (fin.get w.slots fd) → ((number : ℕ) → opens_in number (fin.get w.slots fd) ≡ opens_in number (Some slot)) → IsConsistent (record p { slots = set p.slots fd (Some slot) })
+  set_slot-consistent fd slot held same =
+      let inside = slot_within fd held in
+      with_slots (set p.slots fd (Some slot)) p.used_slots p.slot_count p.open_counts record {
+        few = omega (arith, length-set p.slots fd (Some slot), ok.slots_fit.few);
+        enough = ok.slots_fit.enough;
+        uses = uses_same p.used_slots p.slots fd (Some slot) ok.slots_fit.uses inside (ap is_some (sym (slot-is fd)) ∙ held);
+        counted = ok.slots_fit.counted ∙ sym (ap fin.len (map_of-fill p.slots fd slot inside) ∙ fin.len-insert nat_cmp_total (map_of p.slots) fd slot
+            ∙ ap (λ b. cond b (fin.len (map_of p.slots)) (fin.len (map_of p.slots) + 1)) (subst (λ (v : World). IsSome (fin.get v.slots fd)) (sym is) held));
+        opens = λ number. omega (arith, ok.slots_fit.opens number, opens_set number p.slots fd (Some slot) inside, ap (opens_in number) (slot-is fd), same number);
+      }
 
   pub set_slot-world : (fd : ℕ) (slot : Slot) → IsSome (fin.get w.slots fd) → world_of (record p { slots = set p.slots fd (Some slot) }) ≡ record w { slots = fin.insert w.slots fd slot }
   set_slot-world fd slot held = ap (λ m. record (world_of p) { slots = m }) (map_of-fill p.slots fd slot (slot_within fd held)) ∙ ap (λ (v : World). record v { slots = fin.insert v.slots fd slot }) is
 
   -- a descriptor that is held stands for nothing any more
-  pub clear_slot-consistent : (fd : ℕ) → IsSome (fin.get w.slots fd) → IsConsistent (record p { slots = set p.slots fd None; slot_count = p.slot_count - 1 })
-  clear_slot-consistent fd held = record {
-    sorted = ok.sorted;
-    few_slots = omega (arith, length-set p.slots fd None, ok.few_slots);
-    few_files = ok.few_files;
-    slots_counted = ap (λ n. n - 1) ok.slots_counted ∙ sym (ap fin.len (map_of-empty p.slots fd (slot_within fd held)) ∙ fin.len-remove nat_cmp_total (map_of p.slots) fd
-        ∙ ap (λ b. cond b (fin.len (map_of p.slots) - 1) (fin.len (map_of p.slots))) (subst (λ (v : World). IsSome (fin.get v.slots fd)) (sym is) held));
-    bytes_counted = ok.bytes_counted;
-    found = ok.found;
-    holds = ok.holds;
-  }
+  pub slot_used : (fd : ℕ) → IsSome (fin.get w.slots fd) → fd < length p.used_slots
+  slot_used fd held = omega (arith, slot_within fd held, ok.slots_fit.few, ok.slots_fit.enough)
 
-  pub clear_slot-world : (fd : ℕ) → IsSome (fin.get w.slots fd) → world_of (record p { slots = set p.slots fd None; slot_count = p.slot_count - 1 }) ≡ record w { slots = fin.remove w.slots fd }
+  pub slot_opens : (fd : ℕ) (cell : Option Slot) → IsSome (fin.get w.slots fd) → cell ≡ get_or p.slots fd None → (number : ℕ) → opens_in number cell ≤ get_or p.open_counts number 0
+  slot_opens fd cell held here number =
+      omega (arith, ok.slots_fit.opens number, opens_set number p.slots fd None (slot_within fd held), ap (opens_in number) here)
+
+  pub clear_slot-consistent : (fd : ℕ) (cell : Option Slot) → IsSome (fin.get w.slots fd) → cell ≡ get_or p.slots fd None → (used : List Bool) → used ≡ set p.used_slots fd false
+      → (opens : List ℕ) → ((number : ℕ) → get_or opens number 0 + opens_in number cell ≡ get_or p.open_counts number 0)
+      → IsConsistent (record p { slots = set p.slots fd None; used_slots = used; slot_count = p.slot_count - 1; open_counts = opens })
+  clear_slot-consistent fd cell held here used unused opens fewer =
+      let inside = slot_within fd held in
+      with_slots (set p.slots fd None) used (p.slot_count - 1) opens record {
+        few = omega (arith, length-set p.slots fd None, ok.slots_fit.few);
+        enough = ap length unused ∙ length-set p.used_slots fd false ∙ ok.slots_fit.enough;
+        uses = subst (λ (l : List Bool). Uses l (set p.slots fd None)) (sym unused) (uses_set p.used_slots p.slots fd false None ok.slots_fit.uses inside (slot_used fd held) refl);
+        counted = ap (λ n. n - 1) ok.slots_fit.counted ∙ sym (ap fin.len (map_of-empty p.slots fd inside) ∙ fin.len-remove nat_cmp_total (map_of p.slots) fd
+            ∙ ap (λ b. cond b (fin.len (map_of p.slots) - 1) (fin.len (map_of p.slots))) (subst (λ (v : World). IsSome (fin.get v.slots fd)) (sym is) held));
+        opens = λ number. omega (arith, ok.slots_fit.opens number, opens_set number p.slots fd None inside, ap (opens_in number) here, fewer number);
+      }
+
+  pub clear_slot-world : (fd : ℕ) → IsSome (fin.get w.slots fd) → world_of (record p { slots = set p.slots fd None }) ≡ record w { slots = fin.remove w.slots fd }
   clear_slot-world fd held = ap (λ m. record (world_of p) { slots = m }) (map_of-empty p.slots fd (slot_within fd held)) ∙ ap (λ (v : World). record v { slots = fin.remove v.slots fd }) is
 
   -- an empty cell more
   pub room_for_slot-consistent : length p.slots < MAX_SLOTS → IsConsistent (record p { slots = p.slots ++ None ∷ [] })
-  room_for_slot-consistent few = record {
-    sorted = ok.sorted;
-    few_slots = omega (arith, length-append p.slots (None ∷ []), few);
-    few_files = ok.few_files;
-    slots_counted = ok.slots_counted ∙ sym (ap fin.len (map_of-push p.slots));
-    bytes_counted = ok.bytes_counted;
-    found = ok.found;
-    holds = ok.holds;
+  room_for_slot-consistent few = with_slots (p.slots ++ None ∷ []) p.used_slots p.slot_count p.open_counts record {
+    few = omega (arith, length-append p.slots (None ∷ []), few);
+    enough = ok.slots_fit.enough;
+    uses = λ number. ok.slots_fit.uses number ∙ ap is_some (sym (at_push p.slots number));
+    counted = ok.slots_fit.counted ∙ sym (ap fin.len (map_of-push p.slots));
+    opens = λ number. ok.slots_fit.opens number ∙ sym (opens_push number p.slots);
   }
 
   pub room_for_slot-world : world_of (record p { slots = p.slots ++ None ∷ [] }) ≡ w
   room_for_slot-world = ap (λ m. record (world_of p) { slots = m }) (map_of-push p.slots) ∙ is
 
   -- an unused descriptor with a cell stands for something
-  pub add_slot-consistent : (fd : ℕ) (slot : Slot) → fd < length p.slots → fin.get w.slots fd ≡ None → IsConsistent (record p { slots = set p.slots fd (Some slot); slot_count = p.slot_count + 1 })
-  add_slot-consistent fd slot h unused = record {
-    sorted = ok.sorted;
-    few_slots = omega (arith, length-set p.slots fd (Some slot), ok.few_slots);
-    few_files = ok.few_files;
-    slots_counted = ap (λ n. n + 1) ok.slots_counted ∙ sym (ap fin.len (map_of-fill p.slots fd slot h) ∙ fin.len-insert nat_cmp_total (map_of p.slots) fd slot
+  pub add_slot-consistent : (fd : ℕ) (slot : Slot) → fd < length p.slots → fin.get w.slots fd ≡ None → (used : List Bool) → used ≡ set p.used_slots fd true
+      → (opens : List ℕ) → ((number : ℕ) → get_or opens number 0 ≡ get_or p.open_counts number 0 + opens_in number (Some slot))
+      → IsConsistent (record p { slots = set p.slots fd (Some slot); used_slots = used; slot_count = p.slot_count + 1; open_counts = opens })
+  add_slot-consistent fd slot h unused used uses opens more = with_slots (set p.slots fd (Some slot)) used (p.slot_count + 1) opens record {
+    few = omega (arith, length-set p.slots fd (Some slot), ok.slots_fit.few);
+    enough = ap length uses ∙ length-set p.used_slots fd true ∙ ok.slots_fit.enough;
+    uses = subst (λ (l : List Bool). Uses l (set p.slots fd (Some slot))) (sym uses) (uses_set p.used_slots p.slots fd true (Some slot) ok.slots_fit.uses h (omega (arith, ok.slots_fit.few, ok.slots_fit.enough)) refl);
+    counted = ap (λ n. n + 1) ok.slots_fit.counted ∙ sym (ap fin.len (map_of-fill p.slots fd slot h) ∙ fin.len-insert nat_cmp_total (map_of p.slots) fd slot
         ∙ ap (λ b. cond b (fin.len (map_of p.slots)) (fin.len (map_of p.slots) + 1)) (ap is_some (subst (λ (v : World). fin.get v.slots fd ≡ None) (sym is) unused)));
-    bytes_counted = ok.bytes_counted;
-    found = ok.found;
-    holds = ok.holds;
+    opens = λ number. omega (arith, ok.slots_fit.opens number, opens_set number p.slots fd (Some slot) h, ap (opens_in number) (sym (slot-is fd) ∙ unused), more number);
   }
 
-  pub add_slot-world : (fd : ℕ) (slot : Slot) → fd < length p.slots → world_of (record p { slots = set p.slots fd (Some slot); slot_count = p.slot_count + 1 }) ≡ record w { slots = fin.insert w.slots fd slot }
+  pub add_slot-world : (fd : ℕ) (slot : Slot) → fd < length p.slots → world_of (record p { slots = set p.slots fd (Some slot) }) ≡ record w { slots = fin.insert w.slots fd slot }
   add_slot-world fd slot h = ap (λ m. record (world_of p) { slots = m }) (map_of-fill p.slots fd slot h) ∙ ap (λ (v : World). record v { slots = fin.insert v.slots fd slot }) is
+
+  pub opens_small : (number : ℕ) → get_or p.open_counts number 0 ≤ MAX_SLOTS
+  opens_small number = omega (arith, ok.slots_fit.opens number, opens_few number p.slots, ok.slots_fit.few)
 
   pub slots_some : (fd : ℕ) → IsSome (fin.get w.slots fd) → 1 ≤ p.slot_count
   slots_some fd held =
       let there : IsSome (fin.get (map_of p.slots) fd) = subst (λ (v : World). IsSome (fin.get v.slots fd)) (sym is) held in
       elim (cases_lt 0 (fin.len (map_of p.slots))) as (λ _. 1 ≤ p.slot_count) [
-        | inl h ↦ omega (arith, ok.slots_counted)
+        | inl h ↦ omega (arith, ok.slots_fit.counted)
         | inr h ↦ absurd (false≢true (sym (ap is_some (ap (λ m. fin.get m fd) (fin.empty_of_len (map_of p.slots) (omega arith)) ∙ fin.get-empty nat_cmp fd)) ∙ there))
       ]
 
@@ -171,13 +231,15 @@ module _ (p : Parts) (w : World) (is : world_of p ≡ w) (ok : IsConsistent p) w
       ap (λ m. record (world_of p) { files = m }) (ap map_of (map-set content_in p.files at cell ∙ ap (set (map content_in p.files) at) filled) ∙ map_of-fill (map content_in p.files) at content (omega (arith, length-map p.files content_in)))
       ∙ ap (λ (v : World). record v { files = fin.insert v.files at content }) is
 
-  pub set_file-consistent : (at : ℕ) (cell : Option Stored) (content : List ℕ) (bytes : ℕ) → at < length p.files → content_in cell ≡ Some content → name_in cell ≡ name_in (get_or p.files at None)
+  pub set_file-consistent : (at : ℕ) (cell : Option Stored) (content : List ℕ) (bytes : ℕ) → at < length p.files → IsSome (fin.get w.files at) → content_in cell ≡ Some content → name_in cell ≡ name_in (get_or p.files at None)
       → bytes + length (content_of w at) ≡ p.total + length content → IsConsistent (record p { files = set p.files at cell; total = bytes })
-  set_file-consistent at cell content bytes h filled same sums = record {
+  set_file-consistent at cell content bytes h held filled same sums = record {
     sorted = ok.sorted;
-    few_slots = ok.few_slots;
+    short = ok.short;
+    slots_fit = ok.slots_fit;
     few_files = omega (arith, length-set p.files at cell, ok.few_files);
-    slots_counted = ok.slots_counted;
+    enough_files = ok.enough_files;
+    files_used = uses_same p.used_files p.files at cell ok.files_used h (sym (is_some-content (get_or p.files at None)) ∙ ap is_some (sym (file-is at)) ∙ held ∙ ap is_some (sym filled) ∙ is_some-content cell);
     bytes_counted = omega (arith, ap total (set_file-world at cell content h filled), total-insert w at content, ok.bytes_counted, ap total is, sums);
     found = λ name number e. name_kept p.files at cell h same number ∙ ok.found name number e;
     holds = λ number name e. ok.holds number name (sym (name_kept p.files at cell h same number) ∙ e);
@@ -190,13 +252,18 @@ module _ (p : Parts) (w : World) (is : world_of p ≡ w) (ok : IsConsistent p) w
   pub same_file-consistent : (at : ℕ) (cell : Option Stored) → at < length p.files → content_in cell ≡ content_in (get_or p.files at None) → name_in cell ≡ name_in (get_or p.files at None) → IsConsistent (record p { files = set p.files at cell })
   same_file-consistent at cell h same named = record {
     sorted = ok.sorted;
-    few_slots = ok.few_slots;
+    short = ok.short;
+    slots_fit = ok.slots_fit;
     few_files = omega (arith, length-set p.files at cell, ok.few_files);
-    slots_counted = ok.slots_counted;
+    enough_files = ok.enough_files;
+    files_used = uses_same p.used_files p.files at cell ok.files_used h (alike_by_content (get_or p.files at None) cell (sym same));
     bytes_counted = ok.bytes_counted ∙ ap total is ∙ sym (ap total (same_file-world at cell same));
     found = λ name number e. name_kept p.files at cell h named number ∙ ok.found name number e;
     holds = λ number name e. ok.holds number name (sym (name_kept p.files at cell h named number) ∙ e);
   }
+
+  pub number_used : (at : ℕ) → at < length p.files → at < length p.used_files
+  number_used at h = omega (arith, ok.few_files, ok.enough_files)
 
   -- a file that has no name is dropped
   pub drop_file-world : (at : ℕ) → at < length p.files → world_of (record p { files = set p.files at None }) ≡ record w { files = fin.remove w.files at }
@@ -213,13 +280,16 @@ module _ (p : Parts) (w : World) (is : world_of p ≡ w) (ok : IsConsistent p) w
             absurd (false≢true (sym none ∙ any_at nat_list_cmp_total (λ held. eqb held at) w.names name at known (eq-eqb at at refl)))
       ] refl
 
-  pub drop_file-consistent : (at bytes : ℕ) → at < length p.files → is_named w at ≡ false → bytes + length (content_of w at) ≡ p.total → IsConsistent (record p { files = set p.files at None; total = bytes })
-  drop_file-consistent at bytes h none sums =
+  pub drop_file-consistent : (at bytes : ℕ) → at < length p.files → is_named w at ≡ false → bytes + length (content_of w at) ≡ p.total → (used : List Bool) → used ≡ set p.used_files at false
+      → IsConsistent (record p { files = set p.files at None; used_files = used; total = bytes })
+  drop_file-consistent at bytes h none sums used unused =
       let kept = name_kept p.files at None h (sym (unnamed at none)) in record {
         sorted = ok.sorted;
-        few_slots = ok.few_slots;
+        short = ok.short;
+        slots_fit = ok.slots_fit;
         few_files = omega (arith, length-set p.files at None, ok.few_files);
-        slots_counted = ok.slots_counted;
+        enough_files = ap length unused ∙ length-set p.used_files at false ∙ ok.enough_files;
+        files_used = subst (λ (l : List Bool). Uses l (set p.files at None)) (sym unused) (uses_set p.used_files p.files at false None ok.files_used h (number_used at h) refl);
         bytes_counted = omega (arith, ap total (drop_file-world at h), total-remove w at, ok.bytes_counted, ap total is, sums);
         found = λ name number e. kept number ∙ ok.found name number e;
         holds = λ number name e. ok.holds number name (sym (kept number) ∙ e);
@@ -232,9 +302,11 @@ module _ (p : Parts) (w : World) (is : world_of p ≡ w) (ok : IsConsistent p) w
   pub room_for_file-consistent : length p.files < MAX_NAMES + MAX_SLOTS → IsConsistent (record p { files = p.files ++ None ∷ [] })
   room_for_file-consistent few = record {
     sorted = ok.sorted;
-    few_slots = ok.few_slots;
+    short = ok.short;
+    slots_fit = ok.slots_fit;
     few_files = omega (arith, length-append p.files (None ∷ []), few);
-    slots_counted = ok.slots_counted;
+    enough_files = ok.enough_files;
+    files_used = λ number. ok.files_used number ∙ ap is_some (sym (at_push p.files number));
     bytes_counted = ok.bytes_counted ∙ ap total is ∙ sym (ap total room_for_file-world);
     found = λ name number e. ap name_in (at_push p.files number) ∙ ok.found name number e;
     holds = λ number name e. ok.holds number name (sym (ap name_in (at_push p.files number)) ∙ e);
@@ -253,13 +325,20 @@ module _ (p : Parts) (w : World) (is : world_of p ≡ w) (ok : IsConsistent p) w
   get-where : (name q : List ℕ) → fin.get (fin.from_sorted {R = bytes_cmp} (where_key bytes_cmp (λ other. not (eq_by_cmp bytes_cmp name other)) p.names)) q ≡ cond (eq_by_cmp bytes_cmp q name) None (fin.get (world_of p).names q)
   get-where name q = ap (λ m. fin.get m q) (from_sorted-where_key p.names in_order name) ∙ fin.get-remove nat_list_cmp_total (world_of p).names name q
 
-  pub add_file-consistent : (name : List ℕ) (at : ℕ) (file : Stored) (bytes : ℕ) → at < length p.files → fin.get w.names name ≡ None → fin.get w.files at ≡ None → name_in (Some file) ≡ Some name
-      → bytes ≡ p.total + length file.content.items → IsConsistent (record p { names = fin.put bytes_cmp name at p.names; files = set p.files at (Some file); total = bytes })
-  add_file-consistent name at file bytes h absent free named sums = record {
+  pub add_file-consistent : (name : List ℕ) (at : ℕ) (file : Stored) (bytes : ℕ) → at < length p.files → fin.get w.names name ≡ None → length name ≤ MAX_NAME → fin.get w.files at ≡ None → name_in (Some file) ≡ Some name
+      → bytes ≡ p.total + length file.content.items → (used : List Bool) → used ≡ set p.used_files at true
+      → IsConsistent (record p { names = fin.put bytes_cmp name at p.names; files = set p.files at (Some file); used_files = used; total = bytes })
+  add_file-consistent name at file bytes h absent few free named sums used uses = record {
     sorted = is_true _ (is_sorted-put bytes_cmp nat_list_cmp_total name at p.names in_order);
-    few_slots = ok.few_slots;
+    short = λ q number e.
+        elim (eq_by_cmp bytes_cmp q name) as (λ b. eq_by_cmp bytes_cmp q name ≡ b → cond b (Some at) (fin.get (world_of p).names q) ≡ Some number → length q ≤ MAX_NAME) [
+          | true ↦ λ tie _. subst (λ n. length n ≤ MAX_NAME) (sym (tied q name tie)) few
+          | false ↦ λ _ there. ok.short q number there
+        ] refl (sym (get-put name at q) ∙ e);
+    slots_fit = ok.slots_fit;
     few_files = omega (arith, length-set p.files at (Some file), ok.few_files);
-    slots_counted = ok.slots_counted;
+    enough_files = ap length uses ∙ length-set p.used_files at true ∙ ok.enough_files;
+    files_used = subst (λ (l : List Bool). Uses l (set p.files at (Some file))) (sym uses) (uses_set p.used_files p.files at true (Some file) ok.files_used h (number_used at h) refl);
     bytes_counted = omega (arith, ap total (add_file-world name at file h), total-insert w at file.content.items, ok.bytes_counted, ap total is, sums, ap (λ o. length (unwrap_or o [])) free);
     found = λ q number e.
         let looked = sym (get-put name at q) ∙ e in
@@ -302,9 +381,15 @@ module _ (p : Parts) (w : World) (is : world_of p ≡ w) (ok : IsConsistent p) w
       → IsConsistent (record p { names = where_key bytes_cmp (λ other. not (eq_by_cmp bytes_cmp name other)) p.names; files = set p.files at cell })
   unname-consistent name at cell held none same = record {
     sorted = is_true _ (is_sorted-where_key bytes_cmp (λ other. not (eq_by_cmp bytes_cmp name other)) p.names in_order);
-    few_slots = ok.few_slots;
+    short = λ q number e.
+        elim (eq_by_cmp bytes_cmp q name) as (λ b. cond b None (fin.get (world_of p).names q) ≡ Some number → length q ≤ MAX_NAME) [
+          | true ↦ λ gone. absurd (none-some number gone)
+          | false ↦ λ there. ok.short q number there
+        ] (sym (get-where name q) ∙ e);
+    slots_fit = ok.slots_fit;
     few_files = omega (arith, length-set p.files at cell, ok.few_files);
-    slots_counted = ok.slots_counted;
+    enough_files = ok.enough_files;
+    files_used = uses_same p.used_files p.files at cell ok.files_used inside (alike_by_content (get_or p.files at None) cell (sym same));
     bytes_counted = ok.bytes_counted ∙ ap total is ∙ sym (ap total (unname-world name at cell same));
     found = λ q number e.
         elim (eq_by_cmp bytes_cmp q name) as (λ b. eq_by_cmp bytes_cmp q name ≡ b → cond b None (fin.get (world_of p).names q) ≡ Some number → name_in (get_or (set p.files at cell) number None) ≡ Some q) [
@@ -334,13 +419,6 @@ module _ (p : Parts) (w : World) (is : world_of p ≡ w) (ok : IsConsistent p) w
       inside : at < length p.files
       inside = within p.files at (named_full (get_or p.files at None) name (ok.found name at here))
 
-  -- what is looked up
-  pub slot-is : (fd : ℕ) → fin.get w.slots fd ≡ get_or p.slots fd None
-  slot-is fd = ap (λ (v : World). fin.get v.slots fd) (sym is) ∙ get-map_of p.slots fd
-
-  pub file-is : (number : ℕ) → fin.get w.files number ≡ content_in (get_or p.files number None)
-  file-is number = ap (λ (v : World). fin.get v.files number) (sym is) ∙ get-file p number
-
   pub is_named-is : (number : ℕ) → is_named w number ≡ is_some (name_in (get_or p.files number None))
   is_named-is number =
       elim (name_in (get_or p.files number None)) as (λ o. name_in (get_or p.files number None) ≡ o → is_named w number ≡ is_some o) [
@@ -356,8 +434,9 @@ module _ (p : Parts) (w : World) (is : world_of p ≡ w) (ok : IsConsistent p) w
             (ap (λ (v : World). fin.get v.names name) (sym is) ∙ ok.holds number name e) (eq-eqb number number refl)
       ] refl
 
-  pub is_open-is : (number : ℕ) → is_open w number ≡ list_any (λ cell. option_map_or (is_of number) cell false) p.slots
-  is_open-is number = ap (λ (v : World). is_open v number) (sym is) ∙ any-map_of (is_of number) p.slots
+  pub is_open-is : (number : ℕ) → is_open w number ≡ not (eqb (get_or p.open_counts number 0) 0)
+  is_open-is number =
+      ap (λ (v : World). is_open v number) (sym is) ∙ any-map_of (is_of number) p.slots ∙ any_opens number p.slots ∙ ap (λ n. not (eqb n 0)) (sym (ok.slots_fit.opens number))
 
   pub names_len-is : fin.len w.names ≡ length p.names
   names_len-is = ap (λ (v : World). fin.len v.names) (sym is) ∙ len-from_sorted p.names in_order
@@ -365,16 +444,37 @@ module _ (p : Parts) (w : World) (is : world_of p ≡ w) (ok : IsConsistent p) w
   pub number-is : (name : List ℕ) → fin.get w.names name ≡ fin.find bytes_cmp name p.names
   number-is name = ap (λ (v : World). fin.get v.names name) (sym is) ∙ fin.get-from_sorted bytes_cmp p.names name in_order
 
+  -- names are short
+  pub held_short : (name : List ℕ) → IsSome (fin.find bytes_cmp name p.names) → length name ≤ MAX_NAME
+  held_short name held = at (fin.find bytes_cmp name p.names) refl held
+    where
+      at : (o : Option ℕ) → fin.find bytes_cmp name p.names ≡ o → IsSome o → length name ≤ MAX_NAME
+      at None was h = absurd (false≢true h)
+      at (Some number) was h = ok.short name number (fin.get-from_sorted bytes_cmp p.names name in_order ∙ was)
+
+  pub no_long_name : (name : List ℕ) → MAX_NAME < length name → None ≡ fin.get w.names name
+  no_long_name name long = at (fin.find bytes_cmp name p.names) refl
+    where
+      at : (o : Option ℕ) → fin.find bytes_cmp name p.names ≡ o → None ≡ fin.get w.names name
+      at None was = sym (number-is name ∙ was)
+      at (Some number) was = absurd (let few = held_short name (ap is_some was) in omega arith)
+
+  pub name_short : (name : List ℕ) (number : ℕ) → fin.get w.names name ≡ Some number → length name ≤ MAX_NAME
+  name_short name number held = held_short name (ap is_some (sym (number-is name) ∙ held))
+
   -- the bytes of a file, from its cell
   pub content-is : (number : ℕ) (cell : Option Stored) → cell ≡ get_or p.files number None → content_of w number ≡ unwrap_or (content_in cell) []
   content-is number cell same = ap (λ o. unwrap_or o []) (file-is number ∙ ap content_in (sym same))
 
-  -- the first empty cell is the lowest unused number
-  pub free_slot-is : (fd : ℕ) → get_or p.slots fd None ≡ None → ((k : ℕ) → k < fd → IsSome (get_or p.slots k None)) → fd ≡ lowest_unused w.slots
-  free_slot-is fd free full = lowest_unused-is w.slots fd (slot-is fd ∙ free) (λ k h. ap is_some (slot-is k) ∙ full k h)
+  -- the lowest number that isn't used has no cell
+  pub free_slot-is : (fd : ℕ) → get_or p.used_slots fd false ≡ false → ((k : ℕ) → k < fd → get_or p.used_slots k false ≡ true) → fd ≡ lowest_unused w.slots
+  free_slot-is fd free full =
+      lowest_unused-is w.slots fd (slot-is fd ∙ is_none (get_or p.slots fd None) (sym (ok.slots_fit.uses fd) ∙ free)) (λ k h. ap is_some (slot-is k) ∙ sym (ok.slots_fit.uses k) ∙ full k h)
 
-  pub free_number-is : (number : ℕ) → get_or p.files number None ≡ None → ((k : ℕ) → k < number → IsSome (get_or p.files k None)) → number ≡ lowest_unused w.files
-  free_number-is number free full = lowest_unused-is w.files number (file-is number ∙ ap content_in free) (λ k h. ap is_some (file-is k) ∙ content_full (get_or p.files k None) (full k h))
+  pub free_number-is : (number : ℕ) → get_or p.used_files number false ≡ false → ((k : ℕ) → k < number → get_or p.used_files k false ≡ true) → number ≡ lowest_unused w.files
+  free_number-is number free full = lowest_unused-is w.files number
+      (file-is number ∙ ap content_in (is_none (get_or p.files number None) (sym (ok.files_used number) ∙ free)))
+      (λ k h. ap is_some (file-is k) ∙ content_full (get_or p.files k None) (sym (ok.files_used k) ∙ full k h))
 
   pub file_full : (number : ℕ) (cell : Option Stored) → IsSome (fin.get w.files number) → cell ≡ get_or p.files number None → IsSome cell
   file_full number cell held same = full_from_content cell (ap (λ c. is_some (content_in c)) same ∙ sym (ap is_some (file-is number)) ∙ held)
@@ -420,15 +520,22 @@ module _ (p : Parts) (w : World) (is : world_of p ≡ w) (ok : IsConsistent p)
   pub added_slot-within : fd < length cells
   added_slot-within = subst (λ (l : List (Option Slot)). fd < length l) (sym reached) (slot_room _ refl).0
 
-  pub added_slot-consistent : IsConsistent (record p { slots = set cells fd (Some slot); slot_count = p.slot_count + 1 })
-  added_slot-consistent =
-      subst (λ (l : List (Option Slot)). IsConsistent (record p { slots = set l fd (Some slot); slot_count = p.slot_count + 1 })) (sym reached)
-      (let there = slot_room _ refl in add_slot-consistent (record p { slots = with_room p.slots fd }) w there.2 there.1 fd slot there.0 (ap (fin.get w.slots) lowest ∙ get-lowest_unused w.slots))
+  pub added_slot-used : fd < length p.used_slots
+  added_slot-used = omega (arith, lowest_unused-le-len w.slots, ok.slots_fit.enough)
 
-  pub added_slot-world : world_of (record p { slots = set cells fd (Some slot); slot_count = p.slot_count + 1 }) ≡ record w { slots = fin.insert w.slots fd slot }
-  added_slot-world =
-      ap (λ l. world_of (record p { slots = set l fd (Some slot); slot_count = p.slot_count + 1 })) reached
-      ∙ (let there = slot_room _ refl in add_slot-world (record p { slots = with_room p.slots fd }) w there.2 there.1 fd slot there.0)
+  pub roomy_slots-consistent : IsConsistent (record p { slots = cells })
+  roomy_slots-consistent = subst (λ (l : List (Option Slot)). IsConsistent (record p { slots = l })) (sym reached) (slot_room _ refl).1
+
+  pub roomy_slots-world : world_of (record p { slots = cells }) ≡ w
+  roomy_slots-world = ap (λ l. world_of (record p { slots = l })) reached ∙ (slot_room _ refl).2
+
+  pub added_slot-consistent : (used : List Bool) → used ≡ set p.used_slots fd true → (opens : List ℕ) → ((number : ℕ) → get_or opens number 0 ≡ get_or p.open_counts number 0 + opens_in number (Some slot))
+      → IsConsistent (record p { slots = set cells fd (Some slot); used_slots = used; slot_count = p.slot_count + 1; open_counts = opens })
+  added_slot-consistent used uses opens more =
+      add_slot-consistent (record p { slots = cells }) w roomy_slots-world roomy_slots-consistent fd slot added_slot-within (ap (fin.get w.slots) lowest ∙ get-lowest_unused w.slots) used uses opens more
+
+  pub added_slot-world : world_of (record p { slots = set cells fd (Some slot) }) ≡ record w { slots = fin.insert w.slots fd slot }
+  added_slot-world = add_slot-world (record p { slots = cells }) w roomy_slots-world roomy_slots-consistent fd slot added_slot-within
 
 -- what is added at the lowest unused number, with room made for it
 module _ (p : Parts) (w : World) (is : world_of p ≡ w) (ok : IsConsistent p)
@@ -436,6 +543,9 @@ module _ (p : Parts) (w : World) (is : world_of p ≡ w) (ok : IsConsistent p)
   file_room : (b : Bool) → eqb at (length p.files) ≡ b → (at < length (cond b (p.files ++ None ∷ []) p.files)) × IsConsistent (record p { files = cond b (p.files ++ None ∷ []) p.files }) × (world_of (record p { files = cond b (p.files ++ None ∷ []) p.files }) ≡ w)
   file_room true e = let same : at ≡ length p.files = eqb-true _ _ e in (omega (arith, length-append p.files (None ∷ [])), room_for_file-consistent p w is ok (omega arith), room_for_file-world p w is ok)
   file_room false e = let apart : at ≢ length p.files = (grind (arith, nat_tests)) in (omega (arith, number_reached p w is ok at lowest), ok, is)
+
+  pub added_file-used : at < length p.used_files
+  added_file-used = omega (arith, ok.enough_files)
 
   pub added_file-within : at < length cells
   added_file-within = subst (λ (l : List (Option Stored)). at < length l) (sym reached) (file_room _ refl).0
@@ -446,16 +556,16 @@ module _ (p : Parts) (w : World) (is : world_of p ≡ w) (ok : IsConsistent p)
   pub roomy_files-world : world_of (record p { files = cells }) ≡ w
   roomy_files-world = ap (λ l. world_of (record p { files = l })) reached ∙ (file_room _ refl).2
 
-  module _ (name : List ℕ) (content : List ℕ) (file : Stored) (bytes : ℕ) (absent : fin.get w.names name ≡ None) (named : name_in (Some file) ≡ Some name) (filled : content_in (Some file) ≡ Some content)
+  module _ (name : List ℕ) (content : List ℕ) (file : Stored) (bytes : ℕ) (absent : fin.get w.names name ≡ None) (few_bytes : length name ≤ MAX_NAME) (named : name_in (Some file) ≡ Some name) (filled : content_in (Some file) ≡ Some content)
       (sums : bytes ≡ p.total + length content) (names : List (List ℕ × ℕ)) (listed : names ≡ fin.put bytes_cmp name at p.names) where
     same_content : file.content.items ≡ content
     same_content = same_Some _ _ filled
 
-    pub added_file-consistent : IsConsistent (record p { names = names; files = set cells at (Some file); total = bytes })
-    added_file-consistent =
-        subst (λ (l : List (List ℕ × ℕ)). IsConsistent (record p { names = l; files = set cells at (Some file); total = bytes })) (sym listed)
-        (add_file-consistent (record p { files = cells }) w roomy_files-world roomy_files-consistent name at file bytes added_file-within absent (ap (fin.get w.files) lowest ∙ get-lowest_unused w.files) named
-        (sums ∙ ap (λ l. p.total + length l) (sym same_content)))
+    pub added_file-consistent : (used : List Bool) → used ≡ set p.used_files at true → IsConsistent (record p { names = names; files = set cells at (Some file); used_files = used; total = bytes })
+    added_file-consistent used uses =
+        subst (λ (l : List (List ℕ × ℕ)). IsConsistent (record p { names = l; files = set cells at (Some file); used_files = used; total = bytes })) (sym listed)
+        (add_file-consistent (record p { files = cells }) w roomy_files-world roomy_files-consistent name at file bytes added_file-within absent few_bytes (ap (fin.get w.files) lowest ∙ get-lowest_unused w.files) named
+        (sums ∙ ap (λ l. p.total + length l) (sym same_content)) used uses)
 
     pub added_file-world : world_of (record p { names = names; files = set cells at (Some file); total = bytes }) ≡ record w { names = fin.insert w.names name at; files = fin.insert w.files at content }
     added_file-world =

@@ -11,3 +11,6 @@ pub mod SoundCalls
 pub mod AnswersLemmas
 pub mod Opening
 pub mod LawLemmas
+pub mod Tournament
+pub mod Counting
+pub mod After

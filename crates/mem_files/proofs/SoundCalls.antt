@@ -14,7 +14,7 @@ use Rattle.mem_files.specs.declared.TheConstants.{MAX_SLOTS, MAX_NAMES, MAX_CONT
 use Rattle.mem_files.specs.Names.{bytes_cmp, is_stripped_name, is_name, stripped, begins_with_dot_slash}
 use Rattle.mem_files.specs.declared.slot.PlaceRefusal.{PlaceRefusal}
 use Rattle.mem_files.specs.declared.slot.PlaceRefusal.TheVariants.{BadName, Twice, Full}
-use Rattle.mem_files.proofs.First.{three, first_parts-consistent, first_parts-world}
+use Rattle.mem_files.proofs.First.{three, no_bytes}
 use borrow.Author.Tests.{ltb-false, leb-false}
 use Rattle.mem_files.specs.World.{World, total, content_of, is_of, is_named, is_open, lowest_unused}
 use Rattle.mem_files.specs.Calls.{first_world, with_file, with_descriptor, flag_byte, has, with_bytes, overwritten, opened, opened_at, emptied_if, seek_base, as_cursor, moved, sought, sought_at, ready, ready_at, skipped, skipped_at, fits, fits_at, write_place, write_cursor, filled, written, written_if, placed, is_full}
@@ -227,7 +227,7 @@ first-sound = record {
   small_stream1 = omega arith;
   small_stream2 = omega arith;
   small_files = λ n content e. absurd (none-some content (sym (fin.get-empty nat_cmp n) ∙ e));
-  small_total = omega (arith, first_parts-consistent.bytes_counted, ap total first_parts-world);
+  small_total = omega (arith, no_bytes);
   good_names = λ name n e. absurd (none-some n (sym (fin.get-empty bytes_cmp name) ∙ e));
   held = λ name n e. absurd (none-some n (sym (fin.get-empty bytes_cmp name) ∙ e));
   named_once = λ name other n e f. absurd (none-some n (sym (fin.get-empty bytes_cmp name) ∙ e));

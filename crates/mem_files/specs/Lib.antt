@@ -6,3 +6,6 @@ pub mod Stored
 pub mod Table
 pub mod Sound
 pub mod Cells
+pub mod Numbers
+pub mod Counts
+pub mod Keys

@@ -1,5 +1,5 @@
 //! The calls, over a table: the first rule that fits.
-ghost use Rattle.std.specs.Prelude.{◌≡◌, ◌+◌, ◌-◌, ◌<◌, ◌≢◌, ◌^◌, pos, ◌+ℤ◌, IfOk, IsOkAnd, IsSome, OnOk, OnErr, MatchResult, Ok, Err, Some, None, length, take, drop, []};
+ghost use Rattle.std.specs.Prelude.{◌≡◌, ◌+◌, ◌-◌, ◌<◌, ◌≤◌, ◌≢◌, ◌^◌, pos, ◌+ℤ◌, IfOk, IsOkAnd, IsSome, OnOk, OnErr, MatchResult, Ok, Err, Some, None, length, take, drop, []};
 ghost use Rattle.std.specs.Option.{option_copied};
 ghost use Rattle.std.specs.FinMap as map;
 ghost use Rattle.mem_files.specs.Calls.{placed, is_full, opened, opened_at, flag_byte, has, closed, released, without_unused, sought, seek_base, as_cursor, ready, skipped, fits, write_place, write_cursor, filled, written, removed, content_at};
@@ -10,8 +10,9 @@ use crate::names::{is_name, strip};
 use crate::table::Table;
 use crate::{
     APPENDS, EBADF, EEXIST, EFBIG, EINVAL, EMFILE, ENOENT, ENOSPC, ESPIPE, FileRefusal,
-    MAX_CONTENT, MAX_NAMES, MAX_SLOTS, MAX_TOTAL, MAY_READ, MAY_WRITE, O_ACCMODE, O_APPEND,
-    O_CREAT, O_EXCL, O_RDONLY, O_TRUNC, O_WRONLY, PlaceRefusal, SEEK_CUR, SEEK_END, SEEK_SET, Slot,
+    MAX_CONTENT, MAX_NAME, MAX_NAMES, MAX_SLOTS, MAX_TOTAL, MAY_READ, MAY_WRITE, O_ACCMODE,
+    O_APPEND, O_CREAT, O_EXCL, O_RDONLY, O_TRUNC, O_WRONLY, PlaceRefusal, SEEK_CUR, SEEK_END,
+    SEEK_SET, Slot,
 };
 use std::alloc::AllocError;
 
@@ -82,7 +83,8 @@ impl Table {
     }
 
     pub fn open_name(&mut self, name: &[u8], flags: u32) -> Result<u32, FileRefusal>
-        requires { IsSound self.old }
+        requires sound { IsSound self.old }
+        requires short { length name.now ≤ MAX_NAME }
         ensures { Answers result self.old self.new (opened self.old name.now flags) }
     {
         if flags & O_ACCMODE == O_ACCMODE {
@@ -119,6 +121,7 @@ impl Table {
     fn open_absent(&mut self, name: &[u8], flags: u32) -> Result<u32, FileRefusal>
         requires sound { IsSound self.old }
         requires absent { map.get self.old.names name.now ≡ None }
+        requires short { length name.now ≤ MAX_NAME }
         requires room { map.len self.old.slots < MAX_SLOTS }
         ensures { Answers result self.old self.new (opened_at self.old name.now flags None) }
     {

@@ -1,5 +1,5 @@
 //! Lists of cells, of which some hold a value.
-ghost use Rattle.std.specs.Prelude.{◌≡◌, ◌≤◌, ◌<◌, ℕ, OnOk, OnErr, IsSome, Option, None, length, slice_index_or};
+ghost use Rattle.std.specs.Prelude.{◌≡◌, ◌≤◌, OnOk, OnErr, Option, None, length, slice_index_or};
 ghost use Rattle.std.specs.Option.{option_copied};
 ghost use Rattle.mem_files.specs.Cells.{with_room};
 
@@ -10,20 +10,6 @@ pub fn cell<X>(cells: &[Option<X>], at: u32) -> Option<&X>
     ensures { option_copied result ≡ slice_index_or cells.now at None }
 {
     cells.get(at as usize)?.as_ref()
-}
-
-/// The place of the first empty cell, or the count of cells.
-pub fn first_free<X>(cells: &[Option<X>]) -> usize
-    ensures within { result ≤ length cells.now }
-    ensures free { slice_index_or cells.now result None ≡ None }
-    ensures full { (k : ℕ) → k < result → IsSome (slice_index_or cells.now k None) }
-{
-    for (at, cell) in cells.iter().enumerate() {
-        if cell.is_none() {
-            return at;
-        }
-    }
-    cells.len()
 }
 
 /// Adds an empty cell where the place is the count of cells.

@@ -6,9 +6,11 @@
 
 mod calls;
 mod cells;
+mod counts;
 mod files;
 pub mod laws;
 mod names;
+mod numbers;
 mod slot;
 mod stored;
 mod table;

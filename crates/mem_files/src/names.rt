@@ -1,9 +1,24 @@
 //! Names of files.
-ghost use Rattle.std.specs.Prelude.{◌≡◌, ◌==◌};
+ghost use Rattle.std.specs.Prelude.{◌≡◌, ◌==◌, take};
 ghost use Rattle.std.specs.List.{list_any};
 ghost use Rattle.mem_files.specs.Names.{stripped, is_name, is_stripped_name, begins_with_dot_slash};
 
 use crate::MAX_NAME;
+use arrayvec::ArrayVec;
+
+/// A name as it stands in the tree of names: it takes no memory of its own.
+pub type Key = ArrayVec<u8, MAX_NAME>;
+
+/// As many bytes of a name as a key has room for: all of a guest file name.
+pub fn key(name: &[u8]) -> Key
+    ensures { result.items ≡ take MAX_NAME name.now }
+{
+    let len = name.len().min(MAX_NAME);
+    match ArrayVec::try_from(&name[..len]) {
+        Ok(key) => key,
+        Err(_) => ArrayVec::new(),
+    }
+}
 
 /// A name without the `./` that it begins with, again and again.
 pub fn strip(name: &[u8]) -> &[u8]

@@ -1,25 +1,40 @@
 //! Names, files, descriptors and streams as they lie in memory: each call here is one change of the world.
-ghost use Rattle.std.specs.Prelude.{◌≡◌, ◌+◌, ◌-◌, ◌<◌, ◌^◌, IfOk, OnOk, OnErr, IsSome, Option, Some, None, length, false, find, map as map_list, [], ◌++◌};
-ghost use Rattle.std.specs.List.{list_any};
-ghost use Rattle.std.specs.Option.{option_copied, option_map_or};
+ghost use Rattle.std.specs.Prelude.{◌≡◌, ◌+◌, ◌-◌, ◌<◌, ◌^◌, IfOk, OnOk, OnErr, IsSome, Some, None, ℕ, ◌≤◌, List, length, false, find, map as map_list, [], ◌++◌};
+ghost use Rattle.std.specs.Option.{option_copied};
 ghost use Rattle.std.specs.FinMap as map;
-ghost use Rattle.mem_files.specs.World.{content_of, is_of, total, is_named, is_open, lowest_unused};
+ghost use Rattle.mem_files.specs.World.{content_of, total, is_named, is_open, lowest_unused};
 ghost use Rattle.mem_files.specs.Calls.{first_world, with_file, overwritten, stream, name_after, is_after};
+ghost use Rattle.mem_files.specs.Keys.{begins};
+ghost use Rattle.std.specs.List.{All};
+ghost use Rattle.mem_files.specs.Counts.{opens_in};
 
-use crate::cells::{cell, first_free, reach};
+use crate::cells::{cell, reach};
+use crate::counts::{count, count_of, uncount};
+use crate::names::{Key, key};
+use crate::numbers::Numbers;
 use crate::stored::{self, Stored};
-use crate::{MAX_NAMES, MAX_SLOTS, Slot};
+use crate::{MAX_NAME, MAX_NAMES, MAX_SLOTS, Slot};
 use std::alloc::{AllocError, Global};
 use std::collections::BTreeMap;
 use std::marker::Model;
+use std::ops::Bound;
+
+/// There are at most 2^10 descriptors.
+const SLOTS_HEIGHT: u32 = 10;
+/// Each file has a name or a descriptor, so there are fewer than 2^13 files.
+const FILES_HEIGHT: u32 = 13;
 
 /// The files by number, the descriptors by number, and the numbers by name.
 #[derive(Drop)]
 pub struct Table {
-    names: BTreeMap<Vec<u8>, u32>,
+    names: BTreeMap<Key, u32>,
     files: Vec<Option<Stored>>,
+    used_files: Numbers,
     slots: Vec<Option<Slot>>,
+    used_slots: Numbers,
     slot_count: usize,
+    /// Of each file number, how many descriptors stand for the file.
+    open_counts: Vec<u32>,
     stream1: Vec<u8>,
     stream2: Vec<u8>,
     total: u64,
@@ -46,11 +61,18 @@ impl Table {
         ensures { IfOk result (λ table. table ≡ first_world) }
     {
         let slots = vec![in alloc; Some(Slot::Input), Some(Slot::Stream1), Some(Slot::Stream2)]?;
+        let mut used_slots = Numbers::new(alloc, SLOTS_HEIGHT)?;
+        used_slots.insert(0);
+        used_slots.insert(1);
+        used_slots.insert(2);
         Ok(Table {
             names: BTreeMap::new(alloc),
             files: Vec::new(alloc),
+            used_files: Numbers::new(alloc, FILES_HEIGHT)?,
             slots,
+            used_slots,
             slot_count: 3,
+            open_counts: Vec::new(alloc),
             stream1: Vec::new(alloc),
             stream2: Vec::new(alloc),
             total: 0,
@@ -69,7 +91,9 @@ impl Table {
     pub fn number(&self, name: &[u8]) -> Option<u32>
         ensures { result ≡ map.get self.now.names name.now }
     {
-        self.names.get(name).copied()
+        let held = self.names.get(&key(name)).copied();
+        // A longer name is held nowhere, though its front may be.
+        if name.len() > MAX_NAME { None } else { held }
     }
 
     /// The bytes of a file; none where there is no such file.
@@ -128,21 +152,21 @@ impl Table {
     pub fn is_open(&self, number: u32) -> bool
         ensures { result ≡ is_open self.now number }
     {
-        stand_for(&self.slots, number)
+        count_of(&self.open_counts, number) != 0
     }
 
     /// The lowest unused descriptor.
     pub fn free_slot(&self) -> u32
         ensures { result ≡ lowest_unused self.now.slots }
     {
-        first_free(&self.slots) as u32
+        self.used_slots.lowest_unused() as u32
     }
 
     /// The lowest unused file number.
     pub fn free_number(&self) -> u32
         ensures { result ≡ lowest_unused self.now.files }
     {
-        first_free(&self.files) as u32
+        self.used_files.lowest_unused() as u32
     }
 
     /// Puts what a descriptor stands for at the lowest unused one, which is the answer.
@@ -153,14 +177,17 @@ impl Table {
     {
         let fd = self.free_slot();
         reach(&mut self.slots, fd as usize)?;
+        count(&mut self.open_counts, slot)?;
         self.slots[fd as usize] = Some(slot);
+        self.used_slots.insert(fd);
         self.slot_count += 1;
         Ok(fd)
     }
 
-    /// What a descriptor stands for changes.
+    /// What a descriptor stands for changes, but for its file.
     pub fn set_slot(&mut self, fd: u32, slot: Slot)
-        requires { IsSome (map.get self.old.slots fd) }
+        requires held { IsSome (map.get self.old.slots fd) }
+        requires same_file { (number : ℕ) → opens_in number (map.get self.old.slots fd) ≡ opens_in number (Some slot) }
         ensures { self.new ≡ record self.old { slots = map.insert self.old.slots fd slot } }
     {
         self.slots[fd as usize] = Some(slot);
@@ -171,24 +198,27 @@ impl Table {
         requires { IsSome (map.get self.old.slots fd) }
         ensures { self.new ≡ record self.old { slots = map.remove self.old.slots fd } }
     {
+        uncount(&mut self.open_counts, self.slots[fd as usize]);
         self.slots[fd as usize] = None;
+        self.used_slots.remove(fd);
         self.slot_count -= 1;
     }
 
     /// A new file, under the lowest unused number.
     pub fn add_file(&mut self, name: &[u8], content: &[u8]) -> Result<(), AllocError>
         requires absent { map.get self.old.names name.now ≡ None }
+        requires short { length name.now ≤ MAX_NAME }
         requires few { lowest_unused self.old.files < MAX_NAMES + MAX_SLOTS }
         requires small { total self.old + length content.now < 2 ^ 64 }
         ensures ok { OnOk result (self.new ≡ with_file self.old name.now content.now) }
         ensures err { OnErr result (self.new ≡ self.old) }
     {
         let number = self.free_number();
-        let key = Vec::from_slice(self.alloc, name)?;
         let file = Stored::new(self.alloc, name, content)?;
         reach(&mut self.files, number as usize)?;
-        self.names.insert(key, number)?;
+        self.names.insert(key(name), number)?;
         self.files[number as usize] = Some(file);
+        self.used_files.insert(number);
         self.total += content.len() as u64;
         Ok(())
     }
@@ -198,7 +228,7 @@ impl Table {
         requires { map.get self.old.names name.now ≡ Some number }
         ensures { self.new ≡ record self.old { names = map.remove self.old.names name.now } }
     {
-        self.names.remove(name);
+        self.names.remove(&key(name));
         stored::unname(&mut self.files[number as usize]);
     }
 
@@ -210,6 +240,7 @@ impl Table {
     {
         self.total -= stored::len(&self.files[number as usize]) as u64;
         self.files[number as usize] = None;
+        self.used_files.remove(number);
     }
 
     /// A file loses its bytes.
@@ -266,33 +297,22 @@ impl Table {
 }
 
 /// The first name that comes after the given one; without one, the first of all.
-fn next_name<'a>(names: &'a BTreeMap<Vec<u8>, u32>, name: Option<&[u8]>) -> Option<&'a [u8]>
+fn next_name<'a>(names: &'a BTreeMap<Key, u32>, name: Option<&[u8]>) -> Option<&'a [u8]>
+    requires { All (λ e. length e.0.items ≤ MAX_NAME) names.now.entries }
     ensures { option_copied result ≡ find (is_after (option_copied name.entry)) (map_list (λ e. e.0.items) names.now.entries) }
 {
-    for (held, _) in names {
-        if is_after(held.as_slice(), name) {
-            return Some(held.as_slice());
-        }
+    match names.range((start_after(name), Bound::Unbounded)).next() {
+        Some((held, _)) => Some(held.as_slice()),
+        None => None,
     }
-    None
 }
 
-/// Does a name come after the given one? Each does where none is given.
-fn is_after(held: &[u8], name: Option<&[u8]>) -> bool
-    ensures { result ≡ is_after (option_copied name.entry) held.now }
+/// Where the names begin that come after the given one; without one, all of them.
+fn start_after(name: Option<&[u8]>) -> Bound<Key>
+    ensures { (held : List ℕ) → length held ≤ MAX_NAME → begins result held ≡ is_after (option_copied name.entry) held }
 {
     match name {
-        None => true,
-        Some(name) => name.cmp(&held).is_lt(),
+        Some(name) => Bound::Excluded(key(name)),
+        None => Bound::Unbounded,
     }
-}
-
-/// Does a descriptor stand for this file?
-fn stand_for(slots: &[Option<Slot>], number: u32) -> bool
-    ensures { result ≡ list_any (λ slot. option_map_or (is_of number) slot false) slots.now }
-{
-    slots.iter().any(|slot| match slot {
-        Some(Slot::File { number: held, .. }) => *held == number,
-        _ => false,
-    })
 }

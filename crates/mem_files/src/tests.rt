@@ -69,6 +69,13 @@ fn read(files: &mut Files, fd: u32, count: u64, want: &[u8]) -> i64 {
     0
 }
 
+/// Runs a script, and asks for each call's answer.
+fn run(rt: &impl Abort, files: &mut Files, script: &[(Call<'_>, i64)]) {
+    for (index, (call, want)) in script.iter().enumerate() {
+        assert_eq!(rt; answer(files, *call), *want, "call {index}");
+    }
+}
+
 /// The names that are guest file names, and those that are held already.
 #[test]
 fn places_names(rt: HostRuntime) -> Result<(), Fail> {
@@ -133,15 +140,76 @@ fn runs_out_of_descriptors(rt: HostRuntime) -> Result<(), Fail> {
     for fd in 3..1024 {
         assert_eq!(rt; answer(&mut files, Call::Open(b"f", O_RDONLY)), fd);
     }
-    assert_eq!(rt; answer(&mut files, Call::Open(b"f", O_RDONLY)), -24);
+    // The flags are looked at before the descriptors, and these before the name.
+    let script = [
+        (Call::Open(b"f", O_RDONLY), -24),
+        (Call::Open(b"g", O_RDONLY), -24),
+        (Call::Open(b"f", O_CREAT | O_EXCL), -24),
+        (Call::Open(b"f", O_ACCMODE), -22),
+        (Call::Close(1023), 0),
+        (Call::Open(b"g", O_RDONLY), -2),
+        (Call::Open(b"f", O_CREAT | O_EXCL), -17),
+        (Call::Open(b"f", O_RDONLY), 1023),
+    ];
+    run(&rt, &mut files, &script);
     Ok(())
 }
 
-/// Runs a script, and asks for each call's answer.
-fn run(rt: &impl Abort, files: &mut Files, script: &[(Call<'_>, i64)]) {
-    for (index, (call, want)) in script.iter().enumerate() {
-        assert_eq!(rt; answer(files, *call), *want, "call {index}");
+/// The 4,096th name is the last.
+#[test]
+fn runs_out_of_names(rt: HostRuntime) -> Result<(), Fail> {
+    let mut files = Files::new(rt.alloc())?;
+    for first in 64..128 {
+        for second in 64..128 {
+            assert_eq!(rt; answer(&mut files, Call::Place(&[first, second], b"")), 0);
+        }
     }
+    let script = [
+        (Call::Place(b"f", b""), 3),
+        (Call::Place(b"@@", b""), 2),
+        (Call::Place(b"", b""), 1),
+        (Call::Open(b"f", O_CREAT), -28),
+        (Call::Open(b"f", O_RDONLY), -2),
+        (Call::Open(b"@@", O_CREAT | O_EXCL), -17),
+        (Call::Open(b"@@", O_CREAT), 3),
+        (Call::Remove(b"A@"), 0),
+        (Call::Open(b"f", O_CREAT), 4),
+    ];
+    run(&rt, &mut files, &script);
+    Ok(())
+}
+
+/// Writes that end at the limit of a file and at that of all bytes, and one byte past each. A file that would be too large
+/// is refused before too many bytes in all, and a bad descriptor before both.
+#[test]
+fn runs_out_of_bytes(rt: HostRuntime) -> Result<(), Fail> {
+    let mut files = Files::new(rt.alloc())?;
+    let script = [
+        (Call::Open(b"a", O_RDWR | O_CREAT), 3),
+        (Call::Seek(3, 268_435_455, SEEK_SET), 268_435_455),
+        (Call::Write(3, b"ab"), -27),
+        (Call::Write(3, b"a"), 0),
+        (Call::Write(3, b"b"), -27),
+        (Call::Write(3, b""), 0),
+        (Call::Open(b"b", O_RDWR | O_CREAT), 4),
+        (Call::Seek(4, 268_435_452, SEEK_SET), 268_435_452),
+        (Call::Write(4, b"x"), 0),
+        (Call::Write(1, b"1234"), -28),
+        (Call::Write(1, b"123"), 0),
+        (Call::Write(1, b"4"), -28),
+        (Call::Write(4, b"yyy"), -28),
+        (Call::Write(4, b"yyyy"), -27),
+        (Call::Fits(0, 1 << 40), -9),
+        (Call::Place(b"c", b"1"), 3),
+        (Call::Place(b"c", b""), 0),
+        (Call::Seek(4, 0, SEEK_SET), 0),
+        (Call::Write(4, b"zz"), 0),
+        (Call::Seek(4, 0, SEEK_END), 268_435_453),
+        (Call::Open(b"a", O_RDONLY | O_TRUNC), 5),
+        (Call::Write(4, b"yyy"), 0),
+    ];
+    run(&rt, &mut files, &script);
+    Ok(())
 }
 
 /// lseek(2), in a file of five bytes.

@@ -28,7 +28,7 @@ invariant_of-self c =
     let here = get_or_read c.self.inside.files.items c.args.number c.index.result.now there c.index.ensures None in
     let now = get_or_read c.self.inside.files.items c.args.number c.index_mut.result.now there c.index_mut.ensures.value None in
     let len : c.len.result ≡ length (content_of c.args.self.now c.args.number) = cell_len _ _ c.self.view_is c.self.invariant c.args.number c.index.result.now c.len.result here c.len.ensures in
-    set_file-consistent _ _ c.self.view_is c.self.invariant c.args.number c.empty.new.cell [] _ there c.empty.ensures.content (c.empty.ensures.name ∙ ap name_in now)
+    set_file-consistent _ _ c.self.view_is c.self.invariant c.args.number c.empty.new.cell [] _ there c.requires c.empty.ensures.content (c.empty.ensures.name ∙ ap name_in now)
     (omega (arith, content_le_total _ _ c.self.view_is c.self.invariant c.args.number))
 
 pub returns : goal.returns

@@ -38,7 +38,7 @@ invariant_of-self-2 c =
     let there = file_within _ _ c.self.view_is c.self.invariant c.args.number c.requires.held in
     let now = get_or_read c.self.inside.files.items c.args.number c.index_mut.result.now there c.index_mut.ensures.value None in
     let old = content-is _ _ c.self.view_is c.self.invariant c.args.number c.index_mut.result.now now in
-    set_file-consistent _ _ c.self.view_is c.self.invariant c.args.number c.overwrite.new.cell (overwritten (content_of c.args.self.now c.args.number) c.args.place c.args.bytes.now) _ there
+    set_file-consistent _ _ c.self.view_is c.self.invariant c.args.number c.overwrite.new.cell (overwritten (content_of c.args.self.now c.args.number) c.args.place c.args.bytes.now) _ there c.requires.held
     (c.in_ok-added.ensures.ok ∙ ap (λ l. Some (overwritten l c.args.place c.args.bytes.now)) (sym old)) (c.in_ok-added.ensures.name ∙ ap name_in now)
     (omega (arith, c.in_ok-added.ensures.added, ap length old, length-overwritten (content_of c.args.self.now c.args.number) c.args.place c.args.bytes.now))
 
