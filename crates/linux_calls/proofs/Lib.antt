@@ -3,3 +3,4 @@ pub mod ErrorLaw
 pub mod Heaps
 pub mod Texts
 pub mod Writing
+pub mod SoundLaw

@@ -6,6 +6,7 @@ use Rattle.std.specs.FinMap.{get, contains_key}
 use Rattle.paged_mem.specs.Memory.{Memory, bytes_at, maps, with_bytes}
 use Rattle.mem_files.specs.World.{World}
 use Rattle.mem_files.specs.Calls.{removed, opened, closed, sought, ready, skipped, write_place, written}
+use Rattle.mem_files.specs.Sound.{IsSound}
 use Rattle.mem_files.specs.declared.TheConstants.{ENOENT, EBADF, EINVAL, O_ACCMODE}
 use Rattle.linux_calls.specs.declared.Heap.{Heap}
 use Rattle.linux_calls.specs.declared.TheConstants.{EFAULT, SYS_UNLINKAT, SYS_FACCESSAT, SYS_FCHMODAT, SYS_OPENAT, SYS_CLOSE, SYS_LSEEK, SYS_READ, SYS_WRITE, SYS_EXIT, SYS_EXIT_GROUP, SYS_BRK}
@@ -118,3 +119,9 @@ abbrev pub LeavesOnError : State → Outcome → Type 0
 LeavesOnError s (goes answer next) = IsErr answer → next ≡ s
 LeavesOnError s (exits status) = ⊤
 LeavesOnError s (is_unknown n) = ⊤
+
+-- the files after an outcome keep the limits and fit together
+abbrev pub LeavesSound : Outcome → Type 0
+LeavesSound (goes answer next) = IsSound next.files
+LeavesSound (exits status) = ⊤
+LeavesSound (is_unknown n) = ⊤

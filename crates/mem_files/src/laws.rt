@@ -6,7 +6,7 @@ ghost use Rattle.mem_files.specs.World.{World};
 ghost use Rattle.mem_files.specs.Calls.{has, written, sought, ready, removed};
 ghost use Rattle.mem_files.specs.Sound.{IsSound};
 
-use crate::{APPENDS, MAY_READ, SEEK_SET};
+use crate::{APPENDS, Files, MAY_READ, SEEK_SET};
 
 /// Bytes that were written are read at the same place.
 pub fn written_bytes_are_read()
@@ -28,3 +28,10 @@ pub fn number_has_one_name()
     ensures { (w : World) (name other : List ℕ) (number : ℕ) → IsSound w
         → map.get w.names name ≡ Some number → map.get w.names other ≡ Some number → name ≡ other }
 {}
+
+/// All files keep the limits, and their names, contents and descriptors fit together.
+pub fn files_are_sound(files: &Files)
+    ensures { IsSound files.now }
+{
+    let _out = files.stream(1);
+}

@@ -1,0 +1,128 @@
+-- Each call leaves sound files sound.
+use Rattle.std.proofs.Common.{◌≡◌, ◌≢◌, ℕ, ◌%◌, ◌==◌, ◌||◌, Bool, true, false, cond, Option, None, Some, Result, Ok, Err, IsOkAnd, IsTrue, List, [], ◌∷◌, length, take, drop, refl, sym, ap, ◌∙◌, subst, arith}
+use Rattle.std.specs.Prelude.{bit_and, slice_index}
+use Rattle.std.specs.FinMap.{get, contains_key}
+use Rattle.std.proofs.lemmas.List.{length-take}
+use Rattle.std.specs.Int.{cast_signed, w64}
+use Rattle.paged_mem.specs.Memory.{Memory, bytes_at, maps}
+use Rattle.mem_files.specs.declared.slot.Slot.{Slot}
+use Rattle.mem_files.specs.declared.slot.Slot.TheVariants.{Input, Stream1, Stream2, File}
+use Rattle.mem_files.specs.declared.TheConstants.{EBADF, EINVAL, MAY_READ, O_ACCMODE}
+use Rattle.mem_files.specs.Names.{stripped, is_stripped_name}
+use Rattle.mem_files.specs.World.{World, content_of}
+use Rattle.mem_files.specs.Calls.{has, closed, opened, ready, ready_at, removed, sought, write_place, written}
+use Rattle.mem_files.specs.Sound.{IsSound}
+use Rattle.mem_files.proofs.Soundness.{closed-sound, removed-sound}
+use Rattle.mem_files.proofs.SoundCalls.{opened-sound, skipped-sound, sought-sound, written-sound}
+use Rattle.linux_calls.specs.declared.TheConstants.{AT_FDCWD, ENOTDIR, SYS_UNLINKAT, SYS_FACCESSAT, SYS_FCHMODAT, SYS_OPENAT, SYS_CLOSE, SYS_LSEEK, SYS_READ, SYS_WRITE, SYS_EXIT, SYS_EXIT_GROUP, SYS_BRK}
+use Rattle.linux_calls.specs.Paths.{and_then, in_directory, is_absolute, low, name_at, named, not_empty, text_at}
+use Rattle.linux_calls.specs.Calls.{State, Outcome, exits, is_unknown, back, answering, unlinked, accessed, mode_changed, opened_in, opened_as, moved, written_from, written_at, moved_break, syscall, LeavesSound}
+use Rattle.linux_calls.proofs.Texts.{text_at-is, name_of_text}
+
+-- a path names what files hold
+not_empty-is : (text name : List ℕ) → not_empty text ≡ Ok name → (text ≡ name) × (length text ≢ 0)
+not_empty-is [] name e = cc
+not_empty-is (byte ∷ bytes) name e = (cc, λ h. absurd (omega arith))
+
+name_at-is : (m : Memory) (at : ℕ) (name : List ℕ) → name_at m at ≡ Ok name → IsTrue (is_stripped_name name)
+name_at-is m at name e = by_text (text_at m at 256) refl e
+  where
+    by_text : (r : Result (List ℕ) ℕ) → text_at m at 256 ≡ r → and_then (λ text. not_empty (stripped text)) r ≡ Ok name → IsTrue (is_stripped_name name)
+    by_text (Err errno) was e = cc
+    by_text (Ok text) was e =
+        let is = text_at-is m at 256 text was in
+        let kept = not_empty-is (stripped text) name e in
+        subst (λ n. IsTrue (is_stripped_name n)) kept.0 (name_of_text text is.0 is.1 kept.1)
+
+in_directory-is : (w : World) (dir : ℕ) (name other : List ℕ) → in_directory w dir name ≡ Ok other → name ≡ other
+in_directory-is w dir name other e = by_tests (is_absolute name || low dir == AT_FDCWD) (contains_key w.slots (low dir)) e
+  where
+    by_tests : (b c : Bool) → cond {A = Result (List ℕ) ℕ} b (Ok name) (cond c (Err ENOTDIR) (Err EBADF)) ≡ Ok other → name ≡ other
+    by_tests true c e = cc
+    by_tests false true e = cc
+    by_tests false false e = cc
+
+-- as many bytes are ready again
+ready_again : (w : World) (fd count : ℕ) (bytes : List ℕ) → ready w fd count ≡ Ok bytes → IsOkAnd (ready w fd (length bytes)) (λ again. length again ≡ length bytes)
+ready_again w fd count bytes e = at_slot (get w.slots fd) e
+  where
+    part : (rest : List ℕ) → take count rest ≡ bytes → length (take (length bytes) rest) ≡ length bytes
+    part rest is = omega (arith, length-take (length bytes) rest, length-take count rest, ap length is)
+
+    readable : (b : Bool) (rest : List ℕ) → cond {A = Result (List ℕ) ℕ} b (Ok (take count rest)) (Err EBADF) ≡ Ok bytes
+        → IsOkAnd (cond {A = Result (List ℕ) ℕ} b (Ok (take (length bytes) rest)) (Err EBADF)) (λ again. length again ≡ length bytes)
+    readable true rest e = part rest cc
+    readable false rest e = cc
+
+    at_slot : (o : Option Slot) → ready_at w count o ≡ Ok bytes → IsOkAnd (ready_at w (length bytes) o) (λ again. length again ≡ length bytes)
+    at_slot None e = cc
+    at_slot (Some Input) e = let none : [] ≡ bytes = cc in ap length none
+    at_slot (Some Stream1) e = cc
+    at_slot (Some Stream2) e = cc
+    at_slot (Some (File number cursor flags)) e = readable (has flags MAY_READ) (drop cursor (content_of w number)) e
+
+-- the calls on files
+pair-if : {A : Type 0} (b : Bool) (x y : Result A ℕ × World) → IsSound x.1 → IsSound y.1 → IsSound (cond b x y).1
+pair-if true x y p q = p
+pair-if false x y p q = q
+
+answering-sound : {A : Type 0} (value : ℕ) (r : Result A ℕ) (files : World) → IsSound files → IsSound (answering value (r, files)).1
+answering-sound value (Ok done) files s = s
+answering-sound value (Err errno) files s = s
+
+unlinked-sound : (w : World) (flags : ℕ) (r : Result (List ℕ) ℕ) → IsSound w → IsSound (unlinked w flags r).1
+unlinked-sound w flags (Err errno) s = s
+unlinked-sound w flags (Ok name) s =
+    pair-if (low flags == 0) (answering 0 (removed w name)) (Err EINVAL, w) (answering-sound 0 (removed w name).0 (removed w name).1 (removed-sound w name s)) s
+
+opened-as-sound : (w : World) (dir flags : ℕ) (r : Result (List ℕ) ℕ) → ((name : List ℕ) → r ≡ Ok name → IsTrue (is_stripped_name name)) → IsSound w → IsSound (opened_as w dir flags r).1
+opened-as-sound w dir flags (Err errno) good s = s
+opened-as-sound w dir flags (Ok name) good s =
+    pair-if (bit_and (low flags) O_ACCMODE == O_ACCMODE) (Err EINVAL, w) (opened_in w flags (in_directory w dir name)) s (inside (in_directory w dir name) refl)
+  where
+    inside : (r : Result (List ℕ) ℕ) → in_directory w dir name ≡ r → IsSound (opened_in w flags r).1
+    inside (Err errno) was = s
+    inside (Ok other) was = opened-sound w other (low flags) s (subst (λ n. IsTrue (is_stripped_name n)) (in_directory-is w dir name other was) (good name refl))
+
+-- outcomes, as a record: what it speaks of is found from the goal
+record Sound (outcome : Outcome) : Type 0 where
+  is : LeavesSound outcome
+
+chosen : (b : Bool) (x y : Outcome) → Sound x → Sound y → Sound (cond b x y)
+chosen true x y p q = p
+chosen false x y p q = q
+
+back-sound : (s : State) (meant : Result ℕ ℕ × World) → IsSound meant.1 → Sound (back s meant)
+back-sound s meant p = record { is = p }
+
+read-sound : (s : State) (fd buffer count : ℕ) (r : Result (List ℕ) ℕ) → ready s.files fd count ≡ r → IsSound s.files → Sound (moved s fd buffer r)
+read-sound s fd buffer count (Err errno) was sound = record { is = sound }
+read-sound s fd buffer count (Ok bytes) was sound =
+    chosen (length bytes == 0) _ _ (record { is = sound })
+    (chosen (maps s.memory buffer (length bytes)) _ _ (record { is = skipped-sound s.files fd (length bytes) sound (ready_again s.files fd count bytes was) }) (record { is = sound }))
+
+write-sound : (s : State) (fd buffer count : ℕ) (o : Option (ℕ × ℕ)) → IsSound s.files → Sound (written_at s fd buffer count o)
+write-sound s fd buffer count None sound = record { is = sound }
+write-sound s fd buffer count (Some place) sound = chosen (count == 0) _ _ (record { is = sound }) (from (bytes_at s.memory buffer count))
+  where
+    from : (o : Option (List ℕ)) → Sound (written_from s fd o)
+    from None = record { is = sound }
+    from (Some bytes) = record { is = answering-sound (length bytes) (written s.files fd bytes).0 (written s.files fd bytes).1 (written-sound s.files fd bytes sound) }
+
+every : (number : ℕ) (a : List ℕ) (s : State) → IsSound s.files → Sound (syscall number a s)
+every number a s sound =
+    let arg : ℕ → ℕ = slice_index a in
+    chosen (number == SYS_UNLINKAT) _ _ (back-sound s _ (unlinked-sound s.files (arg 2) (named s.memory s.files (arg 0) (arg 1)) sound))
+    (chosen (number == SYS_FACCESSAT) _ _ (back-sound s _ sound)
+    (chosen (number == SYS_FCHMODAT) _ _ (back-sound s _ sound)
+    (chosen (number == SYS_OPENAT) _ _ (back-sound s _ (opened-as-sound s.files (arg 0) (arg 2) (name_at s.memory (arg 1)) (name_at-is s.memory (arg 1)) sound))
+    (chosen (number == SYS_CLOSE) _ _ (back-sound s _ (answering-sound 0 (closed s.files (low (arg 0))).0 (closed s.files (low (arg 0))).1 (closed-sound s.files (low (arg 0)) sound)))
+    (chosen (number == SYS_LSEEK) _ _ (back-sound s _ (sought-sound s.files (low (arg 0)) (cast_signed w64 (arg 1)) (low (arg 2)) sound))
+    (chosen (number == SYS_READ) _ _ (read-sound s (low (arg 0)) (arg 1) (arg 2) (ready s.files (low (arg 0)) (arg 2)) refl sound)
+    (chosen (number == SYS_WRITE) _ _ (write-sound s (low (arg 0)) (arg 1) (arg 2) (write_place s.files (get s.files.slots (low (arg 0)))) sound)
+    (chosen (number == SYS_EXIT) _ _ (record { is = tt })
+    (chosen (number == SYS_EXIT_GROUP) _ _ (record { is = tt })
+    (chosen (number == SYS_BRK) (moved_break s (arg 0)) (is_unknown number) (record { is = sound }) (record { is = tt })))))))))))
+
+pub syscall-sound : (number : ℕ) (a : List ℕ) (s : State) → IsSound s.files → LeavesSound (syscall number a s)
+syscall-sound number a s sound = (every number a s sound).is
