@@ -47,9 +47,10 @@ pub(crate) fn steps_of(word: &str) -> Option<u64>
     ensures value { result ≡ as_steps word.now }
     ensures within { IfSome result (λ steps. (1 ≤ steps) × (steps ≤ 2 ^ 48)) }
 {
-    match read_decimal(word.as_bytes()) {
-        None => None,
-        Some(steps) if 1 <= steps && steps <= MOST_STEPS => Some(steps),
-        Some(_) => None,
+    let steps = read_decimal(word.as_bytes())?;
+    if 1 <= steps && steps <= MOST_STEPS {
+        Some(steps)
+    } else {
+        None
     }
 }
