@@ -34,7 +34,7 @@ within : (n : ℕ) → 1 ≤ n → n ≤ 2 ^ 48 → within_steps (Some n) ≡ So
 within n some few = grind (arith, nat_tests)
 
 none : (n : ℕ) → n < 1 → within_steps (Some n) ≡ None
-none n no = grind (arith, nat_tests)
+none n low = grind (arith, nat_tests)
 
 many : (n : ℕ) → 2 ^ 48 < n → within_steps (Some n) ≡ None
 many n more = grind (arith, nat_tests)
@@ -45,7 +45,7 @@ steps-within word n small is some few = sym (ap within_steps (as_decimal-decimal
 
 pub steps-none : (word : List ℕ) (n : ℕ) → n < 2 ^ 64 → word ≡ decimal n → n < 1 → None ≡ as_steps word
 unfolding as_steps
-steps-none word n small is no = sym (ap within_steps (as_decimal-decimal word n small is) ∙ none n no)
+steps-none word n small is low = sym (ap within_steps (as_decimal-decimal word n small is) ∙ none n low)
 
 pub steps-many : (word : List ℕ) (n : ℕ) → n < 2 ^ 64 → word ≡ decimal n → 2 ^ 48 < n → None ≡ as_steps word
 unfolding as_steps
