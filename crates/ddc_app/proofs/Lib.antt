@@ -2,5 +2,4 @@ pub mod Performing
 pub mod Listing
 pub mod RunWords
 pub mod LeftNames
-pub mod Ending
 pub mod Arguments

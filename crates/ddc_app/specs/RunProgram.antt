@@ -1,7 +1,7 @@
 -- `run PROGRAM STEPS ARG..`: how a program's run ends within so many steps, and what it leaves. docs/reference/command-line.md says the
 -- same for people.
-use Rattle.std.specs.Prelude.{ℕ, zero, suc, ◌+◌, ◌^◌, Bool, ◌&&◌, not, nat_le, nat_lt, ◌==◌, Option, Some, None, Result, Ok, Err, List, [], ◌∷◌, ◌++◌, length, unwrap_or, codes, decimal, bytes_eq, if◌then◌else◌}
-use Rattle.std.specs.List.{flat_map, list_any, list_all}
+use Rattle.std.specs.Prelude.{ℕ, ◌+◌, ◌^◌, ◌&&◌, nat_le, nat_lt, ◌==◌, Option, Some, None, Result, Ok, Err, List, [], ◌∷◌, ◌++◌, length, unwrap_or, codes, decimal, bytes_eq, if◌then◌else◌}
+use Rattle.std.specs.List.{flat_map, list_all}
 use Rattle.std.specs.Str.Parse.{digits_value}
 use Rattle.std.specs.FinMap as map
 use Rattle.byteorder.specs.Endian.{big_bytes}
@@ -13,23 +13,15 @@ use Rattle.rv64_machine.specs.declared.answer.Cause.{Cause}
 use Rattle.rv64_machine.specs.declared.answer.Cause.TheVariants as cause
 use Rattle.mem_files.specs.World.{World}
 use Rattle.mem_files.specs.Calls.{content_at}
-use Rattle.guest_run.specs.declared.run.RunEnd.{RunEnd}
-use Rattle.guest_run.specs.declared.run.RunEnd.TheVariants as end
-use Rattle.guest_run.specs.declared.guest.StartRefusal.{StartRefusal}
-use Rattle.guest_run.specs.declared.guest.StartRefusal.TheVariants as refusal
-use Rattle.guest_run.specs.Setting.{Setting}
+use Rattle.guest_run.specs.Setting.{Setting, is_text}
 use Rattle.guest_run.specs.State.{GuestState}
-use Rattle.guest_run.specs.Start.{start_of}
-use Rattle.guest_run.specs.Run.{Next, Goes, Ends, next}
+use Rattle.guest_run.specs.Start.{Refusal, Elf, ArgsTooLong, BoxTooLarge, start_of}
+use Rattle.guest_run.specs.Run.{End, Exited, Trapped, UnknownCall, first_end}
 use Rattle.ddc_app.specs.declared.status.Status.{Status}
 use Rattle.ddc_app.specs.declared.status.Status.TheVariants.{Yes, RunFailed}
 use Rattle.ddc_app.specs.declared.words.TheConstants.{FILE_LIMIT, MOST_STEPS, HEAP}
 use Rattle.ddc_app.specs.Words.{is_file_word, usage}
 use Rattle.ddc_app.specs.Plan.{Plan, answers, needs}
-
--- a word without a zero byte
-abbrev pub is_text : List ℕ → Bool
-is_text word = not (list_any (λ byte. byte == 0) word)
 
 -- the number below 2 ^ 64 whose decimal digits a word is
 abbrev pub as_decimal : List ℕ → Option ℕ
@@ -61,11 +53,10 @@ trap_words (cause.StoreUnmapped address) = codes "store-unmapped" ∷ hex_addres
 trap_words cause.Break = codes "break" ∷ []
 
 -- a refused start in words
-abbrev pub refusal_words : StartRefusal → List (List ℕ)
-refusal_words (refusal.Elf elf) = codes "elf" ∷ decimal (number_of elf) ∷ []
-refusal_words refusal.ArgsTooLong = codes "args" ∷ []
-refusal_words refusal.BoxTooLarge = codes "box" ∷ []
-refusal_words refusal.OutOfMemory = []
+abbrev pub refusal_words : Refusal → List (List ℕ)
+refusal_words (Elf elf) = codes "elf" ∷ decimal (number_of elf) ∷ []
+refusal_words ArgsTooLong = codes "args" ∷ []
+refusal_words BoxTooLarge = codes "box" ∷ []
 
 -- a run that failed, by its cause and its step
 abbrev pub step_words : ℕ → List (List ℕ)
@@ -96,29 +87,19 @@ unfoldable pub exited_text : ℕ → ℕ → World → List ℕ
 exited_text status step world =
     exited_line status step ++ (stream_line 1 world.stream1 ++ (stream_line 2 world.stream2 ++ left_lines world (map.keys world.names)))
 
--- how a run from a state ends within so many steps, and the state that it leaves
-abbrev pub ended_by : Next → (GuestState → RunEnd × GuestState) → GuestState → RunEnd × GuestState
-ended_by (Goes after) rest guest = rest after
-ended_by (Ends an_end) rest guest = (an_end, guest)
-
-unfoldable pub ended_within : GuestState → ℕ → RunEnd × GuestState
-ended_within guest zero = (end.Spent, guest)
-ended_within guest (suc most) = ended_by (next guest) (λ after. ended_within after most) guest
-
--- what is said of an end in a state; the end itself is the step after those that the state has taken
+-- what is said of a run of at most `most` steps, by its first end and the state that this leaves; the end's own step is counted too
 abbrev pub status_of : ℕ → Status
 status_of status = if status == 0 then Yes else RunFailed
 
-abbrev pub end_plan : RunEnd × GuestState → Plan
-end_plan (end.Exited status, guest) = answers (status_of status) (exited_text status (guest.steps + 1) guest.world)
-end_plan (end.Trapped trap, guest) = answers RunFailed (failed_line (codes "trap" ∷ trap_words trap) (guest.steps + 1))
-end_plan (end.UnknownCall number, guest) = answers RunFailed (failed_line (codes "call" ∷ decimal number ∷ []) (guest.steps + 1))
-end_plan (end.Spent, guest) = answers RunFailed (failed_line (codes "spent" ∷ []) guest.steps)
-end_plan (end.OutOfMemory, guest) = answers RunFailed []
+abbrev pub end_plan : Option (End × GuestState) → ℕ → Plan
+end_plan (Some (Exited status, guest)) most = answers (status_of status) (exited_text status (guest.steps + 1) guest.world)
+end_plan (Some (Trapped trap, guest)) most = answers RunFailed (failed_line (codes "trap" ∷ trap_words trap) (guest.steps + 1))
+end_plan (Some (UnknownCall number, guest)) most = answers RunFailed (failed_line (codes "call" ∷ decimal number ∷ []) (guest.steps + 1))
+end_plan None most = answers RunFailed (failed_line (codes "spent" ∷ []) most)
 
 -- what is said of a start
-abbrev pub start_plan : Result GuestState StartRefusal → ℕ → Plan
-start_plan (Ok guest) most = end_plan (ended_within guest most)
+abbrev pub start_plan : Result GuestState Refusal → ℕ → Plan
+start_plan (Ok guest) most = end_plan (first_end guest most) most
 start_plan (Err why) most = answers RunFailed (failed_line (codes "start" ∷ refusal_words why) 0)
 
 -- no files, no environment

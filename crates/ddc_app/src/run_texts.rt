@@ -4,11 +4,10 @@ ghost use Rattle.std.specs.FinMap as map;
 ghost use Rattle.hex.specs.Hex.{encode_lower};
 ghost use Rattle.mem_files.specs.Names.{is_stripped_name};
 ghost use Rattle.mem_files.specs.Sound.{IsSound};
-ghost use Rattle.ddc_app.specs.RunProgram.{trap_words, refusal_words, failed_line, stream_line, left_line, left_lines, exited_line, exited_text, hex_address, hex_code};
+ghost use Rattle.ddc_app.specs.RunProgram.{trap_words, failed_line, stream_line, left_line, left_lines, exited_line, exited_text, hex_address, hex_code};
 
 use byteorder::{BigEndian, ByteOrder};
 use ddc_base::{Bytes, OutOfMemory, digest};
-use guest_run::StartRefusal;
 use mem_files::Files;
 use rv64_machine::Cause;
 use std::alloc::Global;
@@ -117,24 +116,20 @@ pub(crate) fn spent(alloc: Global, steps: u64) -> Result<Bytes, OutOfMemory>
     failed(alloc, "spent", steps)
 }
 
-/// A program that the loader refuses.
+/// A program that the loader refuses, by the refusal's number.
 #[tactic(auto, unfolding(crate::specs::RunProgram::failed_line))]
-fn not_loaded(alloc: Global, number: u8, step: u64) -> Result<Bytes, OutOfMemory>
-    ensures { IfOk result (λ text. text ≡ failed_line (codes "start" ∷ codes "elf" ∷ decimal number ∷ []) step) }
+pub(crate) fn not_loaded(alloc: Global, number: u8) -> Result<Bytes, OutOfMemory>
+    ensures { IfOk result (λ text. text ≡ failed_line (codes "start" ∷ codes "elf" ∷ decimal number ∷ []) 0) }
 {
+    let step: u64 = 0;
     Ok(Bytes::from_vec(format!(in alloc; "failed start elf {number} step {step}\n")?.into_bytes()))
 }
 
-/// A program that was not started.
-pub(crate) fn not_started(alloc: Global, why: StartRefusal) -> Result<Bytes, OutOfMemory>
-    ensures { IfOk result (λ text. text ≡ failed_line (codes "start" ∷ refusal_words why) 0) }
+/// A program that was not started, with the cause in a word.
+pub(crate) fn not_started(alloc: Global, cause: &str) -> Result<Bytes, OutOfMemory>
+    ensures { IfOk result (λ text. text ≡ failed_line (codes "start" ∷ cause.now ∷ []) 0) }
 {
-    match why {
-        StartRefusal::Elf(elf) => not_loaded(alloc, elf.number(), 0),
-        StartRefusal::ArgsTooLong => failed_in_two(alloc, "start", "args", 0),
-        StartRefusal::BoxTooLarge => failed_in_two(alloc, "start", "box", 0),
-        StartRefusal::OutOfMemory => Err(OutOfMemory),
-    }
+    failed_in_two(alloc, "start", cause, 0)
 }
 
 /// The line of an exit.

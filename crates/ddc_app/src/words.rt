@@ -1,8 +1,8 @@
 ghost use Rattle.std.specs.Prelude.{◌≡◌, ◌≤◌, ◌^◌, IfSome, IsTrue};
 ghost use Rattle.std.specs.List.{list_all};
 ghost use Rattle.ddc_app.specs.Words.{is_file_word};
-ghost use Rattle.ddc_app.specs.RunProgram.{as_decimal, as_steps, is_text};
-ghost use Rattle.guest_run.specs.Setting.{IsText};
+ghost use Rattle.ddc_app.specs.RunProgram.{as_steps};
+ghost use Rattle.guest_run.specs.Setting.{is_text, IsText};
 
 use ddc_base::read_decimal;
 
@@ -41,25 +41,16 @@ pub(crate) fn are_texts(words: &[&str]) -> bool
     words.iter().all(|word| is_text(word))
 }
 
-/// The number below 2^64 whose decimal digits a word is.
-fn decimal_of(word: &[u8]) -> Option<u64>
-    ensures { result ≡ as_decimal word.now }
-{
-    match read_decimal(word) {
-        Some(number) => Some(number),
-        None => None,
-    }
-}
-
 /// A number of steps, from 1 to 2^48.
 #[tactic(auto, unfolding(crate::specs::RunProgram::as_steps))]
 pub(crate) fn steps_of(word: &str) -> Option<u64>
     ensures value { result ≡ as_steps word.now }
     ensures within { IfSome result (λ steps. (1 ≤ steps) × (steps ≤ 2 ^ 48)) }
 {
-    match decimal_of(word.as_bytes()) {
-        None => None,
-        Some(steps) if 1 <= steps && steps <= MOST_STEPS => Some(steps),
-        Some(_) => None,
+    let steps = read_decimal(word.as_bytes())?;
+    if 1 <= steps && steps <= MOST_STEPS {
+        Some(steps)
+    } else {
+        None
     }
 }

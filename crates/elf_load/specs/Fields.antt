@@ -13,11 +13,11 @@ abbrev pub magic : List ℕ
 magic = 0x7f ∷ 0x45 ∷ 0x4c ∷ 0x46 ∷ []
 
 -- gABI, "ELF Identification": EI_CLASS and EI_DATA
-abbrev pub file_class : List ℕ → ℕ
-file_class file = field file 4 1
+abbrev pub ei_class : List ℕ → ℕ
+ei_class file = field file 4 1
 
-abbrev pub byte_order : List ℕ → ℕ
-byte_order file = field file 5 1
+abbrev pub ei_data : List ℕ → ℕ
+ei_data file = field file 5 1
 
 -- gABI, "ELF Header"
 abbrev pub e_type : List ℕ → ℕ

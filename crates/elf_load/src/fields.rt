@@ -1,5 +1,5 @@
 //! The fields of the ELF header and of a program header, each read at its offset.
-ghost use Rattle.elf_load.specs.Fields.{field, file_class, byte_order, e_type, e_machine, e_entry, e_phoff, e_phentsize, e_phnum, p_type, p_memsz};
+ghost use Rattle.elf_load.specs.Fields.{field, ei_class, ei_data, e_type, e_machine, e_entry, e_phoff, e_phentsize, e_phnum, p_type, p_memsz};
 ghost use Rattle.elf_load.specs.Segments.{segment_at};
 ghost use Rattle.std.specs.Prelude.{◌≡◌, ◌+◌, ◌≤◌, length};
 
@@ -13,14 +13,14 @@ pub(crate) const PROGRAM_HEADER_SIZE: u16 = 56;
 
 pub(crate) fn class(file: &[u8]) -> u8
     requires { 64 ≤ length file.now }
-    ensures { result ≡ file_class file.now }
+    ensures { result ≡ ei_class file.now }
 {
     byte_at(file, 4)
 }
 
 pub(crate) fn byte_order_of(file: &[u8]) -> u8
     requires { 64 ≤ length file.now }
-    ensures { result ≡ byte_order file.now }
+    ensures { result ≡ ei_data file.now }
 {
     byte_at(file, 5)
 }

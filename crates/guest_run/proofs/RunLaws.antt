@@ -1,14 +1,13 @@
 -- Laws of many steps.
-use Rattle.std.proofs.Common.{◌≡◌, ◌≢◌, ℕ, zero, suc, ◌+◌, ◌-◌, ◌<◌, ◌≤◌, Option, None, Some, refl, sym, ap, ◌∙◌, arith, inl, inr}
+use Rattle.std.proofs.Common.{◌≡◌, ◌≢◌, ℕ, zero, suc, ◌+◌, ◌≤◌, Option, None, Some, refl, sym, ap, ◌∙◌, arith, subst}
 use Rattle.std.specs.Prelude.{option_and_then}
-use Rattle.std.proofs.lemmas.Bool.{cases_lt}
+use Rattle.std.specs.Option.{option_or}
 use Rattle.std.proofs.lemmas.Option.{same_Some}
 use Rattle.guest_run.specs.declared.run.RunEnd.{RunEnd}
 use Rattle.guest_run.specs.declared.run.RunEnd.TheVariants.{Exited, Trapped, UnknownCall, Spent, OutOfMemory}
 use Rattle.guest_run.specs.State.{GuestState}
-use Rattle.guest_run.specs.Run.{Ends, after, next, Runs, steps_between, went_to}
-use Rattle.guest_run.proofs.Stepping.{next-counted}
-use Rattle.guest_run.proofs.Validity.{went}
+use Rattle.guest_run.specs.Run.{End, Next, Goes, Ends, after, end_at, end_of, first_end, next, Runs, steps_between, went_to}
+use Rattle.guest_run.proofs.Running.{after-counted, end_at-next, found, goes_on-no_end}
 
 pub after-sum : (guest between : GuestState) (first more : ℕ) → after guest first ≡ Some between
     → after guest (first + more) ≡ after between more
@@ -20,56 +19,95 @@ after-sum guest between first (suc more) reached =
     let same : first + suc more ≡ suc (first + more) = omega arith in
     ap (after guest) same ∙ ap (λ o. option_and_then (λ l. went_to (next l)) o) (after-sum guest between first more reached)
 
--- nothing follows an end
-after-end : (last : GuestState) (why : RunEnd) (count : ℕ) → next last ≡ Ends why → after last (suc count) ≡ None
-unfolding after
-after-end last why zero ends = ap went_to ends
-after-end last why (suc count) ends = ap (λ o. option_and_then (λ l. went_to (next l)) o) (after-end last why count ends)
+-- what an end is: steps that went on, and one that did not
+abbrev EndsAfter : GuestState → ℕ → End × GuestState → Type 0
+EndsAfter guest count end = (after guest count ≡ Some end.1) × (next end.1 ≡ Ends end.0)
 
-past_end : (guest last other : GuestState) (count number : ℕ) (why : RunEnd) → count < number
-    → after guest count ≡ Some last → next last ≡ Ends why → after guest number ≡ Some other → ⊥
-past_end guest last other count number why lt reached ends there =
-    let split : number ≡ count + suc (number - count - 1) = omega arith in
-    let none : after guest number ≡ None =
-    ap (after guest) split ∙ after-sum guest last count (suc (number - count - 1)) reached ∙ after-end last why (number - count - 1) ends in
-    cc
+ends_after : (guest : GuestState) (count : ℕ) (end : End × GuestState) → end_at guest (suc count) ≡ Some end → EndsAfter guest count end
+unfolding end_at
+ends_after guest count end is = by_last (after guest count) refl is where
+  by_next : (last : GuestState) (n : Next) → after guest count ≡ Some last → next last ≡ n → end_of last n ≡ Some end → EndsAfter guest count end
+  by_next last (Goes to) reached went is = absurd cc
+  by_next last (Ends why) reached ends is =
+      let same : ◌≡◌ {A = End × GuestState} (why, last) end = same_Some (why, last) end is in
+      subst (λ e. EndsAfter guest count e) same (reached, ends)
 
-ends_same : (why what : RunEnd) (one other : GuestState) → one ≡ other → next one ≡ Ends why → next other ≡ Ends what → why ≡ what
-ends_same why what one other same is at =
-    let both : Ends why ≡ Ends what = sym is ∙ ap next same ∙ at in
-    cc
+  by_last : (o : Option GuestState) → after guest count ≡ o → option_and_then (λ l. end_of l (next l)) o ≡ Some end → EndsAfter guest count end
+  by_last None was is = absurd cc
+  by_last (Some last) was is = by_next last (next last) was refl is
 
-pub one_end-law : (guest last other : GuestState) (count number : ℕ) (why what : RunEnd) → after guest count ≡ Some last → next last ≡ Ends why
-    → after guest number ≡ Some other → next other ≡ Ends what → (count ≡ number) × (last ≡ other) × (why ≡ what)
-one_end-law guest last other count number why what reached ends there stops =
-    elim (cases_lt count number) [
-      | inl lt ↦ absurd (past_end guest last other count number why lt reached ends there)
-      | inr ge ↦ elim (cases_lt number count) [
-        | inl lt ↦ absurd (past_end guest other last number count what lt there stops reached)
-        | inr le ↦
-            (let same : count ≡ number = omega arith in
-            let states : last ≡ other = same_Some last other (sym reached ∙ ap (after guest) same ∙ there) in
-            (same, states, ends_same why what last other states ends stops))
-      ]
-    ]
+no_end_at-zero : (guest : GuestState) (end : End × GuestState) → end_at guest zero ≡ Some end → ⊥
+unfolding end_at
+no_end_at-zero guest end is = cc
 
-pub after-counted : (guest to : GuestState) (count : ℕ) → after guest count ≡ Some to → to.steps ≡ guest.steps + count
-unfolding after
-after-counted guest to zero is =
-    let same : guest.steps ≡ to.steps = ap (λ (g : GuestState). g.steps) (same_Some guest to is) in
-    omega arith
-after-counted guest to (suc count) is =
-    from_last (after guest count) refl is (λ last reached. after-counted guest last count reached)
-  where
-    from_last : (o : Option GuestState) → after guest count ≡ o → option_and_then (λ last. went_to (next last)) o ≡ Some to
-        → ((last : GuestState) → after guest count ≡ Some last → last.steps ≡ guest.steps + count) → to.steps ≡ guest.steps + suc count
-    from_last None was goes earlier = cc
-    from_last (Some last) was goes earlier =
-        let one = next-counted last to (went (next last) to goes) in
-        let others = earlier last was in
-        omega arith
+-- an end at a step is the first of any number of steps that has it
+pub first_end-found : (guest : GuestState) (number most : ℕ) (end : End × GuestState) → number ≤ most → end_at guest number ≡ Some end
+    → first_end guest most ≡ Some end
+first_end-found guest zero most end le is = absurd (no_end_at-zero guest end is)
+first_end-found guest (suc count) most end le is =
+    let at = ends_after guest count end is in
+    found guest end.1 count most end.0 at.0 at.1 (omega arith)
 
--- a state that is reached, over a sum
+-- and the first is at a step
+pub first_end-at : (guest : GuestState) (most : ℕ) (end : End × GuestState) → first_end guest most ≡ Some end
+    → (number : ℕ) × (number ≤ most) × (end_at guest number ≡ Some end)
+unfolding first_end
+first_end-at guest zero end is = absurd cc
+first_end-at guest (suc most) end is = by_first (first_end guest most) refl is (λ was. first_end-at guest most end was) where
+  by_first : (o : Option (End × GuestState)) → first_end guest most ≡ o → option_or o (end_at guest (suc most)) ≡ Some end
+      → (first_end guest most ≡ Some end → (number : ℕ) × (number ≤ most) × (end_at guest number ≡ Some end))
+      → (number : ℕ) × (number ≤ suc most) × (end_at guest number ≡ Some end)
+  by_first None was is earlier = (suc most, omega arith, is)
+  by_first (Some first) was is earlier =
+      let at = earlier (was ∙ is) in
+      (at.0, omega (arith, at.1), at.2)
+
+-- where there is none, all steps went on
+pub no_end-goes_on : (guest : GuestState) (most : ℕ) → first_end guest most ≡ None → (to : GuestState) × (after guest most ≡ Some to)
+unfolding first_end after
+no_end-goes_on guest zero is = (guest, refl)
+no_end-goes_on guest (suc most) is = by_first (first_end guest most) refl is (λ was. no_end-goes_on guest most was) where
+  by_next : (last : GuestState) (n : Next) → after guest most ≡ Some last → next last ≡ n → end_of last n ≡ None → (to : GuestState) × (after guest (suc most) ≡ Some to)
+  by_next last (Goes to) reached goes is = (to, ap (λ o. option_and_then (λ l. went_to (next l)) o) reached ∙ ap went_to goes)
+  by_next last (Ends why) reached ends is = absurd cc
+
+  by_first : (o : Option (End × GuestState)) → first_end guest most ≡ o → option_or o (end_at guest (suc most)) ≡ None
+      → (first_end guest most ≡ None → (to : GuestState) × (after guest most ≡ Some to)) → (to : GuestState) × (after guest (suc most) ≡ Some to)
+  by_first None was is earlier =
+      let last = earlier was in
+      by_next last.0 (next last.0) last.1 refl (sym (end_at-next guest last.0 most last.1) ∙ is)
+  by_first (Some first) was is earlier = absurd cc
+
+-- a run has one end: at one step, and of one kind
+pub one_end-law : (guest : GuestState) (number other : ℕ) (end what : End × GuestState) → end_at guest number ≡ Some end
+    → end_at guest other ≡ Some what → (number ≡ other) × (end ≡ what)
+one_end-law guest zero other end what is at = absurd (no_end_at-zero guest end is)
+one_end-law guest (suc count) zero end what is at = absurd (no_end_at-zero guest what at)
+one_end-law guest (suc count) (suc after_those) end what is at =
+    let same : end ≡ what =
+    same_Some end what
+    (sym (first_end-found guest (suc count) (suc count + suc after_those) end (omega arith) is)
+    ∙ first_end-found guest (suc after_those) (suc count + suc after_those) what (omega arith) at) in
+    let left : end.1.steps ≡ what.1.steps = ap (λ (e : End × GuestState). e.1.steps) same in
+    let one = after-counted guest end.1 count ((ends_after guest count end is).0) in
+    let two = after-counted guest what.1 after_those ((ends_after guest after_those what at).0) in
+    (omega arith, same)
+
+-- the first end over a sum
+first_end-sum : (guest between : GuestState) (first more : ℕ) → after guest first ≡ Some between
+    → first_end guest (first + more) ≡ first_end between more
+unfolding first_end end_at
+first_end-sum guest between first zero reached =
+    let all : first + 0 ≡ first = omega arith in
+    ap (first_end guest) all ∙ goes_on-no_end guest between first reached
+first_end-sum guest between first (suc more) reached =
+    let all : first + suc more ≡ suc (first + more) = omega arith in
+    let earlier = first_end-sum guest between first more reached in
+    let here = after-sum guest between first more reached in
+    ap (first_end guest) all
+    ∙ (λ i. option_or (earlier i) (option_and_then (λ last. end_of last (next last)) (here i)))
+
+-- the state of a want over a sum
 between_is : (guest between to : GuestState) (first : ℕ) → after guest first ≡ Some between
     → after between (steps_between between to) ≡ Some to → steps_between guest to ≡ first + steps_between between to
 between_is guest between to first reached there =
@@ -77,39 +115,50 @@ between_is guest between to first reached there =
     let b = after-counted between to (steps_between between to) there in
     omega arith
 
-joined : (guest between to : GuestState) (first : ℕ) → after guest first ≡ Some between
-    → after between (steps_between between to) ≡ Some to → after guest (steps_between guest to) ≡ Some to
-joined guest between to first reached there =
-    ap (after guest) (between_is guest between to first reached there) ∙ after-sum guest between first (steps_between between to) reached ∙ there
-
-shorter : (guest between to : GuestState) (first more : ℕ) → after guest first ≡ Some between
-    → after between (steps_between between to) ≡ Some to → steps_between between to < more → steps_between guest to < first + more
-shorter guest between to first more reached there lt = let is = between_is guest between to first reached there in omega arith
-
 pub runs-join : (guest between to : GuestState) (first more : ℕ) (why : RunEnd)
     → Runs guest first Spent between → Runs between more why to → Runs guest (first + more) why to
-runs-join guest between to first more (Exited status) spent is =
-    (shorter guest between to first more spent is.1 is.0, joined guest between to first spent is.1, is.2)
-runs-join guest between to first more (Trapped cause) spent is =
-    (shorter guest between to first more spent is.1 is.0, joined guest between to first spent is.1, is.2)
-runs-join guest between to first more (UnknownCall number) spent is =
-    (shorter guest between to first more spent is.1 is.0, joined guest between to first spent is.1, is.2)
-runs-join guest between to first more Spent spent is = after-sum guest between first more spent ∙ is
+runs-join guest between to first more (Exited status) spent is = first_end-sum guest between first more spent.1 ∙ is
+runs-join guest between to first more (Trapped cause) spent is = first_end-sum guest between first more spent.1 ∙ is
+runs-join guest between to first more (UnknownCall number) spent is = first_end-sum guest between first more spent.1 ∙ is
+runs-join guest between to first more Spent spent is =
+    (first_end-sum guest between first more spent.1 ∙ is.0, after-sum guest between first more spent.1 ∙ is.1)
 runs-join guest between to first more OutOfMemory spent is =
-    (shorter guest between to first more spent is.1 is.0, joined guest between to first spent is.1, is.2, is.3)
+    let sum = between_is guest between to first spent.1 is.1 in
+    (omega (arith, is.0), ap (after guest) sum ∙ after-sum guest between first (steps_between between to) spent.1 ∙ is.1, is.2, is.3)
+
+-- an end within fewer steps is one within more
+stays : (guest : GuestState) (most more : ℕ) (end : End × GuestState) → first_end guest most ≡ Some end → first_end guest (most + more) ≡ Some end
+stays guest most more end is =
+    let at = first_end-at guest most end is in
+    first_end-found guest at.0 (most + more) end (omega (arith, at.1)) at.2
 
 pub end-stays : (guest to : GuestState) (most more : ℕ) (why : RunEnd) → why ≢ Spent → Runs guest most why to → Runs guest (most + more) why to
-end-stays guest to most more (Exited status) other is = (omega (arith, is.0), is.1, is.2)
-end-stays guest to most more (Trapped cause) other is = (omega (arith, is.0), is.1, is.2)
-end-stays guest to most more (UnknownCall number) other is = (omega (arith, is.0), is.1, is.2)
+end-stays guest to most more (Exited status) other is = stays guest most more _ is
+end-stays guest to most more (Trapped cause) other is = stays guest most more _ is
+end-stays guest to most more (UnknownCall number) other is = stays guest most more _ is
 end-stays guest to most more Spent other is = absurd (other refl)
 end-stays guest to most more OutOfMemory other is = (omega (arith, is.0), is.1, is.2, is.3)
+
+-- the states that a run passes
+passed : (guest : GuestState) (most : ℕ) (end : End × GuestState) → first_end guest most ≡ Some end
+    → (count : ℕ) × (count ≤ most) × (after guest count ≡ Some end.1)
+passed guest most end is = let at = first_end-at guest most end is in by_number at.0 at.1 at.2 where
+  by_number : (number : ℕ) → number ≤ most → end_at guest number ≡ Some end → (count : ℕ) × (count ≤ most) × (after guest count ≡ Some end.1)
+  by_number zero le is = absurd (no_end_at-zero guest end is)
+  by_number (suc count) le is = (count, omega arith, (ends_after guest count end is).0)
+
+pub some_steps : (guest : GuestState) (most : ℕ) (why : RunEnd) (to : GuestState) → Runs guest most why to
+    → (count : ℕ) × (count ≤ most) × (after guest count ≡ Some to)
+some_steps guest most (Exited status) to is = passed guest most _ is
+some_steps guest most (Trapped cause) to is = passed guest most _ is
+some_steps guest most (UnknownCall number) to is = passed guest most _ is
+some_steps guest most Spent to is = (most, omega arith, is.1)
+some_steps guest most OutOfMemory to is = (steps_between guest to, omega (arith, is.0), is.1)
 
 -- how many steps a run takes
 pub run-counted : (guest to : GuestState) (most : ℕ) (why : RunEnd) → Runs guest most why to
     → (guest.steps ≤ to.steps) × (to.steps ≤ guest.steps + most)
-run-counted guest to most (Exited status) is = let n = after-counted guest to (steps_between guest to) is.1 in (omega (arith, is.0), omega (arith, is.0))
-run-counted guest to most (Trapped cause) is = let n = after-counted guest to (steps_between guest to) is.1 in (omega (arith, is.0), omega (arith, is.0))
-run-counted guest to most (UnknownCall number) is = let n = after-counted guest to (steps_between guest to) is.1 in (omega (arith, is.0), omega (arith, is.0))
-run-counted guest to most Spent is = let n = after-counted guest to most is in (omega arith, omega arith)
-run-counted guest to most OutOfMemory is = let n = after-counted guest to (steps_between guest to) is.1 in (omega (arith, is.0), omega (arith, is.0))
+run-counted guest to most why is =
+    let reached = some_steps guest most why to is in
+    let counted = after-counted guest to reached.0 reached.2 in
+    (omega arith, omega (arith, reached.1))

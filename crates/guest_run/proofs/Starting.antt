@@ -1,17 +1,15 @@
 -- The answers of a start, by the rule that decides.
-use Rattle.std.proofs.Common.{◌≡◌, ◌≢◌, ℕ, ◌<◌, ◌≤◌, Bool, true, false, cond, List, Result, Ok, Err, refl, ap, ◌∙◌, arith}
+use Rattle.std.proofs.Common.{◌≡◌, ℕ, ◌<◌, ◌≤◌, Bool, true, false, cond, List, Result, Ok, Err, refl, ap, ◌∙◌, arith}
 use Rattle.std.specs.Prelude.{nat_le, nat_lt}
 use Rattle.std.proofs.lemmas.Bool.Decides.{nat_tests}
 use Rattle.mem_files.specs.declared.TheConstants.{MAX_TOTAL}
 use Rattle.elf_load.specs.declared.Image.{Image}
 use Rattle.elf_load.specs.declared.refusal.ElfRefusal.{ElfRefusal}
 use Rattle.elf_load.specs.Image.{image_of}
-use Rattle.guest_run.specs.declared.guest.StartRefusal.{StartRefusal}
-use Rattle.guest_run.specs.declared.guest.StartRefusal.TheVariants.{Elf, ArgsTooLong, BoxTooLarge, OutOfMemory}
 use Rattle.guest_run.specs.Stack.{start_size}
 use Rattle.guest_run.specs.Setting.{files_size, Setting}
 use Rattle.guest_run.specs.State.{GuestState}
-use Rattle.guest_run.specs.Start.{start_of, start_state, started, Starts}
+use Rattle.guest_run.specs.Start.{Refusal, Elf, ArgsTooLong, BoxTooLarge, start_of, start_state, started}
 
 pub no_program : (program : List ℕ) (setting : Setting) (refusal : ElfRefusal) → image_of program ≡ Err refusal
     → start_of program setting ≡ Err (Elf refusal)
@@ -19,7 +17,7 @@ unfolding start_of
 no_program program setting refusal is = ap (started program setting) is
 
 -- the later rules, by their tests
-abbrev judge : Bool → Bool → GuestState → Result GuestState StartRefusal
+abbrev judge : Bool → Bool → GuestState → Result GuestState Refusal
 judge long large state = cond long (Err ArgsTooLong) (cond large (Err BoxTooLarge) (Ok state))
 
 judged_by : (program : List ℕ) (setting : Setting) (image : Image) → image_of program ≡ Ok image
@@ -61,13 +59,6 @@ starts program setting image is fits small =
 
 pub fits_if : (n : ℕ) → nat_le n 131072 ≡ true → n ≤ 131072
 fits_if n h = grind (arith, nat_tests)
-
--- a refusal that is no want of memory is the answer
-pub refuses : (meant : Result GuestState StartRefusal) (refusal : StartRefusal) → meant ≡ Err refusal → refusal ≢ OutOfMemory → Starts meant (Err refusal)
-refuses meant (Elf refusal) is other = is
-refuses meant ArgsTooLong is other = is
-refuses meant BoxTooLarge is other = is
-refuses meant OutOfMemory is other = absurd (other refl)
 
 pub steps_at_start : (program : List ℕ) (setting : Setting) (image : Image) → (start_state program setting image).steps ≡ 0
 unfolding start_state

@@ -11,9 +11,8 @@ use Rattle.linux_calls.specs.declared.CallEnd.TheVariants as end
 use Rattle.linux_calls.specs.Answer.{IsAnswer}
 use Rattle.linux_calls.specs.Calls.{Outcome, State, answer_of, state, syscall}
 use Rattle.linux_calls.specs.Calls as call
-use Rattle.guest_run.specs.declared.run.RunEnd.TheVariants.{Exited, Trapped, UnknownCall, Spent}
 use Rattle.guest_run.specs.State.{GuestState, guest_state}
-use Rattle.guest_run.specs.Run.{Next, Goes, Ends, after_act, after_call, answered, call_arguments, call_number, CallTakesMemory, goes, next, outcome_of}
+use Rattle.guest_run.specs.Run.{Exited, Trapped, UnknownCall, Next, Goes, Ends, after_act, after_call, answered, call_arguments, call_number, CallTakesMemory, goes, next, outcome_of}
 
 -- the step, by the act
 pub next-goes : (guest : GuestState) (to : HartState) → act guest.hart ≡ hart.Goes to
@@ -93,21 +92,6 @@ goes_if guest (hart.Traps cause) is = absurd (let no-way : false ≡ true = is i
 pub next-store : (guest : GuestState) → IsTrue (goes_on (act guest.hart)) → IsTrue (goes (next guest))
 unfolding next
 next-store guest is = goes_if guest (act guest.hart) is
-
--- a step ends for a cause of the program, or goes on and is counted
-spent_never_called : (guest : GuestState) (meant : Outcome) → after_call guest meant ≡ Ends Spent → ⊥
-spent_never_called guest (call.goes answer to) is = cc
-spent_never_called guest (call.exits status) is = cc
-spent_never_called guest (call.is_unknown n) is = cc
-
-spent_never : (guest : GuestState) (an_act : Act) → after_act guest an_act ≡ Ends Spent → ⊥
-spent_never guest (hart.Goes to) is = cc
-spent_never guest hart.Calls is = spent_never_called guest (outcome_of guest) is
-spent_never guest (hart.Traps cause) is = cc
-
-pub next-never_spent : (guest : GuestState) → next guest ≡ Ends Spent → ⊥
-unfolding next
-next-never_spent guest is = spent_never guest (act guest.hart) is
 
 -- the states' counts, of a step that goes on
 count_of : Next → ℕ → ℕ

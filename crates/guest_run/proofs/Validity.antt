@@ -1,6 +1,6 @@
 -- Steps keep a state valid.
-use Rattle.std.proofs.Common.{◌≡◌, ℕ, zero, suc, ◌+◌, ◌-◌, ◌*◌, ◌^◌, ◌≤◌, Bool, true, false, ◌&&◌, ◌||◌, Option, None, Some, refl, ap, ◌∙◌, subst, arith}
-use Rattle.std.specs.Prelude.{count_by, nat_le, nat_lt, option_and_then}
+use Rattle.std.proofs.Common.{◌≡◌, ℕ, zero, suc, ◌+◌, ◌-◌, ◌*◌, ◌^◌, ◌≤◌, Bool, true, false, ◌&&◌, ◌||◌, Some, refl, ap, ◌∙◌, subst, arith}
+use Rattle.std.specs.Prelude.{count_by, nat_le, nat_lt}
 use Rattle.std.specs.FinMap.{contains_key}
 use Rattle.std.proofs.lemmas.Bool.Decides.{nat_tests}
 use Rattle.paged_mem.specs.Memory.{Memory}
@@ -9,16 +9,19 @@ use Rattle.rv64_machine.specs.Hart.{Act, HartState, act}
 use Rattle.rv64_machine.specs.Hart as hart
 use Rattle.linux_calls.specs.declared.Heap.{Heap}
 use Rattle.linux_calls.specs.HeapOf.{IsHeapOf, page_end}
-use Rattle.linux_calls.specs.Calls.{Outcome, State, state}
+use Rattle.linux_calls.specs.Calls.{LeavesSound, Outcome, State, state}
 use Rattle.linux_calls.specs.Calls as call
 use Rattle.linux_calls.proofs.Heaps.{IsHeapOf-same}
+use Rattle.linux_calls.proofs.SoundLaw.{syscall-sound}
+use Rattle.mem_files.specs.Sound.{IsSound}
 use Rattle.guest_run.specs.Stack.{stack_end, stack_size}
 use Rattle.guest_run.specs.State.{GuestState}
 use Rattle.guest_run.specs.Valid.{Fits, is_beside_heap, pages_beside, pages_from}
-use Rattle.guest_run.specs.Run.{Next, Goes, Ends, after, after_act, after_call, next, outcome_of, call_number, call_arguments, went_to}
+use Rattle.guest_run.specs.Run.{Next, Goes, Ends, after, after_act, after_call, next, outcome_of, call_number, call_arguments}
 use Rattle.rv64_machine.proofs.ActLemmas.{act-mapping}
 use Rattle.std.proofs.lemmas.Option.{same_Some}
 use Rattle.guest_run.proofs.Keeping.{call_keeps, OutcomeKeeps}
+use Rattle.guest_run.proofs.Running.{before}
 
 -- heaps at one place with one limit have the same pages beside them
 same_beside : (one other : Heap) (q : ℕ) → other.first ≡ one.first → other.limit ≡ one.limit → is_beside_heap other q ≡ is_beside_heap one q
@@ -94,20 +97,39 @@ next-fits guest to fits is =
     fits_act guest (act guest.hart) fits (λ next' goes. act-mapping guest.hart next' goes) to is
 
 -- and so do many
-pub went : (n : Next) (to : GuestState) → went_to n ≡ Some to → n ≡ Goes to
-went (Goes guest) to is = ap Goes (same_Some guest to is)
-went (Ends end) to is = cc
-
 pub after-fits : (guest : GuestState) (count : ℕ) (to : GuestState) → Fits guest.hart.memory guest.heap → after guest count ≡ Some to
     → Fits to.hart.memory to.heap
 unfolding after
 after-fits guest zero to fits is = subst (λ (g : GuestState). Fits g.hart.memory g.heap) (same_Some guest to is) fits
 after-fits guest (suc count) to fits is =
-    let earlier : (last : GuestState) → after guest count ≡ Some last → Fits last.hart.memory last.heap =
-    λ last reached. after-fits guest count last fits reached in
-    from_last (after guest count) refl is earlier
-  where
-    from_last : (o : Option GuestState) → after guest count ≡ o → option_and_then (λ last. went_to (next last)) o ≡ Some to
-        → ((last : GuestState) → after guest count ≡ Some last → Fits last.hart.memory last.heap) → Fits to.hart.memory to.heap
-    from_last None was goes earlier = cc
-    from_last (Some last) was goes earlier = next-fits last to (earlier last was) (went (next last) to goes)
+    let earlier = before guest to count is in
+    next-fits earlier.0 to (after-fits guest count earlier.0 fits earlier.1) earlier.2
+
+-- a step keeps the files sound, and so do many
+SoundIn : Next → Type 0
+SoundIn (Goes guest) = IsSound guest.world
+SoundIn (Ends end) = Unit {0}
+
+sound_after_call : (guest : GuestState) (meant : Outcome) → LeavesSound meant → SoundIn (after_call guest meant)
+unfolding SoundIn
+sound_after_call guest (call.goes answer left) sound = sound
+sound_after_call guest (call.exits status) sound = tt
+sound_after_call guest (call.is_unknown number) sound = tt
+
+sound_after : (guest : GuestState) (an_act : Act) → IsSound guest.world → SoundIn (after_act guest an_act)
+unfolding SoundIn
+sound_after guest (hart.Goes to) sound = sound
+sound_after guest hart.Calls sound =
+    sound_after_call guest (outcome_of guest) (syscall-sound (call_number guest) (call_arguments guest) (state guest.hart.memory guest.world guest.heap) sound)
+sound_after guest (hart.Traps cause) sound = tt
+
+next-sound : (guest to : GuestState) → IsSound guest.world → next guest ≡ Goes to → IsSound to.world
+unfolding next SoundIn
+next-sound guest to sound is = subst SoundIn is (sound_after guest (act guest.hart) sound)
+
+pub after-sound : (guest to : GuestState) (count : ℕ) → IsSound guest.world → after guest count ≡ Some to → IsSound to.world
+unfolding after
+after-sound guest to zero sound is = subst (λ (g : GuestState). IsSound g.world) (same_Some guest to is) sound
+after-sound guest to (suc count) sound is =
+    let earlier = before guest to count is in
+    next-sound earlier.0 to (after-sound guest earlier.0 count sound earlier.1) earlier.2

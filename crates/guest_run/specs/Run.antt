@@ -1,19 +1,27 @@
 -- One step of a guest, many steps, and how a run ends.
 -- docs/reference/running.md says the same for people.
-use Rattle.std.specs.Prelude.{◌≡◌, ℕ, zero, suc, ◌+◌, ◌-◌, ◌<◌, ◌≤◌, ◌⊎◌, Bool, true, false, IsTrue, Option, None, Some, option_and_then, List, [], ◌∷◌, slice_index}
+use Rattle.std.specs.Prelude.{◌≡◌, ℕ, zero, suc, ◌+◌, ◌-◌, ◌<◌, ◌⊎◌, Bool, true, false, IsTrue, Option, None, Some, option_and_then, List, [], ◌∷◌, slice_index}
+use Rattle.std.specs.Option.{option_or}
+use Rattle.rv64_machine.specs.declared.answer.Cause.{Cause}
 use Rattle.rv64_machine.specs.Hart.{Act, HartState, act, effect_at, following, goes_on, is_store, with_register}
 use Rattle.rv64_machine.specs.Hart as hart
 use Rattle.linux_calls.specs.Calls.{Outcome, answer_of, state, syscall}
 use Rattle.linux_calls.specs.Calls as call
 use Rattle.linux_calls.specs.Answer as taking
 use Rattle.guest_run.specs.declared.run.RunEnd.{RunEnd}
-use Rattle.guest_run.specs.declared.run.RunEnd.TheVariants.{Exited, Trapped, UnknownCall, Spent, OutOfMemory}
+use Rattle.guest_run.specs.declared.run.RunEnd.TheVariants as answer
 use Rattle.guest_run.specs.State.{GuestState}
+
+-- why a program's run ends: it exits with a status, it traps, or it makes a call of a number that is none of the table
+pub data End : Type 0 where
+  Exited : ℕ → End
+  Trapped : Cause → End
+  UnknownCall : ℕ → End
 
 -- what a step comes to: the guest goes on in a state, or its run ends and leaves the state
 pub data Next : Type 0 where
   Goes : GuestState → Next
-  Ends : RunEnd → Next
+  Ends : End → Next
 
 -- a call's number stands in x17, its arguments in x10 to x15
 abbrev pub call_number : GuestState → ℕ
@@ -63,10 +71,21 @@ unfoldable pub after : GuestState → ℕ → Option GuestState
 after guest zero = Some guest
 after guest (suc count) = option_and_then (λ last. went_to (next last)) (after guest count)
 
--- the run from a state ends so at its step `count`, and at no step before
-abbrev pub FirstEnd : GuestState → ℕ → RunEnd → Type 0
-FirstEnd guest count end =
-    (last : GuestState) × (1 ≤ count) × (after guest (count - 1) ≡ Some last) × (next last ≡ Ends end)
+-- the end to which a step comes, and the state that it leaves; none where it goes on
+abbrev pub end_of : GuestState → Next → Option (End × GuestState)
+end_of guest (Goes to) = None
+end_of guest (Ends end) = Some (end, guest)
+
+-- the end of the run from a state at its step `number`, counted from 1, and the state that it leaves; none where that step
+-- goes on, or the run has ended before
+unfoldable pub end_at : GuestState → ℕ → Option (End × GuestState)
+end_at guest zero = None
+end_at guest (suc count) = option_and_then (λ last. end_of last (next last)) (after guest count)
+
+-- the first end of the run at its steps 1 to `most`; none where they all go on
+unfoldable pub first_end : GuestState → ℕ → Option (End × GuestState)
+first_end guest zero = None
+first_end guest (suc most) = option_or (first_end guest most) (end_at guest (suc most))
 
 -- the call comes to this, and takes memory of the host
 abbrev pub CallTakesMemory : GuestState → Outcome → Type 0
@@ -88,18 +107,22 @@ goes (Ends end) = false
 -- what a step answers, none where the guest went on, and the state that it leaves; want of memory hides no end
 abbrev pub Steps : GuestState → Option RunEnd → GuestState → Type 0
 Steps old None new = next old ≡ Goes new
-Steps old (Some OutOfMemory) new = IsTrue (goes (next old)) × TakesMemory old × (new ≡ old)
-Steps old (Some end) new = (next old ≡ Ends end) × (new ≡ old)
+Steps old (Some (answer.Exited status)) new = (next old ≡ Ends (Exited status)) × (new ≡ old)
+Steps old (Some (answer.Trapped cause)) new = (next old ≡ Ends (Trapped cause)) × (new ≡ old)
+Steps old (Some (answer.UnknownCall number)) new = (next old ≡ Ends (UnknownCall number)) × (new ≡ old)
+Steps old (Some answer.Spent) new = ⊥
+Steps old (Some answer.OutOfMemory) new = IsTrue (goes (next old)) × TakesMemory old × (new ≡ old)
 
 -- how many steps lie between two states
 abbrev pub steps_between : GuestState → GuestState → ℕ
 steps_between old new = new.steps - old.steps
 
--- what a run of at most `most` steps answers, and the state that it leaves: the first end within them, else that they
--- are spent; or want of memory, in a step that would have gone on
+-- what a run of at most `most` steps answers, and the state that it leaves: the first end within them, else that they are spent;
+-- or want of memory, in a step that would have gone on
 abbrev pub Runs : GuestState → ℕ → RunEnd → GuestState → Type 0
-Runs old most Spent new = after old most ≡ Some new
-Runs old most OutOfMemory new =
+Runs old most (answer.Exited status) new = first_end old most ≡ Some (Exited status, new)
+Runs old most (answer.Trapped cause) new = first_end old most ≡ Some (Trapped cause, new)
+Runs old most (answer.UnknownCall number) new = first_end old most ≡ Some (UnknownCall number, new)
+Runs old most answer.Spent new = (first_end old most ≡ None) × (after old most ≡ Some new)
+Runs old most answer.OutOfMemory new =
     (steps_between old new < most) × (after old (steps_between old new) ≡ Some new) × IsTrue (goes (next new)) × TakesMemory new
-Runs old most end new =
-    (steps_between old new < most) × (after old (steps_between old new) ≡ Some new) × (next new ≡ Ends end)

@@ -1,6 +1,6 @@
 -- What a program is given when it starts.
 -- docs/reference/running.md says the same for people.
-use Rattle.std.specs.Prelude.{◌≡◌, ℕ, ◌*◌, ◌^◌, ◌≤◌, ◌==◌, false, ◌||◌, nat_le, nat_lt, not, if◌then◌else◌, IsTrue, Option, Some, None, List, length, All, Result, Ok, Err, sum_by, refl}
+use Rattle.std.specs.Prelude.{◌≡◌, ℕ, ◌*◌, ◌^◌, ◌≤◌, ◌==◌, Bool, ◌||◌, nat_le, nat_lt, not, if◌then◌else◌, IsTrue, Option, Some, None, List, length, All, Result, Ok, Err, sum_by, refl}
 use Rattle.std.specs.List.{list_any}
 use Rattle.std.specs.FinMap as map
 use Rattle.std.specs.Coded.{Coded, code_by, coded×, coded_ℕ, coded_list}
@@ -31,8 +31,11 @@ setting_code =
     (λ s. (s.args, (s.env, (s.files, s.heap)))) (λ p. record { args = p.0; env = p.1.0; files = p.1.1.0; heap = p.1.1.1 }) (λ _. refl)
 
 -- a text has no zero byte
+abbrev pub is_text : List ℕ → Bool
+is_text text = not (list_any (λ byte. byte == 0) text)
+
 abbrev pub IsText : List ℕ → Type 0
-IsText text = list_any (λ byte. byte == 0) text ≡ false
+IsText text = IsTrue (is_text text)
 
 -- the bytes of all files
 abbrev pub file_size : List ℕ × List ℕ → ℕ

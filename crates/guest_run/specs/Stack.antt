@@ -24,7 +24,7 @@ abbrev pub addresses : ℕ → List (List ℕ) → List ℕ
 addresses at [] = []
 addresses at (text ∷ texts) = at ∷ addresses (at + (length text + 1)) texts
 
--- how many words stand below the texts: the count, the addresses, and five zeros but one
+-- how many words stand below the texts: the count of arguments, all addresses, and four zeros
 abbrev pub word_count : List (List ℕ) → List (List ℕ) → ℕ
 word_count args env = 5 + length args + length env
 

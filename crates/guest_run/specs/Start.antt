@@ -10,7 +10,7 @@ use Rattle.elf_load.specs.declared.Image.{Image}
 use Rattle.elf_load.specs.declared.refusal.ElfRefusal.{ElfRefusal}
 use Rattle.elf_load.specs.Image.{image_of}
 use Rattle.guest_run.specs.declared.guest.StartRefusal.{StartRefusal}
-use Rattle.guest_run.specs.declared.guest.StartRefusal.TheVariants.{Elf, ArgsTooLong, BoxTooLarge, OutOfMemory}
+use Rattle.guest_run.specs.declared.guest.StartRefusal.TheVariants as answer
 use Rattle.guest_run.specs.Stack.{stack_bytes, stack_pointer, start_size}
 use Rattle.guest_run.specs.Placed.{with_segments, with_stack}
 use Rattle.guest_run.specs.Setting.{FileMap, Setting, files_size}
@@ -37,19 +37,27 @@ start_state program setting image = record {
   steps = 0;
 }
 
+-- why a program does not start
+pub data Refusal : Type 0 where
+  Elf : ElfRefusal → Refusal
+  ArgsTooLong : Refusal
+  BoxTooLarge : Refusal
+
 -- the refusals, in the order in which they are tried, or else the state
-abbrev pub started : List ℕ → Setting → Result Image ElfRefusal → Result GuestState StartRefusal
+abbrev pub started : List ℕ → Setting → Result Image ElfRefusal → Result GuestState Refusal
 started program setting (Err refusal) = Err (Elf refusal)
 started program setting (Ok image) =
     if nat_lt 131072 (start_size setting.args setting.env) then Err ArgsTooLong
     else (if nat_lt MAX_TOTAL (files_size setting.files) then Err BoxTooLarge
     else Ok (start_state program setting image))
 
-unfoldable pub start_of : List ℕ → Setting → Result GuestState StartRefusal
+unfoldable pub start_of : List ℕ → Setting → Result GuestState Refusal
 start_of program setting = started program setting (image_of program)
 
 -- what a start answers: the state or its refusal, or want of memory where it would have started
-abbrev pub Starts : Result GuestState StartRefusal → Result GuestState StartRefusal → Type 0
+abbrev pub Starts : Result GuestState Refusal → Result GuestState StartRefusal → Type 0
 Starts meant (Ok guest) = meant ≡ Ok guest
-Starts meant (Err OutOfMemory) = IsOk meant
-Starts meant (Err refusal) = meant ≡ Err refusal
+Starts meant (Err (answer.Elf refusal)) = meant ≡ Err (Elf refusal)
+Starts meant (Err answer.ArgsTooLong) = meant ≡ Err ArgsTooLong
+Starts meant (Err answer.BoxTooLarge) = meant ≡ Err BoxTooLarge
+Starts meant (Err answer.OutOfMemory) = IsOk meant

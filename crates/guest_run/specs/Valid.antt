@@ -4,6 +4,7 @@ use Rattle.std.specs.Prelude.{◌≡◌, ℕ, zero, suc, ◌+◌, ◌-◌, ◌*�
 use Rattle.std.specs.FinMap.{contains_key}
 use Rattle.paged_mem.specs.Memory.{Memory, maps}
 use Rattle.rv64_machine.specs.Hart.{IsHart}
+use Rattle.mem_files.specs.Sound.{IsSound}
 use Rattle.linux_calls.specs.declared.Heap.{Heap}
 use Rattle.linux_calls.specs.HeapOf.{IsHeapOf, page_end}
 use Rattle.guest_run.specs.Stack.{stack_end, stack_size}
@@ -29,7 +30,8 @@ pub record Fits (memory : Memory) (heap : Heap) : Type 0 where
   pub stack : maps memory (stack_end - stack_size) stack_size ≡ true
   pub few : pages_beside memory heap ≤ 67584
 
--- a valid state: a hart, and a memory that fits its heap
+-- a valid state: a hart, a memory that fits its heap, and files within their limits that fit together
 pub record IsValid (guest : GuestState) : Type 0 where
   pub hart : IsHart guest.hart
   pub fits : Fits guest.hart.memory guest.heap
+  pub files : IsSound guest.world

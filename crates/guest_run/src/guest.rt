@@ -6,7 +6,7 @@ ghost use Rattle.guest_run.specs.Start.{start_of, start_state, Starts};
 ghost use Rattle.guest_run.specs.Valid.{IsValid};
 ghost use Rattle.mem_files.specs.declared.TheConstants.{MAX_TOTAL as MOST_TOTAL};
 ghost use Rattle.paged_mem.specs.Memory.{bytes_at, maps};
-ghost use Rattle.std.specs.Prelude.{◌≡◌, ◌+◌, ◌^◌, ◌<◌, ◌≤◌, ◌≢◌, length, slice_index, unwrap_or, Ok, Err, IfErr, IfOk, OnOk};
+ghost use Rattle.std.specs.Prelude.{◌≡◌, ◌+◌, ◌^◌, ◌<◌, ◌≤◌, length, slice_index, unwrap_or, Ok, Err, IfErr, IfOk, OnOk};
 
 use crate::placing::{place_segments, place_stack};
 use crate::run::{RunEnd, run_parts};
@@ -15,6 +15,7 @@ use crate::stack;
 use ddc_base::OutOfMemory;
 use elf_load::{ElfRefusal, Image, read_image};
 use linux_calls::Heap;
+use mem_files::laws::files_are_sound;
 use mem_files::{Files, MAX_TOTAL};
 use paged_mem::Ram;
 use rv64_machine::Hart;
@@ -89,6 +90,7 @@ impl<R: Ram> Guest<R> {
         ensures valid { IsValid self.now }
     {
         let _pc = self.hart.pc();
+        files_are_sound(&self.files);
         self.steps
     }
 
@@ -156,7 +158,7 @@ fn judged(program: &[u8], setting: &RunBox) -> Result<Image, StartRefusal>
     ensures texts { OnOk result (start_size setting.now.args setting.now.env ≤ 131072) }
     ensures files { OnOk result (files_size setting.now.files ≤ MOST_TOTAL) }
     ensures state { IfOk result (λ image. start_of program.now setting.now ≡ Ok (start_state program.now setting.now image)) }
-    ensures refusal { IfErr result (λ refusal. (start_of program.now setting.now ≡ Err refusal) × (refusal ≢ StartRefusal.OutOfMemory)) }
+    ensures refusal { IfErr result (λ refusal. Starts (start_of program.now setting.now) (Err refusal)) }
 {
     let image = match read_image(program) {
         Ok(image) => image,

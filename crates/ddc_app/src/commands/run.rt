@@ -1,12 +1,13 @@
 ghost use Rattle.std.specs.Prelude.{◌≡◌, ◌≤◌, ◌<◌, ◌+◌, ◌^◌, ◌∷◌, IfOk, IfSome, IsTrue, map};
 ghost use Rattle.std.specs.List.{list_all};
 ghost use Rattle.ddc_base.specs.Outside.{IsFileName};
-ghost use Rattle.guest_run.specs.Setting.{IsText};
+ghost use Rattle.guest_run.specs.Setting.{is_text, IsText};
+ghost use Rattle.guest_run.specs.Run.{first_end};
 ghost use Rattle.guest_run.specs.Start.{start_of};
 ghost use Rattle.ddc_app.specs.declared.status.Status.TheVariants.{RunFailed};
 ghost use Rattle.ddc_app.specs.Performs.{Performs, Says};
 ghost use Rattle.ddc_app.specs.Plan.{answers};
-ghost use Rattle.ddc_app.specs.RunProgram.{is_text, setting_of, end_plan, ended_within, start_plan, status_of, run_file, run_words, run_plan};
+ghost use Rattle.ddc_app.specs.RunProgram.{setting_of, end_plan, start_plan, status_of, run_file, run_words, run_plan};
 
 use crate::answer::Answer;
 use crate::command::fetch;
@@ -90,11 +91,10 @@ fn start(
     let setting = box_of(alloc, name, args)?;
     match Guest::<RunRam>::start(alloc, program, &setting) {
         Ok(mut guest) => run_guest(alloc, &mut guest, most),
+        Err(StartRefusal::Elf(elf)) => failed(run_texts::not_loaded(alloc, elf.number())?),
+        Err(StartRefusal::ArgsTooLong) => failed(run_texts::not_started(alloc, "args")?),
+        Err(StartRefusal::BoxTooLarge) => failed(run_texts::not_started(alloc, "box")?),
         Err(StartRefusal::OutOfMemory) => Err(Stop::OutOfMemory),
-        Err(why) => Ok(Answer {
-            status: Status::RunFailed,
-            text: run_texts::not_started(alloc, why)?,
-        }),
     }
 }
 
@@ -117,20 +117,9 @@ fn box_of(alloc: Global, name: &str, args: &[&str]) -> Result<RunBox, OutOfMemor
 fn run_guest(alloc: Global, guest: &mut Guest<RunRam>, most: u64) -> Result<Answer, Stop>
     requires some { 1 ≤ most }
     requires few { guest.old.steps + most ≤ 2 ^ 48 }
-    ensures { Says (end_plan (ended_within guest.old most)) result }
+    ensures { Says (end_plan (first_end guest.old most) most) result }
 {
     let end = guest.run(most);
-    match end {
-        RunEnd::OutOfMemory => Err(Stop::OutOfMemory),
-        _ => answer(alloc, end, guest),
-    }
-}
-
-/// The answer to a run that ended.
-fn answer(alloc: Global, end: RunEnd, guest: &Guest<RunRam>) -> Result<Answer, Stop>
-    requires { guest.now.steps ≤ 2 ^ 48 }
-    ensures { Says (end_plan (end, guest.now)) result }
-{
     let steps = guest.steps();
     match end {
         RunEnd::Exited(status) => Ok(Answer {
@@ -139,7 +128,7 @@ fn answer(alloc: Global, end: RunEnd, guest: &Guest<RunRam>) -> Result<Answer, S
         }),
         RunEnd::Trapped(cause) => failed(run_texts::trapped(alloc, cause, steps + 1)?),
         RunEnd::UnknownCall(number) => failed(run_texts::called(alloc, number, steps + 1)?),
-        RunEnd::Spent => failed(run_texts::spent(alloc, steps)?),
+        RunEnd::Spent => failed(run_texts::spent(alloc, most)?),
         RunEnd::OutOfMemory => Err(Stop::OutOfMemory),
     }
 }

@@ -8,19 +8,19 @@ use Rattle.guest_run.proofs.guest.judged.Goals as goal
 
 pub returns-in-Err-clause-refusal : goal.returns-in-Err-clause-refusal
 returns-in-Err-clause-refusal c =
-    (no_program c.args.program.now c.args.setting.now c.in-Err.refusal (sym c.in-Err.ensures.value), λ same. cc)
+    no_program c.args.program.now c.args.setting.now c.in-Err.refusal (sym c.in-Err.ensures.value)
 
 pub returns-then-not-fits-clause-refusal : goal.returns-then-not-fits-clause-refusal
 returns-then-not-fits-clause-refusal c =
     let long : nat_le (start_size c.args.setting.now.args c.args.setting.now.env) 131072 ≡ false = cc in
-    (args_too_long c.args.program.now c.args.setting.now c.in-Ok.image (sym c.in-Ok.ensures.value) long, λ same. cc)
+    args_too_long c.args.program.now c.args.setting.now c.in-Ok.image (sym c.in-Ok.ensures.value) long
 
 pub returns-then-size-gt-MAX_TOTAL-clause-refusal : goal.returns-then-size-gt-MAX_TOTAL-clause-refusal
 returns-then-size-gt-MAX_TOTAL-clause-refusal c =
     let within : nat_le (start_size c.args.setting.now.args c.args.setting.now.env) 131072 ≡ true = cc in
     let size : c.size.result ≡ files_size c.args.setting.now.files = cc in
     let large : MAX_TOTAL < files_size c.args.setting.now.files = omega arith in
-    (box_too_large c.args.program.now c.args.setting.now c.in-Ok.image (sym c.in-Ok.ensures.value) (fits_if _ within) large, λ same. cc)
+    box_too_large c.args.program.now c.args.setting.now c.in-Ok.image (sym c.in-Ok.ensures.value) (fits_if _ within) large
 
 pub returns-clause-state : goal.returns-clause-state
 returns-clause-state c =

@@ -1,6 +1,6 @@
 use Rattle.std.proofs.Common.{◌≡◌, ◌+◌, arith}
 use Rattle.guest_run.specs.State.{guest_state}
-use Rattle.guest_run.proofs.Running.{after-none, after-on, ended}
+use Rattle.guest_run.proofs.Running.{after-none, after-on, ended, spent}
 use Rattle.guest_run.proofs.Stepping.{next-counted}
 use Rattle.guest_run.proofs.run.run_parts.Goals as goal
 
@@ -22,3 +22,6 @@ loop-taken-preserved g c =
       omega arith,
       c.in-None.ensures.kept,
     )
+
+pub returns : goal.returns
+returns g c = spent _ _ c.loop-taken.taken c.args.most (omega arith) c.loop-taken.invariant.0
