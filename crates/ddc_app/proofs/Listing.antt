@@ -4,7 +4,8 @@ use Rattle.std.proofs.lemmas.List.{drop-drop, drop_all, length-drop, append-nil}
 use Rattle.byteorder.specs.Endian.{little_number}
 use Rattle.hex.specs.Hex.{encode_lower}
 use Rattle.rv64_decode.specs.Decode.{decoded}
-use Rattle.ddc_app.specs.List.{hex_word, shown, word_line, rest_line, listing}
+use Rattle.ddc_app.specs.Texts.{hex_word}
+use Rattle.ddc_app.specs.List.{shown, word_line, rest_line, listing}
 
 -- a word's line from its parts
 pub word_line-parts : (text : List ℕ) (offset word : ℕ) → (((text ++ (hex_word offset ++ 32 ∷ [])) ++ (hex_word word ++ 32 ∷ [])) ++ shown offset (decoded word)) ++ 10 ∷ [] ≡ text ++ word_line offset word

@@ -1,7 +1,7 @@
 -- `list BINARY`: the file's words by offset, each with its value and its instruction. docs/reference/command-line.md says the same
 -- for people.
 use Rattle.std.specs.Prelude.{ℕ, ◌+◌, List, [], ◌∷◌, ◌++◌, Option, Some, None, codes, if◌then◌else◌}
-use Rattle.byteorder.specs.Endian.{little_number, big_bytes}
+use Rattle.byteorder.specs.Endian.{little_number}
 use Rattle.hex.specs.Hex.{encode_lower}
 use Rattle.ddc_base.specs.Lines.{line}
 use Rattle.rv64_decode.specs.declared.Inst.{Inst}
@@ -9,12 +9,9 @@ use Rattle.rv64_decode.specs.Decode.{decoded}
 use Rattle.rv64_decode.specs.Text.{text}
 use Rattle.ddc_app.specs.declared.status.Status.TheVariants.{Yes}
 use Rattle.ddc_app.specs.declared.words.TheConstants.{LIST_LIMIT}
+use Rattle.ddc_app.specs.Texts.{hex_word}
 use Rattle.ddc_app.specs.Words.{is_file_word, usage}
 use Rattle.ddc_app.specs.Plan.{Plan, answers, needs}
-
--- a number of 32 bits in eight hexadecimal digits
-abbrev pub hex_word : ℕ → List ℕ
-hex_word number = encode_lower (big_bytes 4 number)
 
 -- the instruction at an offset, or `?` for a word that is none
 abbrev pub shown : ℕ → Option Inst → List ℕ

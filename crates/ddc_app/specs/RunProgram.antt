@@ -4,7 +4,6 @@ use Rattle.std.specs.Prelude.{ℕ, ◌+◌, ◌^◌, ◌&&◌, nat_le, nat_lt, �
 use Rattle.std.specs.List.{flat_map, list_all}
 use Rattle.std.specs.Str.Parse.{digits_value}
 use Rattle.std.specs.FinMap as map
-use Rattle.byteorder.specs.Endian.{big_bytes}
 use Rattle.hex.specs.Hex.{encode_lower}
 use Rattle.sha2.specs.Sha256.{sha256}
 use Rattle.ddc_base.specs.Lines.{line}
@@ -20,6 +19,7 @@ use Rattle.guest_run.specs.Run.{End, Exited, Trapped, UnknownCall, first_end}
 use Rattle.ddc_app.specs.declared.status.Status.{Status}
 use Rattle.ddc_app.specs.declared.status.Status.TheVariants.{Yes, RunFailed}
 use Rattle.ddc_app.specs.declared.words.TheConstants.{FILE_LIMIT, MOST_STEPS, HEAP}
+use Rattle.ddc_app.specs.Texts.{hex_word, hex_address}
 use Rattle.ddc_app.specs.Words.{is_file_word, usage}
 use Rattle.ddc_app.specs.Plan.{Plan, answers, needs}
 
@@ -36,16 +36,9 @@ within_steps (Some steps) = if nat_le 1 steps && nat_le steps MOST_STEPS then So
 unfoldable pub as_steps : List ℕ → Option ℕ
 as_steps word = within_steps (as_decimal word)
 
--- a number of 64 bits in sixteen hexadecimal digits, and one of 32 bits in eight
-abbrev pub hex_address : ℕ → List ℕ
-hex_address address = encode_lower (big_bytes 8 address)
-
-abbrev pub hex_code : ℕ → List ℕ
-hex_code word = encode_lower (big_bytes 4 word)
-
 -- a trap in words
 abbrev pub trap_words : Cause → List (List ℕ)
-trap_words (cause.Illegal word) = codes "illegal" ∷ hex_code word ∷ []
+trap_words (cause.Illegal word) = codes "illegal" ∷ hex_word word ∷ []
 trap_words (cause.FetchUnmapped address) = codes "fetch-unmapped" ∷ hex_address address ∷ []
 trap_words (cause.FetchMisaligned address) = codes "fetch-misaligned" ∷ hex_address address ∷ []
 trap_words (cause.LoadUnmapped address) = codes "load-unmapped" ∷ hex_address address ∷ []

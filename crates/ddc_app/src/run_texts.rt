@@ -4,7 +4,8 @@ ghost use Rattle.std.specs.FinMap as map;
 ghost use Rattle.hex.specs.Hex.{encode_lower};
 ghost use Rattle.mem_files.specs.Names.{is_stripped_name};
 ghost use Rattle.mem_files.specs.Sound.{IsSound};
-ghost use Rattle.ddc_app.specs.RunProgram.{trap_words, failed_line, stream_line, left_line, left_lines, exited_line, exited_text, hex_address, hex_code};
+ghost use Rattle.ddc_app.specs.Texts.{hex_word, hex_address};
+ghost use Rattle.ddc_app.specs.RunProgram.{trap_words, failed_line, stream_line, left_line, left_lines, exited_line, exited_text};
 
 use byteorder::{BigEndian, ByteOrder};
 use ddc_base::{Bytes, OutOfMemory, digest};
@@ -62,7 +63,7 @@ fn address_text(alloc: Global, address: u64) -> Result<String, OutOfMemory>
 
 /// A word in eight hexadecimal digits.
 fn code_text(alloc: Global, word: u32) -> Result<String, OutOfMemory>
-    ensures { IfOk result (λ text. string_bytes text ≡ hex_code word) }
+    ensures { IfOk result (λ text. string_bytes text ≡ hex_word word) }
 {
     let mut bytes = [0; 4];
     BigEndian::write_u32(&mut bytes, word);
@@ -80,7 +81,7 @@ fn failed_at(alloc: Global, name: &str, address: u64, step: u64) -> Result<Bytes
 
 /// A trap at a word that is no instruction.
 fn illegal(alloc: Global, word: u32, step: u64) -> Result<Bytes, OutOfMemory>
-    ensures { IfOk result (λ text. text ≡ failed_line (codes "trap" ∷ codes "illegal" ∷ hex_code word ∷ []) step) }
+    ensures { IfOk result (λ text. text ≡ failed_line (codes "trap" ∷ codes "illegal" ∷ hex_word word ∷ []) step) }
 {
     let word = code_text(alloc, word)?;
     let text = failed_with(alloc, "trap", "illegal", word.as_str(), step)?;

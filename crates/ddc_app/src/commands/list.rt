@@ -6,7 +6,8 @@ ghost use Rattle.ddc_base.specs.Outside.{IsFileName};
 ghost use Rattle.ddc_app.specs.declared.status.Status.TheVariants.{Yes};
 ghost use Rattle.ddc_app.specs.Performs.{Performs, Says};
 ghost use Rattle.ddc_app.specs.Plan.{answers};
-ghost use Rattle.ddc_app.specs.List.{hex_word, shown, word_line, rest_line, listing, list_file, list_plan};
+ghost use Rattle.ddc_app.specs.Texts.{hex_word};
+ghost use Rattle.ddc_app.specs.List.{shown, word_line, rest_line, listing, list_file, list_plan};
 
 use crate::answer::Answer;
 use crate::command;
