@@ -77,10 +77,14 @@ fn runs_programs(rt: HostRuntime) -> Result<(), Fail> {
     assert!(rt; run_of(alloc, &altered(120, 0), 9)? == (RunEnd::Trapped(Cause::Illegal(0)), 0));
     laws::steps_in_parts();
     laws::one_end();
+    laws::first_end_is_at_a_step();
+    laws::first_end_is_found();
+    laws::steps_go_on_without_an_end();
     laws::steps_are_counted();
     laws::runs_join();
     laws::an_end_stays();
     laws::steps_keep_validity();
+    laws::steps_keep_files_sound();
     Ok(())
 }
 
@@ -109,6 +113,26 @@ fn starts_with_an_argument_and_a_file(rt: HostRuntime) -> Result<(), Fail> {
     assert!(rt; guest.files().name_after(None) == Some(b"a".as_slice()));
     assert!(rt; guest.run(3) == RunEnd::Exited(0));
     assert!(rt; guest.run(3) == RunEnd::Exited(0));
+    Ok(())
+}
+
+/// The texts `x` and `A=1` take 6 bytes, the seven words 56; so x2 is 2^38 less 62, rounded down to 16.
+#[test]
+fn starts_with_an_environment_text(rt: HostRuntime) -> Result<(), Fail> {
+    let alloc = rt.alloc();
+    let mut setting = RunBox::new(alloc, 4_096);
+    setting.push_arg(b"x")?;
+    setting.push_env(b"A=1")?;
+    let Ok(guest) = Guest::<RunRam>::start(alloc, &EXIT, &setting) else {
+        return Err("no start".into());
+    };
+    assert_eq!(rt; guest.reg(2), 0x3f_ffff_ffc0);
+    let mut word = [0u8; 8];
+    assert!(rt; guest.peek(0x3f_ffff_ffd8, &mut word));
+    assert!(rt; word == [0xfc, 0xff, 0xff, 0xff, 0x3f, 0, 0, 0]);
+    let mut text = [0xffu8; 4];
+    assert!(rt; guest.peek(0x3f_ffff_fffc, &mut text));
+    assert!(rt; text == [0x41, 0x3d, 0x31, 0]);
     Ok(())
 }
 
