@@ -1,5 +1,5 @@
 -- Numbers of some bytes, lowest first: as they stand in a list, and as `to_le_bytes` gives them.
-use Rattle.std.proofs.Common.{◌≡◌, ℕ, zero, suc, ◌+◌, ◌*◌, ◌/◌, ◌%◌, ◌^◌, ◌≤◌, List, ◌∷◌, length, get_or, take, drop, refl, sym, ap, ◌∙◌, arith, ◌-◌}
+use Rattle.std.proofs.Common.{◌≡◌, ℕ, zero, suc, ◌+◌, ◌*◌, ◌/◌, ◌%◌, ◌^◌, ◌<◌, ◌≤◌, List, ◌∷◌, length, get_or, take, drop, refl, sym, ap, ◌∙◌, arith, ◌-◌}
 use Rattle.std.proofs.Math.Seq.{drop-cons}
 use Rattle.std.specs.Int.{bytes_low_first, byte_at, to_le_bytes, w64}
 use Rattle.std.proofs.Math.Nat.{pow-suc, div-div-eq-div-mul, suc-add}
@@ -39,10 +39,20 @@ take-to_le_bytes count value le =
     let whole : value / 256 ^ 0 ≡ value = omega arith in
     ap (λ n. take count (bytes_low_first 0 n value)) (sym all) ∙ take-low_first 0 count (8 - count) value ∙ low_first-bytes_of 0 count value ∙ ap (bytes_of count) whole
 
+-- all eight of them
+pub all-to_le_bytes : (value : ℕ) → to_le_bytes w64 value ≡ bytes_of 8 value
+all-to_le_bytes value = let whole : value / 256 ^ 0 ≡ value = omega arith in low_first-bytes_of 0 8 value ∙ ap (bytes_of 8) whole
+
 pub length-bytes_of : (count value : ℕ) → length (bytes_of count value) ≡ count
 unfolding bytes_of
 length-bytes_of zero value = refl
 length-bytes_of (suc count) value = ap suc (length-bytes_of count (value / 256))
+
+pub bytes_of-small : (count value i : ℕ) → get_or (bytes_of count value) i 0 < 256
+unfolding bytes_of
+bytes_of-small zero value i = omega arith
+bytes_of-small (suc count) value zero = omega arith
+bytes_of-small (suc count) value (suc i) = bytes_of-small count (value / 256) i
 
 pub count_of_at_most : (width : Width) → count_of width ≤ 8
 count_of_at_most W1 = omega arith

@@ -1,7 +1,7 @@
 -- What the memory of rising pages answers at an address, by the place of its page.
-use Rattle.std.proofs.Common.{◌≡◌, ◌≢◌, ℕ, zero, suc, ◌+◌, ◌-◌, ◌^◌, ◌<◌, ◌≤◌, Option, None, Some, IsSome, add-zero, List, [], ◌∷◌, length, get_or, refl, sym, ap, ◌∙◌, arith, ◌⊎◌, inl, inr}
+use Rattle.std.proofs.Common.{◌≡◌, ◌≢◌, ℕ, zero, suc, ◌+◌, ◌-◌, ◌^◌, ◌<◌, ◌≤◌, Option, None, Some, IsSome, add-zero, List, [], ◌∷◌, length, get_or, refl, sym, ap, ◌∙◌, arith, ◌⊎◌, inl, inr, Bool, true, false, ◌&&◌, ◌==◌, nat_lt}
 use Rattle.std.specs.Option.{option_map}
-use Rattle.std.proofs.lemmas.Bool.{cases_eq, cases_order}
+use Rattle.std.proofs.lemmas.Bool.{cases_eq, cases_order, and_parts, and_from, ltb-true, lt-ltb, eqb-true, eq-eqb, false≢true}
 use Rattle.paged_mem.specs.Flat.{place, Rises, IsLow, IsRank}
 use Rattle.paged_mem.specs.Held.{place_here, place_later, place-some}
 
@@ -44,6 +44,19 @@ place-rank pages number rank rising is ne = place-none pages number (λ k within
     apart k within e (inl same) = ne (omega arith) (ap (λ k. get_or pages k 0) (sym same) ∙ e)
     apart k within e (inr (inl below)) = omega (arith, is.below k below)
     apart k within e (inr (inr above)) = omega (arith, rising rank k above within, is.above rank (omega arith) (omega arith))
+
+-- by the test of one index: it holds at the place of the page, and nowhere where it fails at the rank
+abbrev pub is_at : List ℕ → ℕ → ℕ → Bool
+is_at pages index number = nat_lt index (length pages) && get_or pages index 0 == number
+
+pub place-tested : (pages : List ℕ) → Rises pages → (number index : ℕ) (test : Bool) → test ≡ is_at pages index number → test ≡ true → place pages number ≡ Some index
+place-tested pages rising number index test is holds =
+    let both = and_parts (nat_lt index (length pages)) (get_or pages index 0 == number) (sym is ∙ holds) in
+    place-at pages rising number index (ltb-true _ _ both.0) (eqb-true _ _ both.1)
+
+pub place-untested : (pages : List ℕ) → Rises pages → (number rank : ℕ) (test : Bool) → test ≡ is_at pages rank number → IsRank pages number rank → test ≡ false → place pages number ≡ None
+place-untested pages rising number rank test is at fails =
+    place-rank pages number rank rising at (λ within same. false≢true (sym fails ∙ is ∙ and_from _ _ (lt-ltb _ _ within) (eq-eqb _ _ same)))
 
 -- from one page to a later one the number rises at least as much as the place
 pub rising_by : (pages : List ℕ) → Rises pages → (i more : ℕ) → i + more < length pages → get_or pages i 0 + more ≤ get_or pages (i + more) 0

@@ -55,6 +55,15 @@ get_or-overwritten_other bytes start source i within (inr above) = search (rules
 pub length-overwritten : (bytes : List ℕ) (start : ℕ) (source : List ℕ) → start + length source ≤ length bytes → length (overwritten bytes start source) ≡ length bytes
 length-overwritten bytes start source within = search (rules, places)
 
+-- bytes that are written over bytes leave bytes
+pub small-overwritten : (bytes : List ℕ) (start : ℕ) (source : List ℕ) → start + length source ≤ length bytes → ((i : ℕ) → get_or bytes i 0 < 256) → ((i : ℕ) → get_or source i 0 < 256) → (i : ℕ) → get_or (overwritten bytes start source) i 0 < 256
+small-overwritten bytes start source within old new i = place (cases_lt i start) (cases_lt i (start + length source))
+  where
+    place : (i < start) ⊎ (start ≤ i) → (i < start + length source) ⊎ (start + length source ≤ i) → get_or (overwritten bytes start source) i 0 < 256
+    place (inl below) _ = omega (arith, get_or-overwritten_other bytes start source i within (inl below), old i)
+    place (inr from) (inl to) = omega (arith, get_or-overwritten bytes start source i within from to, new (i - start))
+    place (inr from) (inr above) = omega (arith, get_or-overwritten_other bytes start source i within (inr above), old i)
+
 -- to write over a span is to write from its first address on
 pub memory_of-overwritten : (pages bytes : List ℕ) → length bytes ≡ 4096 * length pages → (at start : ℕ) (source : List ℕ) → Spans pages at (length source) (Some start) → memory_of pages (overwritten bytes start source) ≡ with_bytes (memory_of pages bytes) at source
 memory_of-overwritten pages bytes full at start source span =

@@ -4,7 +4,7 @@ ghost use Rattle.paged_mem.specs.Flat.{IsSound};
 ghost use Rattle.paged_mem.specs.Held.{IsSound-prop};
 
 use crate::mapping::{map_pages, unmap_pages};
-use crate::pages::{fill, number, put, row_from, span};
+use crate::pages::{fill, number, put, put_number, row_from, span};
 use crate::ram::{PageView, Ram, StoreRefusal, Width};
 use ddc_base::OutOfMemory;
 use std::alloc::Global;
@@ -12,7 +12,8 @@ use std::marker::Model;
 
 /// A guest's memory in one vector: the mapped page numbers, ascending, and the bytes of all those pages in that order.
 ///
-/// A look-up is a binary search on page numbers, with a first guess for pages in a row from the first one on.
+/// A look-up is a binary search on page numbers, after a guess each for pages in a row from the first one on, as a program's are, and up
+/// to the last one, as the stack's are.
 #[derive(Drop)]
 pub struct FlatRam {
     pages: Vec<u64>,
@@ -55,8 +56,13 @@ impl Ram for FlatRam {
         ensures stores { Stores self.old.bytes at (count_of width) value result self.new.bytes }
         ensures needs_no_memory { result ≢ Err StoreRefusal.OutOfMemory }
     {
-        let low = value.to_le_bytes();
-        self.write_from(at, &low[..width.count() as usize])
+        match span(&self.pages, at, width.count()) {
+            None => Err(StoreRefusal::Unmapped),
+            Some(start) => {
+                put_number(&mut self.bytes, start, width, value);
+                Ok(())
+            }
+        }
     }
 
     fn mapped(&self, at: u64, count: u64) -> bool {

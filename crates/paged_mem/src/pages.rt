@@ -1,6 +1,7 @@
-ghost use Rattle.std.specs.Prelude.{◌≡◌, ℕ, ◌+◌, ◌*◌, ◌^◌, ◌<◌, ◌≤◌, length, take, drop};
+ghost use Rattle.std.specs.Prelude.{◌≡◌, ℕ, ◌+◌, ◌*◌, ◌^◌, ◌<◌, ◌≤◌, ◌==◌, ◌&&◌, nat_lt, length, slice_index, take, drop};
 ghost use Rattle.std.specs.Vec.{vec_len};
 ghost use Rattle.paged_mem.specs.Flat.{Rises, IsLow, IsRank, IsRow, Spans, place, number_at, overwritten};
+ghost use Rattle.paged_mem.specs.Memory.{bytes_of};
 ghost use Rattle.paged_mem.specs.Ram.{count_of};
 
 use crate::ram::Width;
@@ -16,23 +17,36 @@ pub fn rank(pages: &[u64], number: u64) -> usize
     }
 }
 
-/// Which of the pages has this number. Pages in a row from the first one on are found at once.
+/// Which of the pages has this number. Pages in a row from the first one on, or up to the last one, are found at once.
 pub fn find(pages: &[u64], number: u64) -> Option<usize>
     requires { Rises pages.now }
     ensures { result ≡ place pages.now number }
 {
-    if !pages.is_empty() && pages[0] <= number {
-        let guess = number - pages[0];
-        if guess < pages.len() as u64 && pages[guess as usize] == number {
-            return Some(guess as usize);
-        }
+    if pages.is_empty() {
+        return None;
+    }
+    let last = pages.len() - 1;
+    let ahead = number.wrapping_sub(pages[0]) as usize;
+    if is_at(pages, ahead, number) {
+        return Some(ahead);
+    }
+    let behind = last.wrapping_sub(pages[last].wrapping_sub(number) as usize);
+    if is_at(pages, behind, number) {
+        return Some(behind);
     }
     let rank = rank(pages, number);
-    if rank < pages.len() && pages[rank] == number {
+    if is_at(pages, rank, number) {
         Some(rank)
     } else {
         None
     }
+}
+
+/// Whether the page at an index has this number.
+fn is_at(pages: &[u64], index: usize, number: u64) -> bool
+    ensures { result ≡ (nat_lt index (length pages.now) && slice_index pages.now index == number) }
+{
+    index < pages.len() && pages[index] == number
 }
 
 /// Where the bytes of `count` addresses from `at` on begin, if all of them are on these pages.
@@ -65,6 +79,21 @@ pub fn put(bytes: &mut Vec<u8>, start: usize, source: &[u8])
     ensures { bytes.new.items ≡ overwritten bytes.old.items start source.now }
 {
     bytes[start..start + source.len()].copy_from_slice(source);
+}
+
+/// Writes the low bytes of a number, as many as an access of this width has, lowest first, from an index on.
+pub fn put_number(bytes: &mut Vec<u8>, start: usize, width: Width, value: u64)
+    requires { start + count_of width ≤ vec_len bytes.old }
+    ensures { bytes.new.items ≡ overwritten bytes.old.items start (bytes_of (count_of width) value) }
+{
+    // Slices of a fixed length are written by one store.
+    let low = value.to_le_bytes();
+    match width {
+        Width::W1 => put(bytes, start, &low[..1]),
+        Width::W2 => put(bytes, start, &low[..2]),
+        Width::W4 => put(bytes, start, &low[..4]),
+        Width::W8 => put(bytes, start, &low),
+    }
 }
 
 /// Fills `out` with the bytes from an index on.

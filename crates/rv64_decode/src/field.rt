@@ -67,6 +67,7 @@ pub fn has_rs2(form: Form) -> bool
 }
 
 /// The immediate of a word of a form, 0 where the form has none.
+#[inline(always)]
 pub fn immediate(form: Form, word: u32) -> i64
     ensures { result ≡ fields.immediate form word }
 {

@@ -9,6 +9,7 @@ use crate::field::{has_rd, has_rs1, has_rs2, immediate, register};
 use rv64_table::row_of;
 
 /// The instruction of a word: its operation and its fields, 0 where its form has none. None where the word has no row.
+#[inline(always)]
 pub fn decode(word: u32) -> Option<Inst>
     ensures value { result ≡ decoded word }
     ensures rd { IfSome result (λ inst. inst.rd < 32) }

@@ -33,6 +33,7 @@ const OPCODE_OP_IMM_32: u32 = 0x1B;
 const OPCODE_OP_32: u32 = 0x3B;
 
 /// The operation whose row has these bits: `word & mask == want`. None where the word has no row.
+#[inline(always)]
 pub fn row_of(word: u32) -> Option<Op>
     ensures { result ≡ option_map (λ r. r.op) (row_for word) }
 {

@@ -1,18 +1,19 @@
-use Rattle.std.proofs.Common.{sym, arith}
-use Rattle.paged_mem.proofs.Places.{place-at, place-rank}
+use Rattle.std.proofs.Common.{sym, ◌∙◌, length, arith}
+use Rattle.paged_mem.proofs.Places.{place-none, place-tested, place-untested}
+use Rattle.std.proofs.lemmas.Bool.{eqb-true}
 use Rattle.paged_mem.proofs.pages.find.Goals as goal
-use Rattle.paged_mem.proofs.pages.find.Goals.{else-rank-pages-via-then-rank-pages+else-pages-rank, else-rank-pages-via-else-rank-pages}
 
-pub returns-then-pages-guess : goal.returns-then-pages-guess
-returns-then-pages-guess c = sym (place-at c.args.pages.now c.requires c.args.number _ c.if-guess-pages.true c.if-pages-guess.true)
+pub returns-then-is_empty : goal.returns-then-is_empty
+returns-then-is_empty c = sym (place-none c.args.pages.now c.args.number (λ k within. absurd (omega (arith, eqb-true (length c.args.pages.now) 0 (sym c.is_empty.ensures ∙ c.if-is_empty.true)))))
 
-pub returns-then-pages-rank : goal.returns-then-pages-rank
-returns-then-pages-rank c = sym (place-at c.args.pages.now c.requires c.args.number _ c.if-rank-pages.true c.if-pages-rank.true)
+pub returns-then-is_at : goal.returns-then-is_at
+returns-then-is_at c = sym (place-tested c.args.pages.now c.requires c.args.number _ c.is_at.result c.is_at.ensures c.if-is_at.true)
 
-pub returns-else-rank-pages : goal.returns-else-rank-pages
-returns-else-rank-pages c =
-    sym (place-rank c.args.pages.now c.args.number c.rank-rank.result c.requires c.rank-rank.ensures
-    (λ within same. elim c.else-rank-pages.branch [
-      | else-rank-pages-via-then-rank-pages+else-pages-rank w ↦ w.if-pages-rank.false same
-      | else-rank-pages-via-else-rank-pages w ↦ omega arith
-    ]))
+pub returns-then-is_at-2 : goal.returns-then-is_at-2
+returns-then-is_at-2 c = sym (place-tested c.args.pages.now c.requires c.args.number _ c.is_at-2.result c.is_at-2.ensures c.if-is_at-2.true)
+
+pub returns-then-is_at-3 : goal.returns-then-is_at-3
+returns-then-is_at-3 c = sym (place-tested c.args.pages.now c.requires c.args.number _ c.is_at-3.result c.is_at-3.ensures c.if-is_at-3.true)
+
+pub returns-else-is_at-3 : goal.returns-else-is_at-3
+returns-else-is_at-3 c = sym (place-untested c.args.pages.now c.requires c.args.number _ c.is_at-3.result c.is_at-3.ensures c.rank-rank.ensures c.if-is_at-3.false)
