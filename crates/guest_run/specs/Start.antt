@@ -43,7 +43,7 @@ pub data Refusal : Type 0 where
   ArgsTooLong : Refusal
   BoxTooLarge : Refusal
 
--- the refusals, in the order in which they are tried, or else the state
+-- the refusals, in the order in which they are tried, or else the state; 131,072 bytes are ARG_MAX of Linux (uapi/linux/limits.h)
 abbrev pub started : List ℕ → Setting → Result Image ElfRefusal → Result GuestState Refusal
 started program setting (Err refusal) = Err (Elf refusal)
 started program setting (Ok image) =

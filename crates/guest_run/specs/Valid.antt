@@ -24,7 +24,7 @@ unfoldable pub pages_beside : Memory → Heap → ℕ
 pages_beside memory heap =
     count_by (λ page. contains_key memory (4096 * page) && is_beside_heap heap (4096 * page)) (pages_from 0 (2 ^ 26))
 
--- memory and heap fit together, the stack is mapped, and segments and stack together are small
+-- memory and heap fit together, the stack is mapped, and segments and stack have at most 65,536 and 2,048 pages, 67,584 together
 pub record Fits (memory : Memory) (heap : Heap) : Type 0 where
   pub heap_of : IsHeapOf memory heap
   pub stack : maps memory (stack_end - stack_size) stack_size ≡ true
