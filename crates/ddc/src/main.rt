@@ -38,5 +38,5 @@ fn run_on_host(rt: &HostRuntime) -> Result<Status, OutOfMemory> {
 
 fn main(rt: HostRuntime) -> ExitCode {
     let status = run_on_host(&rt).unwrap_or(Status::OutOfMemory);
-    ExitCode::from(status as u8)
+    ExitCode::from(status.number())
 }

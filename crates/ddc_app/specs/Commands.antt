@@ -1,10 +1,10 @@
 -- The commands by their first word. docs/reference/command-line.md says the same for people.
 use Rattle.std.specs.Prelude.{ℕ, List, [], ◌∷◌, bytes_eq, codes, if◌then◌else◌}
-use Rattle.ddc_app.specs.Plan.{Plan}
-use Rattle.ddc_app.specs.Words.{usage}
-use Rattle.ddc_app.specs.Hex0.{hex0_plan}
-use Rattle.ddc_app.specs.List.{list_plan}
-use Rattle.ddc_app.specs.RunProgram.{run_plan}
+use Rattle.command_plan.specs.Plan.{Plan}
+use Rattle.command_plan.specs.Words.{usage}
+use Rattle.language_commands.specs.Hex0.{hex0_plan}
+use Rattle.machine_commands.specs.List.{list_plan}
+use Rattle.machine_commands.specs.RunProgram.{run_plan}
 
 -- what a command line does
 abbrev pub plan_of : List (List ℕ) → Plan

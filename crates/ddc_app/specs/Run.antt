@@ -3,12 +3,12 @@ use Rattle.std.specs.Prelude.{◌≡◌, ℕ, ◌⊎◌, IsSomeAnd, List, ◌++�
 use Rattle.std.specs.Bool.{OnTrue}
 use Rattle.std.specs.Borrow.{Bor}
 use Rattle.ddc_base.specs.Outside.{ShelfState, SinkState, Takes, TakesFront}
-use Rattle.ddc_app.specs.declared.status.Status.{Status}
-use Rattle.ddc_app.specs.declared.status.Status.TheVariants.{OutFault, OutOfMemory}
-use Rattle.ddc_app.specs.Plan.{Plan, Outcome, outcome}
+use Rattle.command_plan.specs.declared.status.Status.{Status}
+use Rattle.command_plan.specs.declared.status.Status.TheVariants.{OutFault, OutOfMemory}
+use Rattle.command_plan.specs.Plan.{Plan, Outcome, outcome}
 use Rattle.ddc_app.specs.Commands.{plan_of}
-use Rattle.ddc_app.specs.Performs.{IsFaultIn, IsSettled, LosesSave}
-use Rattle.ddc_app.specs.Texts.{shelf_fault_line}
+use Rattle.command_plan.specs.Performs.{IsFaultIn, IsSettled, LosesSave}
+use Rattle.command_plan.specs.Texts.{shelf_fault_line}
 
 -- what these words ask for
 abbrev pub asked : List (Bor (List ℕ)) → Plan

@@ -1,15 +1,13 @@
 ghost use Rattle.std.specs.Prelude.{◌≡◌, ◌≤◌, ◌⊎◌, IsTrue};
 ghost use Rattle.ddc_base.specs.Outside.{Rose};
-ghost use Rattle.ddc_app.specs.Answered.{is_answer};
-ghost use Rattle.ddc_app.specs.Performs.{Performs};
+ghost use Rattle.command_plan.specs.Answered.{is_answer};
+ghost use Rattle.command_plan.specs.Performs.{Performs};
 ghost use Rattle.ddc_app.specs.Run.{asked, due, IsDue, PutEnds, Grows, GrowsByFront, NamesFault, NamesFaultByFront, MadeFault, LeavesFiles};
 
-use crate::answer::Answer;
-use crate::command;
-use crate::commands::{hex0, list, run};
-use crate::status::Status;
-use crate::stop::Stop;
+use command_plan::{Answer, Status, Stop, usage};
 use ddc_base::{PutFail, Shelf, Sink};
+use language_commands::hex0;
+use machine_commands::{list, run};
 use std::alloc::Global;
 
 /// Everything that the program does: it takes the words of the command line, without the program's own name, and answers the
@@ -60,18 +58,18 @@ pub fn run<S: Shelf, K: Sink>(alloc: Global, words: &[&str], shelf: &mut S, out:
 }
 
 /// Hands over to the command that the first word names.
-#[tactic(auto, using(crate::proofs::Performing::performing))]
+#[tactic(auto, using(command_plan::proofs::Performing::performing))]
 fn perform<S: Shelf>(alloc: Global, words: &[&str], shelf: &mut S) -> Result<Answer, Stop>
     ensures { Performs (asked words.now) (S.state shelf.old) (S.state shelf.new) result }
 {
     let Some((first, words)) = words.split_first() else {
-        return command::usage(alloc);
+        return usage(alloc);
     };
     match *first {
         "hex0" => hex0::perform(alloc, words, shelf),
         "list" => list::perform(alloc, words, shelf),
         "run" => run::perform(alloc, words, shelf),
-        _ => command::usage(alloc),
+        _ => usage(alloc),
     }
 }
 

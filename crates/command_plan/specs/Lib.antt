@@ -1,0 +1,5 @@
+pub mod Answered
+pub mod Texts
+pub mod Plan
+pub mod Words
+pub mod Performs

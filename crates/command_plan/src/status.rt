@@ -1,0 +1,32 @@
+ghost use Rattle.std.specs.Prelude.{◌≡◌};
+ghost use Rattle.command_plan.specs.Answered.{number_of};
+
+/// How a call ended. docs/reference/command-line.md says when each comes.
+#[derive(Clone, Copy, Debug, PartialEq, Eq)]
+pub enum Status {
+    /// The question is answered with yes, or the work is done.
+    Yes = 0,
+    /// The words are no command line of ddc.
+    Usage = 2,
+    /// The two sides of a comparison differ.
+    Differs = 3,
+    /// A program was not started, or did not exit with 0.
+    RunFailed = 6,
+    /// A needed file is not held, or has more bytes than are allowed.
+    FileRefused = 10,
+    /// The shelf failed in this call.
+    ShelfFault = 11,
+    /// The sink failed in this call.
+    OutFault = 12,
+    /// There was not enough memory.
+    OutOfMemory = 13,
+}
+
+impl Status {
+    /// The exit status of a program that ends so.
+    pub fn number(self) -> u8
+        ensures { result ≡ number_of self }
+    {
+        self as u8
+    }
+}

@@ -1,5 +1,0 @@
-pub mod Performing
-pub mod Listing
-pub mod RunWords
-pub mod LeftNames
-pub mod Arguments

@@ -1,0 +1,23 @@
+-- `hex0 SOURCE BINARY`: whether the binary is the hex0 value of the source. docs/reference/command-line.md says the same for people.
+use Rattle.std.specs.Prelude.{ℕ, ◌&&◌, Option, Some, None, List, [], ◌∷◌, length, if◌then◌else◌}
+use Rattle.ddc_base.specs.Difference.{first_difference}
+use Rattle.hex_langs.specs.Hex0.{hex0_of}
+use Rattle.command_plan.specs.declared.status.Status.TheVariants.{Yes, Differs}
+use Rattle.command_plan.specs.Texts.{equal_line, differs_line}
+use Rattle.command_plan.specs.Words.{is_file_word, usage}
+use Rattle.command_plan.specs.Plan.{Plan, answers, needs}
+
+-- how two byte lists compare: the first offset at which they differ, if there is one
+abbrev pub comparison : List ℕ → List ℕ → Option ℕ → Plan
+comparison first second None = answers Yes (equal_line (length first))
+comparison first second (Some offset) = answers Differs (differs_line offset (length first) (length second))
+
+-- the source and then the binary are needed, each of at most 268,435,456 bytes, and the source's value is compared with the binary
+unfoldable pub hex0_files : List ℕ → List ℕ → Plan
+hex0_files source binary =
+    needs source 268_435_456 (λ text. needs binary 268_435_456 (λ bytes. comparison (hex0_of text) bytes (first_difference (hex0_of text) bytes)))
+
+-- the words after `hex0`
+abbrev pub hex0_plan : List (List ℕ) → Plan
+hex0_plan (source ∷ binary ∷ []) = if is_file_word source && is_file_word binary then hex0_files source binary else usage
+hex0_plan _ = usage

@@ -1,0 +1,6 @@
+//! The commands of the languages of a chain.
+//!
+//! Their rules for people: docs/reference/command-line.md.
+#![tactic(auto)]
+
+pub mod hex0;

@@ -1,0 +1,4 @@
+pub mod Listing
+pub mod RunWords
+pub mod LeftNames
+pub mod Arguments

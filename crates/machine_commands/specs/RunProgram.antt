@@ -1,0 +1,113 @@
+-- `run PROGRAM STEPS ARG..`: how a program's run ends within so many steps, and what it leaves. docs/reference/command-line.md says the
+-- same for people.
+use Rattle.std.specs.Prelude.{ℕ, ◌+◌, ◌^◌, ◌&&◌, nat_le, nat_lt, ◌==◌, Option, Some, None, Result, Ok, Err, List, [], ◌∷◌, ◌++◌, length, unwrap_or, codes, decimal, bytes_eq, if◌then◌else◌}
+use Rattle.std.specs.List.{flat_map, list_all}
+use Rattle.std.specs.Str.Parse.{digits_value}
+use Rattle.std.specs.FinMap as map
+use Rattle.hex.specs.Hex.{encode_lower}
+use Rattle.sha2.specs.Sha256.{sha256}
+use Rattle.ddc_base.specs.Lines.{line}
+use Rattle.elf_load.specs.Refusal.{number_of}
+use Rattle.rv64_machine.specs.declared.answer.Cause.{Cause}
+use Rattle.rv64_machine.specs.declared.answer.Cause.TheVariants as cause
+use Rattle.mem_files.specs.World.{World}
+use Rattle.mem_files.specs.Calls.{content_at}
+use Rattle.guest_run.specs.Setting.{Setting, is_text}
+use Rattle.guest_run.specs.State.{GuestState}
+use Rattle.guest_run.specs.Start.{Refusal, Elf, ArgsTooLong, BoxTooLarge, start_of}
+use Rattle.guest_run.specs.Run.{End, Exited, Trapped, UnknownCall, first_end}
+use Rattle.command_plan.specs.declared.status.Status.{Status}
+use Rattle.command_plan.specs.declared.status.Status.TheVariants.{Yes, RunFailed}
+use Rattle.machine_commands.specs.Texts.{hex_word, hex_address}
+use Rattle.command_plan.specs.Words.{is_file_word, usage}
+use Rattle.command_plan.specs.Plan.{Plan, answers, needs}
+
+-- the number below 2 ^ 64 whose decimal digits a word is
+abbrev pub as_decimal : List ℕ → Option ℕ
+as_decimal word =
+    if bytes_eq word (decimal (digits_value 10 word)) && nat_lt (digits_value 10 word) (2 ^ 64) then Some (digits_value 10 word) else None
+
+-- a number of steps, from 1 to 2 ^ 48
+abbrev pub within_steps : Option ℕ → Option ℕ
+within_steps None = None
+within_steps (Some steps) = if nat_le 1 steps && nat_le steps (2 ^ 48) then Some steps else None
+
+unfoldable pub as_steps : List ℕ → Option ℕ
+as_steps word = within_steps (as_decimal word)
+
+-- a trap in words
+abbrev pub trap_words : Cause → List (List ℕ)
+trap_words (cause.Illegal word) = codes "illegal" ∷ hex_word word ∷ []
+trap_words (cause.FetchUnmapped address) = codes "fetch-unmapped" ∷ hex_address address ∷ []
+trap_words (cause.FetchMisaligned address) = codes "fetch-misaligned" ∷ hex_address address ∷ []
+trap_words (cause.LoadUnmapped address) = codes "load-unmapped" ∷ hex_address address ∷ []
+trap_words (cause.StoreUnmapped address) = codes "store-unmapped" ∷ hex_address address ∷ []
+trap_words cause.Break = codes "break" ∷ []
+
+-- a refused start in words
+abbrev pub refusal_words : Refusal → List (List ℕ)
+refusal_words (Elf elf) = codes "elf" ∷ decimal (number_of elf) ∷ []
+refusal_words ArgsTooLong = codes "args" ∷ []
+refusal_words BoxTooLarge = codes "box" ∷ []
+
+-- a run that failed, by its cause and its step
+abbrev pub step_words : ℕ → List (List ℕ)
+step_words step = codes "step" ∷ decimal step ∷ []
+
+unfoldable pub failed_line : List (List ℕ) → ℕ → List ℕ
+failed_line cause step = line (codes "failed" ∷ (cause ++ step_words step))
+
+-- the length and the digest of bytes
+abbrev pub mark : List ℕ → List (List ℕ)
+mark bytes = decimal (length bytes) ∷ encode_lower (sha256 bytes) ∷ []
+
+-- what a stream collected, and what is left under a name
+unfoldable pub stream_line : ℕ → List ℕ → List ℕ
+stream_line which bytes = line (codes "stream" ∷ decimal which ∷ mark bytes)
+
+unfoldable pub left_line : World → List ℕ → List ℕ
+left_line world name = line (codes "left" ∷ encode_lower name ∷ mark (unwrap_or (content_at world name) []))
+
+-- an exit: its status and step, both streams, and every file that is left, by the bytes of its name
+unfoldable pub exited_line : ℕ → ℕ → List ℕ
+exited_line status step = line (codes "exited" ∷ decimal status ∷ step_words step)
+
+abbrev pub left_lines : World → List (List ℕ) → List ℕ
+left_lines world names = flat_map (left_line world) names
+
+unfoldable pub exited_text : ℕ → ℕ → World → List ℕ
+exited_text status step world =
+    exited_line status step ++ (stream_line 1 world.stream1 ++ (stream_line 2 world.stream2 ++ left_lines world (map.keys world.names)))
+
+-- what is said of a run of at most `most` steps, by its first end and the state that this leaves; the end's own step is counted too
+abbrev pub status_of : ℕ → Status
+status_of status = if status == 0 then Yes else RunFailed
+
+abbrev pub end_plan : Option (End × GuestState) → ℕ → Plan
+end_plan (Some (Exited status, guest)) most = answers (status_of status) (exited_text status (guest.steps + 1) guest.world)
+end_plan (Some (Trapped trap, guest)) most = answers RunFailed (failed_line (codes "trap" ∷ trap_words trap) (guest.steps + 1))
+end_plan (Some (UnknownCall number, guest)) most = answers RunFailed (failed_line (codes "call" ∷ decimal number ∷ []) (guest.steps + 1))
+end_plan None most = answers RunFailed (failed_line (codes "spent" ∷ []) most)
+
+-- what is said of a start
+abbrev pub start_plan : Result GuestState Refusal → ℕ → Plan
+start_plan (Ok guest) most = end_plan (first_end guest most) most
+start_plan (Err why) most = answers RunFailed (failed_line (codes "start" ∷ refusal_words why) 0)
+
+-- no files, no environment, and a heap of at most 536,870,912 bytes
+abbrev pub setting_of : List (List ℕ) → Setting
+setting_of args = record { args = args; env = []; files = map.empty; heap = 536_870_912 }
+
+-- the program is needed, of at most 268,435,456 bytes, and run with its own name as its first argument
+unfoldable pub run_file : List ℕ → List (List ℕ) → ℕ → Plan
+run_file program args most =
+    needs program 268_435_456 (λ bytes. start_plan (start_of bytes (setting_of (program ∷ args))) most)
+
+-- the words after `run`
+abbrev pub run_words : List ℕ → List (List ℕ) → Option ℕ → Plan
+run_words program args None = usage
+run_words program args (Some most) = if is_file_word program && list_all is_text args then run_file program args most else usage
+
+abbrev pub run_plan : List (List ℕ) → Plan
+run_plan (program ∷ steps ∷ args) = run_words program args (as_steps steps)
+run_plan _ = usage
