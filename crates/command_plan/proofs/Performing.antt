@@ -1,15 +1,23 @@
 -- How the steps of a command make up the whole.
-use Rattle.std.proofs.Common.{◌≡◌, ℕ, Bool, true, false, IsTrue, IsSomeAnd, inl, inr, Option, Some, None, Result, Ok, Err, List, refl, sym, subst, arith}
+use Rattle.std.proofs.Common.{◌≡◌, ℕ, zero, suc, Bool, true, false, IsTrue, inl, inr, Option, Some, None, Result, Ok, Err, List, [], ◌∷◌, ◌++◌, length, take, slice_get, append_assoc, append-nil, take_all, le_refl, refl, sym, ap, subst, ◌∙◌, arith}
 use Rattle.std.specs.Bool.{OnTrue}
+use Rattle.std.specs.Option.{option_map}
+use Rattle.std.specs.FinMap as map
 use Rattle.ddc_base.specs.declared.outside.Operation.{Operation}
-use Rattle.ddc_base.specs.declared.outside.Operation.TheVariants.{Load, Save}
+use Rattle.ddc_base.specs.declared.outside.Operation.TheVariants as operation
+use Rattle.ddc_base.specs.declared.outside.Call.{Call}
+use Rattle.ddc_base.specs.declared.outside.Call.TheVariants.{Load, Save}
+use Rattle.ddc_base.specs.declared.outside.Loaded.{Loaded}
 use Rattle.ddc_base.specs.declared.outside.Loaded.TheVariants as content
-use Rattle.ddc_base.specs.Outside.{Files, ShelfState, loaded}
+use Rattle.ddc_base.specs.Outside.{Files, ShelfState, SaveFails, after_call, after_fault, after_setting, loaded, one_more}
+use Rattle.command_plan.specs.declared.status.Status.TheVariants.{FileRefused}
 use Rattle.command_plan.specs.declared.answer.Answer.{Answer}
 use Rattle.command_plan.specs.declared.stop.Stop.{Stop}
 use Rattle.command_plan.specs.declared.stop.Stop.TheVariants as stop
-use Rattle.command_plan.specs.Plan.{Plan, answers, needs, sets, outcome, loads, saves}
-use Rattle.command_plan.specs.Performs.{IsIn, IsSettled, IsFaultIn, Answers, Performs, Says, IsRefusal, Fetches}
+use Rattle.command_plan.specs.Plan.{Plan, answers, needs, sets, follow, outcome, asked, files_after, IsSettled}
+use Rattle.command_plan.specs.Endings.{Completes, Stops, StandsAt, Fails, FailsAt, named}
+use Rattle.command_plan.specs.Performs.{Answers, Faults, Performs}
+use Rattle.command_plan.specs.Steps.{Says, IsRefusal, Fetches, Stores}
 
 -- a fact that holds where the shelf tells, on a shelf that tells
 where_told : {P : Type 0} (tells : Bool) → IsTrue tells → OnTrue tells P → P
@@ -26,132 +34,312 @@ settled_by_telling (answers status text) tells told = tt
 settled_by_telling (needs name limit next) tells told = told
 settled_by_telling (sets name content next) tells told = told
 
--- memory was wanting before anything was changed
-pub wants_memory : (plan : Plan) (shelf : ShelfState) → Performs plan shelf shelf (Err stop.OutOfMemory)
-wants_memory plan shelf = record {
-  by_result = record {
-    tells = refl;
-    later = omega arith;
-    files = on_true shelf.tells (λ _. inl refl);
-  };
+-- no call leaves the files, whatever the plan
+at_start : (plan : Plan) (files : Files) → files_after plan files 0 ≡ files
+at_start (answers status text) files = refl
+at_start (needs name limit next) files = refl
+at_start (sets name content next) files = refl
+
+-- the first call of a plan that needs a name leaves the files, whatever was loaded
+after_load : (name : List ℕ) (limit : ℕ) (next : List ℕ → Plan) (files : Files) → files_after (needs name limit next) files 1 ≡ files
+after_load name limit next files =
+    elim (loaded files name limit) as (λ l. follow l (λ c. files_after (next c) files 0) (λ _. files) name ≡ files) [
+      | content.Bytes c ↦ at_start (next c) files
+      | content.Absent ↦ refl
+      | content.TooLong ↦ refl
+    ]
+
+-- all calls lead to the outcome's files
+at_end : (plan : Plan) (files : Files) → files_after plan files (length (asked plan files)) ≡ (outcome plan files).files
+at_end (answers status text) files = refl
+at_end (needs name limit next) files =
+    elim (loaded files name limit) as (λ l.
+      follow l (λ c. files_after (next c) files (length (follow l (λ b. asked (next b) files) (λ _. []) name))) (λ _. files) name
+      ≡ (follow l (λ c. outcome (next c) files) (λ text. record { status = FileRefused; text = text; files = files }) name).files) [
+      | content.Bytes c ↦ at_end (next c) files
+      | content.Absent ↦ refl
+      | content.TooLong ↦ refl
+    ]
+at_end (sets name content next) files = at_end next (map.insert files name content)
+
+-- a plan whose calls were all answered stands at its last call
+pub stops_complete : (plan : Plan) (old new : ShelfState) → Completes plan old new → Stops plan old new
+stops_complete plan old new c = record {
+  tells = c.tells;
+  faults = c.faults;
+  last_failed = c.last_failed;
+  place = on_true old.tells (λ told.
+      let settled = settled_by_telling plan old.tells told in
+      let all = asked plan old.files in
+      (length all, record {
+        calls = c.calls settled ∙ ap (λ calls. old.calls ++ calls) (sym (take_all (length all) all (le_refl (length all))));
+        files = c.files settled ∙ sym (at_end plan old.files);
+      }));
 }
 
--- an answer that needs no call
-pub says : (plan : Plan) (shelf : ShelfState) (result : Result Answer Stop) → Says plan result → Performs plan shelf shelf result
-says plan shelf (Ok answer) said = record {
-  by_result = record {
-    tells = refl;
-    faults = refl;
-    outcome = λ settled. rw said.by_result refl;
-  };
+-- memory was wanting before any call
+stays : (plan : Plan) (shelf : ShelfState) → Stops plan shelf shelf
+stays plan shelf = record {
+  tells = refl;
+  faults = refl;
+  last_failed = refl;
+  place = on_true shelf.tells (λ _. (0, record { calls = sym (append-nil shelf.calls); files = sym (at_start plan shelf.files) }));
 }
+
+pub wants_memory : (plan : Plan) (shelf : ShelfState) → Performs plan shelf shelf (Err stop.OutOfMemory)
+wants_memory plan shelf = record { by_result = record { by_cause = inl (stays plan shelf) } }
+
+-- an answer that needs no call
+answered : (plan : Plan) (shelf : ShelfState) (answer : Answer) → plan ≡ answers answer.status answer.text → Answers plan shelf shelf answer
+answered plan shelf answer is =
+    let P : Plan → Type 0 = λ p. Answers p shelf shelf answer in
+    subst P (sym is) (record {
+      shelf = record {
+        tells = refl;
+        faults = refl;
+        last_failed = refl;
+        calls = λ _. sym (append-nil shelf.calls);
+        files = λ _. refl;
+      };
+      status = λ _. refl;
+      text = λ _. refl;
+    })
+
+pub says : (plan : Plan) (shelf : ShelfState) (result : Result Answer Stop) → Says plan result → Performs plan shelf shelf result
+says plan shelf (Ok answer) said = record { by_result = answered plan shelf answer said.by_result }
 says plan shelf (Err ending) said =
     let P : Stop → Type 0 = λ ended. Performs plan shelf shelf (Err ended) in
     subst P (sym said.by_result) (wants_memory plan shelf)
 
--- the last call that failed, with what holds of it
-with_last : {P Q : Operation × List ℕ → Type 0} (last : Option (Operation × List ℕ)) → ((call : Operation × List ℕ) → P call → Q call) → IsSomeAnd last P → IsSomeAnd last Q
-with_last None goes_on p = p
-with_last (Some call) goes_on p = goes_on call p
-
-the_last : (P : Operation × List ℕ → Type 0) (last : Option (Operation × List ℕ)) (call : Operation × List ℕ) → last ≡ Some call → P call → IsSomeAnd last P
-the_last P last call is p =
-    let Q : Option (Operation × List ℕ) → Type 0 = λ l. IsSomeAnd l P in
-    subst Q (sym is) p
-
--- a refused name's outcome
-refused : (name : List ℕ) (limit : ℕ) (next : List ℕ → Plan) (shelf : ShelfState) (answer : Answer) → IsTrue shelf.tells → IsRefusal shelf name limit answer
-    → outcome (needs name limit next) shelf.files ≡ record { status = answer.status; text = answer.text; files = shelf.files }
-refused name limit next shelf answer told r =
-    elim (where_told shelf.tells told r.1) [
-      | inl absent ↦ rw (absent.0, r.0, absent.1) refl
-      | inr too_long ↦ rw (too_long.0, r.0, too_long.1) refl
-    ]
+-- a shelf that tells keeps the call that it answered
+kept : (old : ShelfState) (call : Call) → IsTrue old.tells → (after_call call old).calls ≡ old.calls ++ call ∷ []
+kept old call told = rw told refl
 
 -- a fetch that ends the command
+refused : (name : List ℕ) (limit : ℕ) (next : List ℕ → Plan) (old : ShelfState) (answer : Answer) → IsRefusal old name limit answer
+    → Answers (needs name limit next) old (after_call (Load name limit) old) answer
+refused name limit next old answer r = record {
+  shelf = record {
+    tells = refl;
+    faults = refl;
+    last_failed = refl;
+    calls = λ told. elim (where_told old.tells told r.1) [
+      | inl absent ↦ rw (absent.0) (kept old (Load name limit) told)
+      | inr too_long ↦ rw (too_long.0) (kept old (Load name limit) told)
+    ];
+    files = λ told. elim (where_told old.tells told r.1) [
+      | inl absent ↦ rw (absent.0) refl
+      | inr too_long ↦ rw (too_long.0) refl
+    ];
+  };
+  status = λ told. elim (where_told old.tells told r.1) [
+    | inl absent ↦ rw (absent.0) r.0
+    | inr too_long ↦ rw (too_long.0) r.0
+  ];
+  text = λ told. elim (where_told old.tells told r.1) [
+    | inl absent ↦ rw (absent.0) absent.1
+    | inr too_long ↦ rw (too_long.0) too_long.1
+  ];
+}
+
+-- the first call of a plan was a load, and failed
+load_failed : (name : List ℕ) (limit : ℕ) (next : List ℕ → Plan) (old : ShelfState)
+    → Fails (needs name limit next) (operation.Load, name) old (after_fault operation.Load name old)
+load_failed name limit next old = record {
+  tells = refl;
+  faults = refl;
+  last_failed = refl;
+  place = on_true old.tells (λ _. (0, record { calls = sym (append-nil old.calls); next = refl; files = refl }));
+}
+
+-- the first call of a plan was a load, and then memory was wanting
+load_answered : (name : List ℕ) (limit : ℕ) (next : List ℕ → Plan) (old : ShelfState) → Stops (needs name limit next) old (after_call (Load name limit) old)
+load_answered name limit next old = record {
+  tells = refl;
+  faults = refl;
+  last_failed = refl;
+  place = on_true old.tells (λ told. (1, record { calls = kept old (Load name limit) told; files = sym (after_load name limit next old.files) }));
+}
+
 pub ends_at_fetch : (name : List ℕ) (limit : ℕ) (next : List ℕ → Plan) (old new : ShelfState) (ending : Stop) → Fetches name limit old new (Err ending) → Performs (needs name limit next) old new (Err ending)
 ends_at_fetch name limit next old new (stop.Answered answer) f =
-    let P : ShelfState → Type 0 = λ shelf. Performs (needs name limit next) old shelf (Err (stop.Answered answer)) in
-    subst P (sym f.by_result.0) (record {
-      by_result = record {
-        tells = refl;
-        faults = refl;
-        outcome = λ told. refused name limit next old answer told f.by_result.1;
-      };
-    })
+    let P : ShelfState → Type 0 = λ shelf. Answers (needs name limit next) old shelf answer in
+    record { by_result = subst P (sym f.by_result.0) (refused name limit next old answer f.by_result.1) }
 ends_at_fetch name limit next old new (stop.ShelfFault text) f =
-    let load = f.by_result.0 in
-    record {
-      by_result = record {
-        tells = load.failed.tells;
-        faults = load.failed.faults;
-        names = the_last _ new.last_failed (Load, name) load.failed.last_failed f.by_result.1;
-        made = on_true old.tells (λ _. the_last _ new.last_failed (Load, name) load.failed.last_failed (inl refl, load.files));
-      };
-    }
+    let P : ShelfState → Type 0 = λ shelf. Fails (needs name limit next) (operation.Load, name) old shelf in
+    record { by_result = record { call = (operation.Load, name); failed = subst P (sym f.by_result.0) (load_failed name limit next old); names = f.by_result.1 } }
 ends_at_fetch name limit next old new stop.OutOfMemory f =
+    let P : ShelfState → Type 0 = λ shelf. Performs (needs name limit next) old shelf (Err stop.OutOfMemory) in
     elim f.by_result [
-      | inl same ↦
-          let P : ShelfState → Type 0 = λ shelf. Performs (needs name limit next) old shelf (Err stop.OutOfMemory) in
-          subst P (sym same) (wants_memory (needs name limit next) old)
-      | inr load ↦ record {
-        by_result = record {
-          tells = load.failed.tells;
-          later = load.failed.faults.later;
-          files = on_true old.tells (λ _. inl load.files);
-        };
-      }
+      | inl same ↦ subst P (sym same) (wants_memory (needs name limit next) old)
+      | inr called ↦ elim called [
+        | inl loaded_first ↦ subst P (sym loaded_first) (record { by_result = record { by_cause = inl (load_answered name limit next old) } })
+        | inr lost ↦ subst P (sym lost) (record { by_result = record { by_cause = inr ((operation.Load, name), load_failed name limit next old) } })
+      ]
     ]
 
--- what the plan loads and sets after a name whose content leads on
-loads_on : (name : List ℕ) (limit : ℕ) (next : List ℕ → Plan) (files : Files) (bytes call : List ℕ) → loaded files name limit ≡ content.Bytes bytes → IsIn call (loads (next bytes) files) → IsIn call (loads (needs name limit next) files)
-loads_on name limit next files bytes call is h = rw is (inr h)
-
-saves_on : (name : List ℕ) (limit : ℕ) (next : List ℕ → Plan) (files : Files) (bytes call : List ℕ) → loaded files name limit ≡ content.Bytes bytes → IsIn call (saves (next bytes) files) → IsIn call (saves (needs name limit next) files)
-saves_on name limit next files bytes call is h = rw is h
-
-fault_on : (name : List ℕ) (limit : ℕ) (next : List ℕ → Plan) (old new : Files) (bytes : List ℕ) → loaded old name limit ≡ content.Bytes bytes → (call : Operation × List ℕ) → IsFaultIn (next bytes) old call new → IsFaultIn (needs name limit next) old call new
-fault_on name limit next old new bytes is (Load, call) fault = (loads_on name limit next old bytes call is fault.0, fault.1)
-fault_on name limit next old new bytes is (Save, call) fault = (saves_on name limit next old bytes call is fault.0, fault.1)
-
-answers_on : (name : List ℕ) (limit : ℕ) (next : List ℕ → Plan) (old new : ShelfState) (bytes : List ℕ) (answer : Answer) → OnTrue old.tells (loaded old.files name limit ≡ content.Bytes bytes) → Answers (next bytes) old new answer → Answers (needs name limit next) old new answer
-answers_on name limit next old new bytes answer is a = record {
-  tells = a.tells;
-  faults = a.faults;
-  outcome = λ told.
-      let led : loaded old.files name limit ≡ content.Bytes bytes = where_told old.tells told is in
-      rw led (a.outcome (settled_by_telling (next bytes) old.tells told));
+-- a save that ends the command
+save_failed : (name content : List ℕ) (next : Plan) (old new : ShelfState) → SaveFails name old new → Fails (sets name content next) (operation.Save, name) old new
+save_failed name content next old new s = record {
+  tells = ap (λ shelf. shelf.tells) s.failed;
+  faults = ap (λ shelf. shelf.faults) s.failed;
+  last_failed = ap (λ shelf. shelf.last_failed) s.failed;
+  place = on_true old.tells (λ _. (0, record {
+    calls = ap (λ shelf. shelf.calls) s.failed ∙ sym (append-nil old.calls);
+    next = refl;
+    files = s.files;
+  }));
 }
 
-goes_on : (name : List ℕ) (limit : ℕ) (next : List ℕ → Plan) (old new : ShelfState) (bytes : List ℕ) (result : Result Answer Stop) → OnTrue old.tells (loaded old.files name limit ≡ content.Bytes bytes) → Performs (next bytes) old new result → Performs (needs name limit next) old new result
-goes_on name limit next old new bytes (Ok answer) is p = record { by_result = answers_on name limit next old new bytes answer is p.by_result }
-goes_on name limit next old new bytes (Err (stop.Answered answer)) is p = record { by_result = answers_on name limit next old new bytes answer is p.by_result }
-goes_on name limit next old new bytes (Err (stop.ShelfFault text)) is p = record {
+pub ends_at_save : (name content : List ℕ) (next : Plan) (old new : ShelfState) (ending : Stop) → Stores name content old new (Err ending) → Performs (sets name content next) old new (Err ending)
+ends_at_save name content next old new (stop.Answered answer) s = absurd s.by_result
+ends_at_save name content next old new (stop.ShelfFault text) s =
+    record { by_result = record { call = (operation.Save, name); failed = save_failed name content next old new s.by_result.0; names = s.by_result.1 } }
+ends_at_save name content next old new stop.OutOfMemory s =
+    let P : ShelfState → Type 0 = λ shelf. Performs (sets name content next) old shelf (Err stop.OutOfMemory) in
+    elim s.by_result [
+      | inl same ↦ subst P (sym same) (wants_memory (sets name content next) old)
+      | inr lost ↦ record { by_result = record { by_cause = inr ((operation.Save, name), save_failed name content next old new lost) } }
+    ]
+
+-- a plan's first call was answered, and the rest is this plan from there
+record Leads (plan : Plan) (old : ShelfState) (next : Plan) (mid : ShelfState) : Type 0 where
+  tells : mid.tells ≡ old.tells
+  faults : mid.faults ≡ old.faults
+  last_failed : mid.last_failed ≡ old.last_failed
+  asks : IsSettled plan old.tells → IsTrue old.tells
+  outcome : IsTrue old.tells → outcome plan old.files ≡ outcome next mid.files
+  calls : IsTrue old.tells → (call : Call) × (mid.calls ≡ old.calls ++ call ∷ []) × (asked plan old.files ≡ call ∷ asked next mid.files)
+  files : IsTrue old.tells → (count : ℕ) → files_after plan old.files (suc count) ≡ files_after next mid.files count
+
+-- the calls so far and those that follow
+joined : (made : List Call) (call : Call) (rest : List Call) → (made ++ call ∷ []) ++ rest ≡ made ++ call ∷ rest
+joined made call rest = append_assoc made (call ∷ []) rest
+
+calls_on : (plan : Plan) (old : ShelfState) (next : Plan) (mid : ShelfState) (calls rest : List Call) → Leads plan old next mid → IsTrue old.tells → calls ≡ mid.calls ++ rest
+    → (call : Call) × (calls ≡ old.calls ++ call ∷ rest) × (asked plan old.files ≡ call ∷ asked next mid.files)
+calls_on plan old next mid calls rest l told is =
+    let c = l.calls told in
+    (c.0, is ∙ ap (λ made. made ++ rest) c.1 ∙ joined old.calls c.0 rest, c.2)
+
+completes_on : (plan : Plan) (old : ShelfState) (next : Plan) (mid new : ShelfState) → Leads plan old next mid → Completes next mid new → Completes plan old new
+completes_on plan old next mid new l c = record {
+  tells = c.tells ∙ l.tells;
+  faults = c.faults ∙ l.faults;
+  last_failed = c.last_failed ∙ l.last_failed;
+  calls = λ settled.
+      let told = l.asks settled in
+      let on = calls_on plan old next mid new.calls (asked next mid.files) l told (c.calls (settled_by_telling next mid.tells (l.tells ∙ told))) in
+      on.1 ∙ ap (λ calls. old.calls ++ calls) (sym on.2);
+  files = λ settled.
+      let told = l.asks settled in
+      c.files (settled_by_telling next mid.tells (l.tells ∙ told)) ∙ ap (λ o. o.files) (sym (l.outcome told));
+}
+
+answers_on : (plan : Plan) (old : ShelfState) (next : Plan) (mid new : ShelfState) (answer : Answer) → Leads plan old next mid → Answers next mid new answer → Answers plan old new answer
+answers_on plan old next mid new answer l a = record {
+  shelf = completes_on plan old next mid new l a.shelf;
+  status = λ settled.
+      let told = l.asks settled in
+      a.status (settled_by_telling next mid.tells (l.tells ∙ told)) ∙ ap (λ o. o.status) (sym (l.outcome told));
+  text = λ settled.
+      let told = l.asks settled in
+      a.text (settled_by_telling next mid.tells (l.tells ∙ told)) ∙ ap (λ o. o.text) (sym (l.outcome told));
+}
+
+front_on : (plan : Plan) (old : ShelfState) (next : Plan) (mid new : ShelfState) (count : ℕ) → Leads plan old next mid → IsTrue old.tells → new.calls ≡ mid.calls ++ take count (asked next mid.files)
+    → new.calls ≡ old.calls ++ take (suc count) (asked plan old.files)
+front_on plan old next mid new count l told is =
+    let on = calls_on plan old next mid new.calls (take count (asked next mid.files)) l told is in
+    on.1 ∙ ap (λ calls. old.calls ++ take (suc count) calls) (sym on.2)
+
+stops_on : (plan : Plan) (old : ShelfState) (next : Plan) (mid new : ShelfState) → Leads plan old next mid → Stops next mid new → Stops plan old new
+stops_on plan old next mid new l s = record {
+  tells = s.tells ∙ l.tells;
+  faults = s.faults ∙ l.faults;
+  last_failed = s.last_failed ∙ l.last_failed;
+  place = on_true old.tells (λ told.
+      let at = where_told mid.tells (l.tells ∙ told) s.place in
+      (suc at.0, record {
+        calls = front_on plan old next mid new at.0 l told at.1.calls;
+        files = at.1.files ∙ sym (l.files told at.0);
+      }));
+}
+
+fails_on : (plan : Plan) (old : ShelfState) (next : Plan) (mid new : ShelfState) (call : Operation × List ℕ) → Leads plan old next mid → Fails next call mid new → Fails plan call old new
+fails_on plan old next mid new call l f = record {
+  tells = f.tells ∙ l.tells;
+  faults = f.faults ∙ ap one_more l.faults;
+  last_failed = f.last_failed;
+  place = on_true old.tells (λ told.
+      let at = where_told mid.tells (l.tells ∙ told) f.place in
+      (suc at.0, record {
+        calls = front_on plan old next mid new at.0 l told at.1.calls;
+        next = ap (λ calls. option_map named (slice_get calls (suc at.0))) (l.calls told).2 ∙ at.1.next;
+        files = rw (l.files told at.0) at.1.files;
+      }));
+}
+
+goes_on : (plan : Plan) (old : ShelfState) (next : Plan) (mid new : ShelfState) (result : Result Answer Stop) → Leads plan old next mid → Performs next mid new result → Performs plan old new result
+goes_on plan old next mid new (Ok answer) l p = record { by_result = answers_on plan old next mid new answer l p.by_result }
+goes_on plan old next mid new (Err (stop.Answered answer)) l p = record { by_result = answers_on plan old next mid new answer l p.by_result }
+goes_on plan old next mid new (Err (stop.ShelfFault text)) l p = record {
   by_result = record {
-    tells = p.by_result.tells;
-    faults = p.by_result.faults;
+    call = p.by_result.call;
+    failed = fails_on plan old next mid new p.by_result.call l p.by_result.failed;
     names = p.by_result.names;
-    made = on_true old.tells (λ told. with_last new.last_failed (fault_on name limit next old.files new.files bytes (where_told old.tells told is)) (where_told old.tells told p.by_result.made));
   };
 }
-goes_on name limit next old new bytes (Err stop.OutOfMemory) is p = record {
+goes_on plan old next mid new (Err stop.OutOfMemory) l p = record {
   by_result = record {
-    tells = p.by_result.tells;
-    later = p.by_result.later;
-    files = on_true old.tells (λ told. elim (where_told old.tells told p.by_result.files) [
-      | inl same ↦ inl same
-      | inr lost ↦ inr (record {
-        faults = lost.faults;
-        lost = (lost.lost.0, saves_on name limit next old.files bytes lost.lost.0 (where_told old.tells told is) lost.lost.1, lost.lost.2);
-      })
-    ]);
+    by_cause = elim p.by_result.by_cause [
+      | inl stopped ↦ inl (stops_on plan old next mid new l stopped)
+      | inr lost ↦ inr (lost.0, fails_on plan old next mid new lost.0 l lost.1)
+    ];
   };
 }
 
 -- a fetch that goes on
+fetch_leads : (name : List ℕ) (limit : ℕ) (next : List ℕ → Plan) (old : ShelfState) (bytes : List ℕ) → OnTrue old.tells (loaded old.files name limit ≡ content.Bytes bytes)
+    → Leads (needs name limit next) old (next bytes) (after_call (Load name limit) old)
+fetch_leads name limit next old bytes is = record {
+  tells = refl;
+  faults = refl;
+  last_failed = refl;
+  asks = λ told. told;
+  outcome = λ told. rw (where_told old.tells told is) refl;
+  calls = λ told. (Load name limit, kept old (Load name limit) told, rw (where_told old.tells told is) refl);
+  files = λ told count. rw (where_told old.tells told is) refl;
+}
+
 pub goes_on_after_fetch : (name : List ℕ) (limit : ℕ) (next : List ℕ → Plan) (old mid new : ShelfState) (bytes : List ℕ) (result : Result Answer Stop) → Fetches name limit old mid (Ok bytes) → Performs (next bytes) mid new result → Performs (needs name limit next) old new result
 goes_on_after_fetch name limit next old mid new bytes result f p =
     let P : ShelfState → Type 0 = λ shelf. Performs (next bytes) shelf new result in
-    goes_on name limit next old new bytes result f.by_result.1 (subst P f.by_result.0 p)
+    goes_on (needs name limit next) old (next bytes) (after_call (Load name limit) old) new result (fetch_leads name limit next old bytes f.by_result.1) (subst P f.by_result.0 p)
 
+-- a save that goes on
+save_leads : (name content : List ℕ) (next : Plan) (old : ShelfState) → Leads (sets name content next) old next (after_call (Save name content) (after_setting name content old))
+save_leads name content next old = record {
+  tells = refl;
+  faults = refl;
+  last_failed = refl;
+  asks = λ told. told;
+  outcome = λ told. rw told refl;
+  calls = λ told. (Save name content, rw told refl, rw told refl);
+  files = λ told count. rw told refl;
+}
+
+pub goes_on_after_save : (name content : List ℕ) (next : Plan) (old mid new : ShelfState) (done : Unit {0}) (result : Result Answer Stop) → Stores name content old mid (Ok done) → Performs next mid new result → Performs (sets name content next) old new result
+goes_on_after_save name content next old mid new done result s p =
+    let P : ShelfState → Type 0 = λ shelf. Performs next shelf new result in
+    goes_on (sets name content next) old next (after_call (Save name content) (after_setting name content old)) new result (save_leads name content next old) (subst P s.by_result p)
+
+-- an answer after a save
+pub answers_after_save : (name content : List ℕ) (old new : ShelfState) (done : Unit {0}) (answer : Answer) → Stores name content old new (Ok done) → Performs (sets name content (answers answer.status answer.text)) old new (Ok answer)
+answers_after_save name content old new done answer s =
+    goes_on_after_save name content (answers answer.status answer.text) old new new done (Ok answer) s (record { by_result = answered (answers answer.status answer.text) new answer refl })
+
+-- what a command that loads needs, and one that saves
 pub ruleset performing = (wants_memory, says, ends_at_fetch, goes_on_after_fetch)
+
+pub ruleset saving = (wants_memory, ends_at_save, goes_on_after_save, answers_after_save)

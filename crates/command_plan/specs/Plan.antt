@@ -1,9 +1,11 @@
 -- What a command does, as a plan over files by name, and what the plan comes to over the files that are held.
 -- docs/reference/command-line.md says the same for people.
-use Rattle.std.specs.Prelude.{ℕ, List, [], ◌∷◌}
+use Rattle.std.specs.Prelude.{ℕ, zero, suc, Bool, IsTrue, List, [], ◌∷◌}
 use Rattle.std.specs.FinMap as map
 use Rattle.ddc_base.specs.declared.outside.Loaded.{Loaded}
 use Rattle.ddc_base.specs.declared.outside.Loaded.TheVariants.{Bytes, Absent, TooLong}
+use Rattle.ddc_base.specs.declared.outside.Call.{Call}
+use Rattle.ddc_base.specs.declared.outside.Call.TheVariants.{Load, Save}
 use Rattle.ddc_base.specs.Outside.{Files, loaded}
 use Rattle.command_plan.specs.declared.status.Status.{Status}
 use Rattle.command_plan.specs.declared.status.Status.TheVariants.{FileRefused}
@@ -35,14 +37,22 @@ outcome (needs name limit next) files =
     follow (loaded files name limit) (λ content. outcome (next content) files) (λ text. record { status = FileRefused; text = text; files = files }) name
 outcome (sets name content next) files = outcome next (map.insert files name content)
 
--- the names that the plan loads, in order
-abbrev pub loads : Plan → Files → List (List ℕ)
-loads (answers status text) files = []
-loads (needs name limit next) files = name ∷ follow (loaded files name limit) (λ content. loads (next content) files) (λ _. []) name
-loads (sets name content next) files = loads next (map.insert files name content)
+-- the calls of a shelf that the plan asks for, in order
+abbrev pub asked : Plan → Files → List Call
+asked (answers status text) files = []
+asked (needs name limit next) files = Load name limit ∷ follow (loaded files name limit) (λ content. asked (next content) files) (λ _. []) name
+asked (sets name content next) files = Save name content ∷ asked next (map.insert files name content)
 
--- the names that the plan sets, in order
-abbrev pub saves : Plan → Files → List (List ℕ)
-saves (answers status text) files = []
-saves (needs name limit next) files = follow (loaded files name limit) (λ content. saves (next content) files) (λ _. []) name
-saves (sets name content next) files = name ∷ saves next (map.insert files name content)
+-- the files after the first so many of these calls
+abbrev pub files_after : Plan → Files → ℕ → Files
+files_after (answers status text) files count = files
+files_after (needs name limit next) files zero = files
+files_after (needs name limit next) files (suc count) = follow (loaded files name limit) (λ content. files_after (next content) files count) (λ _. files) name
+files_after (sets name content next) files zero = files
+files_after (sets name content next) files (suc count) = files_after next (map.insert files name content) count
+
+-- what the plan comes to is settled: the shelf tells what it holds, or the plan asks nothing of it
+abbrev pub IsSettled : Plan → Bool → Type 0
+IsSettled (answers status text) tells = Unit {0}
+IsSettled (needs name limit next) tells = IsTrue tells
+IsSettled (sets name content next) tells = IsTrue tells

@@ -2,9 +2,9 @@
 #![tactic(auto)]
 
 use ddc_app::{Status, run};
-use ddc_base::{DirShelf, OutOfMemory, StdSink};
+use ddc_base::{DirShelf, OutOfMemory, WriterSink};
 use std::env;
-use std::io::ErrorKind;
+use std::io::{self, ErrorKind};
 use std::process::ExitCode;
 
 /// The words of the command line without the program's own name. They are none where a word is not UTF-8.
@@ -32,7 +32,7 @@ fn run_on_host(rt: &HostRuntime) -> Result<Status, OutOfMemory> {
         words.push(word.as_str())?;
     }
     let mut shelf = DirShelf::new(rt);
-    let mut out = StdSink::new(rt);
+    let mut out = WriterSink::new(io::writer(rt));
     Ok(run(alloc, words.as_slice(), &mut shelf, &mut out))
 }
 

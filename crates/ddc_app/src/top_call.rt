@@ -1,8 +1,10 @@
-ghost use Rattle.std.specs.Prelude.{◌≡◌, ◌≤◌, ◌⊎◌, IsTrue};
-ghost use Rattle.ddc_base.specs.Outside.{Rose};
+ghost use Rattle.std.specs.Prelude.{◌≡◌, IsTrue};
+ghost use Rattle.ddc_base.specs.Outside.{after_piece};
 ghost use Rattle.command_plan.specs.Answered.{is_answer};
-ghost use Rattle.command_plan.specs.Performs.{Performs};
-ghost use Rattle.ddc_app.specs.Run.{asked, due, IsDue, PutEnds, Grows, GrowsByFront, NamesFault, NamesFaultByFront, MadeFault, LeavesFiles};
+ghost use Rattle.command_plan.specs.Endings.{Completes};
+ghost use Rattle.command_plan.specs.Performs.{Performs, WantsMemory};
+ghost use Rattle.ddc_app.specs.Run.{plan_for, due, IsDue, TakesOne, NamesFault, LosesText};
+ghost use Rattle.ddc_app.specs.Concluding.{PutEnds, Concludes};
 
 use command_plan::{Answer, Status, Stop, usage};
 use ddc_base::{PutFail, Shelf, Sink};
@@ -17,50 +19,37 @@ use std::alloc::Global;
 /// nothing of it, the call comes to the plan's outcome, unless it ends in a fault that was counted in this call or for want of
 /// memory.
 pub fn run<S: Shelf, K: Sink>(alloc: Global, words: &[&str], shelf: &mut S, out: &mut K) -> Status
+    // An answer is the plan's outcome, given in one piece after exactly the plan's calls, none of which failed.
     ensures status { IsDue words.now (S.state shelf.old) → IsTrue (is_answer result)
         → result ≡ (due words.now (S.state shelf.old)).status }
-    ensures files { IsDue words.now (S.state shelf.old) → IsTrue (is_answer result)
-        → (S.state shelf.new).files ≡ (due words.now (S.state shelf.old)).files }
     ensures text { IsDue words.now (S.state shelf.old) → IsTrue (is_answer result)
-        → Grows (K.state out.old) (K.state out.new) (due words.now (S.state shelf.old)).text }
+        → K.state out.new ≡ after_piece (due words.now (S.state shelf.old)).text (K.state out.old) }
+    ensures calls { IsTrue (is_answer result)
+        → Completes (plan_for words.now) (S.state shelf.old) (S.state shelf.new) }
+    ensures one_put { IsTrue (is_answer result) → TakesOne (K.state out.old) (K.state out.new) }
 
-    // A fault is answered only where it was counted in this call, and the counts never fall.
-    ensures shelf_fault { result ≡ Status.ShelfFault → Rose (S.state shelf.old).faults (S.state shelf.new).faults }
-    ensures out_fault { result ≡ Status.OutFault → Rose (K.state out.old).faults (K.state out.new).faults }
-    ensures shelf_count { (S.state shelf.old).faults ≤ (S.state shelf.new).faults }
-    ensures out_count { (K.state out.old).faults ≤ (K.state out.new).faults }
+    // A fault is a call that failed and was counted: the shelf's after a front part of the plan's calls, the sink's in the one put.
+    ensures shelf_fault { result ≡ Status.ShelfFault
+        → NamesFault (plan_for words.now) (S.state shelf.old) (S.state shelf.new) (K.state out.old) (K.state out.new) }
+    ensures out_fault { result ≡ Status.OutFault
+        → LosesText (plan_for words.now) (S.state shelf.old) (S.state shelf.new) (K.state out.old) (K.state out.new) }
 
-    // A fault of the shelf is named, and is a call of the plan.
-    ensures names_fault { result ≡ Status.ShelfFault
-        → NamesFault (S.state shelf.new) (K.state out.old) (K.state out.new) }
-    ensures made_fault { result ≡ Status.ShelfFault
-        → MadeFault (asked words.now) (S.state shelf.old) (S.state shelf.new) }
-
-    // At a fault of the sink a front part of the outcome's text went out or, where the shelf failed too, of that line.
-    ensures front { IsDue words.now (S.state shelf.old) → result ≡ Status.OutFault
-        → GrowsByFront (K.state out.old) (K.state out.new) (due words.now (S.state shelf.old)).text
-        ⊎ (Rose (S.state shelf.old).faults (S.state shelf.new).faults
-        × NamesFaultByFront (S.state shelf.new) (K.state out.old) (K.state out.new)) }
-    ensures files_at_out_fault { result ≡ Status.OutFault
-        → LeavesFiles (asked words.now) (S.state shelf.old) (S.state shelf.new) }
-
-    // Want of memory says nothing, and leaves the files as before or as the outcome has them.
+    // Want of memory says nothing, and comes after a front part of the plan's calls.
     ensures silent { result ≡ Status.OutOfMemory → K.state out.new ≡ K.state out.old }
-    ensures files_at_want { result ≡ Status.OutOfMemory
-        → LeavesFiles (asked words.now) (S.state shelf.old) (S.state shelf.new) }
+    ensures want { result ≡ Status.OutOfMemory
+        → WantsMemory (plan_for words.now) (S.state shelf.old) (S.state shelf.new) }
+
+    ensures shelf_tells { (S.state shelf.new).tells ≡ (S.state shelf.old).tells }
+    ensures out_tells { (K.state out.new).tells ≡ (K.state out.old).tells }
 {
-    match perform(alloc, words, shelf) {
-        Ok(answer) => put(out, answer.text.as_slice(), answer.status),
-        Err(Stop::Answered(answer)) => put(out, answer.text.as_slice(), answer.status),
-        Err(Stop::ShelfFault(text)) => put(out, text.as_slice(), Status::ShelfFault),
-        Err(Stop::OutOfMemory) => Status::OutOfMemory,
-    }
+    let ending = perform(alloc, words, shelf);
+    conclude(out, ending)
 }
 
 /// Hands over to the command that the first word names.
 #[tactic(auto, using(command_plan::proofs::Performing::performing))]
 fn perform<S: Shelf>(alloc: Global, words: &[&str], shelf: &mut S) -> Result<Answer, Stop>
-    ensures { Performs (asked words.now) (S.state shelf.old) (S.state shelf.new) result }
+    ensures { Performs (plan_for words.now) (S.state shelf.old) (S.state shelf.new) result }
 {
     let Some((first, words)) = words.split_first() else {
         return usage(alloc);
@@ -70,6 +59,18 @@ fn perform<S: Shelf>(alloc: Global, words: &[&str], shelf: &mut S) -> Result<Ans
         "list" => list::perform(alloc, words, shelf),
         "run" => run::perform(alloc, words, shelf),
         _ => usage(alloc),
+    }
+}
+
+/// Says how the command ended.
+fn conclude<K: Sink>(out: &mut K, ending: Result<Answer, Stop>) -> Status
+    ensures { Concludes (K.state out.old) ending (K.state out.new) result }
+{
+    match ending {
+        Ok(answer) => put(out, answer.text.as_slice(), answer.status),
+        Err(Stop::Answered(answer)) => put(out, answer.text.as_slice(), answer.status),
+        Err(Stop::ShelfFault(text)) => put(out, text.as_slice(), Status::ShelfFault),
+        Err(Stop::OutOfMemory) => Status::OutOfMemory,
     }
 }
 

@@ -2,8 +2,10 @@
 ghost use Rattle.std.specs.Prelude.{map};
 ghost use Rattle.ddc_base.specs.Difference as difference;
 ghost use Rattle.ddc_base.specs.Outside.{IsFileName};
-ghost use Rattle.command_plan.specs.Performs.{Performs, Says};
-ghost use Rattle.language_commands.specs.Hex0.{comparison, hex0_files, hex0_plan};
+ghost use Rattle.command_plan.specs.Performs.{Performs};
+ghost use Rattle.command_plan.specs.Steps.{Says};
+ghost use Rattle.hex_langs.specs.Hex0.{hex0_of};
+ghost use Rattle.language_commands.specs.Hex0.{comparison, hex0_binary, hex0_files, hex0_plan};
 
 use command_plan::words::is_file_word;
 use command_plan::{Answer, Status, Stop, fetch_file, texts, usage};
@@ -22,7 +24,7 @@ pub fn perform<S: Shelf>(alloc: Global, words: &[&str], shelf: &mut S) -> Result
     }
 }
 
-/// Fetches both files, and compares.
+/// Fetches the source, and goes on with it.
 #[tactic(auto, using(command_plan::proofs::Performing::performing), unfolding(crate::specs::Hex0::hex0_files))]
 fn compare_files<S: Shelf>(
     alloc: Global,
@@ -35,16 +37,30 @@ fn compare_files<S: Shelf>(
     ensures { Performs (hex0_files source.now binary.now) (S.state shelf.old) (S.state shelf.new) result }
 {
     let text = fetch_file(alloc, shelf, source)?;
-    let bytes = fetch_file(alloc, shelf, binary)?;
-    let value = hex_langs::hex0(alloc, text.as_slice())?;
-    compare(alloc, value.as_slice(), bytes.as_slice())
+    compare_with(alloc, text.as_slice(), binary, shelf)
 }
 
-/// Says where two byte lists first differ, or how long they both are.
-fn compare(alloc: Global, value: &[u8], binary: &[u8]) -> Result<Answer, Stop>
-    ensures { Says (comparison value.now binary.now (difference.first_difference value.now binary.now)) result }
+/// Fetches the binary, and compares it with the source's value.
+#[tactic(auto, using(command_plan::proofs::Performing::performing), unfolding(crate::specs::Hex0::hex0_binary))]
+fn compare_with<S: Shelf>(
+    alloc: Global,
+    source: &[u8],
+    binary: &str,
+    shelf: &mut S,
+) -> Result<Answer, Stop>
+    requires { IsFileName binary.now }
+    ensures { Performs (hex0_binary source.now binary.now) (S.state shelf.old) (S.state shelf.new) result }
 {
-    match first_difference(value, binary) {
+    let bytes = fetch_file(alloc, shelf, binary)?;
+    compare(alloc, source, bytes.as_slice())
+}
+
+/// Says where a source's value and a binary first differ, or how long they both are.
+fn compare(alloc: Global, source: &[u8], binary: &[u8]) -> Result<Answer, Stop>
+    ensures { Says (comparison (hex0_of source.now) binary.now (difference.first_difference (hex0_of source.now) binary.now)) result }
+{
+    let value = hex_langs::hex0(alloc, source)?;
+    match first_difference(value.as_slice(), binary) {
         None => Ok(Answer {
             status: Status::Yes,
             text: texts::equal(alloc, value.len())?,

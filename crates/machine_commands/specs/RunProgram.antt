@@ -1,11 +1,11 @@
 -- `run PROGRAM STEPS ARG..`: how a program's run ends within so many steps, and what it leaves. docs/reference/command-line.md says the
 -- same for people.
-use Rattle.std.specs.Prelude.{ℕ, ◌+◌, ◌^◌, ◌&&◌, nat_le, nat_lt, ◌==◌, Option, Some, None, Result, Ok, Err, List, [], ◌∷◌, ◌++◌, length, unwrap_or, codes, decimal, bytes_eq, if◌then◌else◌}
+use Rattle.std.specs.Prelude.{ℕ, ◌+◌, ◌^◌, ◌&&◌, nat_le, ◌==◌, Option, Some, None, Result, Ok, Err, List, [], ◌∷◌, ◌++◌, length, unwrap_or, codes, decimal, if◌then◌else◌}
 use Rattle.std.specs.List.{flat_map, list_all}
-use Rattle.std.specs.Str.Parse.{digits_value}
 use Rattle.std.specs.FinMap as map
 use Rattle.hex.specs.Hex.{encode_lower}
 use Rattle.sha2.specs.Sha256.{sha256}
+use Rattle.ddc_base.specs.Decimals.{as_decimal}
 use Rattle.ddc_base.specs.Lines.{line}
 use Rattle.elf_load.specs.Refusal.{number_of}
 use Rattle.rv64_machine.specs.declared.answer.Cause.{Cause}
@@ -21,11 +21,6 @@ use Rattle.command_plan.specs.declared.status.Status.TheVariants.{Yes, RunFailed
 use Rattle.machine_commands.specs.Texts.{hex_word, hex_address}
 use Rattle.command_plan.specs.Words.{is_file_word, usage}
 use Rattle.command_plan.specs.Plan.{Plan, answers, needs}
-
--- the number below 2 ^ 64 whose decimal digits a word is
-abbrev pub as_decimal : List ℕ → Option ℕ
-as_decimal word =
-    if bytes_eq word (decimal (digits_value 10 word)) && nat_lt (digits_value 10 word) (2 ^ 64) then Some (digits_value 10 word) else None
 
 -- a number of steps, from 1 to 2 ^ 48
 abbrev pub within_steps : Option ℕ → Option ℕ

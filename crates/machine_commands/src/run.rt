@@ -6,7 +6,8 @@ ghost use Rattle.guest_run.specs.Setting.{is_text, IsText};
 ghost use Rattle.guest_run.specs.Run.{first_end};
 ghost use Rattle.guest_run.specs.Start.{start_of};
 ghost use Rattle.command_plan.specs.declared.status.Status.TheVariants.{RunFailed};
-ghost use Rattle.command_plan.specs.Performs.{Performs, Says};
+ghost use Rattle.command_plan.specs.Performs.{Performs};
+ghost use Rattle.command_plan.specs.Steps.{Says};
 ghost use Rattle.command_plan.specs.Plan.{answers};
 ghost use Rattle.machine_commands.specs.RunProgram.{setting_of, end_plan, start_plan, status_of, run_file, run_words, run_plan};
 

@@ -1,8 +1,7 @@
-use Rattle.std.proofs.Common.{rules}
 use Rattle.language_commands.specs.Hex0.{hex0_files}
-use Rattle.command_plan.proofs.Performing.{performing}
+use Rattle.command_plan.proofs.Performing.{goes_on_after_fetch}
 use Rattle.language_commands.proofs.hex0.compare_files.Goals as goal
 
-pub returns-in_err-bytes : goal.returns-in_err-bytes
+pub returns : goal.returns
 unfolding hex0_files
-returns-in_err-bytes g c = search (rules, performing)
+returns g c = goes_on_after_fetch _ _ _ _ _ _ _ _ c.in_ok-text.ensures (rw c.as_slice.ensures at c.compare_with.ensures)

@@ -1,0 +1,51 @@
+-- What the steps of a command do to a shelf. It serves the split of the code: no promise of a command rests on its being read.
+use Rattle.std.specs.Prelude.{◌≡◌, ℕ, ◌≤◌, ◌⊎◌, Result, Ok, Err, List, length}
+use Rattle.std.specs.Bool.{OnTrue}
+use Rattle.ddc_base.specs.declared.outside.Operation.TheVariants as operation
+use Rattle.ddc_base.specs.declared.outside.Call.TheVariants.{Load, Save}
+use Rattle.ddc_base.specs.declared.outside.Loaded.TheVariants as content
+use Rattle.ddc_base.specs.Outside.{ShelfState, SaveFails, after_call, after_fault, after_setting, loaded}
+use Rattle.command_plan.specs.declared.status.Status.TheVariants as status
+use Rattle.command_plan.specs.declared.answer.Answer.{Answer}
+use Rattle.command_plan.specs.declared.stop.Stop.{Stop}
+use Rattle.command_plan.specs.declared.stop.Stop.TheVariants as stop
+use Rattle.command_plan.specs.Plan.{Plan, answers}
+use Rattle.command_plan.specs.Texts.{absent_line, too_long_line, shelf_fault_line}
+
+abbrev pub SaysBy : Plan → Result Answer Stop → Type 0
+SaysBy plan (Ok answer) = plan ≡ answers answer.status (answer.text)
+SaysBy plan (Err ending) = ending ≡ stop.OutOfMemory
+
+-- the plan's answer is given with no call of a shelf, or memory was wanting
+pub record Says (plan : Plan) (result : Result Answer Stop) : Type 0 where
+  pub by_result : SaysBy plan result
+
+-- a needed name was refused: it is not held, or its content has more bytes than are allowed
+abbrev pub IsRefusal : ShelfState → List ℕ → ℕ → Answer → Type 0
+IsRefusal shelf name limit answer =
+    (answer.status ≡ status.FileRefused)
+    × OnTrue shelf.tells (
+    ((loaded shelf.files name limit ≡ content.Absent) × (answer.text ≡ absent_line name))
+    ⊎ ((loaded shelf.files name limit ≡ content.TooLong) × (answer.text ≡ too_long_line name)))
+
+abbrev pub FetchesBy : List ℕ → ℕ → ShelfState → ShelfState → Result (List ℕ) Stop → Type 0
+FetchesBy name limit old new (Ok bytes) =
+    (new ≡ after_call (Load name limit) old) × OnTrue old.tells (loaded old.files name limit ≡ content.Bytes bytes) × (length bytes ≤ limit)
+FetchesBy name limit old new (Err (stop.Answered answer)) = (new ≡ after_call (Load name limit) old) × IsRefusal old name limit answer
+FetchesBy name limit old new (Err (stop.ShelfFault text)) = (new ≡ after_fault operation.Load name old) × (text ≡ shelf_fault_line name)
+FetchesBy name limit old new (Err stop.OutOfMemory) =
+    (new ≡ old) ⊎ ((new ≡ after_call (Load name limit) old) ⊎ (new ≡ after_fault operation.Load name old))
+
+-- a needed name was fetched, or ended the command
+pub record Fetches (name : List ℕ) (limit : ℕ) (old new : ShelfState) (result : Result (List ℕ) Stop) : Type 0 where
+  pub by_result : FetchesBy name limit old new result
+
+abbrev pub StoresBy : List ℕ → List ℕ → ShelfState → ShelfState → Result (Unit {0}) Stop → Type 0
+StoresBy name content old new (Ok _) = new ≡ after_call (Save name content) (after_setting name content old)
+StoresBy name content old new (Err (stop.Answered answer)) = ⊥
+StoresBy name content old new (Err (stop.ShelfFault text)) = SaveFails name old new × (text ≡ shelf_fault_line name)
+StoresBy name content old new (Err stop.OutOfMemory) = (new ≡ old) ⊎ SaveFails name old new
+
+-- a name was set, or ended the command
+pub record Stores (name content : List ℕ) (old new : ShelfState) (result : Result (Unit {0}) Stop) : Type 0 where
+  pub by_result : StoresBy name content old new result
