@@ -11,10 +11,9 @@ use arrayvec::ArrayVec;
 
 mod checks;
 mod fields;
+pub mod laws;
 mod refusal;
 mod table;
-#[cfg(test)]
-mod tests;
 
 pub use refusal::ElfRefusal;
 
@@ -32,7 +31,7 @@ pub struct Segment {
 }
 
 /// What an accepted file asks for.
-#[derive(Drop)]
+#[derive(Debug, PartialEq, Eq, Drop)]
 pub struct Image {
     /// The address of the first instruction, a multiple of 4 within a segment.
     pub entry: u64,

@@ -12,7 +12,7 @@ use Rattle.paged_mem.proofs.Mapped.{length-zeros}
 use Rattle.paged_mem.proofs.Maps.{each_by_maps, maps_by_each}
 use Rattle.paged_mem.proofs.Numbers.{length-bytes_of}
 use Rattle.linux_calls.specs.declared.Heap.{Heap}
-use Rattle.linux_calls.specs.HeapOf.{IsHeapOf}
+use Rattle.linux_calls.specs.HeapOf.{IsHeapOf, is_beside_heap}
 use Rattle.linux_calls.specs.HeapOf as heap
 use Rattle.linux_calls.proofs.Heaps.{same_after_write}
 use Rattle.elf_load.specs.declared.Segment.{Segment}
@@ -21,7 +21,7 @@ use Rattle.elf_load.specs.Segments.{first_page, page_end, paged_size, IsPlaced}
 use Rattle.elf_load.specs.Image.{IsSound}
 use Rattle.guest_run.specs.Stack.{addresses, gap, joined, stack_bytes, stack_end, stack_pointer, stack_size, start_size, texts_at, word_count, words}
 use Rattle.guest_run.specs.Placed.{with_segments, with_stack}
-use Rattle.guest_run.specs.Valid.{Fits, is_beside_heap, pages_beside, pages_from}
+use Rattle.guest_run.specs.Valid.{Fits, pages_beside, pages_from}
 use Rattle.elf_load.proofs.Pages.{none_at}
 use Rattle.guest_run.proofs.Places.{first_page-is, IsBeside, maps-within, page_end-is, unmapped_beside}
 
@@ -250,7 +250,7 @@ heap_starts program image at bytes limit sound small low =
       to = omega arith;
       low = omega arith;
       mapped = maps_by_each (with_stack (with_segments program image.segments.items) at bytes) image.first_break
-          (heap.page_end image.first_break - image.first_break) (λ q from to. absurd (omega arith));
+          (heap.page_up image.first_break - image.first_break) (λ q from to. absurd (omega arith));
       free = λ q from to.
           below_stack (with_segments program image.segments.items) at bytes q low (omega arith)
           ∙ unmapped_beside program image.segments.items q sound.placed

@@ -1,5 +1,5 @@
 -- Files that are given, as a sorted list: one more of them, and how they are placed in turn.
-use Rattle.std.proofs.Common.{◌≡◌, ℕ, zero, suc, ◌+◌, ◌<◌, ◌≤◌, Bool, true, false, cond, not, ◌&&◌, ◌||◌, T, Option, None, Some, is_some, List, [], ◌∷◌, length, map, get_or, refl, sym, ap, ◌∙◌, arith, Ok, Err}
+use Rattle.std.proofs.Common.{◌≡◌, ℕ, zero, suc, ◌+◌, ◌<◌, ◌≤◌, Bool, true, false, cond, not, ◌&&◌, ◌||◌, T, Option, None, Some, is_some, List, [], ◌∷◌, length, map, get_or, refl, sym, ap, ◌∙◌, subst, arith, Ok, Err}
 use Rattle.std.specs.Prelude.{All, IsTrue, sum_by, nat_lt, nat_le}
 use Rattle.std.specs.List.{fold}
 use Rattle.std.specs.Ordering.{is_eq, is_lt, nat_cmp}
@@ -10,17 +10,20 @@ use Rattle.std.specs.Cmp.Lexicographic.{nat_list_cmp_total}
 use Rattle.std.specs.FinMap as fin
 use Rattle.std.specs.FinMap.Entries.{below_all, by_order, is_sorted-put}
 use Rattle.std.proofs.lemmas.Bool.Decides.{nat_tests}
-use Rattle.std.proofs.lemmas.List.Elements.{All-head, All-tail}
+use Rattle.std.proofs.lemmas.List.Elements.{All-head, All-tail, All-weaker}
 use Rattle.std.proofs.lemmas.List.Sums.{sum_by-cons}
 use Rattle.mem_files.specs.Names.{begins_with_dot_slash, bytes_cmp, is_name, is_stripped_name, stripped}
 use Rattle.mem_files.specs.World.{World, content_of, lowest_unused, total}
 use Rattle.mem_files.specs.Calls.{first_world, is_full, placed, placed_as, with_file}
-use Rattle.mem_files.specs.declared.TheConstants.{MAX_CONTENT, MAX_NAMES, MAX_TOTAL}
+use Rattle.mem_files.specs.Limits.{most_content, most_names, most_total}
 use Rattle.mem_files.proofs.Directory.{from_sorted-put, len-from_sorted}
-use Rattle.mem_files.proofs.SoundCalls.{stripped-is}
+use Rattle.mem_files.specs.Sound.{IsSound}
+use Rattle.mem_files.proofs.KeepingCalls.{stripped-is}
+use Rattle.mem_files.proofs.Rules.{first-sound, placed-sound}
 use Rattle.mem_files.specs.declared.slot.PlaceRefusal.TheVariants.{BadName, Twice, Full}
 use Rattle.mem_files.proofs.Totals.{total-insert}
-use Rattle.guest_run.specs.Setting.{file_size, FileMap, files_size, IsGiven}
+use Rattle.guest_run.specs.Setting.{file_size, FileMap, files_size, IsBoxFile}
+use Rattle.guest_run.specs.Inside.Given.{IsGiven}
 use Rattle.guest_run.specs.Start.{start_world, with_given}
 
 abbrev File : Type 0
@@ -72,18 +75,17 @@ added P name content (file ∷ files) here others absent =
     let all = cases (bytes_cmp name file.0) absent in
     record { all = all.0; longer = all.1; larger = all.2 }
 
-pub given_more : (files : List File) (size : ℕ) (name content : List ℕ) → IsGiven files size → IsTrue (is_stripped_name name)
-    → length content ≤ MAX_CONTENT → fin.find bytes_cmp name files ≡ None → length files < MAX_NAMES
+pub given_more : (files : List File) (size : ℕ) (name content : List ℕ) → IsGiven files size → IsBoxFile (name, content)
+    → fin.find bytes_cmp name files ≡ None → length files < most_names
     → IsGiven (fin.put bytes_cmp name content files) (size + length content)
-given_more files size name content is named small absent few =
-    let names = added (λ file. IsTrue (is_stripped_name file.0)) name content files named is.named absent in
-    let sizes = added (λ file. length file.1 ≤ MAX_CONTENT) name content files small is.small absent in
-    let longer = names.longer in
-    let larger = names.larger in
+given_more files size name content is one absent few =
+    let more = added IsBoxFile name content files one is.each absent in
+    let small = one.small in
+    let longer = more.longer in
+    let larger = more.larger in
     record {
       sorted = is_true _ (is_sorted-put bytes_cmp nat_list_cmp_total name content files (of_true _ is.sorted));
-      named = names.all;
-      small = sizes.all;
+      each = more.all;
       few = omega arith;
       counted = (let was = is.counted in omega arith);
       bounded = (let was = is.bounded in omega arith);
@@ -127,8 +129,7 @@ absent-given files name sorted absent = none_of _ (ap is_some (sym (get-given fi
 pub none-given : IsGiven [] 0
 none-given = record {
   sorted = refl;
-  named = λ k d lt. absurd (omega arith);
-  small = λ k d lt. absurd (omega arith);
+  each = λ k d lt. absurd (omega arith);
   few = omega arith;
   counted = refl;
   bounded = omega arith;
@@ -138,10 +139,10 @@ none-given = record {
 pub record CanPlace (world : World) (files : List File) : Type 0 where
   pub sorted : IsTrue (fin.is_sorted bytes_cmp files)
   pub named : All (λ file. IsTrue (is_stripped_name file.0)) files
-  pub small : All (λ file. length file.1 ≤ MAX_CONTENT) files
+  pub small : All (λ file. length file.1 ≤ most_content) files
   pub fresh : All (λ file. fin.get world.names file.0 ≡ None) files
-  pub few : fin.len world.names + length files ≤ MAX_NAMES
-  pub room : total world + sum_by file_size files ≤ MAX_TOTAL
+  pub few : fin.len world.names + length files ≤ most_names
+  pub room : total world + sum_by file_size files ≤ most_total
 
 -- a stripped name stays as it is
 and_true : (a b : Bool) → (a && b) ≡ true → (a ≡ true) × (b ≡ true)
@@ -173,7 +174,7 @@ placed_well world name content is absent room =
     λ i. cond (not (is i)) (Err BadName, world)
     (cond (absent i) (Err Twice, world) (cond (room i) (Err Full, world) (Ok tt, with_file world name content)))
 
-not_full : (world : World) (len : ℕ) → len ≤ MAX_CONTENT → total world + len ≤ MAX_TOTAL → fin.len world.names < MAX_NAMES → is_full world len ≡ false
+not_full : (world : World) (len : ℕ) → len ≤ most_content → total world + len ≤ most_total → fin.len world.names < most_names → is_full world len ≡ false
 not_full world len small room few = full_of (total world) len (fin.len world.names) small room few
   where
     full_of : (t l n : ℕ) → l ≤ 268435456 → t + l ≤ 536870912 → n < 4096
@@ -189,7 +190,7 @@ pub place_next : (world : World) (file : File) (files : List File) → CanPlace 
 place_next world file files can =
     let named : IsTrue (is_stripped_name file.0) = All-head (λ f. IsTrue (is_stripped_name f.0)) file files can.named in
     let fresh : fin.get world.names file.0 ≡ None = All-head (λ f. fin.get world.names f.0 ≡ None) file files can.fresh in
-    let small : length file.1 ≤ MAX_CONTENT = All-head (λ f. length f.1 ≤ MAX_CONTENT) file files can.small in
+    let small : length file.1 ≤ most_content = All-head (λ f. length f.1 ≤ most_content) file files can.small in
     let more = size_of_more file files in
     let room = can.room in
     let few = can.few in
@@ -231,7 +232,7 @@ placed_next world file files can =
     record {
       sorted = parts.1;
       named = All-tail (λ f. IsTrue (is_stripped_name f.0)) file files can.named;
-      small = All-tail (λ f. length f.1 ≤ MAX_CONTENT) file files can.small;
+      small = All-tail (λ f. length f.1 ≤ most_content) file files can.small;
       fresh = λ k d lt.
           fin.get-insert nat_list_cmp_total world.names file.0 (lowest_unused world.files) (get_or files k d).0
           ∙ ap (λ b. cond b (Some (lowest_unused world.files)) (fin.get world.names (get_or files k d).0))
@@ -251,20 +252,50 @@ no_bytes = ap (λ es. 0 + 0 + sum_by length (map (λ (e : ℕ × List ℕ). e.1)
     nil [] e = refl
     nil (x ∷ l) e = absurd (omega arith)
 
-pub can_start : (files : List File) (size : ℕ) → IsGiven files size → size ≤ MAX_TOTAL → CanPlace first_world files
-can_start files size is room =
+-- the files of a box, one by one
+names_of : (files : List File) → All IsBoxFile files → All (λ file. IsTrue (is_stripped_name file.0)) files
+names_of files each = All-weaker IsBoxFile (λ file. IsTrue (is_stripped_name file.0)) (λ file is. is.named) files each
+
+sizes_of : (files : List File) → All IsBoxFile files → All (λ file. length file.1 ≤ most_content) files
+sizes_of files each = All-weaker IsBoxFile (λ file. length file.1 ≤ most_content) (λ file is. is.small) files each
+
+pub can_start : (files : List File) (size : ℕ) → IsTrue (fin.is_sorted bytes_cmp files) → All IsBoxFile files → length files ≤ most_names
+    → size ≡ sum_by file_size files → size ≤ most_total → CanPlace first_world files
+can_start files size sorted each few counted room =
     let none = no_bytes in
     let names : fin.len first_world.names ≡ 0 = fin.len-empty bytes_cmp ℕ in
-    let few = is.few in
-    let counted = is.counted in
     record {
-      sorted = is.sorted;
-      named = is.named;
-      small = is.small;
+      sorted = sorted;
+      named = names_of files each;
+      small = sizes_of files each;
       fresh = λ k d lt. fin.get-empty bytes_cmp (get_or files k d).0;
       few = omega (arith, names);
       room = omega (arith, none);
     }
+
+-- the files of a start keep their rules
+sound_from : (files : List File) (world : World) → IsSound world → CanPlace world files → All IsBoxFile files → IsSound (fold with_given world files)
+sound_from [] world sound can each = sound
+sound_from (file ∷ files) world sound can each =
+    let one = All-head IsBoxFile file files each in
+    sound_from files (with_file world file.0 file.1)
+    (subst IsSound (ap (λ p. p.1) (place_next world file files can)) (placed-sound world file.0 file.1 sound one.name_bytes one.content_bytes))
+    (placed_next world file files can) (All-tail IsBoxFile file files each)
+
+pub start-sound : (files : FileMap) → All IsBoxFile (fin.entries files) → fin.len files ≤ most_names → files_size files ≤ most_total → IsSound (start_world files)
+unfolding start_world
+start-sound files each few small =
+    let sorted = is_true _ (fin.entries_sorted files) in
+    sound_from (fin.entries files) first_world first-sound
+    (can_start (fin.entries files) (files_size files) sorted each (omega (arith, fin.len-entries files, few)) refl small) each
+  where
+    is_true : (b : Bool) → T b → IsTrue b
+    is_true true h = refl
+    is_true false h = absurd h
+
+-- the files of a map that was made of such a list
+pub each-given : (files : List File) (size : ℕ) → IsGiven files size → All IsBoxFile (fin.entries (fin.from_sorted {R = bytes_cmp} files))
+each-given files size is = subst (All IsBoxFile) (sym (entries-given files is.sorted)) is.each
 
 -- the world of files that are given, as the list of them makes it
 pub world-given : (files : List File) (given : FileMap) → IsTrue (fin.is_sorted bytes_cmp files)

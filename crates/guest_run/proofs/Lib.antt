@@ -1,6 +1,5 @@
 pub mod Beginnings
 pub mod GivenLists
-pub mod Keeping
 pub mod Places
 pub mod RunLaws
 pub mod Running
@@ -8,3 +7,7 @@ pub mod Starting
 pub mod Stepping
 pub mod Texts
 pub mod Validity
+pub mod Programs
+pub mod Acts
+pub mod StartLaw
+pub mod Boxes

@@ -20,10 +20,10 @@ after-sum guest between first (suc more) reached =
     ap (after guest) same ∙ ap (λ o. option_and_then (λ l. went_to (next l)) o) (after-sum guest between first more reached)
 
 -- what an end is: steps that went on, and one that did not
-abbrev EndsAfter : GuestState → ℕ → End × GuestState → Type 0
+abbrev pub EndsAfter : GuestState → ℕ → End × GuestState → Type 0
 EndsAfter guest count end = (after guest count ≡ Some end.1) × (next end.1 ≡ Ends end.0)
 
-ends_after : (guest : GuestState) (count : ℕ) (end : End × GuestState) → end_at guest (suc count) ≡ Some end → EndsAfter guest count end
+pub ends_after : (guest : GuestState) (count : ℕ) (end : End × GuestState) → end_at guest (suc count) ≡ Some end → EndsAfter guest count end
 unfolding end_at
 ends_after guest count end is = by_last (after guest count) refl is where
   by_next : (last : GuestState) (n : Next) → after guest count ≡ Some last → next last ≡ n → end_of last n ≡ Some end → EndsAfter guest count end
@@ -36,7 +36,7 @@ ends_after guest count end is = by_last (after guest count) refl is where
   by_last None was is = absurd cc
   by_last (Some last) was is = by_next last (next last) was refl is
 
-no_end_at-zero : (guest : GuestState) (end : End × GuestState) → end_at guest zero ≡ Some end → ⊥
+pub no_end_at-zero : (guest : GuestState) (end : End × GuestState) → end_at guest zero ≡ Some end → ⊥
 unfolding end_at
 no_end_at-zero guest end is = cc
 
@@ -94,7 +94,7 @@ one_end-law guest (suc count) (suc after_those) end what is at =
     (omega arith, same)
 
 -- the first end over a sum
-first_end-sum : (guest between : GuestState) (first more : ℕ) → after guest first ≡ Some between
+pub first_end-sum : (guest between : GuestState) (first more : ℕ) → after guest first ≡ Some between
     → first_end guest (first + more) ≡ first_end between more
 unfolding first_end end_at
 first_end-sum guest between first zero reached =
@@ -127,7 +127,7 @@ runs-join guest between to first more OutOfMemory spent is =
     (omega (arith, is.0), ap (after guest) sum ∙ after-sum guest between first (steps_between between to) spent.1 ∙ is.1, is.2, is.3)
 
 -- an end within fewer steps is one within more
-stays : (guest : GuestState) (most more : ℕ) (end : End × GuestState) → first_end guest most ≡ Some end → first_end guest (most + more) ≡ Some end
+pub stays : (guest : GuestState) (most more : ℕ) (end : End × GuestState) → first_end guest most ≡ Some end → first_end guest (most + more) ≡ Some end
 stays guest most more end is =
     let at = first_end-at guest most end is in
     first_end-found guest at.0 (most + more) end (omega (arith, at.1)) at.2

@@ -5,27 +5,28 @@ use Rattle.std.specs.FinMap.{contains_key}
 use Rattle.std.proofs.lemmas.Bool.Decides.{nat_tests}
 use Rattle.paged_mem.specs.Memory.{Memory}
 use Rattle.paged_mem.proofs.Maps.{each_by_maps, maps_by_each}
-use Rattle.rv64_machine.specs.Hart.{Act, HartState, act}
+use Rattle.rv64_machine.specs.Hart.{Act, HartState, IsHart, act}
 use Rattle.rv64_machine.specs.Hart as hart
 use Rattle.linux_calls.specs.declared.Heap.{Heap}
-use Rattle.linux_calls.specs.HeapOf.{IsHeapOf, page_end}
-use Rattle.linux_calls.specs.Calls.{LeavesSound, Outcome, State, state}
+use Rattle.linux_calls.specs.HeapOf.{IsHeapOf, is_beside_heap, page_up}
+use Rattle.linux_calls.specs.Calls.{Outcome, State, answer_of, state}
+use Rattle.linux_calls.specs.Rules.{LeavesState}
 use Rattle.linux_calls.specs.Calls as call
 use Rattle.linux_calls.proofs.Heaps.{IsHeapOf-same}
-use Rattle.linux_calls.proofs.SoundLaw.{syscall-sound}
-use Rattle.mem_files.specs.Sound.{IsSound}
+use Rattle.linux_calls.proofs.StateLaw.{syscall-state}
 use Rattle.guest_run.specs.Stack.{stack_end, stack_size}
 use Rattle.guest_run.specs.State.{GuestState}
-use Rattle.guest_run.specs.Valid.{Fits, is_beside_heap, pages_beside, pages_from}
+use Rattle.guest_run.specs.Valid.{Fits, IsValid, pages_beside, pages_from}
 use Rattle.guest_run.specs.Run.{Next, Goes, Ends, after, after_act, after_call, next, outcome_of, call_number, call_arguments}
 use Rattle.rv64_machine.proofs.ActLemmas.{act-mapping}
 use Rattle.std.proofs.lemmas.Option.{same_Some}
-use Rattle.guest_run.proofs.Keeping.{call_keeps, OutcomeKeeps}
+use Rattle.linux_calls.proofs.Keeping.{call_keeps, OutcomeKeeps}
 use Rattle.guest_run.proofs.Running.{before}
+use Rattle.guest_run.proofs.Acts.{act-hart, answered-hart}
 
 -- heaps at one place with one limit have the same pages beside them
 same_beside : (one other : Heap) (q : ℕ) → other.first ≡ one.first → other.limit ≡ one.limit → is_beside_heap other q ≡ is_beside_heap one q
-same_beside one other q first limit = λ i. nat_lt q (first i) || nat_le (page_end (first i + limit i)) q
+same_beside one other q first limit = λ i. nat_lt q (first i) || nat_le (page_up (first i + limit i)) q
 
 -- what is mapped beside the heap is what counts
 same_pages : (m n : Memory) (one other : Heap) → other.first ≡ one.first → other.limit ≡ one.limit
@@ -52,7 +53,7 @@ same_pages m n one other first limit same =
 stack_beside : (m : Memory) (heap : Heap) (q : ℕ) → IsHeapOf m heap → stack_end - stack_size ≤ q → is_beside_heap heap q ≡ true
 stack_beside m heap q is from =
     let low = is.low in
-    let whole : page_end (heap.first + heap.limit) ≤ q = omega arith in
+    let whole : page_up (heap.first + heap.limit) ≤ q = omega arith in
     grind (arith, nat_tests)
 
 -- a memory that is mapped alike beside its heap fits it too
@@ -65,71 +66,46 @@ fits_too m n one other fits first limit heap_of same = record {
   few = let pages = same_pages m n one other first limit same in let few = fits.few in omega arith;
 }
 
--- the state that a step goes on in fits
-abbrev FitsIn : Next → Type 0
-FitsIn (Goes guest) = Fits guest.hart.memory guest.heap
-FitsIn (Ends end) = Unit {0}
+-- the state in which a step goes on is valid
+abbrev ValidIn : Next → Type 0
+ValidIn (Goes guest) = IsValid guest
+ValidIn (Ends end) = Unit {0}
 
--- a call's step
-fits_call : (guest : GuestState) (meant : Outcome) → Fits guest.hart.memory guest.heap
-    → OutcomeKeeps (state guest.hart.memory guest.world guest.heap) meant
-    → (to : GuestState) → after_call guest meant ≡ Goes to → Fits to.hart.memory to.heap
-fits_call guest (call.goes answer left) fits keeps to is =
-    subst FitsIn is (fits_too guest.hart.memory left.memory guest.heap left.heap fits keeps.first keeps.limit keeps.heap_of keeps.beside)
-fits_call guest (call.exits status) fits keeps to is = cc
-fits_call guest (call.is_unknown number) fits keeps to is = cc
+valid_after_call : (guest : GuestState) (meant : Outcome) → IsValid guest → LeavesState meant
+    → OutcomeKeeps (state guest.hart.memory guest.world guest.heap) meant → ValidIn (after_call guest meant)
+valid_after_call guest (call.goes answer left) valid leaves keeps =
+    let hart = valid.hart in
+    let moved : IsHart (record guest.hart { memory = left.memory }) =
+    record { count = hart.count; zero = hart.zero; aligned = hart.aligned; whole = leaves.memory } in
+    record {
+      hart = answered-hart (record guest.hart { memory = left.memory }) (answer_of answer) moved;
+      fits = fits_too guest.hart.memory left.memory guest.heap left.heap valid.fits keeps.first keeps.limit keeps.heap_of keeps.beside;
+      files = leaves.files;
+    }
+valid_after_call guest (call.exits status) valid leaves keeps = tt
+valid_after_call guest (call.is_unknown number) valid leaves keeps = tt
 
-fits_act : (guest : GuestState) (an_act : Act) → Fits guest.hart.memory guest.heap
-    → ((next' : HartState) → an_act ≡ hart.Goes next' → (q : ℕ) → contains_key next'.memory q ≡ contains_key guest.hart.memory q)
-    → (to : GuestState) → after_act guest an_act ≡ Goes to → Fits to.hart.memory to.heap
-fits_act guest (hart.Goes to') fits maps-alike to is =
-    subst FitsIn is
-    (fits_too guest.hart.memory to'.memory guest.heap guest.heap fits refl refl
-    (IsHeapOf-same guest.hart.memory to'.memory guest.heap (maps-alike to' refl) fits.heap_of) (λ q apart. maps-alike to' refl q))
-fits_act guest hart.Calls fits maps-alike to is =
-    fits_call guest (outcome_of guest) fits
-    (call_keeps (call_number guest) (call_arguments guest) (state guest.hart.memory guest.world guest.heap) fits.heap_of) to is
-fits_act guest (hart.Traps cause) fits maps-alike to is = cc
+valid_after : (guest : GuestState) (an_act : Act) → act guest.hart ≡ an_act → IsValid guest → ValidIn (after_act guest an_act)
+valid_after guest (hart.Goes to) is valid = record {
+  hart = act-hart guest.hart to valid.hart is;
+  fits = fits_too guest.hart.memory to.memory guest.heap guest.heap valid.fits refl refl
+      (IsHeapOf-same guest.hart.memory to.memory guest.heap (act-mapping guest.hart to is) valid.fits.heap_of) (λ q apart. act-mapping guest.hart to is q);
+  files = valid.files;
+}
+valid_after guest hart.Calls is valid =
+    let before : State = state guest.hart.memory guest.world guest.heap in
+    valid_after_call guest (outcome_of guest) valid
+    (syscall-state (call_number guest) (call_arguments guest) before (record { memory = valid.hart.whole; files = valid.files; heap = valid.fits.heap_of }))
+    (call_keeps (call_number guest) (call_arguments guest) before valid.fits.heap_of)
+valid_after guest (hart.Traps cause) is valid = tt
 
-pub next-fits : (guest to : GuestState) → Fits guest.hart.memory guest.heap → next guest ≡ Goes to → Fits to.hart.memory to.heap
+next-valid : (guest to : GuestState) → IsValid guest → next guest ≡ Goes to → IsValid to
 unfolding next
-next-fits guest to fits is =
-    fits_act guest (act guest.hart) fits (λ next' goes. act-mapping guest.hart next' goes) to is
+next-valid guest to valid is = subst ValidIn is (valid_after guest (act guest.hart) refl valid)
 
--- and so do many
-pub after-fits : (guest : GuestState) (count : ℕ) (to : GuestState) → Fits guest.hart.memory guest.heap → after guest count ≡ Some to
-    → Fits to.hart.memory to.heap
+pub after-valid : (guest to : GuestState) (count : ℕ) → IsValid guest → after guest count ≡ Some to → IsValid to
 unfolding after
-after-fits guest zero to fits is = subst (λ (g : GuestState). Fits g.hart.memory g.heap) (same_Some guest to is) fits
-after-fits guest (suc count) to fits is =
+after-valid guest to zero valid is = subst IsValid (same_Some guest to is) valid
+after-valid guest to (suc count) valid is =
     let earlier = before guest to count is in
-    next-fits earlier.0 to (after-fits guest count earlier.0 fits earlier.1) earlier.2
-
--- a step keeps the files sound, and so do many
-SoundIn : Next → Type 0
-SoundIn (Goes guest) = IsSound guest.world
-SoundIn (Ends end) = Unit {0}
-
-sound_after_call : (guest : GuestState) (meant : Outcome) → LeavesSound meant → SoundIn (after_call guest meant)
-unfolding SoundIn
-sound_after_call guest (call.goes answer left) sound = sound
-sound_after_call guest (call.exits status) sound = tt
-sound_after_call guest (call.is_unknown number) sound = tt
-
-sound_after : (guest : GuestState) (an_act : Act) → IsSound guest.world → SoundIn (after_act guest an_act)
-unfolding SoundIn
-sound_after guest (hart.Goes to) sound = sound
-sound_after guest hart.Calls sound =
-    sound_after_call guest (outcome_of guest) (syscall-sound (call_number guest) (call_arguments guest) (state guest.hart.memory guest.world guest.heap) sound)
-sound_after guest (hart.Traps cause) sound = tt
-
-next-sound : (guest to : GuestState) → IsSound guest.world → next guest ≡ Goes to → IsSound to.world
-unfolding next SoundIn
-next-sound guest to sound is = subst SoundIn is (sound_after guest (act guest.hart) sound)
-
-pub after-sound : (guest to : GuestState) (count : ℕ) → IsSound guest.world → after guest count ≡ Some to → IsSound to.world
-unfolding after
-after-sound guest to zero sound is = subst (λ (g : GuestState). IsSound g.world) (same_Some guest to is) sound
-after-sound guest to (suc count) sound is =
-    let earlier = before guest to count is in
-    next-sound earlier.0 to (after-sound guest earlier.0 count sound earlier.1) earlier.2
+    next-valid earlier.0 to (after-valid guest earlier.0 count valid earlier.1) earlier.2

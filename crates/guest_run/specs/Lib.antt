@@ -5,3 +5,5 @@ pub mod Valid
 pub mod Run
 pub mod Setting
 pub mod Start
+pub mod Program
+pub mod Inside

@@ -1,13 +1,14 @@
 -- What a program is given when it starts.
 -- docs/reference/running.md says the same for people.
-use Rattle.std.specs.Prelude.{◌≡◌, ℕ, ◌*◌, ◌^◌, ◌≤◌, ◌==◌, Bool, ◌||◌, nat_le, nat_lt, not, if◌then◌else◌, IsTrue, Option, Some, None, List, length, All, Result, Ok, Err, sum_by, refl}
+use Rattle.std.specs.Prelude.{◌≡◌, ℕ, ◌^◌, ◌≤◌, ◌==◌, Bool, ◌||◌, nat_le, nat_lt, not, if◌then◌else◌, IsTrue, Option, Some, None, List, length, All, Result, Ok, Err, sum_by, refl}
 use Rattle.std.specs.List.{list_any}
 use Rattle.std.specs.FinMap as map
 use Rattle.std.specs.Coded.{Coded, code_by, coded×, coded_ℕ, coded_list}
 use Rattle.mem_files.specs.declared.slot.PlaceRefusal.{PlaceRefusal}
 use Rattle.mem_files.specs.declared.slot.PlaceRefusal.TheVariants.{BadName, Twice, Full, OutOfMemory}
-use Rattle.mem_files.specs.declared.TheConstants.{MAX_CONTENT, MAX_NAMES}
+use Rattle.mem_files.specs.Limits.{most_content, most_names}
 use Rattle.mem_files.specs.Names.{bytes_cmp, is_name, is_stripped_name}
+use Rattle.mem_files.specs.Sound.{AreBytes}
 
 -- files by name
 abbrev pub FileMap : Type 0
@@ -44,19 +45,21 @@ file_size file = length file.1
 abbrev pub files_size : FileMap → ℕ
 files_size files = sum_by file_size (map.entries files)
 
--- a list of files, in order and with `size` bytes together: few and small, under names that guests have
-pub record IsGiven (files : List (List ℕ × List ℕ)) (size : ℕ) : Type 0 where
-  pub sorted : IsTrue (map.is_sorted bytes_cmp files)
-  pub named : All (λ file. IsTrue (is_stripped_name file.0)) files
-  pub small : All (λ file. length file.1 ≤ MAX_CONTENT) files
-  pub few : length files ≤ MAX_NAMES
-  pub counted : size ≡ sum_by file_size files
-  pub bounded : size ≤ MAX_CONTENT * length files
+-- a file of a box: few enough bytes, under a name that guests have without the `./` that it may begin with
+pub record IsBoxFile (file : List ℕ × List ℕ) : Type 0 where
+  pub named : IsTrue (is_stripped_name file.0)
+  pub name_bytes : AreBytes file.0
+  pub small : length file.1 ≤ most_content
+  pub content_bytes : AreBytes file.1
 
--- what every setting keeps of its texts and its heap
-pub record IsSetting (setting : Setting) : Type 0 where
+-- a valid box: texts of bytes, none of them zero, at most 4,096 files, and a heap of at most 2^30 bytes
+pub record IsBox (setting : Setting) : Type 0 where
   pub args : All IsText setting.args
+  pub arg_bytes : All AreBytes setting.args
   pub env : All IsText setting.env
+  pub env_bytes : All AreBytes setting.env
+  pub files : All IsBoxFile (map.entries setting.files)
+  pub few : map.len setting.files ≤ most_names
   pub heap : setting.heap ≤ 2 ^ 30
 
 -- why a file is not placed, under its name without the `./` that it begins with
@@ -64,7 +67,7 @@ abbrev pub place_refusal : FileMap → List ℕ → List ℕ → Option PlaceRef
 place_refusal files name content =
     if not (is_name name) then Some BadName
     else (if map.contains_key files name then Some Twice
-    else (if nat_lt MAX_CONTENT (length content) || nat_le MAX_NAMES (map.len files) then Some Full
+    else (if nat_lt most_content (length content) || nat_le most_names (map.len files) then Some Full
     else None))
 
 -- a file is placed, or refused, or memory was out where it would be placed; both of the latter change nothing

@@ -1,12 +1,12 @@
 -- The states that a start and steps can reach: what stands in memory besides the segments, and how much of it.
 -- docs/reference/running.md says the same for people.
-use Rattle.std.specs.Prelude.{◌≡◌, ℕ, zero, suc, ◌+◌, ◌-◌, ◌*◌, ◌^◌, ◌≤◌, Bool, true, ◌&&◌, ◌||◌, nat_le, nat_lt, List, [], ◌∷◌, count_by}
+use Rattle.std.specs.Prelude.{◌≡◌, ℕ, zero, suc, ◌-◌, ◌*◌, ◌^◌, ◌≤◌, true, ◌&&◌, List, [], ◌∷◌, count_by}
 use Rattle.std.specs.FinMap.{contains_key}
 use Rattle.paged_mem.specs.Memory.{Memory, maps}
 use Rattle.rv64_machine.specs.Hart.{IsHart}
 use Rattle.mem_files.specs.Sound.{IsSound}
 use Rattle.linux_calls.specs.declared.Heap.{Heap}
-use Rattle.linux_calls.specs.HeapOf.{IsHeapOf, page_end}
+use Rattle.linux_calls.specs.HeapOf.{IsHeapOf, is_beside_heap}
 use Rattle.guest_run.specs.Stack.{stack_end, stack_size}
 use Rattle.guest_run.specs.State.{GuestState}
 
@@ -14,10 +14,6 @@ use Rattle.guest_run.specs.State.{GuestState}
 unfoldable pub pages_from : ℕ → ℕ → List ℕ
 pages_from number zero = []
 pages_from number (suc count) = number ∷ pages_from (suc number) count
-
--- the address is in none of the pages that the heap has or may have
-abbrev pub is_beside_heap : Heap → ℕ → Bool
-is_beside_heap heap address = nat_lt address heap.first || nat_le (page_end (heap.first + heap.limit)) address
 
 -- how many pages are mapped beside the heap
 unfoldable pub pages_beside : Memory → Heap → ℕ

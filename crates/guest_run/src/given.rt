@@ -1,11 +1,11 @@
 //! The files that a program is given.
-ghost use Rattle.guest_run.specs.Setting.{files_size};
+ghost use Rattle.guest_run.specs.Setting.{files_size, IsBoxFile};
 ghost use Rattle.guest_run.specs.Start.{start_world, with_given};
 ghost use Rattle.mem_files.specs.Calls.{placed, with_file};
-ghost use Rattle.mem_files.specs.declared.TheConstants.{MAX_CONTENT as MOST_CONTENT, MAX_NAMES as MOST_NAMES, MAX_TOTAL as MOST_TOTAL};
+ghost use Rattle.mem_files.specs.Limits.{most_content, most_names, most_total};
 ghost use Rattle.mem_files.specs.Names.{is_stripped_name};
 ghost use Rattle.std.specs.FinMap as map;
-ghost use Rattle.std.specs.Prelude.{◌≡◌, ◌<◌, ◌≤◌, false, length, IsTrue, Ok, IfOk, OnErr, OnOk};
+ghost use Rattle.std.specs.Prelude.{◌≡◌, ◌<◌, ◌≤◌, false, length, All, IsTrue, Ok, IfOk, OnErr, OnOk};
 
 use ddc_base::{Bytes, OutOfMemory};
 use mem_files::{Files, PlaceRefusal};
@@ -23,8 +23,9 @@ pub(crate) struct GivenFiles {
 
 impl Model for GivenFiles {
     ghost use Rattle.std.specs.FinMap.{from_sorted};
-    ghost use Rattle.mem_files.specs.Cells.{keyed};
-    ghost use Rattle.guest_run.specs.Setting.{FileMap, file_map_code, IsGiven};
+    ghost use Rattle.mem_files.specs.Inside.Cells.{keyed};
+    ghost use Rattle.guest_run.specs.Setting.{FileMap, file_map_code};
+    ghost use Rattle.guest_run.specs.Inside.Given.{IsGiven};
 
     ghost Value = { FileMap };
 
@@ -72,10 +73,11 @@ impl GivenFiles {
     pub(crate) fn insert(&mut self, name: &[u8], content: &[u8]) -> Result<(), OutOfMemory>
         requires absent { map.contains_key self.old name.now ≡ false }
         requires named { IsTrue (is_stripped_name name.now) }
-        requires small { length content.now ≤ MOST_CONTENT }
-        requires few { map.len self.old < MOST_NAMES }
+        requires small { length content.now ≤ most_content }
+        requires few { map.len self.old < most_names }
         ensures ok { OnOk result (self.new ≡ map.insert self.old name.now content.now) }
         ensures err { OnErr result (self.new ≡ self.old) }
+        ensures each { OnOk result (All IsBoxFile (map.entries self.new)) }
     {
         let key = Vec::from_slice(self.alloc, name)?;
         let held = Bytes::from_slice(self.alloc, content)?;
@@ -86,7 +88,7 @@ impl GivenFiles {
 
     /// The files of a guest that starts with these.
     pub(crate) fn start_files(&self, alloc: Global) -> Result<Files, OutOfMemory>
-        requires { files_size self.now ≤ MOST_TOTAL }
+        requires { files_size self.now ≤ most_total }
         ensures { IfOk result (λ files. files ≡ start_world self.now) }
     {
         let mut files = Files::new(alloc)?;

@@ -4,7 +4,7 @@ ghost use Rattle.guest_run.specs.Setting.{files_size};
 ghost use Rattle.guest_run.specs.Stack.{start_size};
 ghost use Rattle.guest_run.specs.Start.{start_of, start_state, Starts};
 ghost use Rattle.guest_run.specs.Valid.{IsValid};
-ghost use Rattle.mem_files.specs.declared.TheConstants.{MAX_TOTAL as MOST_TOTAL};
+ghost use Rattle.mem_files.specs.Limits.{most_total};
 ghost use Rattle.paged_mem.specs.Memory.{bytes_at, maps};
 ghost use Rattle.std.specs.Prelude.{◌≡◌, ◌+◌, ◌^◌, ◌<◌, ◌≤◌, length, slice_index, unwrap_or, Ok, Err, IfErr, IfOk, OnOk};
 
@@ -15,7 +15,6 @@ use crate::stack;
 use ddc_base::OutOfMemory;
 use elf_load::{ElfRefusal, Image, read_image};
 use linux_calls::Heap;
-use mem_files::laws::files_are_sound;
 use mem_files::{Files, MAX_TOTAL};
 use paged_mem::Ram;
 use rv64_machine::Hart;
@@ -35,7 +34,7 @@ pub struct Guest<R: Ram> {
 
 impl<R: Ram> Model for Guest<R> {
     ghost use Rattle.guest_run.specs.State.{GuestState, guest_code};
-    ghost use Rattle.guest_run.specs.Valid.{Fits};
+    ghost use Rattle.guest_run.specs.Valid.{IsValid};
 
     ghost Value = { GuestState };
 
@@ -43,7 +42,7 @@ impl<R: Ram> Model for Guest<R> {
 
     ghost view = { λ g. record { hart = g.hart; world = g.files; heap = g.heap; steps = g.steps } };
 
-    ghost invariant = { λ g. Fits g.hart.memory g.heap };
+    ghost invariant = { λ g. IsValid (record { hart = g.hart; world = g.files; heap = g.heap; steps = g.steps }) };
 }
 
 impl<R: Ram> Guest<R> {
@@ -89,8 +88,6 @@ impl<R: Ram> Guest<R> {
         // Every guest is in a valid state.
         ensures valid { IsValid self.now }
     {
-        let _pc = self.hart.pc();
-        files_are_sound(&self.files);
         self.steps
     }
 
@@ -156,7 +153,7 @@ pub enum StartRefusal {
 fn judged(program: &[u8], setting: &RunBox) -> Result<Image, StartRefusal>
     ensures sound { IfOk result (IsSound (length program.now)) }
     ensures texts { OnOk result (start_size setting.now.args setting.now.env ≤ 131072) }
-    ensures files { OnOk result (files_size setting.now.files ≤ MOST_TOTAL) }
+    ensures files { OnOk result (files_size setting.now.files ≤ most_total) }
     ensures state { IfOk result (λ image. start_of program.now setting.now ≡ Ok (start_state program.now setting.now image)) }
     ensures refusal { IfErr result (λ refusal. Starts (start_of program.now setting.now) (Err refusal)) }
 {
@@ -182,7 +179,7 @@ fn started<R: Ram>(
 ) -> Result<Guest<R>, OutOfMemory>
     requires sound { IsSound (length program.now) image.now }
     requires texts { start_size setting.now.args setting.now.env ≤ 131072 }
-    requires files { files_size setting.now.files ≤ MOST_TOTAL }
+    requires files { files_size setting.now.files ≤ most_total }
     ensures { IfOk result (λ guest. guest ≡ start_state program.now setting.now image.now) }
 {
     let stack = stack::stack_of(alloc, setting.args(), setting.env())?;

@@ -1,11 +1,15 @@
 //! What holds of every start and every run. Each law is the contract of a function that does nothing.
-ghost use Rattle.guest_run.specs.Run.{after, end_at, first_end, End, Runs};
+ghost use Rattle.guest_run.specs.Program.{Run};
+ghost use Rattle.guest_run.specs.Run.{after, end_at, first_end, End, Exited, Runs};
+ghost use Rattle.guest_run.specs.Setting.{IsBox, Setting};
+ghost use Rattle.guest_run.specs.Start.{start_of};
 ghost use Rattle.guest_run.specs.State.{GuestState};
-ghost use Rattle.guest_run.specs.Valid.{Fits};
-ghost use Rattle.mem_files.specs.Sound.{IsSound};
+ghost use Rattle.guest_run.specs.Valid.{IsValid};
+ghost use Rattle.mem_files.specs.Sound.{AreBytes};
 ghost use Rattle.guest_run.specs.declared.run.RunEnd.{RunEnd};
 ghost use Rattle.guest_run.specs.declared.run.RunEnd.TheVariants.{Spent};
-ghost use Rattle.std.specs.Prelude.{◌≡◌, ◌≢◌, ℕ, ◌+◌, ◌≤◌, None, Some};
+ghost use Rattle.mem_files.specs.World.{World};
+ghost use Rattle.std.specs.Prelude.{◌≡◌, ◌≢◌, ℕ, ◌+◌, ◌≤◌, None, Some, Ok, List};
 
 /// Steps can be taken in parts: what follows so many steps from the state after others follows their sum.
 pub fn steps_in_parts()
@@ -31,6 +35,27 @@ pub fn first_end_is_found()
         → end_at guest number ≡ Some end → first_end guest most ≡ Some end }
 {}
 
+/// The first end within a sum of steps is the first within the former, or else, from the state after these, within the latter.
+pub fn first_end_in_parts()
+    ensures former { (guest : GuestState) (first more : ℕ) (end : End × GuestState) → first_end guest first ≡ Some end
+        → first_end guest (first + more) ≡ Some end }
+    ensures latter { (guest between : GuestState) (first more : ℕ) → after guest first ≡ Some between
+        → first_end guest (first + more) ≡ first_end between more }
+{}
+
+/// One program with one box has at most one run: one number of steps, one status, and one world that it leaves.
+pub fn one_run()
+    ensures { (program : List ℕ) (setting : Setting) (n m s t : ℕ) (world other : World)
+        → Run program setting n s world → Run program setting m t other → (n ≡ m) × (s ≡ t) × (world ≡ other) }
+{}
+
+/// An exit within some steps of a start is a run, which ends at the step after those that were counted.
+pub fn an_exit_is_a_run()
+    ensures { (program : List ℕ) (setting : Setting) (start last : GuestState) (most s : ℕ)
+        → start_of program setting ≡ Ok start → first_end start most ≡ Some (Exited s, last)
+        → Run program setting (last.steps + 1) s last.world }
+{}
+
 /// Where there is no end within some steps, they all go on.
 pub fn steps_go_on_without_an_end()
     ensures { (guest : GuestState) (most : ℕ) → first_end guest most ≡ None
@@ -54,13 +79,13 @@ pub fn an_end_stays()
         → Runs guest most why to → Runs guest (most + more) why to }
 {}
 
-/// Steps keep memory and heap fitting.
-pub fn steps_keep_validity()
-    ensures { (guest to : GuestState) (count : ℕ) → Fits guest.hart.memory guest.heap → after guest count ≡ Some to
-        → Fits to.hart.memory to.heap }
+/// A program with a valid box starts in a valid state, in which no step is taken.
+pub fn starts_are_valid()
+    ensures { (program : List ℕ) (setting : Setting) (guest : GuestState) → AreBytes program → IsBox setting
+        → start_of program setting ≡ Ok guest → IsValid guest × (guest.steps ≡ 0) }
 {}
 
-/// Steps keep the files sound.
-pub fn steps_keep_files_sound()
-    ensures { (guest to : GuestState) (count : ℕ) → IsSound guest.world → after guest count ≡ Some to → IsSound to.world }
+/// Steps keep a state valid.
+pub fn steps_keep_validity()
+    ensures { (guest to : GuestState) (count : ℕ) → IsValid guest → after guest count ≡ Some to → IsValid to }
 {}

@@ -10,8 +10,6 @@ mod placing;
 mod run;
 mod run_box;
 mod stack;
-#[cfg(test)]
-mod tests;
 
 pub use guest::{Guest, StartRefusal};
 pub use run::RunEnd;

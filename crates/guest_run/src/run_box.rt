@@ -1,7 +1,7 @@
-ghost use Rattle.guest_run.specs.Setting.{IsText, PlacesIn};
+ghost use Rattle.guest_run.specs.Setting.{IsBox, IsBoxFile, IsText, PlacesIn};
 ghost use Rattle.mem_files.specs.Names.{is_name, stripped};
 ghost use Rattle.std.specs.FinMap as map;
-ghost use Rattle.std.specs.Prelude.{◌≡◌, ◌^◌, ◌≤◌, [], ◌∷◌, ◌++◌, OnErr, OnOk};
+ghost use Rattle.std.specs.Prelude.{◌≡◌, ◌^◌, ◌≤◌, [], ◌∷◌, ◌++◌, All, OnErr, OnOk};
 
 use crate::given::GivenFiles;
 use ddc_base::{Bytes, OutOfMemory};
@@ -23,7 +23,7 @@ pub struct RunBox {
 }
 
 impl Model for RunBox {
-    ghost use Rattle.guest_run.specs.Setting.{IsSetting, Setting, setting_code};
+    ghost use Rattle.guest_run.specs.Setting.{IsBox, Setting, setting_code};
 
     ghost Value = { Setting };
 
@@ -31,7 +31,7 @@ impl Model for RunBox {
 
     ghost view = { λ b. record { args = b.args.items; env = b.env.items; files = b.files; heap = b.heap } };
 
-    ghost invariant = { λ b. IsSetting (record { args = b.args.items; env = b.env.items; files = b.files; heap = b.heap }) };
+    ghost invariant = { λ b. IsBox (record { args = b.args.items; env = b.env.items; files = b.files; heap = b.heap }) };
 }
 
 impl RunBox {
@@ -104,9 +104,10 @@ impl RunBox {
     }
 
     /// The most bytes of the heap.
-    pub(crate) fn heap(&self) -> u64
+    pub fn heap(&self) -> u64
         ensures value { result ≡ self.now.heap }
-        ensures small { result ≤ 2 ^ 30 }
+        // Every box is valid.
+        ensures valid { IsBox self.now }
     {
         self.heap
     }
@@ -114,7 +115,8 @@ impl RunBox {
 
 /// Adds a file under its name without the `./` that it begins with.
 fn place_in(files: &mut GivenFiles, name: &[u8], content: &[u8]) -> Result<(), PlaceRefusal>
-    ensures { PlacesIn files.old (stripped name.now) content.now result files.new }
+    ensures answer { PlacesIn files.old (stripped name.now) content.now result files.new }
+    ensures each { OnOk result (All IsBoxFile (map.entries files.new)) }
 {
     let name = strip(name);
     if !is_file_name(name) {

@@ -7,11 +7,13 @@ use Rattle.paged_mem.specs.Memory.{bytes_at, maps}
 use Rattle.mem_files.specs.World.{World}
 use Rattle.mem_files.specs.declared.slot.Slot.{Slot}
 use Rattle.mem_files.specs.declared.slot.Slot.TheVariants.{Input, Stream1, Stream2, File}
-use Rattle.mem_files.specs.declared.TheConstants.{MAX_SLOTS, MAX_NAMES, O_ACCMODE, O_CREAT, O_EXCL}
-use Rattle.mem_files.specs.Calls.{removed, removed_at, opened, opened_at, closed, closed_at, sought, sought_at, moved as moved_cursor, ready, write_place, written, written_if, fits, has}
-use Rattle.linux_calls.specs.declared.TheConstants.{SYS_UNLINKAT, SYS_FACCESSAT, SYS_FCHMODAT, SYS_OPENAT, SYS_CLOSE, SYS_LSEEK, SYS_READ, SYS_WRITE, SYS_EXIT, SYS_EXIT_GROUP, SYS_BRK}
+use Rattle.mem_files.specs.Limits.{most_descriptors, most_names}
+use Rattle.mem_files.specs.Linux.{o_accmode, o_creat, o_excl}
+use Rattle.mem_files.specs.Calls.{removed, removed_at, opened, opened_at, closed, closed_at, sought, sought_at, with_cursor, ready, write_place, written, written_if, fits, has}
+use Rattle.linux_calls.specs.Linux.{sys_unlinkat, sys_faccessat, sys_fchmodat, sys_openat, sys_close, sys_lseek, sys_read, sys_write, sys_exit, sys_exit_group, sys_brk}
 use Rattle.linux_calls.specs.Paths.{low, named, name_at, in_directory}
-use Rattle.linux_calls.specs.Calls.{State, Outcome, exits, is_unknown, back, answering, unlinked, accessed, mode_changed, opened_in, opened_as, moved, written_from, written_at, moved_break, syscall, LeavesOnError}
+use Rattle.linux_calls.specs.Calls.{State, Outcome, exits, is_unknown, back, answering, unlinked, accessed, mode_changed, opened_in, opened_as, read_at, written_from, written_at, moved_break, syscall}
+use Rattle.linux_calls.specs.Rules.{LeavesOnError}
 
 -- a pair whose error leaves the files
 abbrev Leaves : {A : Type 0} → World → Result A ℕ × World → Type 0
@@ -42,7 +44,7 @@ leaves-closed w fd = at (map.get w.slots fd)
 leaves-sought : (w : World) (fd : ℕ) (offset : ℤ) (whence : ℕ) → Leaves w (sought w fd offset whence)
 leaves-sought w fd offset whence = at (map.get w.slots fd)
   where
-    to : (number flags : ℕ) (o : Option ℕ) → Leaves w (moved_cursor w fd number flags o)
+    to : (number flags : ℕ) (o : Option ℕ) → Leaves w (with_cursor w fd number flags o)
     to number flags None = λ e. refl
     to number flags (Some cursor) = λ e. cc
 
@@ -55,11 +57,11 @@ leaves-sought w fd offset whence = at (map.get w.slots fd)
 
 leaves-opened : (w : World) (name : List ℕ) (flags : ℕ) → Leaves w (opened w name flags)
 leaves-opened w name flags =
-    leaves-if w (bit_and flags O_ACCMODE == O_ACCMODE) _ _ (λ e. refl) (leaves-if w (nat_le MAX_SLOTS (map.len w.slots)) _ _ (λ e. refl) (at (map.get w.names name)))
+    leaves-if w (bit_and flags o_accmode == o_accmode) _ _ (λ e. refl) (leaves-if w (nat_le most_descriptors (map.len w.slots)) _ _ (λ e. refl) (at (map.get w.names name)))
   where
     at : (o : Option ℕ) → Leaves w (opened_at w name flags o)
-    at (Some number) = leaves-if w (has flags O_CREAT && has flags O_EXCL) _ _ (λ e. refl) (λ e. cc)
-    at None = leaves-if w (not (has flags O_CREAT)) _ _ (λ e. refl) (leaves-if w (nat_le MAX_NAMES (map.len w.names)) _ _ (λ e. refl) (λ e. cc))
+    at (Some number) = leaves-if w (has flags o_creat && has flags o_excl) _ _ (λ e. refl) (λ e. cc)
+    at None = leaves-if w (not (has flags o_creat)) _ _ (λ e. refl) (leaves-if w (nat_le most_names (map.len w.names)) _ _ (λ e. refl) (λ e. cc))
 
 leaves-written : (w : World) (fd : ℕ) (bytes : List ℕ) → Leaves w (written w fd bytes)
 leaves-written w fd bytes = at (fits w fd (length bytes))
@@ -74,7 +76,7 @@ leaves-unlinked w flags (Ok name) = leaves-if w (low flags == 0) _ _ (leaves-ans
 
 leaves-opened_as : (w : World) (dir flags : ℕ) (r : Result (List ℕ) ℕ) → Leaves w (opened_as w dir flags r)
 leaves-opened_as w dir flags (Err errno) = λ e. refl
-leaves-opened_as w dir flags (Ok name) = leaves-if w (bit_and (low flags) O_ACCMODE == O_ACCMODE) _ _ (λ e. refl) (inside (in_directory w dir name))
+leaves-opened_as w dir flags (Ok name) = leaves-if w (bit_and (low flags) o_accmode == o_accmode) _ _ (λ e. refl) (inside (in_directory w dir name))
   where
     inside : (r : Result (List ℕ) ℕ) → Leaves w (opened_in w flags r)
     inside (Err errno) = λ e. refl
@@ -87,7 +89,7 @@ outcome-if : (s : State) (b : Bool) (x y : Outcome) → LeavesOnError s x → Le
 outcome-if s true x y p q = p
 outcome-if s false x y p q = q
 
-leaves-moved : (s : State) (fd buffer : ℕ) (r : Result (List ℕ) ℕ) → LeavesOnError s (moved s fd buffer r)
+leaves-moved : (s : State) (fd buffer : ℕ) (r : Result (List ℕ) ℕ) → LeavesOnError s (read_at s fd buffer r)
 leaves-moved s fd buffer (Err errno) = λ e. refl
 leaves-moved s fd buffer (Ok bytes) = outcome-if s (length bytes == 0) _ _ (λ e. refl) (outcome-if s (maps s.memory buffer (length bytes)) _ _ (λ e. cc) (λ e. refl))
 
@@ -123,64 +125,64 @@ module _ (number : ℕ) (a : List ℕ) (s : State) where
   name = named s.memory w (arg 0) (arg 1)
 
   abbrev after_exit_group : Outcome
-  after_exit_group = cond (number == SYS_BRK) (moved_break s (arg 0)) (is_unknown number)
+  after_exit_group = cond (number == sys_brk) (moved_break s (arg 0)) (is_unknown number)
 
   after_exit_group-leaves : LeavesOnError s after_exit_group
-  after_exit_group-leaves = outcome-if s (number == SYS_BRK) (moved_break s (arg 0)) (is_unknown number) (leaves-break s (arg 0)) (leaves-unknown s number)
+  after_exit_group-leaves = outcome-if s (number == sys_brk) (moved_break s (arg 0)) (is_unknown number) (leaves-break s (arg 0)) (leaves-unknown s number)
 
   abbrev after_exit : Outcome
-  after_exit = cond (number == SYS_EXIT_GROUP) (exits (arg 0 % 256)) (after_exit_group)
+  after_exit = cond (number == sys_exit_group) (exits (arg 0 % 256)) (after_exit_group)
 
   after_exit-leaves : LeavesOnError s after_exit
-  after_exit-leaves = outcome-if s (number == SYS_EXIT_GROUP) (exits (arg 0 % 256)) (after_exit_group) (leaves-exit s (arg 0 % 256)) (after_exit_group-leaves)
+  after_exit-leaves = outcome-if s (number == sys_exit_group) (exits (arg 0 % 256)) (after_exit_group) (leaves-exit s (arg 0 % 256)) (after_exit_group-leaves)
 
   abbrev after_write : Outcome
-  after_write = cond (number == SYS_EXIT) (exits (arg 0 % 256)) (after_exit)
+  after_write = cond (number == sys_exit) (exits (arg 0 % 256)) (after_exit)
 
   after_write-leaves : LeavesOnError s after_write
-  after_write-leaves = outcome-if s (number == SYS_EXIT) (exits (arg 0 % 256)) (after_exit) (leaves-exit s (arg 0 % 256)) (after_exit-leaves)
+  after_write-leaves = outcome-if s (number == sys_exit) (exits (arg 0 % 256)) (after_exit) (leaves-exit s (arg 0 % 256)) (after_exit-leaves)
 
   abbrev after_read : Outcome
-  after_read = cond (number == SYS_WRITE) (written_at s (low (arg 0)) (arg 1) (arg 2) (write_place w (map.get w.slots (low (arg 0))))) (after_write)
+  after_read = cond (number == sys_write) (written_at s (low (arg 0)) (arg 1) (arg 2) (write_place w (map.get w.slots (low (arg 0))))) (after_write)
 
   after_read-leaves : LeavesOnError s after_read
-  after_read-leaves = outcome-if s (number == SYS_WRITE) (written_at s (low (arg 0)) (arg 1) (arg 2) (write_place w (map.get w.slots (low (arg 0))))) (after_write) (leaves-written_at s (low (arg 0)) (arg 1) (arg 2) (write_place w (map.get w.slots (low (arg 0))))) (after_write-leaves)
+  after_read-leaves = outcome-if s (number == sys_write) (written_at s (low (arg 0)) (arg 1) (arg 2) (write_place w (map.get w.slots (low (arg 0))))) (after_write) (leaves-written_at s (low (arg 0)) (arg 1) (arg 2) (write_place w (map.get w.slots (low (arg 0))))) (after_write-leaves)
 
   abbrev after_lseek : Outcome
-  after_lseek = cond (number == SYS_READ) (moved s (low (arg 0)) (arg 1) (ready w (low (arg 0)) (arg 2))) (after_read)
+  after_lseek = cond (number == sys_read) (read_at s (low (arg 0)) (arg 1) (ready w (low (arg 0)) (arg 2))) (after_read)
 
   after_lseek-leaves : LeavesOnError s after_lseek
-  after_lseek-leaves = outcome-if s (number == SYS_READ) (moved s (low (arg 0)) (arg 1) (ready w (low (arg 0)) (arg 2))) (after_read) (leaves-moved s (low (arg 0)) (arg 1) (ready w (low (arg 0)) (arg 2))) (after_read-leaves)
+  after_lseek-leaves = outcome-if s (number == sys_read) (read_at s (low (arg 0)) (arg 1) (ready w (low (arg 0)) (arg 2))) (after_read) (leaves-moved s (low (arg 0)) (arg 1) (ready w (low (arg 0)) (arg 2))) (after_read-leaves)
 
   abbrev after_close : Outcome
-  after_close = cond (number == SYS_LSEEK) (back s (sought w (low (arg 0)) (cast_signed w64 (arg 1)) (low (arg 2)))) (after_lseek)
+  after_close = cond (number == sys_lseek) (back s (sought w (low (arg 0)) (cast_signed w64 (arg 1)) (low (arg 2)))) (after_lseek)
 
   after_close-leaves : LeavesOnError s after_close
-  after_close-leaves = outcome-if s (number == SYS_LSEEK) (back s (sought w (low (arg 0)) (cast_signed w64 (arg 1)) (low (arg 2)))) (after_lseek) (leaves-back s (sought w (low (arg 0)) (cast_signed w64 (arg 1)) (low (arg 2))) (leaves-sought w (low (arg 0)) (cast_signed w64 (arg 1)) (low (arg 2)))) (after_lseek-leaves)
+  after_close-leaves = outcome-if s (number == sys_lseek) (back s (sought w (low (arg 0)) (cast_signed w64 (arg 1)) (low (arg 2)))) (after_lseek) (leaves-back s (sought w (low (arg 0)) (cast_signed w64 (arg 1)) (low (arg 2))) (leaves-sought w (low (arg 0)) (cast_signed w64 (arg 1)) (low (arg 2)))) (after_lseek-leaves)
 
   abbrev after_openat : Outcome
-  after_openat = cond (number == SYS_CLOSE) (back s (answering 0 (closed w (low (arg 0))))) (after_close)
+  after_openat = cond (number == sys_close) (back s (answering 0 (closed w (low (arg 0))))) (after_close)
 
   after_openat-leaves : LeavesOnError s after_openat
-  after_openat-leaves = outcome-if s (number == SYS_CLOSE) (back s (answering 0 (closed w (low (arg 0))))) (after_close) (leaves-back s (answering 0 (closed w (low (arg 0)))) (leaves-answering w 0 (closed w (low (arg 0))).0 (closed w (low (arg 0))).1 (leaves-closed w (low (arg 0))))) (after_close-leaves)
+  after_openat-leaves = outcome-if s (number == sys_close) (back s (answering 0 (closed w (low (arg 0))))) (after_close) (leaves-back s (answering 0 (closed w (low (arg 0)))) (leaves-answering w 0 (closed w (low (arg 0))).0 (closed w (low (arg 0))).1 (leaves-closed w (low (arg 0))))) (after_close-leaves)
 
   abbrev after_fchmodat : Outcome
-  after_fchmodat = cond (number == SYS_OPENAT) (back s (opened_as w (arg 0) (arg 2) (name_at s.memory (arg 1)))) (after_openat)
+  after_fchmodat = cond (number == sys_openat) (back s (opened_as w (arg 0) (arg 2) (name_at s.memory (arg 1)))) (after_openat)
 
   after_fchmodat-leaves : LeavesOnError s after_fchmodat
-  after_fchmodat-leaves = outcome-if s (number == SYS_OPENAT) (back s (opened_as w (arg 0) (arg 2) (name_at s.memory (arg 1)))) (after_openat) (leaves-back s (opened_as w (arg 0) (arg 2) (name_at s.memory (arg 1))) (leaves-opened_as w (arg 0) (arg 2) (name_at s.memory (arg 1)))) (after_openat-leaves)
+  after_fchmodat-leaves = outcome-if s (number == sys_openat) (back s (opened_as w (arg 0) (arg 2) (name_at s.memory (arg 1)))) (after_openat) (leaves-back s (opened_as w (arg 0) (arg 2) (name_at s.memory (arg 1))) (leaves-opened_as w (arg 0) (arg 2) (name_at s.memory (arg 1)))) (after_openat-leaves)
 
   abbrev after_faccessat : Outcome
-  after_faccessat = cond (number == SYS_FCHMODAT) (back s (mode_changed w name, w)) (after_fchmodat)
+  after_faccessat = cond (number == sys_fchmodat) (back s (mode_changed w name, w)) (after_fchmodat)
 
   after_faccessat-leaves : LeavesOnError s after_faccessat
-  after_faccessat-leaves = outcome-if s (number == SYS_FCHMODAT) (back s (mode_changed w name, w)) (after_fchmodat) (leaves-same s (mode_changed w name)) (after_fchmodat-leaves)
+  after_faccessat-leaves = outcome-if s (number == sys_fchmodat) (back s (mode_changed w name, w)) (after_fchmodat) (leaves-same s (mode_changed w name)) (after_fchmodat-leaves)
 
   abbrev after_unlinkat : Outcome
-  after_unlinkat = cond (number == SYS_FACCESSAT) (back s (accessed w (arg 2) name, w)) (after_faccessat)
+  after_unlinkat = cond (number == sys_faccessat) (back s (accessed w (arg 2) name, w)) (after_faccessat)
 
   after_unlinkat-leaves : LeavesOnError s after_unlinkat
-  after_unlinkat-leaves = outcome-if s (number == SYS_FACCESSAT) (back s (accessed w (arg 2) name, w)) (after_faccessat) (leaves-same s (accessed w (arg 2) name)) (after_faccessat-leaves)
+  after_unlinkat-leaves = outcome-if s (number == sys_faccessat) (back s (accessed w (arg 2) name, w)) (after_faccessat) (leaves-same s (accessed w (arg 2) name)) (after_faccessat-leaves)
 
   pub leaves-syscall : LeavesOnError s (syscall number a s)
-  leaves-syscall = outcome-if s (number == SYS_UNLINKAT) (back s (unlinked w (arg 2) name)) (after_unlinkat) (leaves-back s (unlinked w (arg 2) name) (leaves-unlinked w (arg 2) name)) (after_unlinkat-leaves)
+  leaves-syscall = outcome-if s (number == sys_unlinkat) (back s (unlinked w (arg 2) name)) (after_unlinkat) (leaves-back s (unlinked w (arg 2) name) (leaves-unlinked w (arg 2) name)) (after_unlinkat-leaves)

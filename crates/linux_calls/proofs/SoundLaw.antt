@@ -1,23 +1,26 @@
 -- Each call leaves sound files sound.
-use Rattle.std.proofs.Common.{◌≡◌, ◌≢◌, ℕ, ◌==◌, ◌||◌, Bool, true, false, cond, Option, None, Some, Result, Ok, Err, IsOkAnd, IsTrue, List, [], ◌∷◌, length, take, drop, refl, ap, subst, arith}
+use Rattle.std.proofs.Common.{◌≡◌, ◌≢◌, ℕ, ◌==◌, ◌||◌, ◌<◌, zero, suc, Bool, true, false, cond, Option, None, Some, Result, Ok, Err, IsOkAnd, IsTrue, List, [], ◌∷◌, length, take, drop, refl, sym, ap, subst, arith}
 use Rattle.std.specs.Prelude.{bit_and, slice_index}
 use Rattle.std.specs.FinMap.{get, contains_key}
 use Rattle.std.proofs.lemmas.List.{length-take}
+use Rattle.std.proofs.lemmas.List.Elements.{All-cons, All-nil}
 use Rattle.std.specs.Int.{cast_signed, w64}
-use Rattle.paged_mem.specs.Memory.{Memory, bytes_at, maps}
+use Rattle.paged_mem.specs.Memory.{Memory, IsWhole, bytes_at, maps}
 use Rattle.mem_files.specs.declared.slot.Slot.{Slot}
 use Rattle.mem_files.specs.declared.slot.Slot.TheVariants.{Input, Stream1, Stream2, File}
-use Rattle.mem_files.specs.declared.TheConstants.{EBADF, EINVAL, MAY_READ, O_ACCMODE}
+use Rattle.mem_files.specs.Linux.{ebadf, einval, o_accmode}
+use Rattle.mem_files.specs.Limits.{may_read}
 use Rattle.mem_files.specs.Names.{stripped, is_stripped_name}
 use Rattle.mem_files.specs.World.{World, content_of}
 use Rattle.mem_files.specs.Calls.{has, closed, ready, ready_at, removed, write_place, written}
-use Rattle.mem_files.specs.Sound.{IsSound}
-use Rattle.mem_files.proofs.Soundness.{closed-sound, removed-sound}
-use Rattle.mem_files.proofs.SoundCalls.{opened-sound, skipped-sound, sought-sound, written-sound}
-use Rattle.linux_calls.specs.declared.TheConstants.{AT_FDCWD, ENOTDIR, SYS_UNLINKAT, SYS_FACCESSAT, SYS_FCHMODAT, SYS_OPENAT, SYS_CLOSE, SYS_LSEEK, SYS_READ, SYS_WRITE, SYS_EXIT, SYS_EXIT_GROUP, SYS_BRK}
-use Rattle.linux_calls.specs.Paths.{and_then, in_directory, is_absolute, low, name_at, named, not_empty, text_at}
-use Rattle.linux_calls.specs.Calls.{State, Outcome, is_unknown, back, answering, unlinked, opened_in, opened_as, moved, written_from, written_at, moved_break, syscall, LeavesSound}
+use Rattle.mem_files.specs.Sound.{AreBytes, IsSound}
+use Rattle.mem_files.proofs.Rules.{closed-sound, removed-sound, opened-sound, skipped-sound, sought-sound, stripped-bytes, written-sound}
+use Rattle.linux_calls.specs.Linux.{at_fdcwd, enotdir, sys_unlinkat, sys_faccessat, sys_fchmodat, sys_openat, sys_close, sys_lseek, sys_read, sys_write, sys_exit, sys_exit_group, sys_brk}
+use Rattle.linux_calls.specs.Paths.{and_then, in_directory, is_absolute, low, name_at, named, not_empty, text_at, text_from, text_of}
+use Rattle.linux_calls.specs.Calls.{State, Outcome, is_unknown, back, answering, unlinked, opened_in, opened_as, read_at, written_from, written_at, moved_break, syscall}
+use Rattle.linux_calls.specs.Rules.{LeavesSound}
 use Rattle.linux_calls.proofs.Texts.{text_at-is, name_of_text}
+use Rattle.linux_calls.proofs.Wholes.{bytes_at-bytes}
 
 -- a path names what files hold
 not_empty-is : (text name : List ℕ) → not_empty text ≡ Ok name → (text ≡ name) × (length text ≢ 0)
@@ -34,10 +37,35 @@ name_at-is m at name e = by_text (text_at m at 256) refl e
         let kept = not_empty-is (stripped text) name e in
         subst (λ n. IsTrue (is_stripped_name n)) kept.0 (name_of_text text is.0 is.1 kept.1)
 
-in_directory-is : (w : World) (dir : ℕ) (name other : List ℕ) → in_directory w dir name ≡ Ok other → name ≡ other
-in_directory-is w dir name other e = by_tests (is_absolute name || low dir == AT_FDCWD) (contains_key w.slots (low dir)) e
+-- a path is of bytes
+text_from-bytes : (byte : ℕ) (rest : Result (List ℕ) ℕ) (text : List ℕ) → byte < 256 → ((t : List ℕ) → rest ≡ Ok t → AreBytes t) → text_from byte rest ≡ Ok text → AreBytes text
+text_from-bytes byte rest text small more e = by_test (byte == 0) rest refl e
   where
-    by_tests : (b c : Bool) → cond {A = Result (List ℕ) ℕ} b (Ok name) (cond c (Err ENOTDIR) (Err EBADF)) ≡ Ok other → name ≡ other
+    by_test : (t : Bool) (r : Result (List ℕ) ℕ) → r ≡ rest → cond t (Ok []) (and_then (λ t. Ok (byte ∷ t)) r) ≡ Ok text → AreBytes text
+    by_test true r was e = let is : [] ≡ text = cc in subst AreBytes is (All-nil (λ b. b < 256))
+    by_test false (Err errno) was e = cc
+    by_test false (Ok t) was e = let is : byte ∷ t ≡ text = cc in subst AreBytes is (All-cons (λ b. b < 256) byte t small (more t (sym was)))
+
+text_at-bytes : (m : Memory) (at most : ℕ) (text : List ℕ) → IsWhole m → text_at m at most ≡ Ok text → AreBytes text
+unfolding text_at
+text_at-bytes m at zero text whole e = cc
+text_at-bytes m at (suc most) text whole e = by_byte (λ t was. text_at-bytes m (suc at) most t whole was) (get m at) refl e
+  where
+    by_byte : ((t : List ℕ) → text_at m (suc at) most ≡ Ok t → AreBytes t) → (o : Option ℕ) → get m at ≡ o → text_of o (text_at m (suc at) most) ≡ Ok text → AreBytes text
+    by_byte more None was e = cc
+    by_byte more (Some byte) was e = text_from-bytes byte (text_at m (suc at) most) text (whole.small at byte was) more e
+
+name_at-bytes : (m : Memory) (at : ℕ) (name : List ℕ) → IsWhole m → name_at m at ≡ Ok name → AreBytes name
+name_at-bytes m at name whole e = by_text (text_at m at 256) refl e
+  where
+    by_text : (r : Result (List ℕ) ℕ) → text_at m at 256 ≡ r → and_then (λ text. not_empty (stripped text)) r ≡ Ok name → AreBytes name
+    by_text (Err errno) was e = cc
+    by_text (Ok text) was e = subst AreBytes (not_empty-is (stripped text) name e).0 (stripped-bytes text (text_at-bytes m at 256 text whole was))
+
+in_directory-is : (w : World) (dir : ℕ) (name other : List ℕ) → in_directory w dir name ≡ Ok other → name ≡ other
+in_directory-is w dir name other e = by_tests (is_absolute name || low dir == at_fdcwd) (contains_key w.slots (low dir)) e
+  where
+    by_tests : (b c : Bool) → cond {A = Result (List ℕ) ℕ} b (Ok name) (cond c (Err enotdir) (Err ebadf)) ≡ Ok other → name ≡ other
     by_tests true c e = cc
     by_tests false true e = cc
     by_tests false false e = cc
@@ -49,8 +77,8 @@ ready_again w fd count bytes e = at_slot (get w.slots fd) e
     part : (rest : List ℕ) → take count rest ≡ bytes → length (take (length bytes) rest) ≡ length bytes
     part rest is = omega (arith, length-take (length bytes) rest, length-take count rest, ap length is)
 
-    readable : (b : Bool) (rest : List ℕ) → cond {A = Result (List ℕ) ℕ} b (Ok (take count rest)) (Err EBADF) ≡ Ok bytes
-        → IsOkAnd (cond {A = Result (List ℕ) ℕ} b (Ok (take (length bytes) rest)) (Err EBADF)) (λ again. length again ≡ length bytes)
+    readable : (b : Bool) (rest : List ℕ) → cond {A = Result (List ℕ) ℕ} b (Ok (take count rest)) (Err ebadf) ≡ Ok bytes
+        → IsOkAnd (cond {A = Result (List ℕ) ℕ} b (Ok (take (length bytes) rest)) (Err ebadf)) (λ again. length again ≡ length bytes)
     readable true rest e = part rest cc
     readable false rest e = cc
 
@@ -59,7 +87,7 @@ ready_again w fd count bytes e = at_slot (get w.slots fd) e
     at_slot (Some Input) e = let none : [] ≡ bytes = cc in ap length none
     at_slot (Some Stream1) e = cc
     at_slot (Some Stream2) e = cc
-    at_slot (Some (File number cursor flags)) e = readable (has flags MAY_READ) (drop cursor (content_of w number)) e
+    at_slot (Some (File number cursor flags)) e = readable (has flags may_read) (drop cursor (content_of w number)) e
 
 -- the calls on files
 pair-if : {A : Type 0} (b : Bool) (x y : Result A ℕ × World) → IsSound x.1 → IsSound y.1 → IsSound (cond b x y).1
@@ -73,16 +101,18 @@ answering-sound value (Err errno) files s = s
 unlinked-sound : (w : World) (flags : ℕ) (r : Result (List ℕ) ℕ) → IsSound w → IsSound (unlinked w flags r).1
 unlinked-sound w flags (Err errno) s = s
 unlinked-sound w flags (Ok name) s =
-    pair-if (low flags == 0) (answering 0 (removed w name)) (Err EINVAL, w) (answering-sound 0 (removed w name).0 (removed w name).1 (removed-sound w name s)) s
+    pair-if (low flags == 0) (answering 0 (removed w name)) (Err einval, w) (answering-sound 0 (removed w name).0 (removed w name).1 (removed-sound w name s)) s
 
-opened-as-sound : (w : World) (dir flags : ℕ) (r : Result (List ℕ) ℕ) → ((name : List ℕ) → r ≡ Ok name → IsTrue (is_stripped_name name)) → IsSound w → IsSound (opened_as w dir flags r).1
+opened-as-sound : (w : World) (dir flags : ℕ) (r : Result (List ℕ) ℕ) → ((name : List ℕ) → r ≡ Ok name → IsTrue (is_stripped_name name) × AreBytes name) → IsSound w → IsSound (opened_as w dir flags r).1
 opened-as-sound w dir flags (Err errno) good s = s
 opened-as-sound w dir flags (Ok name) good s =
-    pair-if (bit_and (low flags) O_ACCMODE == O_ACCMODE) (Err EINVAL, w) (opened_in w flags (in_directory w dir name)) s (inside (in_directory w dir name) refl)
+    pair-if (bit_and (low flags) o_accmode == o_accmode) (Err einval, w) (opened_in w flags (in_directory w dir name)) s (inside (in_directory w dir name) refl)
   where
     inside : (r : Result (List ℕ) ℕ) → in_directory w dir name ≡ r → IsSound (opened_in w flags r).1
     inside (Err errno) was = s
-    inside (Ok other) was = opened-sound w other (low flags) s (subst (λ n. IsTrue (is_stripped_name n)) (in_directory-is w dir name other was) (good name refl))
+    inside (Ok other) was =
+        let are = subst (λ n. IsTrue (is_stripped_name n) × AreBytes n) (in_directory-is w dir name other was) (good name refl) in
+        opened-sound w other (low flags) s are.0 are.1
 
 -- outcomes, as a record: what it speaks of is found from the goal
 record Sound (outcome : Outcome) : Type 0 where
@@ -95,34 +125,36 @@ chosen false x y p q = q
 back-sound : (s : State) (meant : Result ℕ ℕ × World) → IsSound meant.1 → Sound (back s meant)
 back-sound s meant p = record { is = p }
 
-read-sound : (s : State) (fd buffer count : ℕ) (r : Result (List ℕ) ℕ) → ready s.files fd count ≡ r → IsSound s.files → Sound (moved s fd buffer r)
+read-sound : (s : State) (fd buffer count : ℕ) (r : Result (List ℕ) ℕ) → ready s.files fd count ≡ r → IsSound s.files → Sound (read_at s fd buffer r)
 read-sound s fd buffer count (Err errno) was sound = record { is = sound }
 read-sound s fd buffer count (Ok bytes) was sound =
     chosen (length bytes == 0) _ _ (record { is = sound })
     (chosen (maps s.memory buffer (length bytes)) _ _ (record { is = skipped-sound s.files fd (length bytes) sound (ready_again s.files fd count bytes was) }) (record { is = sound }))
 
-write-sound : (s : State) (fd buffer count : ℕ) (o : Option (ℕ × ℕ)) → IsSound s.files → Sound (written_at s fd buffer count o)
-write-sound s fd buffer count None sound = record { is = sound }
-write-sound s fd buffer count (Some place) sound = chosen (count == 0) _ _ (record { is = sound }) (from (bytes_at s.memory buffer count))
+write-sound : (s : State) (fd buffer count : ℕ) (o : Option (ℕ × ℕ)) → IsWhole s.memory → IsSound s.files → Sound (written_at s fd buffer count o)
+write-sound s fd buffer count None whole sound = record { is = sound }
+write-sound s fd buffer count (Some place) whole sound = chosen (count == 0) _ _ (record { is = sound }) (from (bytes_at s.memory buffer count) refl)
   where
-    from : (o : Option (List ℕ)) → Sound (written_from s fd o)
-    from None = record { is = sound }
-    from (Some bytes) = record { is = answering-sound (length bytes) (written s.files fd bytes).0 (written s.files fd bytes).1 (written-sound s.files fd bytes sound) }
+    from : (o : Option (List ℕ)) → bytes_at s.memory buffer count ≡ o → Sound (written_from s fd o)
+    from None was = record { is = sound }
+    from (Some bytes) was = record {
+      is = answering-sound (length bytes) (written s.files fd bytes).0 (written s.files fd bytes).1 (written-sound s.files fd bytes sound (bytes_at-bytes s.memory buffer count bytes whole was));
+    }
 
-every : (number : ℕ) (a : List ℕ) (s : State) → IsSound s.files → Sound (syscall number a s)
-every number a s sound =
+every : (number : ℕ) (a : List ℕ) (s : State) → IsWhole s.memory → IsSound s.files → Sound (syscall number a s)
+every number a s whole sound =
     let arg : ℕ → ℕ = slice_index a in
-    chosen (number == SYS_UNLINKAT) _ _ (back-sound s _ (unlinked-sound s.files (arg 2) (named s.memory s.files (arg 0) (arg 1)) sound))
-    (chosen (number == SYS_FACCESSAT) _ _ (back-sound s _ sound)
-    (chosen (number == SYS_FCHMODAT) _ _ (back-sound s _ sound)
-    (chosen (number == SYS_OPENAT) _ _ (back-sound s _ (opened-as-sound s.files (arg 0) (arg 2) (name_at s.memory (arg 1)) (name_at-is s.memory (arg 1)) sound))
-    (chosen (number == SYS_CLOSE) _ _ (back-sound s _ (answering-sound 0 (closed s.files (low (arg 0))).0 (closed s.files (low (arg 0))).1 (closed-sound s.files (low (arg 0)) sound)))
-    (chosen (number == SYS_LSEEK) _ _ (back-sound s _ (sought-sound s.files (low (arg 0)) (cast_signed w64 (arg 1)) (low (arg 2)) sound))
-    (chosen (number == SYS_READ) _ _ (read-sound s (low (arg 0)) (arg 1) (arg 2) (ready s.files (low (arg 0)) (arg 2)) refl sound)
-    (chosen (number == SYS_WRITE) _ _ (write-sound s (low (arg 0)) (arg 1) (arg 2) (write_place s.files (get s.files.slots (low (arg 0)))) sound)
-    (chosen (number == SYS_EXIT) _ _ (record { is = tt })
-    (chosen (number == SYS_EXIT_GROUP) _ _ (record { is = tt })
-    (chosen (number == SYS_BRK) (moved_break s (arg 0)) (is_unknown number) (record { is = sound }) (record { is = tt })))))))))))
+    chosen (number == sys_unlinkat) _ _ (back-sound s _ (unlinked-sound s.files (arg 2) (named s.memory s.files (arg 0) (arg 1)) sound))
+    (chosen (number == sys_faccessat) _ _ (back-sound s _ sound)
+    (chosen (number == sys_fchmodat) _ _ (back-sound s _ sound)
+    (chosen (number == sys_openat) _ _ (back-sound s _ (opened-as-sound s.files (arg 0) (arg 2) (name_at s.memory (arg 1)) (λ name e. (name_at-is s.memory (arg 1) name e, name_at-bytes s.memory (arg 1) name whole e)) sound))
+    (chosen (number == sys_close) _ _ (back-sound s _ (answering-sound 0 (closed s.files (low (arg 0))).0 (closed s.files (low (arg 0))).1 (closed-sound s.files (low (arg 0)) sound)))
+    (chosen (number == sys_lseek) _ _ (back-sound s _ (sought-sound s.files (low (arg 0)) (cast_signed w64 (arg 1)) (low (arg 2)) sound))
+    (chosen (number == sys_read) _ _ (read-sound s (low (arg 0)) (arg 1) (arg 2) (ready s.files (low (arg 0)) (arg 2)) refl sound)
+    (chosen (number == sys_write) _ _ (write-sound s (low (arg 0)) (arg 1) (arg 2) (write_place s.files (get s.files.slots (low (arg 0)))) whole sound)
+    (chosen (number == sys_exit) _ _ (record { is = tt })
+    (chosen (number == sys_exit_group) _ _ (record { is = tt })
+    (chosen (number == sys_brk) (moved_break s (arg 0)) (is_unknown number) (record { is = sound }) (record { is = tt })))))))))))
 
-pub syscall-sound : (number : ℕ) (a : List ℕ) (s : State) → IsSound s.files → LeavesSound (syscall number a s)
-syscall-sound number a s sound = (every number a s sound).is
+pub syscall-sound : (number : ℕ) (a : List ℕ) (s : State) → IsWhole s.memory → IsSound s.files → LeavesSound (syscall number a s)
+syscall-sound number a s whole sound = (every number a s whole sound).is

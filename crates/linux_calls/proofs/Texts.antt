@@ -9,8 +9,8 @@ use Rattle.mem_files.specs.Names.{stripped, is_stripped_name, begins_with_dot_sl
 use Rattle.std.specs.FinMap.{get}
 use Rattle.paged_mem.specs.Memory.{Memory, reads, bytes_at, number_of, prepended}
 use Rattle.std.specs.Option.{option_map}
-use Rattle.mem_files.specs.declared.TheConstants.{ENOENT}
-use Rattle.linux_calls.specs.declared.TheConstants.{EFAULT, ENAMETOOLONG}
+use Rattle.mem_files.specs.Linux.{enoent}
+use Rattle.linux_calls.specs.Linux.{efault, enametoolong}
 use Rattle.linux_calls.specs.Paths.{text_at, text_of, text_from, and_then, not_empty}
 
 -- bytes that were read, before the text that follows them
@@ -32,11 +32,11 @@ pub text_at-step : (m : Memory) (at most left byte : ℕ) → most ≡ suc left 
 unfolding text_at
 text_at-step m at most left byte e found = ap (text_at m at) e ∙ ap (λ o. text_of o (text_at m (suc at) left)) found
 
-pub text_at-unmapped : (m : Memory) (at most left : ℕ) → most ≡ suc left → get m at ≡ None → text_at m at most ≡ Err EFAULT
+pub text_at-unmapped : (m : Memory) (at most left : ℕ) → most ≡ suc left → get m at ≡ None → text_at m at most ≡ Err efault
 unfolding text_at
 text_at-unmapped m at most left e gone = ap (text_at m at) e ∙ ap (λ o. text_of o (text_at m (suc at) left)) gone
 
-pub text_at-none : (m : Memory) (at : ℕ) → text_at m at 0 ≡ Err ENAMETOOLONG
+pub text_at-none : (m : Memory) (at : ℕ) → text_at m at 0 ≡ Err enametoolong
 unfolding text_at
 text_at-none m at = refl
 
@@ -50,7 +50,7 @@ reads-one m at = one (get m at)
     one (Some byte) = ap Some (omega arith)
 
 -- a text that was read has no zero byte and is short
-abbrev has_zero : List ℕ → Bool
+abbrev pub has_zero : List ℕ → Bool
 has_zero bytes = list_any (λ byte. byte == 0) bytes
 
 or_right : (x y : Bool) → (x || y) ≡ false → y ≡ false
@@ -83,7 +83,7 @@ text_at-is m at (suc most) text e = by_byte (λ t was. text_at-is m (suc at) mos
     by_byte more (Some byte) e = text_from-is byte most (text_at m (suc at) most) text more e
 
 -- what stripping keeps of such a text
-stripped-is : (text : List ℕ) → has_zero text ≡ false → (length (stripped text) ≤ length text) × (has_zero (stripped text) ≡ false) × (begins_with_dot_slash (stripped text) ≡ false)
+pub stripped-is : (text : List ℕ) → has_zero text ≡ false → (length (stripped text) ≤ length text) × (has_zero (stripped text) ≡ false) × (begins_with_dot_slash (stripped text) ≡ false)
 stripped-is [] e = (omega arith, e, refl)
 stripped-is (a ∷ []) e = (omega arith, e, refl)
 stripped-is (a ∷ (b ∷ rest)) e = by_test (a == 46 && b == 47) refl (stripped-is rest)
@@ -115,6 +115,6 @@ pub not_empty-some : (name : List ℕ) → length name ≢ 0 → not_empty name 
 not_empty-some [] ne = absurd (ne refl)
 not_empty-some (byte ∷ bytes) ne = refl
 
-pub not_empty-none : (name : List ℕ) → length name ≡ 0 → not_empty name ≡ Err ENOENT
+pub not_empty-none : (name : List ℕ) → length name ≡ 0 → not_empty name ≡ Err enoent
 not_empty-none [] e = refl
 not_empty-none (byte ∷ bytes) e = absurd (omega arith)

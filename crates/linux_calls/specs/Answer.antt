@@ -5,17 +5,17 @@ use Rattle.paged_mem.specs.Memory.{Memory}
 use Rattle.linux_calls.specs.declared.Heap.{Heap}
 use Rattle.linux_calls.specs.declared.CallEnd.{CallEnd}
 use Rattle.linux_calls.specs.declared.CallEnd.TheVariants.{Back, Exit, Unknown, OutOfMemory}
-use Rattle.linux_calls.specs.declared.TheConstants.{SYS_OPENAT, SYS_READ, SYS_WRITE, SYS_BRK}
-use Rattle.linux_calls.specs.HeapOf.{page_end, break_heap, break_memory}
+use Rattle.linux_calls.specs.Linux.{sys_openat, sys_read, sys_write, sys_brk}
+use Rattle.linux_calls.specs.HeapOf.{page_up, break_heap, break_memory}
 use Rattle.linux_calls.specs.Calls.{State, Outcome, goes, exits, is_unknown, answer_of}
 
 -- the calls that take memory of the host: one that opens a file, one that moves bytes, one that gives the heap pages
 abbrev pub TakesMemory : ℕ → State → Result ℕ ℕ → State → Type 0
 TakesMemory number old answer next =
-    ((number ≡ SYS_OPENAT) × IsOk answer)
-    ⊎ (((number ≡ SYS_READ) × IsOkAnd answer (λ count. 0 < count))
-    ⊎ (((number ≡ SYS_WRITE) × IsOkAnd answer (λ count. 0 < count))
-    ⊎ ((number ≡ SYS_BRK) × (page_end old.heap.now < page_end next.heap.now))))
+    ((number ≡ sys_openat) × IsOk answer)
+    ⊎ (((number ≡ sys_read) × IsOkAnd answer (λ count. 0 < count))
+    ⊎ (((number ≡ sys_write) × IsOkAnd answer (λ count. 0 < count))
+    ⊎ ((number ≡ sys_brk) × (page_up old.heap.now < page_up next.heap.now))))
 
 -- the answer and the state after it are those that are meant; or memory was out, in a call that takes memory, and the
 -- state is as before
@@ -35,5 +35,5 @@ IsFilesAnswer old new meant end = ⊥
 -- the same for brk, on the memory and the heap alone
 abbrev pub IsBreakAnswer : Memory → Heap → ℕ → Memory → Heap → CallEnd → Type 0
 IsBreakAnswer m heap to m' heap' (Back value) = (value ≡ (break_heap heap to).now) × (m' ≡ break_memory m heap to) × (heap' ≡ break_heap heap to)
-IsBreakAnswer m heap to m' heap' OutOfMemory = (page_end heap.now < page_end (break_heap heap to).now) × (m' ≡ m) × (heap' ≡ heap)
+IsBreakAnswer m heap to m' heap' OutOfMemory = (page_up heap.now < page_up (break_heap heap to).now) × (m' ≡ m) × (heap' ≡ heap)
 IsBreakAnswer m heap to m' heap' end = ⊥

@@ -1,15 +1,14 @@
 -- The call table: what each call answers, and the memory, files and heap after it, by the first rule that fits
 -- (docs/reference/calls.md, "The table"). An error changes nothing.
-use Rattle.std.specs.Prelude.{◌≡◌, ⊤, IsErr, ℕ, ◌-◌, ◌%◌, ◌^◌, nat_lt, ◌==◌, if◌then◌else◌, Option, Some, None, Result, Ok, Err, List, length, slice_index, bit_and}
+use Rattle.std.specs.Prelude.{ℕ, ◌-◌, ◌%◌, ◌^◌, nat_lt, ◌==◌, if◌then◌else◌, Option, Some, None, Result, Ok, Err, List, length, slice_index, bit_and}
 use Rattle.std.specs.Int.{cast_signed, w64}
 use Rattle.std.specs.FinMap.{get, contains_key}
 use Rattle.paged_mem.specs.Memory.{Memory, bytes_at, maps, with_bytes}
 use Rattle.mem_files.specs.World.{World}
 use Rattle.mem_files.specs.Calls.{removed, opened, closed, sought, ready, skipped, write_place, written}
-use Rattle.mem_files.specs.Sound.{IsSound}
-use Rattle.mem_files.specs.declared.TheConstants.{ENOENT, EBADF, EINVAL, O_ACCMODE}
+use Rattle.mem_files.specs.Linux.{enoent, ebadf, einval, o_accmode}
 use Rattle.linux_calls.specs.declared.Heap.{Heap}
-use Rattle.linux_calls.specs.declared.TheConstants.{EFAULT, SYS_UNLINKAT, SYS_FACCESSAT, SYS_FCHMODAT, SYS_OPENAT, SYS_CLOSE, SYS_LSEEK, SYS_READ, SYS_WRITE, SYS_EXIT, SYS_EXIT_GROUP, SYS_BRK}
+use Rattle.linux_calls.specs.Linux.{efault, sys_unlinkat, sys_faccessat, sys_fchmodat, sys_openat, sys_close, sys_lseek, sys_read, sys_write, sys_exit, sys_exit_group, sys_brk}
 use Rattle.linux_calls.specs.Paths.{low, named, name_at, in_directory}
 use Rattle.linux_calls.specs.HeapOf.{break_heap, break_memory}
 
@@ -45,18 +44,18 @@ answering value (Err errno, files) = (Err errno, files)
 -- unlinkat
 abbrev pub unlinked : World → ℕ → Result (List ℕ) ℕ → Result ℕ ℕ × World
 unlinked w flags (Err errno) = (Err errno, w)
-unlinked w flags (Ok name) = if low flags == 0 then answering 0 (removed w name) else (Err EINVAL, w)
+unlinked w flags (Ok name) = if low flags == 0 then answering 0 (removed w name) else (Err einval, w)
 
 -- faccessat
 abbrev pub accessed : World → ℕ → Result (List ℕ) ℕ → Result ℕ ℕ
 accessed w mode (Err errno) = Err errno
 accessed w mode (Ok name) =
-    if nat_lt 7 (low mode) then Err EINVAL else (if contains_key w.names name then Ok 0 else Err ENOENT)
+    if nat_lt 7 (low mode) then Err einval else (if contains_key w.names name then Ok 0 else Err enoent)
 
 -- fchmodat: the mode is not kept
 abbrev pub mode_changed : World → Result (List ℕ) ℕ → Result ℕ ℕ
 mode_changed w (Err errno) = Err errno
-mode_changed w (Ok name) = if contains_key w.names name then Ok 0 else Err ENOENT
+mode_changed w (Ok name) = if contains_key w.names name then Ok 0 else Err enoent
 
 -- openat: the flags are looked at between the path and the directory
 abbrev pub opened_in : World → ℕ → Result (List ℕ) ℕ → Result ℕ ℕ × World
@@ -66,27 +65,27 @@ opened_in w flags (Ok name) = opened w name (low flags)
 abbrev pub opened_as : World → ℕ → ℕ → Result (List ℕ) ℕ → Result ℕ ℕ × World
 opened_as w dir flags (Err errno) = (Err errno, w)
 opened_as w dir flags (Ok name) =
-    if bit_and (low flags) O_ACCMODE == O_ACCMODE then (Err EINVAL, w) else opened_in w flags (in_directory w dir name)
+    if bit_and (low flags) o_accmode == o_accmode then (Err einval, w) else opened_in w flags (in_directory w dir name)
 
--- read: the bytes that are ready are moved, all or none
-abbrev pub moved : State → ℕ → ℕ → Result (List ℕ) ℕ → Outcome
-moved s fd buffer (Err errno) = goes (Err errno) s
-moved s fd buffer (Ok bytes) =
+-- read: the bytes that are ready are read_at, all or none
+abbrev pub read_at : State → ℕ → ℕ → Result (List ℕ) ℕ → Outcome
+read_at s fd buffer (Err errno) = goes (Err errno) s
+read_at s fd buffer (Ok bytes) =
     if length bytes == 0 then goes (Ok 0) s
     else (if maps s.memory buffer (length bytes)
     then goes (Ok (length bytes)) (record s {
       memory = with_bytes s.memory buffer bytes;
       files = skipped s.files fd (length bytes);
     })
-    else goes (Err EFAULT) s)
+    else goes (Err efault) s)
 
 -- write: to a descriptor that may be written
 abbrev pub written_from : State → ℕ → Option (List ℕ) → Outcome
-written_from s fd None = goes (Err EFAULT) s
+written_from s fd None = goes (Err efault) s
 written_from s fd (Some bytes) = back s (answering (length bytes) (written s.files fd bytes))
 
 abbrev pub written_at : State → ℕ → ℕ → ℕ → Option (ℕ × ℕ) → Outcome
-written_at s fd buffer count None = goes (Err EBADF) s
+written_at s fd buffer count None = goes (Err ebadf) s
 written_at s fd buffer count (Some place) =
     if count == 0 then goes (Ok 0) s else written_from s fd (bytes_at s.memory buffer count)
 
@@ -101,27 +100,15 @@ moved_break s to = goes (Ok (break_heap s.heap to).now) (record s {
 abbrev pub syscall : ℕ → List ℕ → State → Outcome
 syscall number a s =
     let arg = slice_index a in
-    if number == SYS_UNLINKAT then back s (unlinked s.files (arg 2) (named s.memory s.files (arg 0) (arg 1)))
-    else (if number == SYS_FACCESSAT then back s (accessed s.files (arg 2) (named s.memory s.files (arg 0) (arg 1)), s.files)
-    else (if number == SYS_FCHMODAT then back s (mode_changed s.files (named s.memory s.files (arg 0) (arg 1)), s.files)
-    else (if number == SYS_OPENAT then back s (opened_as s.files (arg 0) (arg 2) (name_at s.memory (arg 1)))
-    else (if number == SYS_CLOSE then back s (answering 0 (closed s.files (low (arg 0))))
-    else (if number == SYS_LSEEK then back s (sought s.files (low (arg 0)) (cast_signed w64 (arg 1)) (low (arg 2)))
-    else (if number == SYS_READ then moved s (low (arg 0)) (arg 1) (ready s.files (low (arg 0)) (arg 2))
-    else (if number == SYS_WRITE then written_at s (low (arg 0)) (arg 1) (arg 2) (write_place s.files (get s.files.slots (low (arg 0))))
-    else (if number == SYS_EXIT then exits (arg 0 % 256)
-    else (if number == SYS_EXIT_GROUP then exits (arg 0 % 256)
-    else (if number == SYS_BRK then moved_break s (arg 0)
+    if number == sys_unlinkat then back s (unlinked s.files (arg 2) (named s.memory s.files (arg 0) (arg 1)))
+    else (if number == sys_faccessat then back s (accessed s.files (arg 2) (named s.memory s.files (arg 0) (arg 1)), s.files)
+    else (if number == sys_fchmodat then back s (mode_changed s.files (named s.memory s.files (arg 0) (arg 1)), s.files)
+    else (if number == sys_openat then back s (opened_as s.files (arg 0) (arg 2) (name_at s.memory (arg 1)))
+    else (if number == sys_close then back s (answering 0 (closed s.files (low (arg 0))))
+    else (if number == sys_lseek then back s (sought s.files (low (arg 0)) (cast_signed w64 (arg 1)) (low (arg 2)))
+    else (if number == sys_read then read_at s (low (arg 0)) (arg 1) (ready s.files (low (arg 0)) (arg 2))
+    else (if number == sys_write then written_at s (low (arg 0)) (arg 1) (arg 2) (write_place s.files (get s.files.slots (low (arg 0))))
+    else (if number == sys_exit then exits (arg 0 % 256)
+    else (if number == sys_exit_group then exits (arg 0 % 256)
+    else (if number == sys_brk then moved_break s (arg 0)
     else is_unknown number))))))))))
-
--- an outcome that is an error leaves the state
-abbrev pub LeavesOnError : State → Outcome → Type 0
-LeavesOnError s (goes answer next) = IsErr answer → next ≡ s
-LeavesOnError s (exits status) = ⊤
-LeavesOnError s (is_unknown n) = ⊤
-
--- the files after an outcome keep the limits and fit together
-abbrev pub LeavesSound : Outcome → Type 0
-LeavesSound (goes answer next) = IsSound next.files
-LeavesSound (exits status) = ⊤
-LeavesSound (is_unknown n) = ⊤

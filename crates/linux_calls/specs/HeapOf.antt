@@ -1,11 +1,11 @@
 -- The heap of a guest in its memory (docs/reference/calls.md, "The heap").
-use Rattle.std.specs.Prelude.{◌≡◌, ℕ, ◌+◌, ◌-◌, ◌*◌, ◌/◌, ◌%◌, ◌^◌, ◌≤◌, Bool, true, nat_lt, ◌||◌, if◌then◌else◌}
+use Rattle.std.specs.Prelude.{◌≡◌, ℕ, ◌+◌, ◌-◌, ◌*◌, ◌/◌, ◌%◌, ◌^◌, ◌≤◌, Bool, true, nat_le, nat_lt, ◌||◌, if◌then◌else◌}
 use Rattle.paged_mem.specs.Memory.{Memory, maps, IsFree, with_bytes, without, zeros}
 use Rattle.linux_calls.specs.declared.Heap.{Heap}
 
--- rounded up to whole pages
-abbrev pub page_end : ℕ → ℕ
-page_end n = (n + 4095) / 4096 * 4096
+-- the first multiple of 4,096 that is not below `n`
+abbrev pub page_up : ℕ → ℕ
+page_up n = (n + 4095) / 4096 * 4096
 
 -- the pages of the heap, up to the break, are mapped, and the rest of those that it may have is not
 pub record IsHeapOf (m : Memory) (heap : Heap) : Type 0 where
@@ -14,8 +14,12 @@ pub record IsHeapOf (m : Memory) (heap : Heap) : Type 0 where
   pub from : heap.first ≤ heap.now
   pub to : heap.now ≤ heap.first + heap.limit
   pub low : heap.first + heap.limit ≤ 2 ^ 38 - 8388608
-  pub mapped : maps m heap.first (page_end heap.now - heap.first) ≡ true
-  pub free : IsFree m (page_end heap.now) (page_end (heap.first + heap.limit) - page_end heap.now)
+  pub mapped : maps m heap.first (page_up heap.now - heap.first) ≡ true
+  pub free : IsFree m (page_up heap.now) (page_up (heap.first + heap.limit) - page_up heap.now)
+
+-- the address is in none of the pages that the heap has or may have
+abbrev pub is_beside_heap : Heap → ℕ → Bool
+is_beside_heap heap address = nat_lt address heap.first || nat_le (page_up (heap.first + heap.limit)) address
 
 -- the memory when the heap's pages end at `new` and no longer at `old`: pages that come read 0
 abbrev pub resized : Memory → ℕ → ℕ → Memory
@@ -30,4 +34,4 @@ abbrev pub break_heap : Heap → ℕ → Heap
 break_heap heap to = if is_outside heap to then heap else record heap { now = to }
 
 abbrev pub break_memory : Memory → Heap → ℕ → Memory
-break_memory m heap to = if is_outside heap to then m else resized m (page_end heap.now) (page_end to)
+break_memory m heap to = if is_outside heap to then m else resized m (page_up heap.now) (page_up to)

@@ -1,4 +1,6 @@
 pub mod Answer
 pub mod Calls
 pub mod HeapOf
+pub mod Linux
 pub mod Paths
+pub mod Rules

@@ -4,8 +4,8 @@ use Rattle.std.specs.FinMap.{get, contains_key}
 use Rattle.paged_mem.specs.Memory.{Memory}
 use Rattle.mem_files.specs.Names.{stripped}
 use Rattle.mem_files.specs.World.{World}
-use Rattle.mem_files.specs.declared.TheConstants.{ENOENT, EBADF}
-use Rattle.linux_calls.specs.declared.TheConstants.{EFAULT, ENOTDIR, ENAMETOOLONG, AT_FDCWD}
+use Rattle.mem_files.specs.Linux.{enoent, ebadf}
+use Rattle.linux_calls.specs.Linux.{efault, enotdir, enametoolong, at_fdcwd}
 
 -- an error number passes, and a value goes on
 abbrev pub and_then : {A B : Type 0} → (A → Result B ℕ) → Result A ℕ → Result B ℕ
@@ -21,16 +21,16 @@ abbrev pub text_from : ℕ → Result (List ℕ) ℕ → Result (List ℕ) ℕ
 text_from byte rest = if byte == 0 then Ok [] else and_then (λ text. Ok (byte ∷ text)) rest
 
 abbrev pub text_of : Option ℕ → Result (List ℕ) ℕ → Result (List ℕ) ℕ
-text_of None rest = Err EFAULT
+text_of None rest = Err efault
 text_of (Some byte) rest = text_from byte rest
 
 -- the text at an address, which a zero byte among the next `most` bytes ends
 unfoldable pub text_at : Memory → ℕ → ℕ → Result (List ℕ) ℕ
-text_at m at zero = Err ENAMETOOLONG
+text_at m at zero = Err enametoolong
 text_at m at (suc most) = text_of (get m at) (text_at m (suc at) most)
 
 abbrev pub not_empty : List ℕ → Result (List ℕ) ℕ
-not_empty [] = Err ENOENT
+not_empty [] = Err enoent
 not_empty (byte ∷ bytes) = Ok (byte ∷ bytes)
 
 -- the name of a file that a path names
@@ -45,8 +45,8 @@ is_absolute (byte ∷ bytes) = byte == 47
 -- the directory argument is right for absolute names, and as the working directory; a descriptor is no directory
 abbrev pub in_directory : World → ℕ → List ℕ → Result (List ℕ) ℕ
 in_directory w dir name =
-    if is_absolute name || low dir == AT_FDCWD then Ok name
-    else (if contains_key w.slots (low dir) then Err ENOTDIR else Err EBADF)
+    if is_absolute name || low dir == at_fdcwd then Ok name
+    else (if contains_key w.slots (low dir) then Err enotdir else Err ebadf)
 
 -- the name that a path names in a directory
 abbrev pub named : Memory → World → ℕ → ℕ → Result (List ℕ) ℕ

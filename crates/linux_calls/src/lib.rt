@@ -69,6 +69,3 @@ pub const SYS_EXIT: u64 = 93;
 pub const SYS_EXIT_GROUP: u64 = 94;
 
 pub const SYS_BRK: u64 = 214;
-
-#[cfg(test)]
-mod tests;

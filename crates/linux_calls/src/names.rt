@@ -6,7 +6,7 @@ ghost use Rattle.linux_calls.specs.Answer.{IsFilesAnswer};
 
 use crate::CallEnd;
 use crate::path::{check_directory, low, read_path, read_path_in};
-use mem_files::{EINVAL, ENOENT, FileRefusal, Files, O_ACCMODE, strip};
+use mem_files::{EINVAL, ENOENT, FileRefusal, Files, O_ACCMODE};
 use paged_mem::Ram;
 
 /// A value for the guest, or the negated number of an error.
@@ -29,12 +29,11 @@ pub fn unlinkat<R: Ram>(
 ) -> Result<u64, u16>
     ensures { unlinked files.old flags (named (R.bytes ram.now) files.old dir at) ≡ (result, files.new) }
 {
-    let path = read_path(ram, at)?;
-    check_directory(files, dir, strip(&path))?;
+    let name = read_path_in(ram, files, dir, at)?;
     if low(flags) != 0 {
         return Err(EINVAL);
     }
-    files.remove(strip(&path))?;
+    files.remove(&name)?;
     Ok(0)
 }
 
@@ -42,11 +41,11 @@ pub fn unlinkat<R: Ram>(
 pub fn faccessat<R: Ram>(ram: &R, files: &Files, dir: u64, at: u64, mode: u64) -> Result<u64, u16>
     ensures { result ≡ accessed files.now mode (named (R.bytes ram.now) files.now dir at) }
 {
-    let path = read_path_in(ram, files, dir, at)?;
+    let name = read_path_in(ram, files, dir, at)?;
     if low(mode) > 7 {
         return Err(EINVAL);
     }
-    if !files.exists(strip(&path)) {
+    if !files.exists(&name) {
         return Err(ENOENT);
     }
     Ok(0)
@@ -56,8 +55,8 @@ pub fn faccessat<R: Ram>(ram: &R, files: &Files, dir: u64, at: u64, mode: u64) -
 pub fn fchmodat<R: Ram>(ram: &R, files: &Files, dir: u64, at: u64) -> Result<u64, u16>
     ensures { result ≡ mode_changed files.now (named (R.bytes ram.now) files.now dir at) }
 {
-    let path = read_path_in(ram, files, dir, at)?;
-    if !files.exists(strip(&path)) {
+    let name = read_path_in(ram, files, dir, at)?;
+    if !files.exists(&name) {
         return Err(ENOENT);
     }
     Ok(0)
@@ -67,17 +66,17 @@ pub fn fchmodat<R: Ram>(ram: &R, files: &Files, dir: u64, at: u64) -> Result<u64
 pub fn openat<R: Ram>(ram: &R, files: &mut Files, dir: u64, at: u64, flags: u64) -> CallEnd
     ensures { IsFilesAnswer files.old files.new (opened_as files.old dir flags (name_at (R.bytes ram.now) at)) result }
 {
-    let path = match read_path(ram, at) {
-        Ok(path) => path,
+    let name = match read_path(ram, at) {
+        Ok(name) => name,
         Err(errno) => return back(Err(errno)),
     };
     if low(flags) & O_ACCMODE == O_ACCMODE {
         return back(Err(EINVAL));
     }
-    if let Err(errno) = check_directory(files, dir, strip(&path)) {
+    if let Err(errno) = check_directory(files, dir, &name) {
         return back(Err(errno));
     }
-    match files.open_name(strip(&path), low(flags)) {
+    match files.open_name(&name, low(flags)) {
         Ok(fd) => CallEnd::Back(fd as u64),
         Err(FileRefusal::Errno(errno)) => back(Err(errno)),
         Err(FileRefusal::OutOfMemory) => CallEnd::OutOfMemory,

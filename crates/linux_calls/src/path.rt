@@ -1,6 +1,6 @@
 //! Paths: how they are read, and the directory argument beside them.
 ghost use Rattle.std.specs.Prelude.{◌≡◌, ◌%◌, MatchResult, IfOk, IsTrue, Ok, Err};
-ghost use Rattle.mem_files.specs.Names.{stripped, is_stripped_name};
+ghost use Rattle.mem_files.specs.Names.{is_stripped_name};
 ghost use Rattle.linux_calls.specs.Paths.{low, text_at, name_at, named, in_directory};
 
 use crate::{AT_FDCWD, EFAULT, ENAMETOOLONG, ENOTDIR};
@@ -37,18 +37,22 @@ fn read_text<R: Ram>(ram: &R, at: u64) -> Result<ArrayVec<u8, 256>, u16>
     Err(ENAMETOOLONG)
 }
 
-/// The path at an address, whose name is what `strip` leaves of it.
+/// The name of a file that the path at an address names: what `strip` leaves of it.
 pub fn read_path<R: Ram>(ram: &R, at: u64) -> Result<ArrayVec<u8, 256>, u16>
     ensures value { MatchResult result
-        (λ path. name_at (R.bytes ram.now) at ≡ Ok (stripped path.items))
+        (λ name. name_at (R.bytes ram.now) at ≡ Ok name.items)
         (λ errno. name_at (R.bytes ram.now) at ≡ Err errno) }
-    ensures name { IfOk result (λ path. IsTrue (is_stripped_name (stripped path.items))) }
+    ensures name { IfOk result (λ name. IsTrue (is_stripped_name name.items)) }
 {
-    let path = read_text(ram, at)?;
-    if strip(&path).is_empty() {
+    let text = read_text(ram, at)?;
+    let name = strip(&text);
+    if name.is_empty() {
         return Err(ENOENT);
     }
-    Ok(path)
+    match ArrayVec::try_from(name) {
+        Ok(name) => Ok(name),
+        Err(_) => unreachable!(),
+    }
 }
 
 /// Whether the directory argument is right for a name.
@@ -66,7 +70,7 @@ pub fn check_directory(files: &Files, dir: u64, name: &[u8]) -> Result<(), u16>
     Err(EBADF)
 }
 
-/// The path at an address, with the right directory argument.
+/// The name that the path at an address names, with the right directory argument.
 pub fn read_path_in<R: Ram>(
     ram: &R,
     files: &Files,
@@ -74,11 +78,11 @@ pub fn read_path_in<R: Ram>(
     at: u64,
 ) -> Result<ArrayVec<u8, 256>, u16>
     ensures value { MatchResult result
-        (λ path. named (R.bytes ram.now) files.now dir at ≡ Ok (stripped path.items))
+        (λ name. named (R.bytes ram.now) files.now dir at ≡ Ok name.items)
         (λ errno. named (R.bytes ram.now) files.now dir at ≡ Err errno) }
-    ensures name { IfOk result (λ path. IsTrue (is_stripped_name (stripped path.items))) }
+    ensures name { IfOk result (λ name. IsTrue (is_stripped_name name.items)) }
 {
-    let path = read_path(ram, at)?;
-    check_directory(files, dir, strip(&path))?;
-    Ok(path)
+    let name = read_path(ram, at)?;
+    check_directory(files, dir, &name)?;
+    Ok(name)
 }

@@ -1,7 +1,7 @@
 //! The heap.
 ghost use Rattle.std.specs.Prelude.{◌≡◌, ◌≤◌, ◌<◌, ◌+◌, ◌-◌, ◌%◌, ◌^◌, true, OnOk, OnErr};
 ghost use Rattle.paged_mem.specs.Memory.{IsFree, maps};
-ghost use Rattle.linux_calls.specs.HeapOf.{IsHeapOf, page_end, resized};
+ghost use Rattle.linux_calls.specs.HeapOf.{IsHeapOf, page_up, resized};
 ghost use Rattle.linux_calls.specs.Answer.{IsBreakAnswer};
 
 use crate::{CallEnd, Heap};
@@ -9,9 +9,9 @@ use ddc_base::OutOfMemory;
 use paged_mem::Ram;
 
 /// An address rounded up to whole pages.
-fn page_end(address: u64) -> u64
+fn page_up(address: u64) -> u64
     requires { address ≤ 2 ^ 38 }
-    ensures { result ≡ page_end address }
+    ensures { result ≡ page_up address }
 {
     address.next_multiple_of(4096)
 }
@@ -44,7 +44,7 @@ pub fn brk<R: Ram>(ram: &mut R, heap: &mut Heap, to: u64) -> CallEnd
     if to < heap.first || to > heap.first + heap.limit {
         return CallEnd::Back(heap.now);
     }
-    match resize(ram, page_end(heap.now), page_end(to)) {
+    match resize(ram, page_up(heap.now), page_up(to)) {
         Ok(()) => {
             heap.now = to;
             CallEnd::Back(to)

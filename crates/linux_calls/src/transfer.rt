@@ -4,22 +4,23 @@ ghost use Rattle.std.specs.FinMap.{get};
 ghost use Rattle.paged_mem.specs.Memory.{bytes_at, maps};
 ghost use Rattle.mem_files.specs.Calls.{ready, write_place};
 ghost use Rattle.linux_calls.specs.declared.Heap.{Heap as the_heap};
-ghost use Rattle.linux_calls.specs.declared.TheConstants.{SYS_READ, SYS_WRITE};
+ghost use Rattle.linux_calls.specs.Linux.{sys_read, sys_write};
 ghost use Rattle.linux_calls.specs.HeapOf.{IsHeapOf};
-ghost use Rattle.linux_calls.specs.Calls.{state, moved, written_at};
+ghost use Rattle.linux_calls.specs.Calls.{state, read_at, written_at};
 ghost use Rattle.linux_calls.specs.Answer.{IsAnswer};
 
 use crate::names::back;
 use crate::{CallEnd, EFAULT};
-use mem_files::{FileRefusal, Files};
+use ddc_base::OutOfMemory;
+use mem_files::{EBADF, Files};
 use paged_mem::{Ram, StoreRefusal};
 use std::alloc::{AllocError, Global};
 
-/// read(fd, buffer, count): the bytes are moved, all or none.
+/// read(fd, buffer, count): the bytes are read_at, all or none.
 pub fn read<R: Ram>(ram: &mut R, files: &mut Files, fd: u32, buffer: u64, count: u64) -> CallEnd
     ensures answer { (heap : the_heap)
-        → IsAnswer SYS_READ (state (R.bytes ram.old) files.old heap) (state (R.bytes ram.new) files.new heap)
-        (moved (state (R.bytes ram.old) files.old heap) fd buffer (ready files.old fd count)) result }
+        → IsAnswer sys_read (state (R.bytes ram.old) files.old heap) (state (R.bytes ram.new) files.new heap)
+        (read_at (state (R.bytes ram.old) files.old heap) fd buffer (ready files.old fd count)) result }
     ensures kept { (heap : the_heap) → IsHeapOf (R.bytes ram.old) heap → IsHeapOf (R.bytes ram.new) heap }
 {
     let bytes = match files.ready(fd, count) {
@@ -60,11 +61,11 @@ pub fn write<R: Ram>(
     count: u64,
 ) -> CallEnd
     ensures { (heap : the_heap)
-        → IsAnswer SYS_WRITE (state (R.bytes ram.now) files.old heap) (state (R.bytes ram.now) files.new heap)
+        → IsAnswer sys_write (state (R.bytes ram.now) files.old heap) (state (R.bytes ram.now) files.new heap)
         (written_at (state (R.bytes ram.now) files.old heap) fd buffer count (write_place files.old (get files.old.slots fd))) result }
 {
-    if let Err(errno) = files.fits(fd, 0) {
-        return back(Err(errno));
+    if !files.is_writable(fd) {
+        return back(Err(EBADF));
     }
     if count == 0 {
         return CallEnd::Back(0);
@@ -80,7 +81,6 @@ pub fn write<R: Ram>(
     };
     match files.write(fd, &bytes) {
         Ok(()) => CallEnd::Back(count),
-        Err(FileRefusal::Errno(errno)) => back(Err(errno)),
-        Err(FileRefusal::OutOfMemory) => CallEnd::OutOfMemory,
+        Err(OutOfMemory) => CallEnd::OutOfMemory,
     }
 }

@@ -8,7 +8,7 @@ use Rattle.std.specs.List.{list_any}
 use Rattle.std.proofs.lemmas.Bool.{false≢true}
 use Rattle.std.proofs.lemmas.Option.{none-some}
 use Rattle.std.specs.FinMap.{get, insert, remove, values, find, get-from_entries}
-use Rattle.mem_files.specs.Cells.{numbered, map_of}
+use Rattle.mem_files.specs.Inside.Cells.{numbered, map_of}
 use Rattle.mem_files.proofs.Maps.{find_apart, find_here, get-insert_nat, get-remove_nat, same_nat_map, any_at, key_of_any}
 use Rattle.std.proofs.lemmas.Bool.Decides.{nat_tests}
 

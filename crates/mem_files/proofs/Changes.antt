@@ -13,23 +13,23 @@ use Rattle.std.specs.FinMap as fin
 use Rattle.std.specs.FinMap.Entries.{is_sorted-put, is_sorted-where_key, where_key}
 use Rattle.mem_files.specs.declared.slot.Slot.{Slot}
 use Rattle.mem_files.specs.declared.stored.Stored.{Stored}
-use Rattle.mem_files.specs.declared.TheConstants.{MAX_SLOTS, MAX_NAMES, MAX_NAME}
+use Rattle.mem_files.specs.Limits.{most_descriptors, most_names, most_name}
 use Rattle.mem_files.specs.Names.{bytes_cmp}
 use Rattle.mem_files.specs.World.{World, total, content_of, is_of, is_named, is_open, lowest_unused}
-use Rattle.mem_files.specs.Cells.{map_of, with_room}
-use Rattle.mem_files.specs.Counts.{opens_in}
-use Rattle.mem_files.specs.Table.{Parts, world_of, Uses, AreSlots, IsConsistent}
-use Rattle.mem_files.specs.Stored.{content_in, name_in}
+use Rattle.mem_files.specs.Inside.Cells.{map_of, with_room}
+use Rattle.mem_files.specs.Inside.Counts.{opens_in}
+use Rattle.mem_files.specs.Inside.Table.{Parts, world_of, Uses, AreSlots, IsConsistent}
+use Rattle.mem_files.specs.Inside.Stored.{content_in, name_in}
 use Rattle.mem_files.proofs.Maps.{get-lowest_unused, below-lowest_unused, lowest_unused-is, lowest_unused-le-len, any_at, key_of_any}
 use Rattle.mem_files.proofs.Counting.{any_opens, opens_few, opens_push, opens_set}
-use Rattle.mem_files.proofs.Soundness.{by_eq}
+use Rattle.mem_files.proofs.Keeping.{by_eq}
 use Rattle.mem_files.proofs.Totals.{total-insert, total-remove}
 use Rattle.mem_files.proofs.CellMaps.{get-map_of, map_of-fill, map_of-empty, map_of-push, at_set, at_push, any-map_of}
 use Rattle.mem_files.proofs.Directory.{from_sorted-put, from_sorted-where_key, len-from_sorted, bytes_cmp-IsAntisymmetric, equal}
 
 -- a short name is a key as a whole
-pub whole_key : (name key : List ℕ) → length name ≤ MAX_NAME → key ≡ take MAX_NAME name → key ≡ name
-whole_key name key short is = is ∙ take_all MAX_NAME name short
+pub whole_key : (name key : List ℕ) → length name ≤ most_name → key ≡ take most_name name → key ≡ name
+whole_key name key short is = is ∙ take_all most_name name short
 
 -- what holds anyway holds on an error
 pub on_err : {T E P : Type 0} (r : Result T E) → P → OnErr r P
@@ -185,7 +185,7 @@ module _ (p : Parts) (w : World) (is : world_of p ≡ w) (ok : IsConsistent p) w
   clear_slot-world fd held = ap (λ m. record (world_of p) { slots = m }) (map_of-empty p.slots fd (slot_within fd held)) ∙ ap (λ (v : World). record v { slots = fin.remove v.slots fd }) is
 
   -- an empty cell more
-  pub room_for_slot-consistent : length p.slots < MAX_SLOTS → IsConsistent (record p { slots = p.slots ++ None ∷ [] })
+  pub room_for_slot-consistent : length p.slots < most_descriptors → IsConsistent (record p { slots = p.slots ++ None ∷ [] })
   room_for_slot-consistent few = with_slots (p.slots ++ None ∷ []) p.used_slots p.slot_count p.open_counts record {
     few = omega (arith, length-append p.slots (None ∷ []), few);
     enough = ok.slots_fit.enough;
@@ -213,7 +213,7 @@ module _ (p : Parts) (w : World) (is : world_of p ≡ w) (ok : IsConsistent p) w
   pub add_slot-world : (fd : ℕ) (slot : Slot) → fd < length p.slots → world_of (record p { slots = set p.slots fd (Some slot) }) ≡ record w { slots = fin.insert w.slots fd slot }
   add_slot-world fd slot h = ap (λ m. record (world_of p) { slots = m }) (map_of-fill p.slots fd slot h) ∙ ap (λ (v : World). record v { slots = fin.insert v.slots fd slot }) is
 
-  pub opens_small : (number : ℕ) → get_or p.open_counts number 0 ≤ MAX_SLOTS
+  pub opens_small : (number : ℕ) → get_or p.open_counts number 0 ≤ most_descriptors
   opens_small number = omega (arith, ok.slots_fit.opens number, opens_few number p.slots, ok.slots_fit.few)
 
   pub slots_some : (fd : ℕ) → IsSome (fin.get w.slots fd) → 1 ≤ p.slot_count
@@ -299,7 +299,7 @@ module _ (p : Parts) (w : World) (is : world_of p ≡ w) (ok : IsConsistent p) w
   pub room_for_file-world : world_of (record p { files = p.files ++ None ∷ [] }) ≡ w
   room_for_file-world = ap (λ m. record (world_of p) { files = m }) (ap map_of (map-append content_in p.files (None ∷ [])) ∙ map_of-push (map content_in p.files)) ∙ is
 
-  pub room_for_file-consistent : length p.files < MAX_NAMES + MAX_SLOTS → IsConsistent (record p { files = p.files ++ None ∷ [] })
+  pub room_for_file-consistent : length p.files < most_names + most_descriptors → IsConsistent (record p { files = p.files ++ None ∷ [] })
   room_for_file-consistent few = record {
     sorted = ok.sorted;
     short = ok.short;
@@ -325,14 +325,14 @@ module _ (p : Parts) (w : World) (is : world_of p ≡ w) (ok : IsConsistent p) w
   get-where : (name q : List ℕ) → fin.get (fin.from_sorted {R = bytes_cmp} (where_key bytes_cmp (λ other. not (eq_by_cmp bytes_cmp name other)) p.names)) q ≡ cond (eq_by_cmp bytes_cmp q name) None (fin.get (world_of p).names q)
   get-where name q = ap (λ m. fin.get m q) (from_sorted-where_key p.names in_order name) ∙ fin.get-remove nat_list_cmp_total (world_of p).names name q
 
-  pub add_file-consistent : (name : List ℕ) (at : ℕ) (file : Stored) (bytes : ℕ) → at < length p.files → fin.get w.names name ≡ None → length name ≤ MAX_NAME → fin.get w.files at ≡ None → name_in (Some file) ≡ Some name
+  pub add_file-consistent : (name : List ℕ) (at : ℕ) (file : Stored) (bytes : ℕ) → at < length p.files → fin.get w.names name ≡ None → length name ≤ most_name → fin.get w.files at ≡ None → name_in (Some file) ≡ Some name
       → bytes ≡ p.total + length file.content.items → (used : List Bool) → used ≡ set p.used_files at true
       → IsConsistent (record p { names = fin.put bytes_cmp name at p.names; files = set p.files at (Some file); used_files = used; total = bytes })
   add_file-consistent name at file bytes h absent few free named sums used uses = record {
     sorted = is_true _ (is_sorted-put bytes_cmp nat_list_cmp_total name at p.names in_order);
     short = λ q number e.
-        elim (eq_by_cmp bytes_cmp q name) as (λ b. eq_by_cmp bytes_cmp q name ≡ b → cond b (Some at) (fin.get (world_of p).names q) ≡ Some number → length q ≤ MAX_NAME) [
-          | true ↦ λ tie _. subst (λ n. length n ≤ MAX_NAME) (sym (tied q name tie)) few
+        elim (eq_by_cmp bytes_cmp q name) as (λ b. eq_by_cmp bytes_cmp q name ≡ b → cond b (Some at) (fin.get (world_of p).names q) ≡ Some number → length q ≤ most_name) [
+          | true ↦ λ tie _. subst (λ n. length n ≤ most_name) (sym (tied q name tie)) few
           | false ↦ λ _ there. ok.short q number there
         ] refl (sym (get-put name at q) ∙ e);
     slots_fit = ok.slots_fit;
@@ -382,7 +382,7 @@ module _ (p : Parts) (w : World) (is : world_of p ≡ w) (ok : IsConsistent p) w
   unname-consistent name at cell held none same = record {
     sorted = is_true _ (is_sorted-where_key bytes_cmp (λ other. not (eq_by_cmp bytes_cmp name other)) p.names in_order);
     short = λ q number e.
-        elim (eq_by_cmp bytes_cmp q name) as (λ b. cond b None (fin.get (world_of p).names q) ≡ Some number → length q ≤ MAX_NAME) [
+        elim (eq_by_cmp bytes_cmp q name) as (λ b. cond b None (fin.get (world_of p).names q) ≡ Some number → length q ≤ most_name) [
           | true ↦ λ gone. absurd (none-some number gone)
           | false ↦ λ there. ok.short q number there
         ] (sym (get-where name q) ∙ e);
@@ -445,21 +445,21 @@ module _ (p : Parts) (w : World) (is : world_of p ≡ w) (ok : IsConsistent p) w
   number-is name = ap (λ (v : World). fin.get v.names name) (sym is) ∙ fin.get-from_sorted bytes_cmp p.names name in_order
 
   -- names are short
-  pub held_short : (name : List ℕ) → IsSome (fin.find bytes_cmp name p.names) → length name ≤ MAX_NAME
+  pub held_short : (name : List ℕ) → IsSome (fin.find bytes_cmp name p.names) → length name ≤ most_name
   held_short name held = at (fin.find bytes_cmp name p.names) refl held
     where
-      at : (o : Option ℕ) → fin.find bytes_cmp name p.names ≡ o → IsSome o → length name ≤ MAX_NAME
+      at : (o : Option ℕ) → fin.find bytes_cmp name p.names ≡ o → IsSome o → length name ≤ most_name
       at None was h = absurd (false≢true h)
       at (Some number) was h = ok.short name number (fin.get-from_sorted bytes_cmp p.names name in_order ∙ was)
 
-  pub no_long_name : (name : List ℕ) → MAX_NAME < length name → None ≡ fin.get w.names name
+  pub no_long_name : (name : List ℕ) → most_name < length name → None ≡ fin.get w.names name
   no_long_name name long = at (fin.find bytes_cmp name p.names) refl
     where
       at : (o : Option ℕ) → fin.find bytes_cmp name p.names ≡ o → None ≡ fin.get w.names name
       at None was = sym (number-is name ∙ was)
       at (Some number) was = absurd (let few = held_short name (ap is_some was) in omega arith)
 
-  pub name_short : (name : List ℕ) (number : ℕ) → fin.get w.names name ≡ Some number → length name ≤ MAX_NAME
+  pub name_short : (name : List ℕ) (number : ℕ) → fin.get w.names name ≡ Some number → length name ≤ most_name
   name_short name number held = held_short name (ap is_some (sym (number-is name) ∙ held))
 
   -- the bytes of a file, from its cell
@@ -512,7 +512,7 @@ module _ (p : Parts) (w : World) (is : world_of p ≡ w) (ok : IsConsistent p) w
 
 -- what is added at the lowest unused descriptor, with room made for it
 module _ (p : Parts) (w : World) (is : world_of p ≡ w) (ok : IsConsistent p)
-    (fd : ℕ) (slot : Slot) (lowest : fd ≡ lowest_unused w.slots) (few : fin.len w.slots < MAX_SLOTS) (cells : List (Option Slot)) (reached : cells ≡ with_room p.slots fd) where
+    (fd : ℕ) (slot : Slot) (lowest : fd ≡ lowest_unused w.slots) (few : fin.len w.slots < most_descriptors) (cells : List (Option Slot)) (reached : cells ≡ with_room p.slots fd) where
   slot_room : (b : Bool) → eqb fd (length p.slots) ≡ b → (fd < length (cond b (p.slots ++ None ∷ []) p.slots)) × IsConsistent (record p { slots = cond b (p.slots ++ None ∷ []) p.slots }) × (world_of (record p { slots = cond b (p.slots ++ None ∷ []) p.slots }) ≡ w)
   slot_room true e = let same : fd ≡ length p.slots = eqb-true _ _ e in (omega (arith, length-append p.slots (None ∷ [])), room_for_slot-consistent p w is ok (omega (arith, lowest_unused-le-len w.slots)), room_for_slot-world p w is ok)
   slot_room false e = let apart : fd ≢ length p.slots = (grind (arith, nat_tests)) in (omega (arith, slot_reached p w is ok fd lowest), ok, is)
@@ -539,7 +539,7 @@ module _ (p : Parts) (w : World) (is : world_of p ≡ w) (ok : IsConsistent p)
 
 -- what is added at the lowest unused number, with room made for it
 module _ (p : Parts) (w : World) (is : world_of p ≡ w) (ok : IsConsistent p)
-    (at : ℕ) (lowest : at ≡ lowest_unused w.files) (few : lowest_unused w.files < MAX_NAMES + MAX_SLOTS) (cells : List (Option Stored)) (reached : cells ≡ with_room p.files at) where
+    (at : ℕ) (lowest : at ≡ lowest_unused w.files) (few : lowest_unused w.files < most_names + most_descriptors) (cells : List (Option Stored)) (reached : cells ≡ with_room p.files at) where
   file_room : (b : Bool) → eqb at (length p.files) ≡ b → (at < length (cond b (p.files ++ None ∷ []) p.files)) × IsConsistent (record p { files = cond b (p.files ++ None ∷ []) p.files }) × (world_of (record p { files = cond b (p.files ++ None ∷ []) p.files }) ≡ w)
   file_room true e = let same : at ≡ length p.files = eqb-true _ _ e in (omega (arith, length-append p.files (None ∷ [])), room_for_file-consistent p w is ok (omega arith), room_for_file-world p w is ok)
   file_room false e = let apart : at ≢ length p.files = (grind (arith, nat_tests)) in (omega (arith, number_reached p w is ok at lowest), ok, is)
@@ -556,7 +556,7 @@ module _ (p : Parts) (w : World) (is : world_of p ≡ w) (ok : IsConsistent p)
   pub roomy_files-world : world_of (record p { files = cells }) ≡ w
   roomy_files-world = ap (λ l. world_of (record p { files = l })) reached ∙ (file_room _ refl).2
 
-  module _ (name : List ℕ) (content : List ℕ) (file : Stored) (bytes : ℕ) (absent : fin.get w.names name ≡ None) (few_bytes : length name ≤ MAX_NAME) (named : name_in (Some file) ≡ Some name) (filled : content_in (Some file) ≡ Some content)
+  module _ (name : List ℕ) (content : List ℕ) (file : Stored) (bytes : ℕ) (absent : fin.get w.names name ≡ None) (few_bytes : length name ≤ most_name) (named : name_in (Some file) ≡ Some name) (filled : content_in (Some file) ≡ Some content)
       (sums : bytes ≡ p.total + length content) (names : List (List ℕ × ℕ)) (listed : names ≡ fin.put bytes_cmp name at p.names) where
     same_content : file.content.items ≡ content
     same_content = same_Some _ _ filled

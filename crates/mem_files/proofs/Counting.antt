@@ -8,7 +8,7 @@ use Rattle.std.proofs.lemmas.List.Sums.{sum_by-append, sum_by-cons, sum_by-set}
 use Rattle.mem_files.specs.declared.slot.Slot.{Slot}
 use Rattle.mem_files.specs.declared.slot.Slot.TheVariants.{File}
 use Rattle.mem_files.specs.World.{is_of}
-use Rattle.mem_files.specs.Counts.{opens_in}
+use Rattle.mem_files.specs.Inside.Counts.{opens_in}
 
 pub counted_within : (counts : List ℕ) (number cursor flags : ℕ) → opens_in number (Some (File number cursor flags)) ≤ get_or counts number 0 → number < length counts
 counted_within counts number cursor flags some =

@@ -10,7 +10,7 @@ use Rattle.std.specs.Map.{lookup, remove_entry}
 use Rattle.std.specs.FinMap.{FinMap, IsAntisymmetric, nat_cmp-IsAntisymmetric, slice_cmp-IsAntisymmetric, get, insert, remove, from_sorted, entries-from_sorted, get-from_sorted, entries-insert, same_entries_map, same_map, get-remove, find, put, is_sorted, len, len-entries}
 use Rattle.std.specs.FinMap.Entries.{by_order, below_all, where_key, is_sorted-where_key, is_sorted-put, find-where_key}
 use Rattle.mem_files.specs.Names.{bytes_cmp}
-use Rattle.mem_files.specs.Cells.{keyed}
+use Rattle.mem_files.specs.Inside.Cells.{keyed}
 
 pub bytes_cmp-IsAntisymmetric : IsAntisymmetric bytes_cmp
 bytes_cmp-IsAntisymmetric = slice_cmp-IsAntisymmetric nat_cmp-IsAntisymmetric

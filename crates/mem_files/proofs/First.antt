@@ -8,10 +8,10 @@ use Rattle.mem_files.specs.declared.slot.Slot.{Slot}
 use Rattle.mem_files.specs.declared.slot.Slot.TheVariants.{Input, Stream1, Stream2}
 use Rattle.mem_files.specs.Names.{bytes_cmp}
 use Rattle.mem_files.specs.Calls.{first_world}
-use Rattle.mem_files.specs.Cells.{map_of}
+use Rattle.mem_files.specs.Inside.Cells.{map_of}
 use Rattle.mem_files.specs.World.{total}
-use Rattle.mem_files.specs.Counts.{opens_in}
-use Rattle.mem_files.specs.Table.{Parts, world_of, Uses, IsConsistent}
+use Rattle.mem_files.specs.Inside.Counts.{opens_in}
+use Rattle.mem_files.specs.Inside.Table.{Parts, world_of, Uses, IsConsistent}
 use Rattle.mem_files.proofs.Changes.{uses_set}
 use Rattle.mem_files.proofs.Tournament.{unmarked}
 use Rattle.mem_files.proofs.Directory.{same_name_map}

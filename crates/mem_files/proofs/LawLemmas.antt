@@ -7,15 +7,16 @@ use Rattle.std.proofs.lemmas.Bool.Decides.{nat_tests}
 use Rattle.std.specs.FinMap as fin
 use Rattle.mem_files.specs.declared.slot.Slot.{Slot}
 use Rattle.mem_files.specs.declared.slot.Slot.TheVariants.{Input, Stream1, Stream2, File}
-use Rattle.mem_files.specs.declared.TheConstants.{SEEK_SET, MAY_READ, APPENDS, EBADF}
+use Rattle.mem_files.specs.Linux.{seek_set, ebadf}
+use Rattle.mem_files.specs.Limits.{may_read, appends}
 use Rattle.mem_files.specs.World.{World, content_of, is_named, is_open}
-use Rattle.mem_files.specs.Calls.{has, fits, write_cursor, filled, written, written_if, moved, sought, sought_at, ready, ready_at, removed, removed_at, overwritten, with_bytes}
-use Rattle.mem_files.specs.Sound.{IsSound}
+use Rattle.mem_files.specs.Calls.{has, fits, write_cursor, filled, written, written_if, with_cursor, sought, sought_at, ready, ready_at, removed, removed_at, written_over, with_content}
+use Rattle.mem_files.specs.Inside.Kept.{IsKept}
 use Rattle.mem_files.proofs.Entries.{here, left}
-use Rattle.mem_files.proofs.Soundness.{open_by, neither}
+use Rattle.mem_files.proofs.Keeping.{open_by, neither}
 
 -- the bytes that were written stand at their place
-read_back : (old : List ℕ) (place : ℕ) (bytes : List ℕ) → take (length bytes) (drop place (overwritten old place bytes)) ≡ bytes
+read_back : (old : List ℕ) (place : ℕ) (bytes : List ℕ) → take (length bytes) (drop place (written_over old place bytes)) ≡ bytes
 read_back old place bytes =
     let front : List ℕ = take place old ++ replicate (place - length old) 0 in
     let rest : List ℕ = drop (place + length bytes) old in
@@ -25,26 +26,26 @@ read_back old place bytes =
 
 -- a cursor is set
 set_back : (w : World) (fd number now flags cursor : ℕ) → fin.get w.slots fd ≡ Some (File number now flags) → cursor < 2 ^ 63
-    → (sought w fd (pos cursor) SEEK_SET).1 ≡ record w { slots = fin.insert w.slots fd (File number cursor flags) }
+    → (sought w fd (pos cursor) seek_set).1 ≡ record w { slots = fin.insert w.slots fd (File number cursor flags) }
 set_back w fd number now flags cursor at small =
-    ap (λ o. (sought_at w fd (pos cursor) SEEK_SET o).1) at
-    ∙ ap (λ b. (moved w fd number flags (if b then Some (0 + cursor) else None)).1) (let fit : nat_lt (0 + cursor) (2 ^ 63) ≡ true = (grind (arith, nat_tests)) in fit)
+    ap (λ o. (sought_at w fd (pos cursor) seek_set o).1) at
+    ∙ ap (λ b. (with_cursor w fd number flags (if b then Some (0 + cursor) else None)).1) (let fit : nat_lt (0 + cursor) (2 ^ 63) ≡ true = (grind (arith, nat_tests)) in fit)
     ∙ ap (λ n. record w { slots = fin.insert w.slots fd (File number n flags) }) (let same : 0 + cursor ≡ cursor = omega arith in same)
 
-read_there : (w : World) (fd number cursor flags count : ℕ) (bytes : List ℕ) → IsTrue (has flags MAY_READ) → take count (drop cursor (content_of w number)) ≡ bytes
+read_there : (w : World) (fd number cursor flags count : ℕ) (bytes : List ℕ) → IsTrue (has flags may_read) → take count (drop cursor (content_of w number)) ≡ bytes
     → ready (record w { slots = fin.insert w.slots fd (File number cursor flags) }) fd count ≡ Ok bytes
 read_there w fd number cursor flags count bytes may same =
     ap (ready_at (record w { slots = fin.insert w.slots fd (File number cursor flags) }) count) (here w.slots fd (File number cursor flags))
-    ∙ ap (λ b. if b then Ok (take count (drop cursor (content_of w number))) else Err EBADF) may ∙ ap (λ l. Ok l) same
+    ∙ ap (λ b. if b then Ok (take count (drop cursor (content_of w number))) else Err ebadf) may ∙ ap (λ l. Ok l) same
 
-pub written_read : (w new : World) (fd number cursor flags : ℕ) (bytes : List ℕ) → IsSound w → fin.get w.slots fd ≡ Some (File number cursor flags) → IsTrue (has flags MAY_READ) → has flags APPENDS ≡ false
-    → written w fd bytes ≡ (Ok tt, new) → ready (sought new fd (pos cursor) SEEK_SET).1 fd (length bytes) ≡ Ok bytes
+pub written_read : (w new : World) (fd number cursor flags : ℕ) (bytes : List ℕ) → IsKept w → fin.get w.slots fd ≡ Some (File number cursor flags) → IsTrue (has flags may_read) → has flags appends ≡ false
+    → written w fd bytes ≡ (Ok tt, new) → ready (sought new fd (pos cursor) seek_set).1 fd (length bytes) ≡ Ok bytes
 written_read w new fd number cursor flags bytes s at may ends done = at_fit (fits w fd (length bytes)) refl done
   where
     small : cursor < 2 ^ 63
     small = (s.good_slots fd (File number cursor flags) at).1.1
 
-    after : (v : World) (now : ℕ) → fin.get v.slots fd ≡ Some (File number now flags) → take (length bytes) (drop cursor (content_of v number)) ≡ bytes → ready (sought v fd (pos cursor) SEEK_SET).1 fd (length bytes) ≡ Ok bytes
+    after : (v : World) (now : ℕ) → fin.get v.slots fd ≡ Some (File number now flags) → take (length bytes) (drop cursor (content_of v number)) ≡ bytes → ready (sought v fd (pos cursor) seek_set).1 fd (length bytes) ≡ Ok bytes
     after v now held same = ap (λ (u : World). ready u fd (length bytes)) (set_back v fd number now flags cursor held small) ∙ read_there v fd number cursor flags (length bytes) bytes may same
 
     nothing : (l : List ℕ) → length l ≡ 0 → l ≡ []
@@ -52,22 +53,22 @@ written_read w new fd number cursor flags bytes s at may ends done = at_fit (fit
     nothing (x ∷ l) h = absurd (omega arith)
 
     full : World
-    full = with_bytes w fd number flags bytes (write_cursor flags (length (content_of w number)) cursor)
+    full = with_content w fd number flags bytes (write_cursor flags (length (content_of w number)) cursor)
 
     filled_full : filled w fd bytes (fin.get w.slots fd) ≡ full
     filled_full = ap (filled w fd bytes) at
 
-    full_content : content_of full number ≡ overwritten (content_of w number) cursor bytes
-    full_content = ap (λ o. unwrap_or o []) (here w.files number _) ∙ ap (λ b. overwritten (content_of w number) (if b then length (content_of w number) else cursor) bytes) ends
+    full_content : content_of full number ≡ written_over (content_of w number) cursor bytes
+    full_content = ap (λ o. unwrap_or o []) (here w.files number _) ∙ ap (λ b. written_over (content_of w number) (if b then length (content_of w number) else cursor) bytes) ends
 
-    at_fit : (r : Result (Unit {0}) ℕ) → fits w fd (length bytes) ≡ r → written_if w fd bytes r ≡ (Ok tt, new) → ready (sought new fd (pos cursor) SEEK_SET).1 fd (length bytes) ≡ Ok bytes
+    at_fit : (r : Result (Unit {0}) ℕ) → fits w fd (length bytes) ≡ r → written_if w fd bytes r ≡ (Ok tt, new) → ready (sought new fd (pos cursor) seek_set).1 fd (length bytes) ≡ Ok bytes
     at_fit (Err errno) e d = absurd (not_err errno (ap (λ p. p.0) d))
       where
         not_err : (n : ℕ) → ◌≡◌ {A = Result (Unit {0}) ℕ} (Err n) (Ok tt) → ⊥
         not_err n e = cc
     at_fit (Ok unit) e d =
         let world : (if length bytes == 0 then w else filled w fd bytes (fin.get w.slots fd)) ≡ new = ap (λ p. p.1) d in
-        elim (eqb (length bytes) 0) as (λ b. eqb (length bytes) 0 ≡ b → cond b w (filled w fd bytes (fin.get w.slots fd)) ≡ new → ready (sought new fd (pos cursor) SEEK_SET).1 fd (length bytes) ≡ Ok bytes) [
+        elim (eqb (length bytes) 0) as (λ b. eqb (length bytes) 0 ≡ b → cond b w (filled w fd bytes (fin.get w.slots fd)) ≡ new → ready (sought new fd (pos cursor) seek_set).1 fd (length bytes) ≡ Ok bytes) [
           | true ↦ λ t same.
               let none = nothing bytes (eqb-true (length bytes) 0 t) in
               after new cursor (ap (λ (u : World). fin.get u.slots fd) (sym same) ∙ at) (ap (λ l. take (length l) (drop cursor (content_of new number))) none ∙ sym none)
@@ -86,7 +87,7 @@ removed_read w name fd count = at_name (fin.get w.names name)
     kept number unused (Some Stream1) e = refl
     kept number unused (Some Stream2) e = refl
     kept number unused (Some (File held cursor flags)) e =
-        ap (λ o. if has flags MAY_READ then Ok (take count (drop cursor (unwrap_or o []))) else Err EBADF)
+        ap (λ o. if has flags may_read then Ok (take count (drop cursor (unwrap_or o []))) else Err ebadf)
         (left w.files number held (λ same. false≢true (sym unused ∙ open_by w fd (File held cursor flags) number e (eq-eqb held number same))))
 
     at_name : (o : Option ℕ) → ready (removed_at w name o).1 fd count ≡ ready w fd count

@@ -6,8 +6,9 @@ pub mod Overwrites
 pub mod Changes
 pub mod First
 pub mod Entries
-pub mod Soundness
-pub mod SoundCalls
+pub mod Keeping
+pub mod KeepingCalls
+pub mod Rules
 pub mod AnswersLemmas
 pub mod Opening
 pub mod LawLemmas

@@ -4,7 +4,7 @@ use Rattle.std.proofs.lemmas.List.{take-append-le, take-replicate, take_all, app
 use Rattle.std.proofs.Math.Seq.{take-append-add}
 use Rattle.std.proofs.Math.ListN.{drop_of_length-le}
 use Rattle.std.proofs.lemmas.Bool.{cases_lt}
-use Rattle.mem_files.specs.Calls.{overwritten}
+use Rattle.mem_files.specs.Calls.{written_over}
 
 take-padded : (old : List ℕ) (place n : ℕ) → place - length old ≤ n → take place (old ++ replicate n 0) ≡ take place old ++ replicate (place - length old) 0
 take-padded old place n few =
@@ -30,7 +30,7 @@ drop-padded old end =
 
 -- what is left where bytes are copied into a slice of the same length
 pub put_is : (old bytes items copied : List ℕ) (place n : ℕ) → items ≡ old ++ replicate (place + length bytes - length old) 0 → copied ≡ take place items ++ bytes ++ drop (place + length bytes) items → n ≡ length items
-    → take n (copied ++ drop (length copied) items) ≡ overwritten old place bytes
+    → take n (copied ++ drop (length copied) items) ≡ written_over old place bytes
 put_is old bytes items copied place n grown is len =
     let long : length items ≡ length old + (place + length bytes - length old) = ap length grown ∙ omega (arith, length-append old (replicate (place + length bytes - length old) 0), length-replicate {A = ℕ} (place + length bytes - length old) 0) in
     let same : length copied ≡ length items = ap length is ∙ omega (arith, length-append (take place items ++ bytes) (drop (place + length bytes) items), length-append (take place items) bytes, length-take place items, length-drop (place + length bytes) items) in
@@ -40,9 +40,9 @@ put_is old bytes items copied place n grown is len =
     ∙ ap (λ rest. take place old ++ replicate (place - length old) 0 ++ bytes ++ rest) (drop-padded old (place + length bytes))
 
 -- a write adds what its end is past the old end
-pub length-overwritten : (old : List ℕ) (place : ℕ) (bytes : List ℕ) → length (overwritten old place bytes) ≡ length old + (place + length bytes - length old)
-length-overwritten old place bytes =
-    let parts : length (overwritten old place bytes) ≡ length (take place old) + length (replicate {A = ℕ} (place - length old) 0) + length bytes + length (drop (place + length bytes) old) =
+pub length-written_over : (old : List ℕ) (place : ℕ) (bytes : List ℕ) → length (written_over old place bytes) ≡ length old + (place + length bytes - length old)
+length-written_over old place bytes =
+    let parts : length (written_over old place bytes) ≡ length (take place old) + length (replicate {A = ℕ} (place - length old) 0) + length bytes + length (drop (place + length bytes) old) =
     length-append (take place old ++ replicate (place - length old) 0 ++ bytes) (drop (place + length bytes) old)
     ∙ omega (arith, length-append (take place old ++ replicate (place - length old) 0) bytes, length-append (take place old) (replicate {A = ℕ} (place - length old) 0)) in
     omega (arith, length-take place old, length-replicate {A = ℕ} (place - length old) 0, length-drop (place + length bytes) old)

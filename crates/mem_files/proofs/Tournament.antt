@@ -6,8 +6,8 @@ use Rattle.std.proofs.Common.{inl, inr}
 use Rattle.std.proofs.Math.Nat.{pow-succ', one-le-pow}
 use Rattle.std.proofs.Math.Seq.{take-append_seam}
 use Rattle.std.proofs.Math.Pow.{pow_mono}
-use Rattle.mem_files.specs.Numbers.{mark, IsRightBut, IsTree}
-use Rattle.mem_files.proofs.Soundness.{by_eq}
+use Rattle.mem_files.specs.Inside.Numbers.{mark, IsRightBut, IsTree}
+use Rattle.mem_files.proofs.Keeping.{by_eq}
 
 -- one node is mended, and the one above it may be wrong
 pub mended : (full : List Bool) (node : ℕ) → 0 < node → 2 * node < length full → IsRightBut node full → IsRightBut (node / 2) (set full node (mark full (2 * node) && mark full (2 * node + 1)))

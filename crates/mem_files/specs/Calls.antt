@@ -7,7 +7,8 @@ use Rattle.mem_files.specs.declared.slot.Slot.{Slot}
 use Rattle.mem_files.specs.declared.slot.Slot.TheVariants.{Input, Stream1, Stream2, File}
 use Rattle.mem_files.specs.declared.slot.PlaceRefusal.{PlaceRefusal}
 use Rattle.mem_files.specs.declared.slot.PlaceRefusal.TheVariants.{BadName, Twice, Full}
-use Rattle.mem_files.specs.declared.TheConstants.{ENOENT, EBADF, EEXIST, EINVAL, EMFILE, EFBIG, ENOSPC, ESPIPE, O_ACCMODE, O_RDONLY, O_WRONLY, O_CREAT, O_EXCL, O_TRUNC, O_APPEND, SEEK_SET, SEEK_CUR, SEEK_END, MAY_READ, MAY_WRITE, APPENDS, MAX_CONTENT, MAX_TOTAL, MAX_SLOTS, MAX_NAMES}
+use Rattle.mem_files.specs.Linux.{enoent, ebadf, eexist, einval, emfile, efbig, enospc, espipe, o_accmode, o_rdonly, o_wronly, o_creat, o_excl, o_trunc, o_append, seek_set, seek_cur, seek_end}
+use Rattle.mem_files.specs.Limits.{may_read, may_write, appends, most_content, most_total, most_descriptors, most_names}
 use Rattle.mem_files.specs.Names.{bytes_cmp, stripped, is_name}
 use Rattle.mem_files.specs.World.{World, content_of, total, is_named, is_open, lowest_unused}
 
@@ -34,7 +35,7 @@ with_file w name content = record w {
 
 -- `place`: would a file of so many bytes pass a limit?
 abbrev pub is_full : World → ℕ → Bool
-is_full w len = nat_lt MAX_CONTENT len || nat_lt MAX_TOTAL (total w + len) || nat_le MAX_NAMES (map.len w.names)
+is_full w len = nat_lt most_content len || nat_lt most_total (total w + len) || nat_le most_names (map.len w.names)
 
 -- a file under a name without `./`
 abbrev pub placed_as : World → List ℕ → List ℕ → Result (Unit {0}) PlaceRefusal × World
@@ -55,7 +56,7 @@ without_unused w number =
 
 -- `remove`, by the number that has the name
 abbrev pub removed_at : World → List ℕ → Option ℕ → Result (Unit {0}) ℕ × World
-removed_at w name None = (Err ENOENT, w)
+removed_at w name None = (Err enoent, w)
 removed_at w name (Some number) = (Ok tt, without_unused (record w { names = map.remove w.names name }) number)
 
 -- `remove`
@@ -71,7 +72,7 @@ released w (File number cursor flags) = without_unused w number
 
 -- `close`, by what stands at the descriptor
 abbrev pub closed_at : World → ℕ → Option Slot → Result (Unit {0}) ℕ × World
-closed_at w fd None = (Err EBADF, w)
+closed_at w fd None = (Err ebadf, w)
 closed_at w fd (Some slot) = (Ok tt, released (record w { slots = map.remove w.slots fd }) slot)
 
 -- `close`
@@ -81,42 +82,42 @@ closed w fd = closed_at w fd (map.get w.slots fd)
 -- the flags of a descriptor, from those of openat(2)
 abbrev pub flag_byte : ℕ → ℕ
 flag_byte flags =
-    (if bit_and flags O_ACCMODE == O_WRONLY then 0 else MAY_READ)
-    + (if bit_and flags O_ACCMODE == O_RDONLY then 0 else MAY_WRITE)
-    + (if has flags O_APPEND then APPENDS else 0)
+    (if bit_and flags o_accmode == o_wronly then 0 else may_read)
+    + (if bit_and flags o_accmode == o_rdonly then 0 else may_write)
+    + (if has flags o_append then appends else 0)
 
 -- the lowest unused descriptor stands for the file, with its cursor at the start
 abbrev pub with_descriptor : World → ℕ → ℕ → Result ℕ ℕ × World
 with_descriptor w number flags =
     (Ok (lowest_unused w.slots), record w { slots = map.insert w.slots (lowest_unused w.slots) (File number 0 (flag_byte flags)) })
 
--- O_TRUNC empties a present file
+-- o_trunc empties a present file
 abbrev pub emptied_if : Bool → World → ℕ → World
 emptied_if truncate w number = if truncate then record w { files = map.insert w.files number [] } else w
 
 -- `open_name`, by the number that has the name
 abbrev pub opened_at : World → List ℕ → ℕ → Option ℕ → Result ℕ ℕ × World
 opened_at w name flags (Some number) =
-    if has flags O_CREAT && has flags O_EXCL then (Err EEXIST, w)
-    else with_descriptor (emptied_if (has flags O_TRUNC) w number) number flags
+    if has flags o_creat && has flags o_excl then (Err eexist, w)
+    else with_descriptor (emptied_if (has flags o_trunc) w number) number flags
 opened_at w name flags None =
-    if not (has flags O_CREAT) then (Err ENOENT, w)
-    else (if nat_le MAX_NAMES (map.len w.names) then (Err ENOSPC, w)
+    if not (has flags o_creat) then (Err enoent, w)
+    else (if nat_le most_names (map.len w.names) then (Err enospc, w)
     else with_descriptor (with_file w name []) (lowest_unused w.files) flags)
 
 -- `open_name`
 abbrev pub opened : World → List ℕ → ℕ → Result ℕ ℕ × World
 opened w name flags =
-    if bit_and flags O_ACCMODE == O_ACCMODE then (Err EINVAL, w)
-    else (if nat_le MAX_SLOTS (map.len w.slots) then (Err EMFILE, w)
+    if bit_and flags o_accmode == o_accmode then (Err einval, w)
+    else (if nat_le most_descriptors (map.len w.slots) then (Err emfile, w)
     else opened_at w name flags (map.get w.names name))
 
 -- the number that an offset counts from: 0, the cursor or the length
 abbrev pub seek_base : ℕ → ℕ → ℕ → Option ℕ
 seek_base whence cursor len =
-    if whence == SEEK_SET then Some 0
-    else (if whence == SEEK_CUR then Some cursor
-    else (if whence == SEEK_END then Some len
+    if whence == seek_set then Some 0
+    else (if whence == seek_cur then Some cursor
+    else (if whence == seek_end then Some len
     else None))
 
 -- a cursor is from 0 to 2^63 - 1
@@ -125,18 +126,18 @@ as_cursor (pos n) = if nat_lt n (2 ^ 63) then Some n else None
 as_cursor (negsuc n) = None
 
 -- `seek`, by where the cursor goes
-abbrev pub moved : World → ℕ → ℕ → ℕ → Option ℕ → Result ℕ ℕ × World
-moved w fd number flags None = (Err EINVAL, w)
-moved w fd number flags (Some cursor) = (Ok cursor, record w { slots = map.insert w.slots fd (File number cursor flags) })
+abbrev pub with_cursor : World → ℕ → ℕ → ℕ → Option ℕ → Result ℕ ℕ × World
+with_cursor w fd number flags None = (Err einval, w)
+with_cursor w fd number flags (Some cursor) = (Ok cursor, record w { slots = map.insert w.slots fd (File number cursor flags) })
 
 -- `seek`, by what stands at the descriptor
 abbrev pub sought_at : World → ℕ → ℤ → ℕ → Option Slot → Result ℕ ℕ × World
-sought_at w fd offset whence None = (Err EBADF, w)
-sought_at w fd offset whence (Some Input) = (Err ESPIPE, w)
-sought_at w fd offset whence (Some Stream1) = (Err ESPIPE, w)
-sought_at w fd offset whence (Some Stream2) = (Err ESPIPE, w)
+sought_at w fd offset whence None = (Err ebadf, w)
+sought_at w fd offset whence (Some Input) = (Err espipe, w)
+sought_at w fd offset whence (Some Stream1) = (Err espipe, w)
+sought_at w fd offset whence (Some Stream2) = (Err espipe, w)
 sought_at w fd offset whence (Some (File number cursor flags)) =
-    moved w fd number flags (option_and_then (λ base. as_cursor (pos base +ℤ offset)) (seek_base whence cursor (length (content_of w number))))
+    with_cursor w fd number flags (option_and_then (λ base. as_cursor (pos base +ℤ offset)) (seek_base whence cursor (length (content_of w number))))
 
 -- `seek`
 abbrev pub sought : World → ℕ → ℤ → ℕ → Result ℕ ℕ × World
@@ -144,12 +145,12 @@ sought w fd offset whence = sought_at w fd offset whence (map.get w.slots fd)
 
 -- `ready`, by what stands at the descriptor: at most `count` bytes from the cursor on
 abbrev pub ready_at : World → ℕ → Option Slot → Result (List ℕ) ℕ
-ready_at w count None = Err EBADF
+ready_at w count None = Err ebadf
 ready_at w count (Some Input) = Ok []
-ready_at w count (Some Stream1) = Err EBADF
-ready_at w count (Some Stream2) = Err EBADF
+ready_at w count (Some Stream1) = Err ebadf
+ready_at w count (Some Stream2) = Err ebadf
 ready_at w count (Some (File number cursor flags)) =
-    if has flags MAY_READ then Ok (take count (drop cursor (content_of w number))) else Err EBADF
+    if has flags may_read then Ok (take count (drop cursor (content_of w number))) else Err ebadf
 
 -- `ready`
 abbrev pub ready : World → ℕ → ℕ → Result (List ℕ) ℕ
@@ -170,7 +171,7 @@ skipped w fd count = skipped_at w fd count (map.get w.slots fd)
 
 -- a write goes to the end of a file that appends, else to the cursor
 abbrev pub write_cursor : ℕ → ℕ → ℕ → ℕ
-write_cursor flags end cursor = if has flags APPENDS then end else cursor
+write_cursor flags end cursor = if has flags appends then end else cursor
 
 -- where a write goes: how many bytes are there now, and the place of the first byte that is written
 abbrev pub write_place : World → Option Slot → Option (ℕ × ℕ)
@@ -179,17 +180,17 @@ write_place w (Some Input) = None
 write_place w (Some Stream1) = Some (length w.stream1, length w.stream1)
 write_place w (Some Stream2) = Some (length w.stream2, length w.stream2)
 write_place w (Some (File number cursor flags)) =
-    if has flags MAY_WRITE
+    if has flags may_write
     then Some (length (content_of w number), write_cursor flags (length (content_of w number)) cursor)
     else None
 
 -- `fits`, by where the write goes: what refuses a write of `count` bytes
 abbrev pub fits_at : World → ℕ → Option (ℕ × ℕ) → Result (Unit {0}) ℕ
-fits_at w count None = Err EBADF
+fits_at w count None = Err ebadf
 fits_at w count (Some (len, place)) =
     if count == 0 then Ok tt
-    else (if nat_lt MAX_CONTENT (place + count) then Err EFBIG
-    else (if nat_lt MAX_TOTAL (total w + (place + count - len)) then Err ENOSPC
+    else (if nat_lt most_content (place + count) then Err efbig
+    else (if nat_lt most_total (total w + (place + count - len)) then Err enospc
     else Ok tt))
 
 -- `fits`
@@ -197,13 +198,13 @@ abbrev pub fits : World → ℕ → ℕ → Result (Unit {0}) ℕ
 fits w fd count = fits_at w count (write_place w (map.get w.slots fd))
 
 -- the bytes of a file after `bytes` were written at `place`: a gap before the place is zeros
-abbrev pub overwritten : List ℕ → ℕ → List ℕ → List ℕ
-overwritten old place bytes = take place old ++ replicate (place - length old) 0 ++ bytes ++ drop (place + length bytes) old
+abbrev pub written_over : List ℕ → ℕ → List ℕ → List ℕ
+written_over old place bytes = take place old ++ replicate (place - length old) 0 ++ bytes ++ drop (place + length bytes) old
 
 -- a file after a write at a place, with the cursor at its end
-abbrev pub with_bytes : World → ℕ → ℕ → ℕ → List ℕ → ℕ → World
-with_bytes w fd number flags bytes place = record w {
-  files = map.insert w.files number (overwritten (content_of w number) place bytes);
+abbrev pub with_content : World → ℕ → ℕ → ℕ → List ℕ → ℕ → World
+with_content w fd number flags bytes place = record w {
+  files = map.insert w.files number (written_over (content_of w number) place bytes);
   slots = map.insert w.slots fd (File number (place + length bytes) flags);
 }
 
@@ -214,7 +215,7 @@ filled w fd bytes (Some Input) = w
 filled w fd bytes (Some Stream1) = record w { stream1 = w.stream1 ++ bytes }
 filled w fd bytes (Some Stream2) = record w { stream2 = w.stream2 ++ bytes }
 filled w fd bytes (Some (File number cursor flags)) =
-    with_bytes w fd number flags bytes (write_cursor flags (length (content_of w number)) cursor)
+    with_content w fd number flags bytes (write_cursor flags (length (content_of w number)) cursor)
 
 -- `write`, by what refuses it: a write of no byte changes nothing
 abbrev pub written_if : World → ℕ → List ℕ → Result (Unit {0}) ℕ → Result (Unit {0}) ℕ × World

@@ -1,11 +1,9 @@
+pub mod Linux
+pub mod Limits
 pub mod Names
 pub mod World
 pub mod Calls
 pub mod Answers
-pub mod Stored
-pub mod Table
 pub mod Sound
-pub mod Cells
-pub mod Numbers
-pub mod Counts
-pub mod Keys
+pub mod Outputs
+pub mod Inside

@@ -4,7 +4,7 @@ use Rattle.std.specs.List.{list_any}
 use Rattle.std.specs.Ordering.{nat_cmp}
 use Rattle.std.specs.declared.cmp.Ordering.{Ordering}
 use Rattle.std.specs.Cmp.Lexicographic.{slice_cmp}
-use Rattle.mem_files.specs.declared.TheConstants.{MAX_NAME}
+use Rattle.mem_files.specs.Limits.{most_name}
 
 -- the order of names: byte by byte, and a name before those that it begins
 abbrev pub bytes_cmp : List ℕ → List ℕ → Ordering
@@ -22,7 +22,7 @@ stripped xs = xs
 
 -- a guest file name has 1 to 255 bytes, none of them zero
 abbrev pub is_name : List ℕ → Bool
-is_name bytes = nat_le 1 (length bytes) && nat_le (length bytes) MAX_NAME && not (list_any (λ byte. byte == 0) bytes)
+is_name bytes = nat_le 1 (length bytes) && nat_le (length bytes) most_name && not (list_any (λ byte. byte == 0) bytes)
 
 -- a name as the files hold it
 abbrev pub is_stripped_name : List ℕ → Bool

@@ -4,7 +4,8 @@ ghost use Rattle.std.specs.Option.{option_copied};
 ghost use Rattle.std.specs.FinMap as map;
 ghost use Rattle.mem_files.specs.Calls.{placed, is_full, opened, opened_at, flag_byte, has, closed, released, without_unused, sought, seek_base, as_cursor, ready, skipped, fits, write_place, write_cursor, filled, written, removed, content_at};
 ghost use Rattle.mem_files.specs.Answers.{Answers, Places, Grows};
-ghost use Rattle.mem_files.specs.Sound.{IsSound, HasFile};
+ghost use Rattle.mem_files.specs.Sound.{IsSound};
+ghost use Rattle.mem_files.specs.Inside.Kept.{HasFile};
 
 use crate::names::{is_name, strip};
 use crate::table::Table;
@@ -14,6 +15,7 @@ use crate::{
     O_APPEND, O_CREAT, O_EXCL, O_RDONLY, O_TRUNC, O_WRONLY, PlaceRefusal, SEEK_CUR, SEEK_END,
     SEEK_SET, Slot,
 };
+use ddc_base::OutOfMemory;
 use std::alloc::AllocError;
 
 /// Is this bit of the flags set?
@@ -269,7 +271,7 @@ impl Table {
     }
 
     /// Where a write goes: how many bytes are there now, and the place of the first byte that is written.
-    fn write_place(&self, fd: u32) -> Option<(u64, u64)>
+    pub fn write_place(&self, fd: u32) -> Option<(u64, u64)>
         ensures { result ≡ write_place self.now (map.get self.now.slots fd) }
     {
         match self.slot(fd) {
@@ -315,14 +317,13 @@ impl Table {
         Ok(())
     }
 
-    pub fn write(&mut self, fd: u32, bytes: &[u8]) -> Result<(), FileRefusal>
-        requires { IsSound self.old }
-        ensures answer { Answers result self.old self.new (written self.old fd bytes.now) }
-        ensures memory { result ≡ Err FileRefusal.OutOfMemory → Grows self.old fd (length bytes.now) }
+    pub fn write(&mut self, fd: u32, bytes: &[u8]) -> Result<(), OutOfMemory>
+        requires sound { IsSound self.old }
+        requires fit { fits self.old fd (length bytes.now) ≡ Ok tt }
+        ensures ok { OnOk result (written self.old fd bytes.now ≡ (Ok tt, self.new)) }
+        ensures err { OnErr result (self.new ≡ self.old) }
+        ensures memory { OnErr result (Grows self.old fd (length bytes.now)) }
     {
-        if let Err(errno) = self.fits(fd, bytes.len() as u64) {
-            return Err(FileRefusal::Errno(errno));
-        }
         if !bytes.is_empty() {
             self.fill(fd, bytes)?;
         }

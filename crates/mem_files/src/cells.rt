@@ -1,7 +1,7 @@
 //! Lists of cells, of which some hold a value.
 ghost use Rattle.std.specs.Prelude.{◌≡◌, ◌≤◌, OnOk, OnErr, Option, None, length, slice_index_or};
 ghost use Rattle.std.specs.Option.{option_copied};
-ghost use Rattle.mem_files.specs.Cells.{with_room};
+ghost use Rattle.mem_files.specs.Inside.Cells.{with_room};
 
 use std::alloc::AllocError;
 

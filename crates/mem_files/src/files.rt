@@ -1,15 +1,16 @@
 //! The files of a guest, with what each call answers.
-ghost use Rattle.std.specs.Prelude.{◌≡◌, ◌⊎◌, IsTrue, IfOk, IsOkAnd, MatchResult, Ok, Err, length};
+ghost use Rattle.std.specs.Prelude.{◌≡◌, ◌⊎◌, IsTrue, IfOk, IsOkAnd, MatchResult, OnErr, OnOk, Ok, Err, is_some, length};
 ghost use Rattle.std.specs.Option.{option_copied};
 ghost use Rattle.std.specs.FinMap as map;
 ghost use Rattle.mem_files.specs.Names.{is_stripped_name};
-ghost use Rattle.mem_files.specs.Calls.{first_world, placed, opened, closed, sought, ready, skipped, fits, written, removed, content_at, stream, name_after};
+ghost use Rattle.mem_files.specs.Calls.{first_world, placed, opened, closed, sought, ready, skipped, fits, write_place, written, removed, content_at, stream, name_after};
 ghost use Rattle.mem_files.specs.Answers.{Answers, Places, Grows};
 ghost use Rattle.mem_files.specs.Sound.{IsSound};
 
 use crate::table::Table;
 use crate::{FileRefusal, PlaceRefusal};
-use std::alloc::{AllocError, Global};
+use ddc_base::OutOfMemory;
+use std::alloc::Global;
 use std::marker::Model;
 
 /// The files of a guest in memory: names, contents, descriptors and two collected streams, within the limits.
@@ -37,7 +38,7 @@ impl Model for Files {
 
 impl Files {
     /// No files, with the empty input at descriptor 0 and the streams at 1 and 2.
-    pub fn new(alloc: Global) -> Result<Files, AllocError>
+    pub fn new(alloc: Global) -> Result<Files, OutOfMemory>
         ensures { IfOk result (λ files. files ≡ first_world) }
     {
         let table = Table::new(alloc)?;
@@ -91,6 +92,13 @@ impl Files {
         self.table.skip(fd, count);
     }
 
+    /// Whether bytes may be written to this descriptor.
+    pub fn is_writable(&self, fd: u32) -> bool
+        ensures { result ≡ is_some (write_place self.now (map.get self.now.slots fd)) }
+    {
+        self.table.write_place(fd).is_some()
+    }
+
     /// Whether a write of `count` bytes would be done. Errors: `EBADF`, `EFBIG`, `ENOSPC`.
     pub fn fits(&self, fd: u32, count: u64) -> Result<(), u16>
         ensures { result ≡ fits self.now fd count }
@@ -98,11 +106,13 @@ impl Files {
         self.table.fits(fd, count)
     }
 
-    /// Writes bytes at the cursor, at the end of a file that appends, or at the end of a stream. Errors: those of `fits`.
-    pub fn write(&mut self, fd: u32, bytes: &[u8]) -> Result<(), FileRefusal>
-        ensures answer { Answers result self.old self.new (written self.old fd bytes.now) }
+    /// Writes bytes that fit: at the cursor, at the end of a file that appends, or at the end of a stream.
+    pub fn write(&mut self, fd: u32, bytes: &[u8]) -> Result<(), OutOfMemory>
+        requires { fits self.old fd (length bytes.now) ≡ Ok tt }
+        ensures ok { OnOk result (written self.old fd bytes.now ≡ (Ok tt, self.new)) }
+        ensures err { OnErr result (self.new ≡ self.old) }
         // Bytes that are there already take no memory.
-        ensures memory { result ≡ Err FileRefusal.OutOfMemory → Grows self.old fd (length bytes.now) }
+        ensures memory { OnErr result (Grows self.old fd (length bytes.now)) }
     {
         self.table.write(fd, bytes)
     }
@@ -135,7 +145,7 @@ impl Files {
     pub fn stream(&self, which: u8) -> &[u8]
         requires { (which ≡ 1) ⊎ (which ≡ 2) }
         ensures bytes { result.now ≡ stream self.now which }
-        // The limits are kept, and names, files and descriptors fit together.
+        // Files keep their rules.
         ensures sound { IsSound self.now }
     {
         self.table.stream(which)

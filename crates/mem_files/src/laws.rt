@@ -1,20 +1,23 @@
 //! What the calls do together: laws about their definitions.
-ghost use Rattle.std.specs.Prelude.{◌≡◌, ℕ, pos, List, length, IsTrue, Ok, Some, false};
+ghost use Rattle.std.specs.Prelude.{◌≡◌, ◌<◌, ℕ, ℤ, pos, List, length, IsTrue, IsSome, IsOkAnd, Ok, Some, None, false};
 ghost use Rattle.std.specs.FinMap as map;
 ghost use Rattle.mem_files.specs.declared.slot.Slot.TheVariants.{File};
-ghost use Rattle.mem_files.specs.World.{World};
-ghost use Rattle.mem_files.specs.Calls.{has, written, sought, ready, removed};
-ghost use Rattle.mem_files.specs.Sound.{IsSound};
+ghost use Rattle.mem_files.specs.Limits.{most_name, most_names, most_descriptors, most_content, most_total, may_read, may_write, appends};
+ghost use Rattle.mem_files.specs.Linux.{enoent, ebadf, eexist, einval, emfile, efbig, enospc, espipe, o_accmode, o_rdonly, o_wronly, o_rdwr, o_creat, o_excl, o_trunc, o_append, seek_set, seek_cur, seek_end};
+ghost use Rattle.mem_files.specs.Names.{is_stripped_name};
+ghost use Rattle.mem_files.specs.World.{World, lowest_unused};
+ghost use Rattle.mem_files.specs.Calls.{first_world, has, placed, opened, closed, written, skipped, sought, ready, removed};
+ghost use Rattle.mem_files.specs.Sound.{AreBytes, IsSound};
 
-use crate::{APPENDS, Files, MAY_READ, SEEK_SET};
+use crate::*;
 
 /// Bytes that were written are read at the same place.
 pub fn written_bytes_are_read()
     ensures { (w new : World) (fd number cursor flags : ℕ) (bytes : List ℕ)
         → IsSound w → map.get w.slots fd ≡ Some (File number cursor flags)
-        → IsTrue (has flags MAY_READ) → has flags APPENDS ≡ false
+        → IsTrue (has flags may_read) → has flags appends ≡ false
         → written w fd bytes ≡ (Ok tt, new)
-        → ready (sought new fd (pos cursor) SEEK_SET).1 fd (length bytes) ≡ Ok bytes }
+        → ready (sought new fd (pos cursor) seek_set).1 fd (length bytes) ≡ Ok bytes }
 {}
 
 /// To remove a name changes nothing of what a descriptor reads.
@@ -29,9 +32,37 @@ pub fn number_has_one_name()
         → map.get w.names name ≡ Some number → map.get w.names other ≡ Some number → name ≡ other }
 {}
 
-/// All files keep the limits, and their names, contents and descriptors fit together.
-pub fn files_are_sound(files: &Files)
-    ensures { IsSound files.now }
-{
-    let _out = files.stream(1);
-}
+/// The files of a start keep the rules, and each call keeps them where its names and its bytes are bytes.
+pub fn calls_keep_the_rules()
+    ensures at_start { IsSound first_world }
+    ensures at_place { (w : World) (name content : List ℕ) → IsSound w → AreBytes name → AreBytes content
+        → IsSound (placed w name content).1 }
+    ensures at_open { (w : World) (name : List ℕ) (flags : ℕ) → IsSound w → IsTrue (is_stripped_name name) → AreBytes name
+        → IsSound (opened w name flags).1 }
+    ensures at_close { (w : World) (fd : ℕ) → IsSound w → IsSound (closed w fd).1 }
+    ensures at_seek { (w : World) (fd : ℕ) (offset : ℤ) (whence : ℕ) → IsSound w → IsSound (sought w fd offset whence).1 }
+    ensures at_skip { (w : World) (fd count : ℕ) → IsSound w → IsOkAnd (ready w fd count) (λ bytes. length bytes ≡ count)
+        → IsSound (skipped w fd count) }
+    ensures at_write { (w : World) (fd : ℕ) (bytes : List ℕ) → IsSound w → AreBytes bytes → IsSound (written w fd bytes).1 }
+    ensures at_remove { (w : World) (name : List ℕ) → IsSound w → IsSound (removed w name).1 }
+{}
+
+/// The lowest unused number is none of the numbers, and every smaller number is one of them: of descriptors and of files.
+pub fn lowest_unused_is_free()
+    ensures slots { (w : World) → map.get w.slots (lowest_unused w.slots) ≡ None }
+    ensures slots_below { (w : World) (fd : ℕ) → fd < lowest_unused w.slots → IsSome (map.get w.slots fd) }
+    ensures files { (w : World) → map.get w.files (lowest_unused w.files) ≡ None }
+    ensures files_below { (w : World) (number : ℕ) → number < lowest_unused w.files → IsSome (map.get w.files number) }
+{}
+
+/// The numbers of the code are those of Linux and the written limits.
+pub fn numbers_are_those_written()
+    ensures errors { (ENOENT ≡ enoent) × (EBADF ≡ ebadf) × (EEXIST ≡ eexist) × (EINVAL ≡ einval)
+        × (EMFILE ≡ emfile) × (EFBIG ≡ efbig) × (ENOSPC ≡ enospc) × (ESPIPE ≡ espipe) }
+    ensures flags { (O_ACCMODE ≡ o_accmode) × (O_RDONLY ≡ o_rdonly) × (O_WRONLY ≡ o_wronly) × (O_RDWR ≡ o_rdwr)
+        × (O_CREAT ≡ o_creat) × (O_EXCL ≡ o_excl) × (O_TRUNC ≡ o_trunc) × (O_APPEND ≡ o_append) }
+    ensures bases { (SEEK_SET ≡ seek_set) × (SEEK_CUR ≡ seek_cur) × (SEEK_END ≡ seek_end) }
+    ensures bits { (MAY_READ ≡ may_read) × (MAY_WRITE ≡ may_write) × (APPENDS ≡ appends) }
+    ensures limits { (MAX_NAME ≡ most_name) × (MAX_NAMES ≡ most_names) × (MAX_SLOTS ≡ most_descriptors)
+        × (MAX_CONTENT ≡ most_content) × (MAX_TOTAL ≡ most_total) }
+{}

@@ -14,8 +14,6 @@ mod numbers;
 mod slot;
 mod stored;
 mod table;
-#[cfg(test)]
-mod tests;
 
 pub use files::Files;
 pub use names::{is_stripped_name, strip};

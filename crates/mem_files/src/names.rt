@@ -24,10 +24,11 @@ pub fn key(name: &[u8]) -> Key
 pub fn strip(name: &[u8]) -> &[u8]
     ensures { result.now ≡ stripped name.now }
 {
-    match name {
-        [b'.', b'/', rest @ ..] => strip(rest),
-        _ => name,
+    let mut rest = name;
+    while let [b'.', b'/', shorter @ ..] = rest {
+        rest = shorter;
     }
+    rest
 }
 
 /// Is this a guest file name: 1 to 255 bytes, none of them zero?

@@ -1,6 +1,6 @@
 //! Numbers of which some are used.
 ghost use Rattle.std.specs.Prelude.{◌≡◌, ◌+◌, ◌*◌, ◌^◌, ◌<◌, ◌≤◌, ℕ, IfOk, true, false, length, set, drop, replicate, slice_index_or};
-ghost use Rattle.mem_files.specs.Numbers.{mark, IsRightBut};
+ghost use Rattle.mem_files.specs.Inside.Numbers.{mark, IsRightBut};
 
 use std::alloc::{AllocError, Global};
 use std::marker::Model;
@@ -21,7 +21,7 @@ pub struct Numbers {
 impl Model for Numbers {
     ghost use Rattle.std.specs.Prelude.{Bool, List, drop};
     ghost use Rattle.std.specs.Coded.{coded_list, coded_bool};
-    ghost use Rattle.mem_files.specs.Numbers.{IsTree};
+    ghost use Rattle.mem_files.specs.Inside.Numbers.{IsTree};
 
     ghost Value = { List Bool };
 

@@ -1,6 +1,6 @@
 //! One file as it lies in memory.
 ghost use Rattle.std.specs.Prelude.{◌≡◌, ◌+◌, ◌-◌, ◌<◌, ◌≤◌, ◌^◌, IfOk, OnOk, OnErr, IsSome, Some, None, is_some, length, unwrap_or, take, drop, replicate, ◌++◌, []};
-ghost use Rattle.mem_files.specs.Calls.{overwritten};
+ghost use Rattle.mem_files.specs.Calls.{written_over};
 
 use std::alloc::{AllocError, Global};
 
@@ -11,7 +11,7 @@ pub struct Stored {
     content: Vec<u8>,
 }
 
-ghost use Rattle.mem_files.specs.Stored.{name_in, content_in};
+ghost use Rattle.mem_files.specs.Inside.Stored.{name_in, content_in};
 
 impl Stored {
     pub fn new(alloc: Global, name: &[u8], content: &[u8]) -> Result<Stored, AllocError>
@@ -75,7 +75,7 @@ pub fn overwrite(cell: &mut Option<Stored>, place: usize, bytes: &[u8]) -> Resul
     requires held { IsSome cell.old }
     requires small { place + length bytes.now < 2 ^ 63 }
     ensures name { name_in cell.new ≡ name_in cell.old }
-    ensures ok { OnOk result (content_in cell.new ≡ Some (overwritten (unwrap_or (content_in cell.old) []) place bytes.now)) }
+    ensures ok { OnOk result (content_in cell.new ≡ Some (written_over (unwrap_or (content_in cell.old) []) place bytes.now)) }
     ensures added { IfOk result (λ added. added ≡ place + length bytes.now - length (unwrap_or (content_in cell.old) [])) }
     ensures err { OnErr result (content_in cell.new ≡ content_in cell.old) }
     ensures short { OnErr result (length (unwrap_or (content_in cell.old) []) < place + length bytes.now) }
@@ -90,7 +90,7 @@ pub fn overwrite(cell: &mut Option<Stored>, place: usize, bytes: &[u8]) -> Resul
 /// Writes bytes at a place; a gap before the place is zeros.
 fn put(content: &mut Vec<u8>, place: usize, bytes: &[u8]) -> Result<(), AllocError>
     requires { place + length bytes.now < 2 ^ 63 }
-    ensures ok { OnOk result (content.new.items ≡ overwritten content.old.items place bytes.now) }
+    ensures ok { OnOk result (content.new.items ≡ written_over content.old.items place bytes.now) }
     ensures err { OnErr result (content.new.items ≡ content.old.items) }
     ensures short { OnErr result (length content.old.items < place + length bytes.now) }
 {

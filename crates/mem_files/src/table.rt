@@ -3,10 +3,10 @@ ghost use Rattle.std.specs.Prelude.{◌≡◌, ◌+◌, ◌-◌, ◌<◌, ◌^�
 ghost use Rattle.std.specs.Option.{option_copied};
 ghost use Rattle.std.specs.FinMap as map;
 ghost use Rattle.mem_files.specs.World.{content_of, total, is_named, is_open, lowest_unused};
-ghost use Rattle.mem_files.specs.Calls.{first_world, with_file, overwritten, stream, name_after, is_after};
-ghost use Rattle.mem_files.specs.Keys.{begins};
+ghost use Rattle.mem_files.specs.Calls.{first_world, with_file, written_over, stream, name_after, is_after};
+ghost use Rattle.mem_files.specs.Inside.Keys.{begins};
 ghost use Rattle.std.specs.List.{All};
-ghost use Rattle.mem_files.specs.Counts.{opens_in};
+ghost use Rattle.mem_files.specs.Inside.Counts.{opens_in};
 
 use crate::cells::{cell, reach};
 use crate::counts::{count, count_of, uncount};
@@ -48,7 +48,7 @@ impl Model for Table {
 
     ghost coded = { world_code };
 
-    ghost use Rattle.mem_files.specs.Table.{parts_of, world_of, IsConsistent};
+    ghost use Rattle.mem_files.specs.Inside.Table.{parts_of, world_of, IsConsistent};
 
     ghost view = { λ table. world_of (parts_of table) };
 
@@ -257,7 +257,7 @@ impl Table {
         requires held { IsSome (map.get self.old.files number) }
         requires small { place + length bytes.now < 2 ^ 63 }
         requires room { total self.old + (place + length bytes.now - length (content_of self.old number)) < 2 ^ 64 }
-        ensures ok { OnOk result (self.new ≡ record self.old { files = map.insert self.old.files number (overwritten (content_of self.old number) place bytes.now) }) }
+        ensures ok { OnOk result (self.new ≡ record self.old { files = map.insert self.old.files number (written_over (content_of self.old number) place bytes.now) }) }
         ensures err { OnErr result (self.new ≡ self.old) }
         ensures short { OnErr result (length (content_of self.old number) < place + length bytes.now) }
     {

@@ -1,13 +1,16 @@
-use Rattle.std.proofs.Common.{◌≡◌, ◌-◌, length, replicate, ap, ◌∙◌, sym, subst, arith}
+use Rattle.std.proofs.Common.{◌≡◌, ◌-◌, ◌<◌, length, replicate, ap, ◌∙◌, sym, subst, arith}
 use Rattle.std.specs.Prelude.{AllPairs, slice_set}
-use Rattle.paged_mem.specs.Memory.{IsFree, Memory}
+use Rattle.std.proofs.lemmas.List.Elements.{All-from_get_or}
+use Rattle.paged_mem.specs.Memory.{IsFree}
 use Rattle.rv64_machine.specs.Hart.{HartState, with_register}
 use Rattle.elf_load.specs.Segments.{AreApart}
 use Rattle.guest_run.specs.Stack.{stack_bytes, stack_end, stack_pointer, stack_size}
 use Rattle.guest_run.specs.Placed.{with_segments, with_stack}
 use Rattle.guest_run.specs.Start.{start_state, start_world}
-use Rattle.guest_run.specs.Valid.{Fits}
-use Rattle.guest_run.proofs.Beginnings.{fits_start, stack_length}
+use Rattle.guest_run.specs.State.{GuestState}
+use Rattle.guest_run.specs.Valid.{IsValid}
+use Rattle.guest_run.proofs.Beginnings.{stack_length}
+use Rattle.guest_run.proofs.StartLaw.{start-valid}
 use Rattle.guest_run.proofs.Places.{stack_free}
 use Rattle.guest_run.proofs.guest.started.Goals as goal
 
@@ -32,6 +35,7 @@ place_stack-requires-clause-high g c =
     rw (at, long) (omega (arith, whole))
 
 pub invariant_of-result : goal.invariant_of-result
+unfolding start_state
 invariant_of-result g c =
     let at : c.in_ok-stack.stack.at ≡ stack_pointer c.args.setting.now.args c.args.setting.now.env =
     c.in_ok-stack.ensures.0 ∙ (λ i. stack_pointer (c.args-2.ensures i) (c.env.ensures i)) in
@@ -43,10 +47,26 @@ invariant_of-result g c =
     ≡ with_stack (with_segments c.args.program.now c.args.image.now.segments.items)
     (stack_pointer c.args.setting.now.args c.args.setting.now.env) (stack_bytes c.args.setting.now.args c.args.setting.now.env) =
     ap (λ (h : HartState). h.memory) hart ∙ c.in_ok-place_stack.ensures ∙ (λ i. with_stack (segments i) (at i) (bytes i)) in
-    subst (λ (m : Memory). Fits m (record { first = c.args.image.now.first_break; now = c.args.image.now.first_break; limit = c.heap.result }))
-    (sym memory)
-    (fits_start c.args.program.now c.args.setting.now.args c.args.setting.now.env c.args.image.now c.heap.result
-    c.requires.sound c.requires.texts c.heap.ensures.small)
+    let registers : c.set_reg.new.self.registers ≡ slice_set (replicate 32 0) 2 (stack_pointer c.args.setting.now.args c.args.setting.now.env) =
+    ap (λ (h : HartState). h.registers) hart ∙ ap (λ v. slice_set (replicate 32 0) 2 v) at in
+    let pc : c.set_reg.new.self.pc ≡ c.args.image.now.entry = ap (λ (h : HartState). h.pc) hart in
+    let world = c.in_ok-files.ensures ∙ ap start_world c.files.ensures in
+    let same : ◌≡◌ {A = GuestState} (record {
+      hart = c.set_reg.new.self;
+      world = c.in_ok-files.files;
+      heap = record { first = c.args.image.now.first_break; now = c.args.image.now.first_break; limit = c.heap.result };
+      steps = 0;
+    }) (start_state c.args.program.now c.args.setting.now c.args.image.now) =
+    λ i. record {
+      hart = record { registers = registers i; pc = pc i; memory = memory i };
+      world = world i;
+      heap = record { first = c.args.image.now.first_break; now = c.args.image.now.first_break; limit = c.heap.ensures.value i };
+      steps = 0;
+    } in
+    subst IsValid (sym same)
+    (start-valid c.args.program.now c.args.setting.now c.args.image.now
+    (All-from_get_or (λ byte. byte < 256) c.args.program.now 0 (λ i less. omega (arith, c.type_inv.program i)))
+    c.heap.ensures.valid c.requires.sound c.requires.texts c.requires.files)
 
 pub returns : goal.returns
 unfolding start_state

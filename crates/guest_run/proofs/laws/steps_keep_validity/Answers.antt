@@ -1,5 +1,5 @@
-use Rattle.guest_run.proofs.Validity.{after-fits}
+use Rattle.guest_run.proofs.Validity.{after-valid}
 use Rattle.guest_run.proofs.laws.steps_keep_validity.Goals as goal
 
 pub returns : goal.returns
-returns c = λ guest to count fits reached. after-fits guest count to fits reached
+returns c = after-valid

@@ -1,5 +1,5 @@
 use Rattle.std.proofs.Common.{ap, Some, ◌∙◌, subst, ◌≤◌, get_or, arith}
-use Rattle.mem_files.specs.Counts.{opens_in}
+use Rattle.mem_files.specs.Inside.Counts.{opens_in}
 use Rattle.mem_files.proofs.Counting.{counted_within}
 use Rattle.mem_files.proofs.counts.uncount.Goals as goal
 

@@ -1,5 +1,6 @@
 use Rattle.mem_files.proofs.LawLemmas.{written_read}
+use Rattle.mem_files.proofs.Rules.{kept_of}
 use Rattle.mem_files.proofs.laws.written_bytes_are_read.Goals as goal
 
 pub returns : goal.returns
-returns c = written_read
+returns c = λ w new fd number cursor flags bytes s. written_read w new fd number cursor flags bytes (kept_of w s)

@@ -1,5 +1,5 @@
 use Rattle.std.proofs.Common.{◌≡◌, ◌*◌, ◌+◌, true, false, ap, ◌∙◌, subst, arith}
-use Rattle.mem_files.specs.Numbers.{mark}
+use Rattle.mem_files.specs.Inside.Numbers.{mark}
 use Rattle.mem_files.proofs.Tournament.{IsOnWay, at_root, has_below, one_down, at_leaf}
 use Rattle.mem_files.proofs.numbers.leftmost.Goals.{then-full-node, else-full-node}
 use Rattle.mem_files.proofs.numbers.leftmost.Goals as goal

@@ -1,5 +1,5 @@
 use Rattle.std.proofs.Common.{◌≡◌, ◌<◌, ◌≤◌, ℕ, drop}
-use Rattle.mem_files.specs.Numbers.{IsRightBut}
+use Rattle.mem_files.specs.Inside.Numbers.{IsRightBut}
 use Rattle.mem_files.proofs.numbers.settle.Given as goal
 
 abbrev pub invariant-loop-node : goal.invariant-loop-node

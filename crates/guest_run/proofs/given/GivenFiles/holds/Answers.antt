@@ -1,6 +1,6 @@
 use Rattle.std.proofs.Common.{◌∙◌, ap, sym, is_some}
 use Rattle.std.specs.FinMap.{contains_key}
-use Rattle.mem_files.specs.Cells.{keyed}
+use Rattle.mem_files.specs.Inside.Cells.{keyed}
 use Rattle.mem_files.proofs.Directory.{find-keyed}
 use Rattle.guest_run.proofs.GivenLists.{get-given}
 use Rattle.guest_run.proofs.given.GivenFiles.holds.Goals as goal

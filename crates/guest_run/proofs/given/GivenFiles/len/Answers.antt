@@ -1,7 +1,7 @@
 use Rattle.std.proofs.Common.{◌∙◌, ap, sym}
 use Rattle.std.specs.FinMap as fin
 use Rattle.std.proofs.lemmas.List.{length-map}
-use Rattle.mem_files.specs.Cells.{keyed}
+use Rattle.mem_files.specs.Inside.Cells.{keyed}
 use Rattle.guest_run.proofs.GivenLists.{len-given}
 use Rattle.guest_run.proofs.given.GivenFiles.len.Goals as goal
 

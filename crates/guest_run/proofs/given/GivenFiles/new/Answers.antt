@@ -1,6 +1,6 @@
 use Rattle.std.proofs.Common.{ap, ◌∙◌}
 use Rattle.std.specs.FinMap.{from_sorted}
-use Rattle.mem_files.specs.Cells.{keyed}
+use Rattle.mem_files.specs.Inside.Cells.{keyed}
 use Rattle.guest_run.proofs.GivenLists.{map-none}
 use Rattle.guest_run.proofs.given.GivenFiles.new.Goals as goal
 

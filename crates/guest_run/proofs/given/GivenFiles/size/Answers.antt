@@ -1,4 +1,4 @@
-use Rattle.mem_files.specs.Cells.{keyed}
+use Rattle.mem_files.specs.Inside.Cells.{keyed}
 use Rattle.guest_run.proofs.GivenLists.{size-given}
 use Rattle.guest_run.proofs.given.GivenFiles.size.Goals as goal
 

@@ -2,7 +2,7 @@ use Rattle.std.proofs.Common.{◌≡◌, ap, ◌∙◌, sym, subst, arith}
 use Rattle.std.specs.List.{fold}
 use Rattle.std.specs.Map.Iter.{deref_pair}
 use Rattle.std.proofs.lemmas.Map.Iter.{rest_more}
-use Rattle.mem_files.specs.Cells.{keyed}
+use Rattle.mem_files.specs.Inside.Cells.{keyed}
 use Rattle.mem_files.specs.Calls.{first_world, with_file}
 use Rattle.guest_run.specs.Start.{start_world, with_given}
 use Rattle.guest_run.proofs.GivenLists.{can_start, CanPlace, place_next, placed_next, size-given, world-given}
@@ -15,7 +15,7 @@ loop-name-init c =
     let size = size-given (keyed (λ name. name.items) c.self.inside.entries.entries) _ _ c.self.invariant c.self.view_is in
     rw (all, empty) (
       world-given (keyed (λ name. name.items) c.self.inside.entries.entries) _ c.self.invariant.sorted c.self.view_is,
-      can_start (keyed (λ name. name.items) c.self.inside.entries.entries) c.self.inside.size c.self.invariant (omega (arith, size, c.requires)),
+      can_start (keyed (λ name. name.items) c.self.inside.entries.entries) c.self.inside.size c.self.invariant.sorted c.self.invariant.each c.self.invariant.few c.self.invariant.counted (omega (arith, size, c.requires)),
     )
 
 pub place_given-requires : goal.place_given-requires

@@ -1,6 +1,6 @@
 use Rattle.std.proofs.Common.{◌≡◌}
 use Rattle.std.specs.List.{fold}
-use Rattle.mem_files.specs.Cells.{keyed}
+use Rattle.mem_files.specs.Inside.Cells.{keyed}
 use Rattle.guest_run.specs.Start.{start_world, with_given}
 use Rattle.guest_run.proofs.GivenLists.{CanPlace}
 use Rattle.guest_run.proofs.given.GivenFiles.start_files.Given as goal

@@ -1,6 +1,6 @@
 use Rattle.std.proofs.Common.{ap, subst}
 use Rattle.mem_files.specs.Sound.{IsSound}
-use Rattle.mem_files.proofs.Soundness.{closed-sound}
+use Rattle.mem_files.proofs.Rules.{closed-sound}
 use Rattle.mem_files.proofs.files.Files.close.Goals as goal
 
 pub invariant_of-self : goal.invariant_of-self

@@ -1,6 +1,6 @@
 use Rattle.std.proofs.Common.{ap, subst}
 use Rattle.mem_files.specs.Sound.{IsSound}
-use Rattle.mem_files.proofs.Soundness.{removed-sound}
+use Rattle.mem_files.proofs.Rules.{removed-sound}
 use Rattle.mem_files.proofs.files.Files.remove.Goals as goal
 
 pub invariant_of-self : goal.invariant_of-self

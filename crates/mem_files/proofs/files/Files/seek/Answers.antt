@@ -1,6 +1,6 @@
 use Rattle.std.proofs.Common.{ap, subst}
 use Rattle.mem_files.specs.Sound.{IsSound}
-use Rattle.mem_files.proofs.SoundCalls.{sought-sound}
+use Rattle.mem_files.proofs.Rules.{sought-sound}
 use Rattle.mem_files.proofs.files.Files.seek.Goals as goal
 
 pub invariant_of-self : goal.invariant_of-self

@@ -2,7 +2,7 @@ use Rattle.std.proofs.Common.{◌≡◌, IsOkAnd, length, sym, subst}
 use Rattle.mem_files.specs.World.{World}
 use Rattle.mem_files.specs.Calls.{ready}
 use Rattle.mem_files.specs.Sound.{IsSound}
-use Rattle.mem_files.proofs.SoundCalls.{skipped-sound}
+use Rattle.mem_files.proofs.Rules.{skipped-sound}
 use Rattle.mem_files.proofs.files.Files.skip.Goals as goal
 
 pub invariant_of-self : goal.invariant_of-self

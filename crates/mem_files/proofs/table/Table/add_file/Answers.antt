@@ -1,6 +1,6 @@
 use Rattle.std.proofs.Common.{◌∙◌, ap, refl, arith}
 use Rattle.std.specs.FinMap as map
-use Rattle.mem_files.specs.Cells.{keyed}
+use Rattle.mem_files.specs.Inside.Cells.{keyed}
 use Rattle.mem_files.proofs.Directory.{keyed-insert}
 use Rattle.mem_files.proofs.Changes.{on_err, whole_key, number_reached, added_file-within, roomy_files-consistent, roomy_files-world, added_file-consistent, added_file-world}
 use Rattle.mem_files.proofs.table.Table.add_file.Goals as goal

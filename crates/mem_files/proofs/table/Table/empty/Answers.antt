@@ -1,7 +1,7 @@
 use Rattle.std.proofs.Common.{◌≡◌, ◌∙◌, ap, length, None, [], arith}
 use Rattle.std.proofs.lemmas.List.{get_or_read}
 use Rattle.mem_files.specs.World.{content_of}
-use Rattle.mem_files.specs.Stored.{name_in}
+use Rattle.mem_files.specs.Inside.Stored.{name_in}
 use Rattle.mem_files.proofs.Changes.{file_within, file_full, cell_len, content_le_total, set_file-consistent, set_file-world}
 use Rattle.mem_files.proofs.table.Table.empty.Goals as goal
 

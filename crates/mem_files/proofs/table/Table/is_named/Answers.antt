@@ -1,5 +1,5 @@
 use Rattle.std.proofs.Common.{◌∙◌, sym, ap, is_some}
-use Rattle.mem_files.specs.Stored.{name_in}
+use Rattle.mem_files.specs.Inside.Stored.{name_in}
 use Rattle.mem_files.proofs.Changes.{is_named-is}
 use Rattle.mem_files.proofs.table.Table.is_named.Goals as goal
 

@@ -3,8 +3,8 @@ use Rattle.std.proofs.lemmas.List.{get_or_read}
 use Rattle.std.specs.Map.{remove_entry}
 use Rattle.std.specs.Ordering.{is_eq}
 use Rattle.mem_files.specs.Names.{bytes_cmp}
-use Rattle.mem_files.specs.Stored.{content_in}
-use Rattle.mem_files.specs.Cells.{keyed}
+use Rattle.mem_files.specs.Inside.Stored.{content_in}
+use Rattle.mem_files.specs.Inside.Cells.{keyed}
 use Rattle.mem_files.proofs.Directory.{keyed-remove}
 use Rattle.mem_files.proofs.Changes.{whole_key, name_short, in_order, named_within, unname-consistent, unname-world}
 use Rattle.mem_files.proofs.table.Table.unname.Goals as goal

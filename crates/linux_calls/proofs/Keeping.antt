@@ -1,0 +1,150 @@
+-- What a call keeps of the heap and of what is mapped beside it.
+use Rattle.std.proofs.Common.{◌≡◌, ℕ, ◌+◌, ◌-◌, ◌%◌, ◌<◌, ◌≤◌, ◌==◌, Bool, true, false, cond, Option, None, Some, is_some, List, length, refl, ap, arith, ◌⊎◌, inl, inr, Result, Ok, Err}
+use Rattle.std.specs.Prelude.{nat_lt, slice_index}
+use Rattle.std.specs.FinMap.{get}
+use Rattle.std.proofs.lemmas.Bool.{cases_lt}
+use Rattle.std.proofs.lemmas.Bool.Decides.{nat_tests}
+use Rattle.paged_mem.specs.Memory.{Memory, bytes_at, maps, with_bytes, without, zeros}
+use Rattle.paged_mem.specs.Held.{get-with_bytes_below, get-with_bytes_above}
+use Rattle.paged_mem.proofs.Mapped.{length-zeros}
+use Rattle.paged_mem.proofs.Maps.{get-without_other}
+use Rattle.mem_files.specs.World.{World}
+use Rattle.mem_files.specs.Calls.{write_place, ready}
+use Rattle.linux_calls.specs.declared.Heap.{Heap}
+use Rattle.linux_calls.specs.HeapOf.{is_beside_heap, is_outside, IsHeapOf, page_up, resized}
+use Rattle.linux_calls.specs.Calls.{Outcome, State, back, read_at, moved_break, syscall, written_at, written_from}
+use Rattle.linux_calls.specs.Calls as call
+use Rattle.linux_calls.specs.Paths.{low}
+use Rattle.linux_calls.specs.Linux.{sys_unlinkat, sys_faccessat, sys_fchmodat, sys_openat, sys_close, sys_lseek, sys_read, sys_write, sys_exit, sys_exit_group, sys_brk}
+use Rattle.linux_calls.proofs.Heaps.{IsHeapOf-same, kept_resized, same_after_write}
+
+-- what a call leaves: the heap's place and limit, its pages, and what is mapped beside it
+pub record Keeps (old new : State) : Type 0 where
+  pub first : new.heap.first ≡ old.heap.first
+  pub limit : new.heap.limit ≡ old.heap.limit
+  pub heap_of : IsHeapOf new.memory new.heap
+  pub beside : (q : ℕ) → is_beside_heap old.heap q ≡ true → is_some (get new.memory q) ≡ is_some (get old.memory q)
+
+abbrev pub OutcomeKeeps : State → Outcome → Type 0
+OutcomeKeeps old (call.goes answer new) = Keeps old new
+OutcomeKeeps old (call.exits status) = Unit {0}
+OutcomeKeeps old (call.is_unknown number) = Unit {0}
+
+-- the same, as a record: what it speaks of is found from the goal
+record Kept (old : State) (meant : Outcome) : Type 0 where
+  is : OutcomeKeeps old meant
+
+-- where both choices keep, so does a choice
+chosen : (s : State) (b : Bool) (x y : Outcome) → Kept s x → Kept s y → Kept s (cond b x y)
+chosen s true x y kx ky = kx
+chosen s false x y kx ky = ky
+
+chosen_by : (s : State) (b : Bool) (x y : Outcome) → (b ≡ true → Kept s x) → (b ≡ false → Kept s y) → Kept s (cond b x y)
+chosen_by s true x y kx ky = kx refl
+chosen_by s false x y kx ky = ky refl
+
+-- other files
+files_alone : (s : State) (files : World) (answer : Result ℕ ℕ) → IsHeapOf s.memory s.heap → Kept s (call.goes answer (record s { files = files }))
+files_alone s files answer is = record { is = record { first = refl; limit = refl; heap_of = is; beside = λ q apart. refl } }
+
+nothing : (s : State) (answer : Result ℕ ℕ) → IsHeapOf s.memory s.heap → Kept s (call.goes answer s)
+nothing s answer is = record { is = record { first = refl; limit = refl; heap_of = is; beside = λ q apart. refl } }
+
+-- read moves bytes to where bytes are
+read_keeps : (s : State) (fd buffer : ℕ) (given : Result (List ℕ) ℕ) → IsHeapOf s.memory s.heap → Kept s (read_at s fd buffer given)
+read_keeps s fd buffer (Err errno) is = nothing s _ is
+read_keeps s fd buffer (Ok bytes) is =
+    chosen s (length bytes == 0) _ _ (nothing s _ is)
+    (chosen_by s (maps s.memory buffer (length bytes)) _ _
+    (λ there. record {
+      is = record {
+        first = refl;
+        limit = refl;
+        heap_of = IsHeapOf-same s.memory (with_bytes s.memory buffer bytes) s.heap (same_after_write s.memory buffer bytes there) is;
+        beside = λ q apart. same_after_write s.memory buffer bytes there q;
+      };
+    })
+    (λ gone. nothing s _ is))
+
+write_keeps_from : (s : State) (fd : ℕ) (bytes : Option (List ℕ)) → IsHeapOf s.memory s.heap → Kept s (written_from s fd bytes)
+write_keeps_from s fd None is = nothing s _ is
+write_keeps_from s fd (Some bytes) is = files_alone s _ _ is
+
+write_keeps : (s : State) (fd buffer count : ℕ) (place : Option (ℕ × ℕ)) → IsHeapOf s.memory s.heap → Kept s (written_at s fd buffer count place)
+write_keeps s fd buffer count None is = nothing s _ is
+write_keeps s fd buffer count (Some place) is =
+    chosen s (count == 0) _ _ (nothing s _ is) (write_keeps_from s fd (bytes_at s.memory buffer count) is)
+
+-- brk moves the end of the heap's pages within what it may have
+pub inside : (heap : Heap) (to : ℕ) → is_outside heap to ≡ false → (heap.first ≤ to) × (to ≤ heap.first + heap.limit)
+inside heap to is = (grind (arith, nat_tests), grind (arith, nat_tests))
+
+beside_is : (heap : Heap) (q : ℕ) → is_beside_heap heap q ≡ true → (q < heap.first) ⊎ (page_up (heap.first + heap.limit) ≤ q)
+beside_is heap q is =
+    elim (cases_lt q heap.first) [
+      | inl below ↦ inl below
+      | inr from ↦ inr (grind (arith, nat_tests))
+    ]
+
+resized_beside : (m : Memory) (heap : Heap) (to q : ℕ) → IsHeapOf m heap → heap.first ≤ to → to ≤ heap.first + heap.limit
+    → (q < heap.first) ⊎ (page_up (heap.first + heap.limit) ≤ q)
+    → get (resized m (page_up heap.now) (page_up to)) q ≡ get m q
+resized_beside m heap to q is from high apart =
+    let cases : (b : Bool) → nat_lt (page_up heap.now) (page_up to) ≡ b
+    → get (cond b (with_bytes m (page_up heap.now) (zeros (page_up to - page_up heap.now))) (without m (page_up to) (page_up heap.now - page_up to))) q ≡ get m q =
+    λ b. elim b as (λ v. nat_lt (page_up heap.now) (page_up to) ≡ v
+    → get (cond v (with_bytes m (page_up heap.now) (zeros (page_up to - page_up heap.now))) (without m (page_up to) (page_up heap.now - page_up to))) q ≡ get m q) [
+      | true ↦ (λ grows. elim apart [
+        | inl below ↦ get-with_bytes_below m (page_up heap.now) (zeros (page_up to - page_up heap.now)) q (omega (arith, is.from))
+        | inr above ↦ get-with_bytes_above m (page_up heap.now) (zeros (page_up to - page_up heap.now)) q
+            (let size = length-zeros (page_up to - page_up heap.now) in omega (arith, is.to))
+      ])
+      | false ↦ (λ falls. elim apart [
+        | inl below ↦ get-without_other m (page_up to) (page_up heap.now - page_up to) q (inl (omega arith))
+        | inr above ↦ get-without_other m (page_up to) (page_up heap.now - page_up to) q (inr (omega (arith, is.to)))
+      ])
+    ] in
+    cases (nat_lt (page_up heap.now) (page_up to)) refl
+
+break_keeps : (s : State) (to : ℕ) → IsHeapOf s.memory s.heap → Kept s (moved_break s to)
+break_keeps s to is =
+    let P : Bool → Type 0 = λ v. Keeps s (record s {
+      memory = cond v s.memory (resized s.memory (page_up s.heap.now) (page_up to));
+      heap = cond v s.heap (record s.heap { now = to });
+    }) in
+    let cases : (b : Bool) → is_outside s.heap to ≡ b → P b =
+    λ b. elim b as (λ v. is_outside s.heap to ≡ v → P v) [
+      | true ↦ (λ was. record { first = refl; limit = refl; heap_of = is; beside = λ q apart. refl })
+      | false ↦ (λ was. record {
+        first = refl;
+        limit = refl;
+        heap_of = kept_resized s.memory s.heap is to ((inside s.heap to was).0) ((inside s.heap to was).1);
+        beside = λ q apart. ap is_some (resized_beside s.memory s.heap to q is ((inside s.heap to was).0) ((inside s.heap to was).1) (beside_is s.heap q apart));
+      })
+    ] in
+    record { is = cases (is_outside s.heap to) refl }
+
+-- a call that ends the run keeps, since it leaves the state
+ends_run : (s : State) (status : ℕ) → Kept s (call.exits status)
+ends_run s status = record { is = tt }
+
+is_none : (s : State) (number : ℕ) → Kept s (call.is_unknown number)
+is_none s number = record { is = tt }
+
+-- every call keeps
+kept : (number : ℕ) (a : List ℕ) (s : State) → IsHeapOf s.memory s.heap → Kept s (syscall number a s)
+kept number a s is =
+    chosen s (number == sys_unlinkat) _ _ (files_alone s _ _ is)
+    (chosen s (number == sys_faccessat) _ _ (files_alone s _ _ is)
+    (chosen s (number == sys_fchmodat) _ _ (files_alone s _ _ is)
+    (chosen s (number == sys_openat) _ _ (files_alone s _ _ is)
+    (chosen s (number == sys_close) _ _ (files_alone s _ _ is)
+    (chosen s (number == sys_lseek) _ _ (files_alone s _ _ is)
+    (chosen s (number == sys_read) _ _ (read_keeps s (low (slice_index a 0)) (slice_index a 1) (ready s.files (low (slice_index a 0)) (slice_index a 2)) is)
+    (chosen s (number == sys_write) _ _ (write_keeps s (low (slice_index a 0)) (slice_index a 1) (slice_index a 2) (write_place s.files (get s.files.slots (low (slice_index a 0)))) is)
+    (chosen s (number == sys_exit) _ _ (ends_run s (slice_index a 0 % 256))
+    (chosen s (number == sys_exit_group) _ _ (ends_run s (slice_index a 0 % 256))
+    (chosen s (number == sys_brk) _ _ (break_keeps s (slice_index a 0) is) (is_none s number)))))))))))
+
+pub call_keeps : (number : ℕ) (a : List ℕ) (s : State) → IsHeapOf s.memory s.heap → OutcomeKeeps s (syscall number a s)
+call_keeps number a s is = (kept number a s is).is

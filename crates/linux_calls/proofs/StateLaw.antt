@@ -1,0 +1,121 @@
+-- Each call leaves a state in order.
+use Rattle.std.proofs.Common.{◌≡◌, ℕ, ◌+◌, ◌-◌, ◌<◌, ◌≤◌, ◌==◌, Bool, true, false, cond, Option, None, Some, Result, Ok, Err, List, [], length, take, drop, refl, subst, arith}
+use Rattle.std.specs.Prelude.{⊤, nat_lt, slice_index}
+use Rattle.std.specs.FinMap.{get}
+use Rattle.std.proofs.lemmas.List.Elements.{All-drop, All-nil, All-replicate, All-take}
+use borrow.Author.Tests.{ltb-true}
+use Rattle.paged_mem.specs.Memory.{Memory, IsWhole, bytes_at, maps, with_bytes, without, zeros}
+use Rattle.paged_mem.proofs.Mapped.{length-zeros}
+use Rattle.mem_files.specs.declared.slot.Slot.{Slot}
+use Rattle.mem_files.specs.declared.slot.Slot.TheVariants.{Input, Stream1, Stream2, File}
+use Rattle.mem_files.specs.Limits.{may_read}
+use Rattle.mem_files.specs.Linux.{ebadf}
+use Rattle.mem_files.specs.World.{World, content_of}
+use Rattle.mem_files.specs.Calls.{has, ready, ready_at, write_place}
+use Rattle.mem_files.specs.Sound.{AreBytes, IsSound}
+use Rattle.mem_files.proofs.Rules.{bytes_of, content_bytes}
+use Rattle.linux_calls.specs.declared.Heap.{Heap}
+use Rattle.linux_calls.specs.Linux.{sys_unlinkat, sys_faccessat, sys_fchmodat, sys_openat, sys_close, sys_lseek, sys_read, sys_write, sys_exit, sys_exit_group, sys_brk}
+use Rattle.linux_calls.specs.Paths.{low}
+use Rattle.linux_calls.specs.HeapOf.{IsHeapOf, is_outside, page_up, resized}
+use Rattle.linux_calls.specs.Calls.{State, Outcome, goes, exits, is_unknown, back, read_at, written_from, written_at, moved_break, syscall}
+use Rattle.linux_calls.specs.Rules.{IsState, LeavesSound, LeavesState}
+use Rattle.linux_calls.proofs.Wholes.{whole-mapped, whole-without, whole-written}
+use Rattle.linux_calls.proofs.SoundLaw.{syscall-sound}
+use Rattle.linux_calls.proofs.Keeping.{OutcomeKeeps, call_keeps, inside}
+
+-- bytes that are ready are bytes
+ready-bytes : (w : World) (fd count : ℕ) (bytes : List ℕ) → IsSound w → ready w fd count ≡ Ok bytes → AreBytes bytes
+ready-bytes w fd count bytes sound e = at_slot (get w.slots fd) e
+  where
+    readable : (b : Bool) (number cursor : ℕ) → cond {A = Result (List ℕ) ℕ} b (Ok (take count (drop cursor (content_of w number)))) (Err ebadf) ≡ Ok bytes → AreBytes bytes
+    readable true number cursor e =
+        let is : take count (drop cursor (content_of w number)) ≡ bytes = cc in
+        subst AreBytes is (All-take (λ b. b < 256) count (drop cursor (content_of w number)) (All-drop (λ b. b < 256) cursor (content_of w number) (content_bytes w number (bytes_of w sound))))
+    readable false number cursor e = cc
+
+    at_slot : (o : Option Slot) → ready_at w count o ≡ Ok bytes → AreBytes bytes
+    at_slot None e = cc
+    at_slot (Some Input) e = let none : [] ≡ bytes = cc in subst AreBytes none (All-nil (λ b. b < 256))
+    at_slot (Some Stream1) e = cc
+    at_slot (Some Stream2) e = cc
+    at_slot (Some (File number cursor flags)) e = readable (has flags may_read) number cursor e
+
+-- the memory after an outcome, as a record: what it speaks of is found from the goal
+abbrev LeavesWhole : Outcome → Type 0
+LeavesWhole (goes answer next) = IsWhole next.memory
+LeavesWhole (exits status) = ⊤
+LeavesWhole (is_unknown n) = ⊤
+
+record Whole (outcome : Outcome) : Type 0 where
+  is : LeavesWhole outcome
+
+chosen : (b : Bool) (x y : Outcome) → (b ≡ true → Whole x) → Whole y → Whole (cond b x y)
+chosen true x y p q = p refl
+chosen false x y p q = q
+
+back-whole : (s : State) (meant : Result ℕ ℕ × World) → IsWhole s.memory → Whole (back s meant)
+back-whole s meant whole = record { is = whole }
+
+read-whole : (s : State) (fd buffer count : ℕ) (r : Result (List ℕ) ℕ) → ready s.files fd count ≡ r → IsWhole s.memory → IsSound s.files → Whole (read_at s fd buffer r)
+read-whole s fd buffer count (Err errno) was whole sound = record { is = whole }
+read-whole s fd buffer count (Ok bytes) was whole sound =
+    chosen (length bytes == 0) _ _ (λ none. record { is = whole })
+    (chosen (maps s.memory buffer (length bytes)) _ _
+    (λ there. record { is = whole-written s.memory buffer bytes whole there (ready-bytes s.files fd count bytes sound was) }) (record { is = whole }))
+
+write-whole : (s : State) (fd buffer count : ℕ) (o : Option (ℕ × ℕ)) → IsWhole s.memory → Whole (written_at s fd buffer count o)
+write-whole s fd buffer count None whole = record { is = whole }
+write-whole s fd buffer count (Some place) whole = chosen (count == 0) _ _ (λ none. record { is = whole }) (from (bytes_at s.memory buffer count))
+  where
+    from : (o : Option (List ℕ)) → Whole (written_from s fd o)
+    from None = record { is = whole }
+    from (Some bytes) = record { is = whole }
+
+zero-bytes : (count : ℕ) → AreBytes (zeros count)
+unfolding zeros
+zero-bytes count = All-replicate (λ b. b < 256) count 0 (omega arith)
+
+resized-whole : (m : Memory) (heap : Heap) (to : ℕ) → IsWhole m → IsHeapOf m heap → to ≤ heap.first + heap.limit → IsWhole (resized m (page_up heap.now) (page_up to))
+resized-whole m heap to whole is high = by_test (nat_lt (page_up heap.now) (page_up to)) refl
+  where
+    by_test : (t : Bool) → nat_lt (page_up heap.now) (page_up to) ≡ t
+        → IsWhole (cond t (with_bytes m (page_up heap.now) (zeros (page_up to - page_up heap.now))) (without m (page_up to) (page_up heap.now - page_up to)))
+    by_test true was =
+        let grows = ltb-true (page_up heap.now) (page_up to) was in
+        let size = length-zeros (page_up to - page_up heap.now) in
+        let low = is.low in
+        whole-mapped m (page_up heap.now) (zeros (page_up to - page_up heap.now)) whole (omega arith) (omega arith) (omega arith) (zero-bytes (page_up to - page_up heap.now))
+    by_test false was = whole-without m (page_up to) (page_up heap.now - page_up to) whole (omega arith) (omega arith)
+
+break-whole : (s : State) (to : ℕ) → IsWhole s.memory → IsHeapOf s.memory s.heap → Whole (moved_break s to)
+break-whole s to whole is = record { is = by_test (is_outside s.heap to) refl }
+  where
+    by_test : (t : Bool) → is_outside s.heap to ≡ t → IsWhole (cond t s.memory (resized s.memory (page_up s.heap.now) (page_up to)))
+    by_test true was = whole
+    by_test false was = resized-whole s.memory s.heap to whole is (inside s.heap to was).1
+
+every : (number : ℕ) (a : List ℕ) (s : State) → IsState s → Whole (syscall number a s)
+every number a s is =
+    let arg : ℕ → ℕ = slice_index a in
+    let whole = is.memory in
+    chosen (number == sys_unlinkat) _ _ (λ e. back-whole s _ whole)
+    (chosen (number == sys_faccessat) _ _ (λ e. back-whole s _ whole)
+    (chosen (number == sys_fchmodat) _ _ (λ e. back-whole s _ whole)
+    (chosen (number == sys_openat) _ _ (λ e. back-whole s _ whole)
+    (chosen (number == sys_close) _ _ (λ e. back-whole s _ whole)
+    (chosen (number == sys_lseek) _ _ (λ e. back-whole s _ whole)
+    (chosen (number == sys_read) _ _ (λ e. read-whole s (low (arg 0)) (arg 1) (arg 2) (ready s.files (low (arg 0)) (arg 2)) refl whole is.files)
+    (chosen (number == sys_write) _ _ (λ e. write-whole s (low (arg 0)) (arg 1) (arg 2) (write_place s.files (get s.files.slots (low (arg 0)))) whole)
+    (chosen (number == sys_exit) _ _ (λ e. record { is = tt })
+    (chosen (number == sys_exit_group) _ _ (λ e. record { is = tt })
+    (chosen (number == sys_brk) (moved_break s (arg 0)) (is_unknown number) (λ e. break-whole s (arg 0) whole is.heap) (record { is = tt })))))))))))
+
+all_three : (s : State) (outcome : Outcome) → LeavesSound outcome → LeavesWhole outcome → OutcomeKeeps s outcome → LeavesState outcome
+all_three s (goes answer next) sound whole keeps = record { memory = whole; files = sound; heap = keeps.heap_of }
+all_three s (exits status) sound whole keeps = tt
+all_three s (is_unknown n) sound whole keeps = tt
+
+pub syscall-state : (number : ℕ) (a : List ℕ) (s : State) → IsState s → LeavesState (syscall number a s)
+syscall-state number a s is =
+    all_three s (syscall number a s) (syscall-sound number a s is.memory is.files) (every number a s is).is (call_keeps number a s is.heap)

@@ -1,0 +1,30 @@
+-- What calls keep: an error leaves the state, and a state in order stays so.
+use Rattle.std.specs.Prelude.{◌≡◌, ⊤, IsErr}
+use Rattle.paged_mem.specs.Memory.{IsWhole}
+use Rattle.mem_files.specs.Sound.{IsSound}
+use Rattle.linux_calls.specs.Calls.{State, Outcome, goes, exits, is_unknown}
+use Rattle.linux_calls.specs.HeapOf.{IsHeapOf}
+
+-- an outcome that is an error leaves the state
+abbrev pub LeavesOnError : State → Outcome → Type 0
+LeavesOnError s (goes answer next) = IsErr answer → next ≡ s
+LeavesOnError s (exits status) = ⊤
+LeavesOnError s (is_unknown n) = ⊤
+
+-- the files after an outcome keep their rules
+abbrev pub LeavesSound : Outcome → Type 0
+LeavesSound (goes answer next) = IsSound next.files
+LeavesSound (exits status) = ⊤
+LeavesSound (is_unknown n) = ⊤
+
+-- a state in order: a memory of whole pages of bytes, files that keep their rules, and a heap that fits the memory
+pub record IsState (s : State) : Type 0 where
+  pub memory : IsWhole s.memory
+  pub files : IsSound s.files
+  pub heap : IsHeapOf s.memory s.heap
+
+-- the state after an outcome is in order
+abbrev pub LeavesState : Outcome → Type 0
+LeavesState (goes answer next) = IsState next
+LeavesState (exits status) = ⊤
+LeavesState (is_unknown n) = ⊤
