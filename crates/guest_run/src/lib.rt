@@ -16,4 +16,4 @@ pub use run::RunEnd;
 pub use run_box::RunBox;
 
 /// The memory over which programs are run.
-pub type RunRam = paged_mem::FlatRam;
+pub type RunRam = paged_mem::PagedRam;

@@ -9,3 +9,7 @@ pub mod Runs
 pub mod Seen
 pub mod Spans
 pub mod Views
+pub mod Flats
+pub mod InRows
+pub mod Accessed
+pub mod Opened

@@ -157,7 +157,7 @@ IsLow-range number count low i within =
     omega (arith, get_or-range_with_len number count i 0 (omega (arith, length-range_with_len number count)), length-range_with_len number count)
 
 -- a gap that is closed again leaves the list
-pub gap_closed : (xs zs : List ℕ) (at count : ℕ) → at ≤ length xs → length zs ≡ count → take at (take at xs ++ (zs ++ drop at xs)) ++ drop (at + count) (take at xs ++ (zs ++ drop at xs)) ≡ xs
+pub gap_closed : {A : Type 0} (xs zs : List A) (at count : ℕ) → at ≤ length xs → length zs ≡ count → take at (take at xs ++ (zs ++ drop at xs)) ++ drop (at + count) (take at xs ++ (zs ++ drop at xs)) ≡ xs
 gap_closed xs zs at count within long =
     let front : take at (take at xs ++ (zs ++ drop at xs)) ≡ take at xs = take_at (take at xs) (zs ++ drop at xs) at (omega (arith, length-take at xs)) in
     let back : drop (at + count) (take at xs ++ (zs ++ drop at xs)) ≡ drop at xs =

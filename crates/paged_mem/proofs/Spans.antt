@@ -26,7 +26,7 @@ all_or_one f (suc count) = more (all_or_one f count) (f count) refl
         at k below (inr ne) = all k (omega arith)
 
 -- the page before the last of a row of pages is found by its distance from the first
-between : (pages : List ℕ) → Rises pages → (page number more : ℕ) → get_or pages page 0 ≡ number → page + more < length pages → get_or pages (page + more) 0 ≡ number + more → (j : ℕ) → j ≤ more → place pages (number + j) ≡ Some (page + j)
+pub between : (pages : List ℕ) → Rises pages → (page number more : ℕ) → get_or pages page 0 ≡ number → page + more < length pages → get_or pages (page + more) 0 ≡ number + more → (j : ℕ) → j ≤ more → place pages (number + j) ≡ Some (page + j)
 between pages rising page number more first within last j le =
     let up : get_or pages page 0 + j ≤ get_or pages (page + j) 0 = rising_by pages rising page j (omega arith) in
     let rest : page + j + (more - j) ≡ page + more = omega arith in
@@ -65,3 +65,13 @@ span_ends pages rising at count page last some is_last found ends = one (all_or_
             let k = 4096 * (at / 4096 + j) - at in
             let number : (at + k) / 4096 ≡ at / 4096 + j = omega arith in
             subst (λ n. IsSome (place pages n)) number (placed (place pages ((at + k) / 4096)) ((at + k) % 4096) (all k (omega arith)))
+
+-- an access within a page that is known
+pub span_in_page : (pages : List ℕ) → Rises pages → (at count page : ℕ) → 0 < count → at % 4096 + count ≤ 4096 → place pages (at / 4096) ≡ Some page
+    → Spans pages at count (Some (4096 * page + at % 4096))
+span_in_page pages rising at count page some within found =
+    let last : (at + (count - 1)) / 4096 ≡ at / 4096 = omega arith in
+    let there = place-some pages (at / 4096) page found in
+    let here : page + ((at + (count - 1)) / 4096 - at / 4096) ≡ page = omega arith in
+    span_found pages rising at count page (at + (count - 1)) some refl found (omega (arith, there.0))
+    (ap (λ k. get_or pages k 0) here ∙ there.1 ∙ omega arith)

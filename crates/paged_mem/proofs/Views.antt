@@ -45,10 +45,10 @@ maps-span pages bytes full at count None span = ap is_some (bytes_at-no_span pag
 maps-span pages bytes full at count (Some start) span = ap is_some (bytes_at-span pages bytes full at count start span)
 
 -- a list written over, within the new elements and elsewhere
-get_or-overwritten : (bytes : List ℕ) (start : ℕ) (source : List ℕ) (i : ℕ) → start + length source ≤ length bytes → start ≤ i → i < start + length source → get_or (overwritten bytes start source) i 0 ≡ get_or source (i - start) 0
+pub get_or-overwritten : (bytes : List ℕ) (start : ℕ) (source : List ℕ) (i : ℕ) → start + length source ≤ length bytes → start ≤ i → i < start + length source → get_or (overwritten bytes start source) i 0 ≡ get_or source (i - start) 0
 get_or-overwritten bytes start source i within from to = search (rules, places)
 
-get_or-overwritten_other : (bytes : List ℕ) (start : ℕ) (source : List ℕ) (i : ℕ) → start + length source ≤ length bytes → (i < start) ⊎ (start + length source ≤ i) → get_or (overwritten bytes start source) i 0 ≡ get_or bytes i 0
+pub get_or-overwritten_other : (bytes : List ℕ) (start : ℕ) (source : List ℕ) (i : ℕ) → start + length source ≤ length bytes → (i < start) ⊎ (start + length source ≤ i) → get_or (overwritten bytes start source) i 0 ≡ get_or bytes i 0
 get_or-overwritten_other bytes start source i within (inl below) = search (rules, places)
 get_or-overwritten_other bytes start source i within (inr above) = search (rules, places)
 

@@ -4,7 +4,7 @@ use Rattle.std.proofs.Props.{props}
 use Rattle.std.specs.Option.{option_map}
 use Rattle.std.specs.Ordering.{nat_cmp}
 use Rattle.std.specs.Cmp.{nat_cmp_total, unsigned_tied}
-use Rattle.std.specs.Coded.{Coded, coded_ℕ}
+use Rattle.std.specs.Coded.{Coded, coded×, coded_ℕ, coded_list}
 use Rattle.std.specs.FinMap.{get, insert, contains_key, code, get-insert, get-empty}
 use Rattle.std.proofs.lemmas.Bool.{cases_eq, cases_lt}
 use Rattle.std.proofs.lemmas.Bool.Decides.{nat_tests}
@@ -15,6 +15,8 @@ use mathlib.Core.HLevel.{Σ_prop_path}
 use base.Stored.{coded_via}
 use Rattle.paged_mem.specs.Memory.{Memory, IsWhole, with_bytes}
 use Rattle.paged_mem.specs.Flat.{memory_of, place, slot, IsSound}
+use Rattle.paged_mem.specs.Entries.{Entry, ArePages, AreRowsOf}
+use Rattle.paged_mem.specs.declared.rows.Rows.{Rows}
 
 -- after an insert, at its address and at another
 pub get-insert_same : (m : Memory) (k v q : ℕ) → q ≡ k → get (insert m k v) q ≡ Some v
@@ -140,3 +142,23 @@ same_held a b e =
 
 abbrev pub held_code : Coded Held
 held_code = coded_via (code coded_ℕ coded_ℕ) (λ held. held.bytes) same_held
+
+-- a memory of which some pages are held, by their numbers
+pub record PagedMemory : Type 0 where
+  pub bytes : Memory
+  pub whole : IsWhole bytes
+  pub held : List ℕ
+
+pub same_paged : (a b : PagedMemory) → ◌≡◌ {A = Memory × List ℕ} (a.bytes, a.held) (b.bytes, b.held) → a ≡ b
+same_paged a b e =
+    let pairs : ◌≡◌ {A = (m : Memory) × IsWhole m} (a.bytes, a.whole) (b.bytes, b.whole) = Σ_prop_path IsWhole-prop (λ i. (e i).0) in
+    λ i. record { bytes = (pairs i).0; whole = (pairs i).1; held = (e i).1 }
+
+abbrev pub paged_code : Coded PagedMemory
+paged_code = coded_via (coded× (code coded_ℕ coded_ℕ) (coded_list coded_ℕ)) (λ paged. (paged.bytes, paged.held)) same_paged
+
+pub ArePages-prop : (pages : List ℕ) (entries : List Entry) → IsProp (ArePages pages entries)
+ArePages-prop pages entries = hlevel props
+
+pub AreRowsOf-prop : (pages : List ℕ) (rows : Rows) → IsProp (AreRowsOf pages rows)
+AreRowsOf-prop pages rows = hlevel props

@@ -1,7 +1,8 @@
-ghost use Rattle.std.specs.Prelude.{◌≡◌, ℕ, ◌+◌, ◌*◌, ◌^◌, ◌<◌, ◌≤◌, ◌++◌, length, take, drop, replicate, OnOk, OnErr};
+ghost use Rattle.std.specs.Prelude.{◌≡◌, ℕ, ◌+◌, ◌*◌, ◌^◌, ◌<◌, ◌≤◌, ◌++◌, length, take, drop, replicate, None, OnOk, OnErr};
 ghost use Rattle.std.specs.Vec.{vec_len};
 ghost use Rattle.std.specs.List.{range_with_len};
 
+use crate::entries::Entry;
 use std::alloc::AllocError;
 
 /// Makes room for `count` more elements before the one at `at`, each `value` at first.
@@ -23,7 +24,7 @@ pub fn open_gap<T: Copy>(
 }
 
 /// Takes away `count` elements from the one at `at` on.
-pub fn close_gap<T: Copy>(list: &mut Vec<T>, at: usize, count: usize)
+pub fn close_gap<T: Drop>(list: &mut Vec<T>, at: usize, count: usize)
     requires { at + count ≤ vec_len list.old }
     ensures { list.new.items ≡ take at list.old.items ++ drop (at + count) list.old.items }
 {
@@ -49,5 +50,31 @@ pub fn insert_numbers(
     for i in 0..count {
         pages[at + i] = number + i as u64;
     }
+    Ok(())
+}
+
+/// Adds `count` entries of pages that hold no bytes.
+fn add_entries(entries: &mut Vec<Entry>, count: usize) -> Result<(), AllocError>
+    ensures ok { OnOk result (entries.new.items ≡ entries.old.items ++ replicate count None) }
+    ensures err { OnErr result (entries.new.items ≡ entries.old.items) }
+{
+    let len = entries.len();
+    for added in 0..count {
+        if entries.push(None).is_err() {
+            entries.truncate(len);
+            return Err(AllocError);
+        }
+    }
+    Ok(())
+}
+
+/// Makes room for `count` entries before the one at `at`, each of a page that holds no bytes.
+pub fn open_entries(entries: &mut Vec<Entry>, at: usize, count: usize) -> Result<(), AllocError>
+    requires { at ≤ vec_len entries.old }
+    ensures ok { OnOk result (entries.new.items ≡ take at entries.old.items ++ (replicate count None ++ drop at entries.old.items)) }
+    ensures err { OnErr result (entries.new.items ≡ entries.old.items) }
+{
+    add_entries(entries, count)?;
+    entries[at..].rotate_right(count);
     Ok(())
 }

@@ -3,14 +3,19 @@
 //! Rules and their public sources: docs/reference/memory.md.
 #![tactic(auto)]
 
+mod access;
+mod entries;
 mod flat;
 mod gaps;
 pub mod laws;
 mod mapping;
+mod paged;
 mod pages;
 mod ram;
+mod rows;
 
 pub use flat::FlatRam;
+pub use paged::PagedRam;
 pub use ram::{PageView, Ram, StoreRefusal, Width};
 
 #[cfg(test)]

@@ -1,8 +1,10 @@
-ghost use Rattle.std.specs.Prelude.{◌≡◌, ℕ, ◌+◌, ◌*◌, ◌%◌, ◌^◌, ◌<◌, ◌≤◌, IsTrue, OnOk, OnErr};
+ghost use Rattle.std.specs.Prelude.{◌≡◌, ℕ, ◌+◌, ◌*◌, ◌%◌, ◌^◌, ◌<◌, ◌≤◌, IsTrue, OnOk, OnErr, length};
 ghost use Rattle.paged_mem.specs.Memory.{IsFree, maps, with_bytes, without, zeros};
+ghost use Rattle.paged_mem.specs.Entries.{ArePages, flat, held_pages};
 ghost use Rattle.paged_mem.specs.Flat.{IsSound, memory_of};
 
-use crate::gaps::{close_gap, insert_numbers, open_gap};
+use crate::entries::Entry;
+use crate::gaps::{close_gap, insert_numbers, open_entries, open_gap};
 use crate::pages::rank;
 use ddc_base::OutOfMemory;
 
@@ -45,4 +47,47 @@ pub fn unmap_pages(pages: &mut Vec<u64>, bytes: &mut Vec<u8>, first: u64, count:
     let at = rank(pages, first / 4096);
     close_gap(pages, at, count);
     close_gap(bytes, 4096 * at, 4096 * count);
+}
+
+/// Puts `count` pages that hold no bytes where none is, from the page at `first` on.
+pub fn map_entries(
+    pages: &mut Vec<u64>,
+    entries: &mut Vec<Entry>,
+    first: u64,
+    count: usize,
+) -> Result<(), OutOfMemory>
+    requires pages { ArePages pages.old.items entries.old.items }
+    requires aligned { first % 4096 ≡ 0 }
+    requires low { first + 4096 * count ≤ 2 ^ 38 }
+    requires free { IsFree (memory_of pages.old.items (flat entries.old.items)) first (4096 * count) }
+    ensures pages { ArePages pages.new.items entries.new.items }
+    ensures held { held_pages pages.new.items entries.new.items ≡ held_pages pages.old.items entries.old.items }
+    ensures ok { OnOk result (memory_of pages.new.items (flat entries.new.items)
+        ≡ with_bytes (memory_of pages.old.items (flat entries.old.items)) first (zeros (4096 * count))) }
+    ensures err { OnErr result (memory_of pages.new.items (flat entries.new.items) ≡ memory_of pages.old.items (flat entries.old.items)) }
+{
+    let at = rank(pages, first / 4096);
+    open_entries(entries, at, count)?;
+    match insert_numbers(pages, at, first / 4096, count) {
+        Ok(()) => Ok(()),
+        Err(_) => {
+            close_gap(entries, at, count);
+            Err(OutOfMemory)
+        }
+    }
+}
+
+/// Takes away `count` mapped pages from the page at `first` on, with what they hold.
+pub fn unmap_entries(pages: &mut Vec<u64>, entries: &mut Vec<Entry>, first: u64, count: usize)
+    requires pages { ArePages pages.old.items entries.old.items }
+    requires aligned { first % 4096 ≡ 0 }
+    requires present { IsTrue (maps (memory_of pages.old.items (flat entries.old.items)) first (4096 * count)) }
+    ensures pages { ArePages pages.new.items entries.new.items }
+    ensures held { length (held_pages pages.new.items entries.new.items) ≤ length (held_pages pages.old.items entries.old.items) }
+    ensures unmapped { memory_of pages.new.items (flat entries.new.items)
+        ≡ without (memory_of pages.old.items (flat entries.old.items)) first (4096 * count) }
+{
+    let at = rank(pages, first / 4096);
+    close_gap(pages, at, count);
+    close_gap(entries, at, count);
 }

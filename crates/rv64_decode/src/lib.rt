@@ -13,7 +13,7 @@ mod text;
 mod writing;
 
 use field::{has_rd, has_rs1, has_rs2};
-pub use reading::decode;
+pub use reading::{decode, decode_as};
 use rv64_table::Op;
 pub use text::{InstText, print};
 pub use writing::encode;

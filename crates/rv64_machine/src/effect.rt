@@ -38,6 +38,7 @@ pub enum Effect {
 
 /// The effect of a row on the values of rs1 and rs2, the immediate and the pc: a line for each row, as in
 /// `specs/Meaning.antt`.
+#[inline(always)]
 pub fn effect_of(op: Op, a: u64, b: u64, imm: i64, pc: u64) -> Effect
     ensures { result ≡ meaning op a b (wrapped 64 imm) pc }
 {
@@ -72,6 +73,7 @@ pub fn effect_of(op: Op, a: u64, b: u64, imm: i64, pc: u64) -> Effect
 }
 
 /// What a row that computes from rs1 and rs2 or the immediate puts into rd, a line for each such row; 0 for the others.
+#[inline(always)]
 fn value_of(op: Op, a: u64, b: u64, i: u64) -> u64
     ensures { result ≡ computed op a b i }
 {

@@ -1,7 +1,9 @@
-ghost use Rattle.std.specs.Prelude.{◌≡◌, ℕ, ◌+◌, ◌*◌, ◌%◌, ◌^◌, ◌<◌, replicate, slice_index};
+ghost use Rattle.std.specs.Prelude.{◌≡◌, ℕ, ◌+◌, ◌*◌, ◌%◌, ◌^◌, ◌<◌, Some, option_map, replicate, slice_index};
+ghost use Rattle.rv64_decode.specs.Decode.{decoded};
+ghost use Rattle.rv64_table.specs.Table.{row_for};
 ghost use Rattle.paged_mem.specs.Ram.{count_of};
 ghost use Rattle.rv64_machine.specs.Arithmetic.{sign_extended};
-ghost use Rattle.rv64_machine.specs.Hart.{carried, Ends, following, HartState, IsHart, Steps, with_register};
+ghost use Rattle.rv64_machine.specs.Hart.{carried, effect_of, Ends, following, HartState, IsHart, runs, Steps, with_register};
 ghost use Rattle.std.specs.FinMap.{contains_key};
 ghost use Rattle.std.specs.Borrow.{Lends, sem};
 ghost use Rattle.rv64_machine.specs.contracts.hart.Hart.{the_row};
@@ -10,8 +12,17 @@ use crate::answer::{Cause, StepEnd};
 use crate::arithmetic::{sum, widened};
 use crate::effect::{Effect, effect_of};
 use paged_mem::{Ram, StoreRefusal, Width};
-use rv64_decode::decode;
+use rv64_decode::decode_as;
+use rv64_table::{Op, row_of};
 use std::marker::Model;
+
+macro_rules! by_operation {
+    ($hart:expr, $op:expr, $word:expr; $($name:ident)*) => {
+        match $op {
+            $(Op::$name => $hart.perform(Op::$name, $word)),*
+        }
+    };
+}
 
 /// A hart of RV64IM with its memory.
 ///
@@ -51,6 +62,7 @@ impl<R: Ram> Hart<R> {
     }
 
     /// The value of a register, by its number.
+    #[inline(always)]
     pub fn reg(&self, number: u8) -> u64
         requires { number < 32 }
         ensures { result ≡ slice_index self.now.registers number }
@@ -59,6 +71,7 @@ impl<R: Ram> Hart<R> {
     }
 
     /// Sets a register; x0 keeps its 0.
+    #[inline(always)]
     pub fn set_reg(&mut self, number: u8, value: u64)
         requires { number < 32 }
         ensures { self.new ≡ with_register self.old number value }
@@ -114,6 +127,7 @@ impl<R: Ram> Hart<R> {
     }
 
     /// A step as its act says it.
+    #[inline(always)]
     #[tactic(auto, unfolding(crate::specs::Hart::act, crate::specs::Hart::effect_at))]
     fn advance(&mut self) -> StepEnd
         ensures { Steps self.old result self.new }
@@ -121,10 +135,42 @@ impl<R: Ram> Hart<R> {
         let Some(word) = self.ram.load(self.pc, Width::W4) else {
             return StepEnd::Trap(Cause::FetchUnmapped(self.pc));
         };
-        let word = word as u32;
-        let Some(inst) = decode(word) else {
-            return StepEnd::Trap(Cause::Illegal(word));
-        };
+        self.run(word as u32)
+    }
+
+    /// Carries out a word.
+    #[inline(always)]
+    fn run(&mut self, word: u32) -> StepEnd
+        ensures { Ends (runs self.old word (decoded word)) (option_map (effect_of self.old) (decoded word)) self.old result self.new }
+    {
+        match row_of(word) {
+            None => StepEnd::Trap(Cause::Illegal(word)),
+            Some(op) => self.dispatch(op, word),
+        }
+    }
+
+    /// Carries out a word by its operation. Each arm is compiled for the operation that it names, and so reads the fields of that
+    /// operation's form alone.
+    #[inline(always)]
+    fn dispatch(&mut self, op: Op, word: u32) -> StepEnd
+        requires { option_map (λ row. row.op) (row_for word) ≡ Some op }
+        ensures { Ends (runs self.old word (decoded word)) (option_map (effect_of self.old) (decoded word)) self.old result self.new }
+    {
+        by_operation! { self, op, word;
+            Lui Auipc Jal Jalr Beq Bne Blt Bge Bltu Bgeu Lb Lh Lw Ld Lbu Lhu Lwu Sb Sh Sw Sd
+            Addi Slti Sltiu Xori Ori Andi Slli Srli Srai Add Sub Sll Slt Sltu Xor Srl Sra Or And Fence Ecall Ebreak
+            Addiw Slliw Srliw Sraiw Addw Subw Sllw Srlw Sraw
+            Mul Mulh Mulhsu Mulhu Div Divu Rem Remu Mulw Divw Divuw Remw Remuw
+        }
+    }
+
+    /// Carries out a word whose row is that of this operation.
+    #[inline(always)]
+    fn perform(&mut self, op: Op, word: u32) -> StepEnd
+        requires { option_map (λ row. row.op) (row_for word) ≡ Some op }
+        ensures { Ends (runs self.old word (decoded word)) (option_map (effect_of self.old) (decoded word)) self.old result self.new }
+    {
+        let inst = decode_as(op, word);
         let effect = effect_of(
             inst.op,
             self.reg(inst.rs1),
@@ -136,6 +182,7 @@ impl<R: Ram> Hart<R> {
     }
 
     /// Carries out the effect of an instruction with this rd.
+    #[inline(always)]
     fn carry_out(&mut self, rd: u8, effect: Effect) -> StepEnd
         requires { rd < 32 }
         ensures { Ends (carried self.old rd effect) (Some effect) self.old result self.new }
@@ -157,6 +204,7 @@ impl<R: Ram> Hart<R> {
     }
 
     /// Carries out a jump.
+    #[inline(always)]
     fn jump(&mut self, rd: u8, target: u64) -> StepEnd
         requires { rd < 32 }
         ensures { Ends (carried self.old rd (Effect.Jump target)) None self.old result self.new }
@@ -171,6 +219,7 @@ impl<R: Ram> Hart<R> {
     }
 
     /// Carries out a branch.
+    #[inline(always)]
     fn branch(&mut self, taken: bool, target: u64) -> StepEnd
         ensures { Ends (carried self.old 0 (Effect.Branch taken target)) None
             self.old result self.new }
@@ -186,6 +235,7 @@ impl<R: Ram> Hart<R> {
     }
 
     /// Carries out a load that zero-extends.
+    #[inline(always)]
     fn load(&mut self, rd: u8, width: Width, at: u64) -> StepEnd
         requires { rd < 32 }
         ensures { Ends (carried self.old rd (Effect.Load width at)) None self.old result self.new }
@@ -198,6 +248,7 @@ impl<R: Ram> Hart<R> {
     }
 
     /// Carries out a load that sign-extends.
+    #[inline(always)]
     fn load_signed(&mut self, rd: u8, width: Width, at: u64) -> StepEnd
         requires { rd < 32 }
         ensures { Ends (carried self.old rd (Effect.LoadSigned width at)) None self.old result self.new }
@@ -210,6 +261,7 @@ impl<R: Ram> Hart<R> {
     }
 
     /// Carries out a store.
+    #[inline(always)]
     #[tactic(auto, using(crate::proofs::StoredBytes::stored))]
     fn store(&mut self, width: Width, at: u64, value: u64) -> StepEnd
         ensures { Ends (carried self.old 0 (Effect.Store width at value))
@@ -223,6 +275,7 @@ impl<R: Ram> Hart<R> {
     }
 
     /// Goes on at the next instruction.
+    #[inline(always)]
     fn pass(&mut self) -> StepEnd
         ensures end { result ≡ StepEnd.Done }
         ensures state { self.new ≡ record self.old { pc = following self.old } }

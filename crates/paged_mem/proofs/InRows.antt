@@ -1,0 +1,25 @@
+-- Rows of pages: that two ends make one, and where an address in one stands.
+use Rattle.std.proofs.Common.{◌≡◌, ℕ, ◌+◌, ◌-◌, ◌*◌, ◌/◌, ◌%◌, ◌^◌, ◌<◌, Some, List, length, get_or, ◌∙◌, arith}
+use Rattle.paged_mem.specs.Flat.{place, Rises, IsLow}
+use Rattle.paged_mem.specs.Held.{place-some}
+use Rattle.paged_mem.specs.Entries.{IsRowOf}
+use Rattle.paged_mem.specs.declared.rows.Row.{Row}
+use Rattle.paged_mem.proofs.Places.{place-at}
+use Rattle.paged_mem.proofs.Spans.{between}
+
+pub row_between : (pages : List ℕ) → Rises pages → IsLow pages → (index more number base size : ℕ) → index + more < length pages
+    → get_or pages index 0 ≡ number → get_or pages (index + more) 0 ≡ number + more → base ≡ 4096 * number → size ≡ 4096 * (more + 1)
+    → IsRowOf pages (record { base = base; size = size; index = index })
+row_between pages rising low index more number base size within first last is_base is_size = record {
+  aligned = omega arith;
+  low = omega (arith, low (index + more) within);
+  within = omega arith;
+  numbers = λ k below. (place-some pages (number + k) (index + k) (between pages rising index number more first within last k (omega arith))).1 ∙ omega arith;
+}
+
+pub place-in_row : (pages : List ℕ) → Rises pages → (row : Row) → IsRowOf pages row → (at ahead : ℕ) → at < 2 ^ 64
+    → ahead ≡ (at + (2 ^ 64 - row.base)) % 2 ^ 64 → ahead < row.size → place pages (at / 4096) ≡ Some (row.index + ahead / 4096)
+place-in_row pages rising row is at ahead fits is_ahead inside =
+    let from : at ≡ row.base + ahead = omega (arith, is.low) in
+    place-at pages rising (at / 4096) (row.index + ahead / 4096) (omega (arith, is.within))
+    (is.numbers (ahead / 4096) (omega arith) ∙ omega (arith, is.aligned))

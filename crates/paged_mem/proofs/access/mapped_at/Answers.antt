@@ -1,0 +1,15 @@
+use Rattle.std.proofs.Common.{refl, sym, ◌∙◌}
+use Rattle.paged_mem.specs.Entries.{flat}
+use Rattle.paged_mem.specs.Flat.{memory_of}
+use Rattle.paged_mem.proofs.Accessed.{few}
+use Rattle.paged_mem.proofs.Seen.{maps_seen}
+use Rattle.paged_mem.proofs.access.mapped_at.Goals as goal
+
+pub span-requires-clause-few : goal.span-requires-clause-few
+span-requires-clause-few c = few c.args.pages.now c.args.entries.now c.requires
+
+pub returns : goal.returns
+returns c =
+    c.is_some.ensures
+    ∙ sym (maps_seen c.args.pages.now (flat c.args.entries.now) c.args.pages.now (memory_of c.args.pages.now (flat c.args.entries.now)) c.requires.sound refl refl
+    c.args.at c.args.count c.span.result c.span.ensures)

@@ -1,0 +1,49 @@
+-- How a `PagedRam` keeps its memory: page numbers that rise, an entry for each page, and two rows of pages that are found at once.
+use Rattle.std.specs.Prelude.{◌≡◌, ℕ, ◌+◌, ◌*◌, ◌/◌, ◌%◌, ◌^◌, ◌<◌, ◌≤◌, Option, None, Some, List, [], ◌∷◌, ◌++◌, length, slice_index, slice_index_or}
+use Rattle.std.specs.Global.{Box}
+use Rattle.paged_mem.specs.Memory.{zeros}
+use Rattle.paged_mem.specs.Flat.{IsSound}
+use Rattle.paged_mem.specs.declared.rows.Row.{Row}
+use Rattle.paged_mem.specs.declared.rows.Rows.{Rows}
+
+-- a page's bytes, or nothing where all of them are zero
+abbrev pub Entry : Type 0
+Entry = Option (Box (List ℕ))
+
+-- the bytes of an entry's page
+abbrev pub content : Entry → List ℕ
+content None = zeros 4096
+content (Some page) = page.value
+
+-- the bytes of the pages, one page after the other
+unfoldable pub flat : List Entry → List ℕ
+flat [] = []
+flat (entry ∷ entries) = content entry ++ flat entries
+
+-- each entry is that of 4,096 bytes
+abbrev pub AreFull : List Entry → Type 0
+AreFull entries = (i : ℕ) → length (content (slice_index_or entries i None)) ≡ 4096
+
+-- the numbers of the pages whose entry holds bytes
+unfoldable pub held_pages : List ℕ → List Entry → List ℕ
+held_pages (page ∷ pages) (Some bytes ∷ entries) = page ∷ held_pages pages entries
+held_pages (page ∷ pages) (None ∷ entries) = held_pages pages entries
+held_pages _ _ = []
+
+-- page numbers and entries that are those of a memory
+pub record ArePages (pages : List ℕ) (entries : List Entry) : Type 0 where
+  pub sound : IsSound pages (flat entries)
+  pub long : length entries ≡ length pages
+  pub full : AreFull entries
+
+-- a row is one of pages with numbers in a row
+pub record IsRowOf (pages : List ℕ) (row : Row) : Type 0 where
+  pub aligned : row.base % 4096 ≡ 0
+  pub low : row.base + row.size ≤ 2 ^ 38
+  pub within : 4096 * row.index + row.size ≤ 4096 * length pages
+  pub numbers : (k : ℕ) → 4096 * k < row.size → slice_index pages (row.index + k) ≡ row.base / 4096 + k
+
+-- both rows are
+pub record AreRowsOf (pages : List ℕ) (rows : Rows) : Type 0 where
+  pub first : IsRowOf pages rows.first
+  pub last : IsRowOf pages rows.last

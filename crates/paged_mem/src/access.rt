@@ -1,0 +1,216 @@
+//! Reading and writing at addresses, over pages and their entries.
+ghost use Rattle.std.specs.Prelude.{◌≡◌, ℕ, ◌+◌, ◌-◌, ◌*◌, ◌%◌, ◌^◌, ◌<◌, ◌≤◌, length, IfSome, slice_index, unwrap_or, Err};
+ghost use Rattle.paged_mem.specs.Memory.{bytes_at, maps, reads};
+ghost use Rattle.paged_mem.specs.Ram.{count_of, RunsFrom, shown, Stores, Writes};
+ghost use Rattle.paged_mem.specs.Entries.{AreFull, ArePages, AreRowsOf, flat, held_pages};
+ghost use Rattle.paged_mem.specs.Flat.{memory_of, number_at, Rises};
+ghost use Rattle.paged_mem.specs.Paged.{pages_touched, TouchesUnheld};
+
+use crate::entries::{Entry, number_in, put_into, read, take_memory, write};
+use crate::pages::{find, row_from, span};
+use crate::ram::{PageView, StoreRefusal, Width};
+use crate::rows::Rows;
+use std::alloc::Global;
+
+/// The byte at an index of these pages.
+fn byte_at(entries: &[Entry], start: usize) -> u64
+    requires full { AreFull entries.now }
+    requires within { start < 4096 * length entries.now }
+    ensures value { result ≡ slice_index (flat entries.now) start }
+    ensures fits { result < 256 }
+{
+    number_in(&entries[start / 4096], start % 4096, Width::W1)
+}
+
+fn two_across(entries: &[Entry], start: usize) -> u64
+    requires full { AreFull entries.now }
+    requires within { start + 2 ≤ 4096 * length entries.now }
+    requires few { 4096 * length entries.now < 2 ^ 64 }
+    ensures value { result ≡ number_at (flat entries.now) start 2 }
+    ensures fits { result < 2 ^ 16 }
+{
+    byte_at(entries, start) + 0x100 * byte_at(entries, start + 1)
+}
+
+fn four_across(entries: &[Entry], start: usize) -> u64
+    requires full { AreFull entries.now }
+    requires within { start + 4 ≤ 4096 * length entries.now }
+    requires few { 4096 * length entries.now < 2 ^ 64 }
+    ensures value { result ≡ number_at (flat entries.now) start 4 }
+    ensures fits { result < 2 ^ 32 }
+{
+    two_across(entries, start) + 0x1_0000 * two_across(entries, start + 2)
+}
+
+/// The little-endian number of an access that begins at an index of these pages.
+fn number_from(entries: &[Entry], start: usize, width: Width) -> u64
+    requires full { AreFull entries.now }
+    requires within { start + count_of width ≤ 4096 * length entries.now }
+    requires few { 4096 * length entries.now < 2 ^ 64 }
+    ensures value { result ≡ number_at (flat entries.now) start (count_of width) }
+    ensures fits { result < 2 ^ (8 * count_of width) }
+{
+    let low = start % 4096;
+    if low + width.count() as usize <= 4096 {
+        return number_in(&entries[start / 4096], low, width);
+    }
+    match width {
+        Width::W1 => byte_at(entries, start),
+        Width::W2 => two_across(entries, start),
+        Width::W4 => four_across(entries, start),
+        Width::W8 => {
+            four_across(entries, start) + 0x1_0000_0000 * four_across(entries, start + 4)
+        }
+    }
+}
+
+/// The number at an address, found by a search among all pages.
+#[cold]
+#[inline(never)]
+fn load_anywhere(pages: &[u64], entries: &[Entry], at: u64, width: Width) -> Option<u64>
+    requires { ArePages pages.now entries.now }
+    ensures value { result ≡ reads (memory_of pages.now (flat entries.now)) at (count_of width) }
+    ensures fits { IfSome result (λ value. value < 2 ^ (8 * count_of width)) }
+{
+    match span(pages, at, width.count()) {
+        None => None,
+        Some(start) => Some(number_from(entries, start, width)),
+    }
+}
+
+/// The number at an address; none where a byte of it is unmapped.
+#[inline(always)]
+pub fn load_at(pages: &[u64], entries: &[Entry], rows: &Rows, at: u64, width: Width) -> Option<u64>
+    requires pages { ArePages pages.now entries.now }
+    requires rows { AreRowsOf pages.now rows.now }
+    ensures value { result ≡ reads (memory_of pages.now (flat entries.now)) at (count_of width) }
+    ensures fits { IfSome result (λ value. value < 2 ^ (8 * count_of width)) }
+{
+    let low = (at % 4096) as usize;
+    if low + width.count() as usize <= 4096 {
+        if let Some(index) = rows.find(at) {
+            return Some(number_in(&entries[index], low, width));
+        }
+    }
+    load_anywhere(pages, entries, at, width)
+}
+
+/// Fills `out` from an address on; `false`, with `out` as it was, where a byte is unmapped.
+pub fn read_at(pages: &[u64], entries: &[Entry], at: u64, out: &mut [u8]) -> bool
+    requires { ArePages pages.now entries.now }
+    ensures answer { result ≡ maps (memory_of pages.now (flat entries.now)) at (length out.old) }
+    ensures moved { out.new ≡ unwrap_or (bytes_at (memory_of pages.now (flat entries.now)) at (length out.old)) out.old }
+{
+    match span(pages, at, out.len() as u64) {
+        None => false,
+        Some(start) => {
+            read(entries, start, out);
+            true
+        }
+    }
+}
+
+/// Writes bytes from an address on, all or none. The memory of all pages that it touches is taken before.
+pub fn write_at(
+    alloc: Global,
+    pages: &[u64],
+    entries: &mut [Entry],
+    at: u64,
+    source: &[u8],
+) -> Result<(), StoreRefusal>
+    requires { ArePages pages.now entries.old }
+    ensures pages { ArePages pages.now entries.new }
+    ensures writes { Writes (memory_of pages.now (flat entries.old)) at source.now result (memory_of pages.now (flat entries.new)) }
+    ensures raises { length (held_pages pages.now entries.new)
+        ≤ length (held_pages pages.now entries.old) + pages_touched at (length source.now) }
+    ensures unmapped { result ≡ Err StoreRefusal.Unmapped
+        → held_pages pages.now entries.new ≡ held_pages pages.now entries.old }
+    ensures wants { result ≡ Err StoreRefusal.OutOfMemory
+        → TouchesUnheld (held_pages pages.now entries.old) at (length source.now) }
+{
+    if source.is_empty() {
+        return Ok(());
+    }
+    let Some(start) = span(pages, at, source.len() as u64) else {
+        return Err(StoreRefusal::Unmapped);
+    };
+    let end = start + source.len();
+    match take_memory(alloc, entries, start / 4096, (end - 1) / 4096 + 1) {
+        Ok(()) => {
+            write(entries, start, source);
+            Ok(())
+        }
+        Err(_) => Err(StoreRefusal::OutOfMemory),
+    }
+}
+
+/// Stores the low bytes of a number at an address, all or none.
+#[inline(always)]
+pub fn store_at(
+    alloc: Global,
+    pages: &[u64],
+    entries: &mut [Entry],
+    rows: &Rows,
+    at: u64,
+    width: Width,
+    value: u64,
+) -> Result<(), StoreRefusal>
+    requires pages { ArePages pages.now entries.old }
+    requires rows { AreRowsOf pages.now rows.now }
+    ensures pages { ArePages pages.now entries.new }
+    ensures stores { Stores (memory_of pages.now (flat entries.old)) at (count_of width) value result
+        (memory_of pages.now (flat entries.new)) }
+    ensures raises { length (held_pages pages.now entries.new)
+        ≤ length (held_pages pages.now entries.old) + pages_touched at (count_of width) }
+    ensures unmapped { result ≡ Err StoreRefusal.Unmapped
+        → held_pages pages.now entries.new ≡ held_pages pages.now entries.old }
+    ensures wants { result ≡ Err StoreRefusal.OutOfMemory
+        → TouchesUnheld (held_pages pages.now entries.old) at (count_of width) }
+{
+    let low = (at % 4096) as usize;
+    let count = width.count() as usize;
+    let bytes = value.to_le_bytes();
+    if low + count <= 4096 {
+        if let Some(index) = rows.find(at) {
+            if entries[index].is_some() {
+                put_into(&mut entries[index], low, &bytes[..count]);
+                return Ok(());
+            }
+        }
+    }
+    write_at(alloc, pages, entries, at, &bytes[..count])
+}
+
+/// The page at an address: unmapped, zero where it holds no bytes, or its bytes.
+pub fn page_at<'a>(pages: &[u64], entries: &'a [Entry], first: u64) -> PageView<'a>
+    requires pages { ArePages pages.now entries.now }
+    requires aligned { first % 4096 ≡ 0 }
+    ensures { shown result ≡ bytes_at (memory_of pages.now (flat entries.now)) first 4096 }
+{
+    match find(pages, first / 4096) {
+        None => PageView::Unmapped,
+        Some(index) => match &entries[index] {
+            None => PageView::Zero,
+            Some(page) => PageView::Full(&page[..]),
+        },
+    }
+}
+
+/// Whether `count` bytes from an address on are all mapped.
+pub fn mapped_at(pages: &[u64], entries: &[Entry], at: u64, count: u64) -> bool
+    requires { ArePages pages.now entries.now }
+    ensures { result ≡ maps (memory_of pages.now (flat entries.now)) at count }
+{
+    span(pages, at, count).is_some()
+}
+
+/// The first run of mapped pages from the page of an address on.
+pub fn run_at(pages: &[u64], entries: &[Entry], at: u64) -> Option<(u64, u64)>
+    requires { ArePages pages.now entries.now }
+    ensures { RunsFrom (memory_of pages.now (flat entries.now)) at result }
+{
+    match row_from(pages, at / 4096) {
+        None => None,
+        Some((first, count)) => Some((4096 * first, count)),
+    }
+}

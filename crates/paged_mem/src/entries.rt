@@ -1,0 +1,168 @@
+//! The entries of pages: reading and writing over several of them.
+ghost use Rattle.std.specs.Prelude.{◌≡◌, ◌≢◌, ℕ, ◌+◌, ◌-◌, ◌*◌, ◌%◌, ◌^◌, ◌<◌, ◌≤◌, length, take, drop, is_some, IsSome, OnOk, OnErr, None, List, slice_index, slice_index_or};
+ghost use Rattle.paged_mem.specs.Entries.{AreFull, content, flat, held_pages};
+ghost use Rattle.paged_mem.specs.Flat.{number_at, overwritten};
+ghost use Rattle.paged_mem.specs.Ram.{count_of};
+
+use crate::pages::{fill, number};
+use crate::ram::Width;
+use ddc_base::OutOfMemory;
+use std::alloc::Global;
+use std::cmp;
+
+/// A mapped page's 4,096 bytes, or nothing where all of them are zero since the page was mapped.
+pub type Entry = Option<Box<[u8; 4096]>>;
+
+/// The little-endian number of an access that lies within a page.
+pub fn number_in(entry: &Entry, low: usize, width: Width) -> u64
+    requires { low + count_of width ≤ 4096 }
+    ensures value { result ≡ number_at (content entry.now) low (count_of width) }
+    ensures fits { result < 2 ^ (8 * count_of width) }
+{
+    match entry {
+        None => 0,
+        Some(page) => number(&page[..], low, width),
+    }
+}
+
+/// Fills `out` with zeros.
+fn clear(out: &mut [u8])
+    ensures len { length out.new ≡ length out.old }
+    ensures zero { (k : ℕ) → slice_index out.new k ≡ 0 }
+{
+    for byte in out.iter_mut() {
+        *byte = 0;
+    }
+}
+
+/// Fills `out` with the bytes of a page from an index on.
+fn fill_from(entry: &Entry, low: usize, out: &mut [u8])
+    requires { low + length out.old ≤ 4096 }
+    ensures { out.new ≡ take (length out.old) (drop low (content entry.now)) }
+{
+    match entry {
+        None => clear(out),
+        Some(page) => fill(out, &page[..], low),
+    }
+}
+
+/// Writes over the bytes of a page that holds its bytes, from an index on.
+pub fn put_into(entry: &mut Entry, low: usize, source: &[u8])
+    requires held { IsSome entry.old }
+    requires within { low + length source.now ≤ 4096 }
+    ensures held { IsSome entry.new }
+    ensures content { content entry.new ≡ overwritten (content entry.old) low source.now }
+    ensures full { length (content entry.new) ≡ 4096 }
+{
+    match entry {
+        None => {}
+        Some(page) => page[low..low + source.len()].copy_from_slice(source),
+    }
+}
+
+/// How many of `left` bytes from an index on lie on its page.
+fn piece(at: usize, left: usize) -> usize
+    ensures few { result ≤ left }
+    ensures within { at % 4096 + result ≤ 4096 }
+    ensures some { 0 < left → 0 < result }
+{
+    cmp::min(4096 - at % 4096, left)
+}
+
+/// Fills `out` with the bytes of these pages from an index on.
+pub fn read(entries: &[Entry], start: usize, out: &mut [u8])
+    requires full { AreFull entries.now }
+    requires within { start + length out.old ≤ 4096 * length entries.now }
+    requires few { 4096 * length entries.now < 2 ^ 64 }
+    ensures { out.new ≡ take (length out.old) (drop start (flat entries.now)) }
+{
+    let mut done = 0;
+    while done < out.len() {
+        let at = start + done;
+        let count = piece(at, out.len() - done);
+        fill_from(&entries[at / 4096], at % 4096, &mut out[done..done + count]);
+        done += count;
+    }
+}
+
+/// Writes over the bytes of these pages from an index on, where each page that is touched holds its bytes.
+pub fn write(entries: &mut [Entry], start: usize, source: &[u8])
+    requires full { AreFull entries.old }
+    requires within { start + length source.now ≤ 4096 * length entries.old }
+    requires few { 4096 * length entries.old < 2 ^ 64 }
+    requires held { (k : ℕ) → start < 4096 * (k + 1) → 4096 * k < start + length source.now
+        → IsSome (slice_index_or entries.old k None) }
+    ensures full { AreFull entries.new }
+    ensures bytes { flat entries.new ≡ overwritten (flat entries.old) start source.now }
+    ensures same { (pages : List ℕ) → held_pages pages entries.new ≡ held_pages pages entries.old }
+{
+    let mut done = 0;
+    while done < source.len() {
+        let at = start + done;
+        let count = piece(at, source.len() - done);
+        put_into(
+            &mut entries[at / 4096],
+            at % 4096,
+            &source[done..done + count],
+        );
+        done += count;
+    }
+}
+
+/// Takes the memory of a page that holds no bytes yet, zero bytes at first.
+fn hold(alloc: Global, entry: &mut Entry) -> Result<(), OutOfMemory>
+    requires { length (content entry.old) ≡ 4096 }
+    ensures bytes { content entry.new ≡ content entry.old }
+    ensures full { length (content entry.new) ≡ 4096 }
+    ensures ok { OnOk result (IsSome entry.new) }
+    ensures err { OnErr result ((entry.old ≡ None) × (entry.new ≡ None)) }
+{
+    if entry.is_some() {
+        return Ok(());
+    }
+    match Box::new(alloc, [0; 4096]) {
+        Ok(page) => {
+            *entry = Some(page);
+            Ok(())
+        }
+        Err(_) => Err(OutOfMemory),
+    }
+}
+
+/// Takes the memory of each of these pages that holds no bytes yet, zero bytes at first.
+pub fn take_memory(
+    alloc: Global,
+    entries: &mut [Entry],
+    first: usize,
+    end: usize,
+) -> Result<(), OutOfMemory>
+    requires full { AreFull entries.old }
+    requires order { first ≤ end }
+    requires within { end ≤ length entries.old }
+    ensures full { AreFull entries.new }
+    ensures len { length entries.new ≡ length entries.old }
+    ensures bytes { flat entries.new ≡ flat entries.old }
+    ensures raises { (pages : List ℕ)
+        → length (held_pages pages entries.new) ≤ length (held_pages pages entries.old) + (end - first) }
+    ensures ok { OnOk result ((k : ℕ) → first ≤ k → k < end → IsSome (slice_index_or entries.new k None)) }
+    ensures err { OnErr result ((k : ℕ) × (first ≤ k) × (k < end) × (slice_index_or entries.old k None ≡ None)) }
+{
+    for index in first..end {
+        hold(alloc, &mut entries[index])?;
+    }
+    Ok(())
+}
+
+/// How many of these entries hold bytes.
+pub fn count_held(entries: &[Entry]) -> u64
+    requires { length entries.now < 2 ^ 64 }
+    ensures { (pages : List ℕ) → length pages ≡ length entries.now → result ≡ length (held_pages pages entries.now) }
+{
+    let mut count = 0;
+    for entry in entries {
+        if entry.is_some() {
+            count += 1;
+        }
+    }
+    count
+}

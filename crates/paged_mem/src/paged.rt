@@ -1,0 +1,147 @@
+ghost use Rattle.std.specs.Prelude.{◌≡◌, ℕ, ◌+◌, ◌*◌, ◌%◌, ◌^◌, ◌≤◌, [], Err, IsTrue, OnOk, OnErr, length};
+ghost use Rattle.paged_mem.specs.Memory.{IsFree, maps, with_bytes, without, zeros};
+ghost use Rattle.paged_mem.specs.Ram.{count_of, Stores, Writes};
+ghost use Rattle.paged_mem.specs.Entries.{ArePages, AreRowsOf};
+ghost use Rattle.paged_mem.specs.Held.{ArePages-prop, AreRowsOf-prop};
+ghost use Rattle.paged_mem.specs.Paged.{pages_touched, TouchesUnheld};
+ghost use Rattle.std.specs.FinMap as map;
+
+use crate::access::{load_at, mapped_at, page_at, read_at, run_at, store_at, write_at};
+use crate::entries::{Entry, count_held};
+use crate::mapping::{map_entries, unmap_entries};
+use crate::ram::{PageView, Ram, StoreRefusal, Width};
+use crate::rows::Rows;
+use ddc_base::OutOfMemory;
+use std::alloc::Global;
+use std::marker::Model;
+
+/// A guest's memory that costs what is written: each mapped page has an entry, which holds the page's 4,096 bytes, or nothing as long as
+/// all of them are zero since the page was mapped.
+///
+/// An address in the row of pages from the first one on, or in the one up to the last one, is found at once, any other by a search.
+/// Contracts see the map, and the numbers of the pages that are held.
+#[derive(Drop)]
+pub struct PagedRam {
+    pages: Vec<u64>,
+    entries: Vec<Entry>,
+    rows: Rows,
+    alloc: Global,
+    ghost are: { ArePages pages.items entries.items } by { ArePages-prop pages.items entries.items },
+    ghost rows_are: { AreRowsOf pages.items rows } by { AreRowsOf-prop pages.items rows },
+}
+
+impl Model for PagedRam {
+    ghost use Rattle.paged_mem.specs.Held.{PagedMemory, paged_code, IsWhole-memory_of};
+    ghost use Rattle.paged_mem.specs.Entries.{flat, held_pages};
+    ghost use Rattle.paged_mem.specs.Flat.{memory_of};
+
+    ghost Value = { PagedMemory };
+
+    ghost coded = { paged_code };
+
+    ghost view = { λ ram. record {
+      bytes = memory_of ram.pages.items (flat ram.entries.items);
+      whole = IsWhole-memory_of ram.pages.items (flat ram.entries.items) ram.are.sound;
+      held = held_pages ram.pages.items ram.entries.items;
+    } };
+}
+
+impl PagedRam {
+    /// How many mapped pages hold bytes: the others take no memory but their entry's.
+    pub fn held(&self) -> u64
+        ensures { result ≡ length self.now.held }
+    {
+        count_held(&self.entries)
+    }
+}
+
+impl Ram for PagedRam {
+    ghost bytes = { λ ram. ram.bytes };
+
+    fn empty(alloc: Global) -> PagedRam
+        ensures empty { result.bytes ≡ map.empty }
+        ensures held { result.held ≡ [] }
+    {
+        PagedRam {
+            pages: Vec::new(alloc),
+            entries: Vec::new(alloc),
+            rows: Rows::none(),
+            alloc,
+        }
+    }
+
+    #[inline(always)]
+    fn load(&self, at: u64, width: Width) -> Option<u64> {
+        load_at(&self.pages, &self.entries, &self.rows, at, width)
+    }
+
+    /// Takes the memory of each page that it touches and that holds no bytes yet, before it writes.
+    #[inline(always)]
+    fn store(&mut self, at: u64, width: Width, value: u64) -> Result<(), StoreRefusal>
+        ensures stores { Stores self.old.bytes at (count_of width) value result self.new.bytes }
+        ensures raises { length self.new.held ≤ length self.old.held + pages_touched at (count_of width) }
+        ensures unmapped { result ≡ Err StoreRefusal.Unmapped → self.new.held ≡ self.old.held }
+        ensures wants { result ≡ Err StoreRefusal.OutOfMemory → TouchesUnheld self.old.held at (count_of width) }
+    {
+        store_at(
+            self.alloc,
+            &self.pages,
+            &mut self.entries,
+            &self.rows,
+            at,
+            width,
+            value,
+        )
+    }
+
+    fn mapped(&self, at: u64, count: u64) -> bool {
+        mapped_at(&self.pages, &self.entries, at, count)
+    }
+
+    fn read_into(&self, at: u64, out: &mut [u8]) -> bool {
+        read_at(&self.pages, &self.entries, at, out)
+    }
+
+    /// Takes the memory of each page that it touches and that holds no bytes yet, before it writes.
+    fn write_from(&mut self, at: u64, source: &[u8]) -> Result<(), StoreRefusal>
+        ensures writes { Writes self.old.bytes at source.now result self.new.bytes }
+        ensures raises { length self.new.held ≤ length self.old.held + pages_touched at (length source.now) }
+        ensures unmapped { result ≡ Err StoreRefusal.Unmapped → self.new.held ≡ self.old.held }
+        ensures wants { result ≡ Err StoreRefusal.OutOfMemory → TouchesUnheld self.old.held at (length source.now) }
+    {
+        write_at(self.alloc, &self.pages, &mut self.entries, at, source)
+    }
+
+    fn map_zero(&mut self, first: u64, pages: u64) -> Result<(), OutOfMemory>
+        requires aligned { first % 4096 ≡ 0 }
+        requires low { first + 4096 * pages ≤ 2 ^ 38 }
+        requires free { IsFree self.old.bytes first (4096 * pages) }
+        ensures ok { OnOk result (self.new.bytes ≡ with_bytes self.old.bytes first (zeros (4096 * pages))) }
+        ensures err { OnErr result (self.new.bytes ≡ self.old.bytes) }
+        ensures held { self.new.held ≡ self.old.held }
+    {
+        let mapped = map_entries(&mut self.pages, &mut self.entries, first, pages as usize);
+        self.rows = Rows::of(&self.pages);
+        mapped
+    }
+
+    fn unmap(&mut self, first: u64, pages: u64)
+        requires aligned { first % 4096 ≡ 0 }
+        requires present { IsTrue (maps self.old.bytes first (4096 * pages)) }
+        ensures unmapped { self.new.bytes ≡ without self.old.bytes first (4096 * pages) }
+        ensures held { length self.new.held ≤ length self.old.held }
+    {
+        unmap_entries(&mut self.pages, &mut self.entries, first, pages as usize);
+        self.rows = Rows::of(&self.pages);
+    }
+
+    fn run_from(&self, at: u64) -> Option<(u64, u64)> {
+        run_at(&self.pages, &self.entries, at)
+    }
+
+    fn page(&self, first: u64) -> PageView<'_> {
+        page_at(&self.pages, &self.entries, first)
+    }
+
+    ghost whole = { λ ram. ram.whole };
+}

@@ -1,0 +1,138 @@
+//! Rows of pages, in which an address is found without a search.
+ghost use Rattle.std.specs.Prelude.{◌≡◌, ℕ, ◌+◌, ◌/◌, ◌^◌, ◌<◌, IfSome, List, Some};
+ghost use Rattle.paged_mem.specs.Entries.{AreRowsOf, IsRowOf};
+ghost use Rattle.paged_mem.specs.Flat.{IsLow, Rises, place};
+
+/// Pages with numbers in a row: the address of the first one, how many bytes all of them have, and where the first one stands among the
+/// mapped pages.
+#[derive(Clone, Copy)]
+pub struct Row {
+    pub base: u64,
+    pub size: u64,
+    pub index: usize,
+}
+
+impl Row {
+    /// The row of no pages.
+    pub fn none() -> Row
+        ensures { (pages : List ℕ) → IsRowOf pages result }
+    {
+        Row {
+            base: 0,
+            size: 0,
+            index: 0,
+        }
+    }
+}
+
+/// Where the page of an address stands among the mapped pages, if it lies in this row.
+#[inline(always)]
+pub fn find_in(row: Row, at: u64) -> Option<usize>
+    requires { row.index + row.size < 2 ^ 64 }
+    ensures { (pages : List ℕ) → Rises pages → IsRowOf pages row → IfSome result (λ index. place pages (at / 4096) ≡ Some index) }
+{
+    let ahead = at.wrapping_sub(row.base);
+    if ahead < row.size {
+        Some(row.index + (ahead / 4096) as usize)
+    } else {
+        None
+    }
+}
+
+/// The pages in a row from the first one on.
+pub fn first_row(pages: &[u64]) -> Row
+    requires rising { Rises pages.now }
+    requires low { IsLow pages.now }
+    ensures { IsRowOf pages.now result }
+{
+    if pages.is_empty() {
+        return Row::none();
+    }
+    let first = pages[0];
+    let mut known = 0;
+    let mut end = pages.len();
+    while end - known > 1 {
+        let middle = known + (end - known) / 2;
+        if pages[middle] == first + middle as u64 {
+            known = middle;
+        } else {
+            end = middle;
+        }
+    }
+    Row {
+        base: 4096 * first,
+        size: 4096 * (known as u64 + 1),
+        index: 0,
+    }
+}
+
+/// The pages in a row up to the last one.
+pub fn last_row(pages: &[u64]) -> Row
+    requires rising { Rises pages.now }
+    requires low { IsLow pages.now }
+    ensures { IsRowOf pages.now result }
+{
+    if pages.is_empty() {
+        return Row::none();
+    }
+    let last = pages.len() - 1;
+    let mut start = 0;
+    let mut known = last;
+    while start < known {
+        let middle = start + (known - start) / 2;
+        if pages[middle] + (last - middle) as u64 == pages[last] {
+            known = middle;
+        } else {
+            start = middle + 1;
+        }
+    }
+    Row {
+        base: 4096 * pages[known],
+        size: 4096 * (last - known + 1) as u64,
+        index: known,
+    }
+}
+
+/// The row from the first page on, and the one up to the last page.
+#[derive(Clone, Copy)]
+pub struct Rows {
+    pub first: Row,
+    pub last: Row,
+}
+
+impl Rows {
+    /// The rows of no pages.
+    pub fn none() -> Rows
+        ensures { (pages : List ℕ) → AreRowsOf pages result }
+    {
+        Rows {
+            first: Row::none(),
+            last: Row::none(),
+        }
+    }
+
+    /// The rows of these pages.
+    pub fn of(pages: &[u64]) -> Rows
+        requires rising { Rises pages.now }
+        requires low { IsLow pages.now }
+        ensures { AreRowsOf pages.now result }
+    {
+        Rows {
+            first: first_row(pages),
+            last: last_row(pages),
+        }
+    }
+
+    /// Where the page of an address stands among the mapped pages, if it lies in one of the rows.
+    #[inline(always)]
+    pub fn find(&self, at: u64) -> Option<usize>
+        requires first { self.now.first.index + self.now.first.size < 2 ^ 64 }
+        requires last { self.now.last.index + self.now.last.size < 2 ^ 64 }
+        ensures { (pages : List ℕ) → Rises pages → AreRowsOf pages self.now → IfSome result (λ index. place pages (at / 4096) ≡ Some index) }
+    {
+        match find_in(self.first, at) {
+            Some(index) => Some(index),
+            None => find_in(self.last, at),
+        }
+    }
+}
