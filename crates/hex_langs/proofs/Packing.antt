@@ -10,7 +10,7 @@ use Rattle.std.specs.List.{AllByRecursion, slice_get}
 use Rattle.std.proofs.lemmas.Option.{get_or_from_slice_get, slice_get-get_or, slice_get-map, slice_get_past}
 use Rattle.hex_langs.specs.declared.item.Item.{Item}
 use Rattle.hex_langs.specs.declared.item.Item.TheVariants.{Byte, Pad}
-use Rattle.hex_langs.specs.Packed.{ArePacked, item_of, items_of}
+use Rattle.hex_langs.specs.Representation.Packed.{ArePacked, item_of, items_of}
 
 item_of-byte : (others : List Item) (code : ℕ) → code < 256 → item_of others code ≡ Byte code
 item_of-byte others code small = let test : nat_lt code 256 ≡ true = grind (arith, nat_tests) in cond-true _ _ _ test
@@ -66,7 +66,7 @@ pushed-other codes others it packed =
     items-append codes (256 + length others) (others ++ it ∷ [])
     ∙ ap (λ (l : List Item). l ++ item_of (others ++ it ∷ []) (256 + length others) ∷ []) (items-more codes others it packed.known)
     ∙ ap (λ (i : Item). items_of codes others ++ i ∷ [])
-        (item_of-other (others ++ it ∷ []) (256 + length others) (omega arith) ∙ ap (λ (n : ℕ). get_or (others ++ it ∷ []) n Pad) place ∙ get_or-append_seam others it [] Pad)
+    (item_of-other (others ++ it ∷ []) (256 + length others) (omega arith) ∙ ap (λ (n : ℕ). get_or (others ++ it ∷ []) n Pad) place ∙ get_or-append_seam others it [] Pad)
 
 pub packed-other : (codes : List ℕ) (others : List Item) (it : Item) → length codes < 33554432 → ArePacked codes others
     → ArePacked (codes ++ (256 + length others) ∷ []) (others ++ it ∷ [])

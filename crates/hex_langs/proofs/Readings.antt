@@ -35,10 +35,10 @@ pub reading-gap : (dialect : Dialect) (at inside next : ℕ) (byte : ℕ) (left 
 unfolding reading
 reading-gap dialect at inside next byte left opens size is =
     rw opens (rw size (
-      let counted : inside + 1 - 1 ≡ inside = omega arith in
-      ap (λ (n : ℕ). reading dialect (at + 1) n left) counted
-      ∙ reading-inside dialect (at + 1) inside left
-      ∙ ap (λ (n : ℕ). reading dialect n 0 (drop inside left)) (sym is)))
+    let counted : inside + 1 - 1 ≡ inside = omega arith in
+    ap (λ (n : ℕ). reading dialect (at + 1) n left) counted
+    ∙ reading-inside dialect (at + 1) inside left
+    ∙ ap (λ (n : ℕ). reading dialect n 0 (drop inside left)) (sym is)))
 
 -- at a token
 pub reading-token : (dialect : Dialect) (at : ℕ) (byte : ℕ) (left : List ℕ) (token : Token) (more : ℕ) → opens_gap byte ≡ false

@@ -1,4 +1,5 @@
--- A source of hex1 or hex2: its tokens, their items, and the first refusal.
+-- A source of hex1 or hex2 read from left to right: its tokens, their items, and the first refusal. docs/reference/hex1.md and hex2.md
+-- say the same for people.
 use Rattle.std.specs.Prelude.{◌≡◌, ℕ, zero, suc, ◌+◌, ◌-◌, ◌<◌, nat_lt, if◌then◌else◌, List, [], ◌∷◌, ◌++◌, length, Option, Some, None, Result, Ok, Err}
 use Rattle.hex_langs.specs.declared.item.Item.{Item}
 use Rattle.hex_langs.specs.declared.token.Dialect.{Dialect}

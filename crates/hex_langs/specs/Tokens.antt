@@ -1,4 +1,5 @@
--- The tokens of hex1 and hex2.
+-- The tokens of hex1 and hex2. Public source: the languages of these names of stage0-posix and mescc-tools, whose exact rules here are
+-- this project's profile. docs/reference/hex1.md and hex2.md say the same for people.
 use Rattle.std.specs.Prelude.{◌≡◌, ℕ, zero, suc, ◌+◌, ◌*◌, ◌-◌, ◌==◌, nat_lt, Bool, true, false, not, ◌||◌, ◌&&◌, if◌then◌else◌, List, [], ◌∷◌, ◌++◌, length, take, drop, slice_index, slice_get, Option, Some, None, is_some, Result, Ok, Err}
 use Rattle.std.specs.List.{position_or_len}
 use Rattle.std.specs.Int.{w32, from_le_bytes}
@@ -11,6 +12,8 @@ use Rattle.hex_langs.specs.declared.token.Dialect.{Dialect}
 use Rattle.hex_langs.specs.declared.token.Dialect.TheVariants.{Hex1, Hex2}
 use Rattle.hex_langs.specs.declared.token.Fault.{Fault}
 use Rattle.hex_langs.specs.declared.token.Fault.TheVariants.{OddDigits, BadField}
+use Rattle.hex_langs.specs.declared.token.Sign.{Sign}
+use Rattle.hex_langs.specs.declared.token.Sign.TheVariants as sign
 use Rattle.hex_langs.specs.declared.token.Token.{Token}
 use Rattle.hex_langs.specs.declared.token.Token.TheVariants.{Byte, Field, Reference, Alone}
 
@@ -22,7 +25,7 @@ is_blank byte = byte == 32 || byte == 9 || byte == 10 || byte == 13
 abbrev pub begins_comment : ℕ → Bool
 begins_comment byte = byte == 35 || byte == 59
 
--- how many bytes of blanks and comments stand at the front; `true`: the front lies in a comment, which runs up to the next LF
+-- how many bytes of blanks and comments stand at the front; `true`: the front lies in a comment, which runs up to and over the next LF
 abbrev pub gap_from : Bool → List ℕ → ℕ
 gap_from in_comment [] = 0
 gap_from true (byte ∷ left) = suc (gap_from (not (byte == 10)) left)
@@ -41,7 +44,7 @@ opens_gap byte = is_blank byte || begins_comment byte
 abbrev pub ends_name : ℕ → Bool
 ends_name byte = is_blank byte || byte == 62
 
--- a name of hex1 is the one next byte
+-- a name of hex1 is the one next byte, which is no blank
 abbrev pub one_byte : List ℕ → ℕ
 one_byte [] = 0
 one_byte (byte ∷ left) = if is_blank byte then 0 else 1
@@ -86,6 +89,12 @@ field_at left =
 abbrev pub named_by : (List ℕ → Token) → ℕ → List ℕ → Result (Token × ℕ) Fault
 named_by make size left = if size == 0 then Err BadField else Ok (make (take size left), size)
 
+-- what a sign makes of the name behind it
+abbrev pub signed : Sign → List ℕ → Token
+signed sign.Label name = Alone (item.Label name)
+signed sign.Absolute name = Alone (item.Abs name)
+signed (sign.Reference kind) name = Reference kind name
+
 -- behind `%` a name, and in hex2 perhaps `>` and a second one
 abbrev pub second_name : ℕ → ℕ → List ℕ → Result (Token × ℕ) Fault
 second_name size more left =
@@ -106,17 +115,18 @@ pad_at Hex2 byte left =
     if byte == 60 then Ok (Alone item.Pad, 0)
     else Err BadField
 
--- the table of tokens, by the first byte and what stands after it: the token, and how many bytes it takes after the first
+-- the table of tokens, by the first byte and what stands after it: the token, and how many bytes it takes after the first.
+-- The signs are `.` `:` `!` `@` `$` `~` `&` `%`, and `<` in hex2 alone
 unfoldable pub token_at : Dialect → ℕ → List ℕ → Result (Token × ℕ) Fault
 token_at dialect byte left =
     if is_hex_digit byte then pair_at byte left
     else if byte == 46 then field_at left
-    else if byte == 58 then named_by (λ name. Alone (item.Label name)) (name_length dialect left) left
-    else if byte == 33 then named_by (Reference I) (name_length dialect left) left
-    else if byte == 64 then named_by (Reference B) (name_length dialect left) left
-    else if byte == 36 then named_by (Reference J) (name_length dialect left) left
-    else if byte == 126 then named_by (Reference U) (name_length dialect left) left
-    else if byte == 38 then named_by (λ name. Alone (item.Abs name)) (name_length dialect left) left
+    else if byte == 58 then named_by (signed sign.Label) (name_length dialect left) left
+    else if byte == 33 then named_by (signed (sign.Reference I)) (name_length dialect left) left
+    else if byte == 64 then named_by (signed (sign.Reference B)) (name_length dialect left) left
+    else if byte == 36 then named_by (signed (sign.Reference J)) (name_length dialect left) left
+    else if byte == 126 then named_by (signed (sign.Reference U)) (name_length dialect left) left
+    else if byte == 38 then named_by (signed sign.Absolute) (name_length dialect left) left
     else if byte == 37 then rel_at dialect left
     else pad_at dialect byte left
 

@@ -1,4 +1,5 @@
--- Words: one or more fields and references, of which at most one is a reference, and then exactly four bytes.
+-- Words: one or more fields and references, of which at most one is a reference, and then exactly four bytes. docs/reference/hex2.md
+-- says the same for people.
 use Rattle.std.specs.Prelude.{◌≡◌, ℕ, ◌+◌, ◌<◌, List, [], ◌∷◌, ◌++◌, length, map, Option, Some, None, Result, Ok, Err, bit_xor}
 use Rattle.std.specs.Int.{w32, from_le_bytes, to_le_bytes}
 use Rattle.hex_langs.specs.declared.item.Kind.{Kind}

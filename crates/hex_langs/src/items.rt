@@ -1,7 +1,7 @@
 //! Items in little memory.
 ghost use Rattle.std.specs.Prelude.{◌≡◌, ◌<◌, ◌≤◌, ◌+◌, ℕ, List, [], ◌∷◌, ◌++◌, length, slice_get, OnOk, OnErr};
 ghost use Rattle.std.specs.Option.{option_copied};
-ghost use Rattle.hex_langs.specs.Packed.{items_of, ArePacked};
+ghost use Rattle.hex_langs.specs.Representation.Packed.{items_of, ArePacked};
 ghost use Rattle.hex_langs.specs.declared.item.Item.TheVariants.{Byte};
 
 use crate::item::{Item, Name};
@@ -22,7 +22,7 @@ pub struct Items<'s> {
 impl<'s> Model for Items<'s> {
     ghost use Rattle.std.specs.Prelude.{List};
     ghost use Rattle.hex_langs.specs.declared.item.Item.{Item};
-    ghost use Rattle.hex_langs.specs.Packed.{items_of, ArePacked};
+    ghost use Rattle.hex_langs.specs.Representation.Packed.{items_of, ArePacked};
 
     ghost Value = { List Item };
 
@@ -96,7 +96,7 @@ impl<'s> Items<'s> {
 
 impl<'s> Items<'s> {
     /// No items. It takes no memory.
-    #[tactic(auto, unfolding(crate::specs::Packed::items_of))]
+    #[tactic(auto, unfolding(crate::specs::Representation::Packed::items_of))]
     pub fn new(alloc: Global) -> Items<'s>
         ensures { result ≡ [] }
     {

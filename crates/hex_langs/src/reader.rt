@@ -1,5 +1,6 @@
-//! Sources of hex1 and hex2.
+//! Sources of hex1 and hex2, read to items.
 ghost use Rattle.hex_langs.specs.Reading.{items_of, Reads, fault_at, halted};
+ghost use Rattle.hex_langs.specs.Refusals.{number_of, place_of};
 ghost use Rattle.hex_langs.specs.declared.token.Dialect.TheVariants.{Hex1, Hex2};
 ghost use Rattle.std.specs.Prelude.{◌≡◌, ◌++◌, ◌≤◌, ◌<◌, length};
 
@@ -8,30 +9,74 @@ use crate::token::{Dialect, Fault, digits_at, gap_length, is_digit, opens_gap, t
 use crate::words::{Halt, take, take_byte};
 use std::alloc::Global;
 
-/// The first refusal of a source or of its items.
+/// The first refusal of a source, by the offset of a byte, or of its items, by the number of an item; both count from 0.
 #[derive(Clone, Copy, Debug, PartialEq, Eq)]
 pub enum HexRefusal {
+    /// The digit at this offset has no partner.
     OddDigits(u64),
+    /// What begins at this offset has no token's form, or is a second reference of a word.
     BadField(u64),
+    /// The fields from this offset on are not followed by exactly the four bytes of their word.
     Dangling(u64),
+    /// The label of this item was defined by an earlier one.
     DoubleLabel(u64),
+    /// A label that this item names is nowhere defined.
     NoLabel(u64),
+    /// A distance or an address of this item does not fit.
     OutOfReach(u64),
+    /// The source has more than 67,108,864 bytes, or more than 33,554,432 items.
     TooLong,
     OutOfMemory,
+}
+
+impl HexRefusal {
+    /// The number of the refusal, from 1.
+    pub fn number(&self) -> u8
+        ensures { result ≡ number_of self.now }
+    {
+        match self {
+            HexRefusal::OddDigits(_) => 1,
+            HexRefusal::BadField(_) => 2,
+            HexRefusal::Dangling(_) => 3,
+            HexRefusal::DoubleLabel(_) => 4,
+            HexRefusal::NoLabel(_) => 5,
+            HexRefusal::OutOfReach(_) => 6,
+            HexRefusal::TooLong => 7,
+            HexRefusal::OutOfMemory => 8,
+        }
+    }
+
+    /// The offset or the item's number that it holds, and 0 where it holds none.
+    pub fn place(&self) -> u64
+        ensures { result ≡ place_of self.now }
+    {
+        match self {
+            HexRefusal::OddDigits(at)
+            | HexRefusal::BadField(at)
+            | HexRefusal::Dangling(at)
+            | HexRefusal::DoubleLabel(at)
+            | HexRefusal::NoLabel(at)
+            | HexRefusal::OutOfReach(at) => *at,
+            HexRefusal::TooLong | HexRefusal::OutOfMemory => 0,
+        }
+    }
 }
 
 /// A source has at most so many bytes.
 pub const LONGEST_SOURCE: usize = 67_108_864;
 
-/// The items of a hex1 source.
+/// The items of a hex1 source of at most 67,108,864 bytes, or the first refusal from left to right. Names lie in the source.
+///
+/// Public source: the language hex1 of stage0-posix. docs/reference/hex1.md has the rules of this project's profile.
 pub fn items1<'s>(alloc: Global, source: &'s [u8]) -> Result<Items<'s>, HexRefusal>
     ensures { Reads (items_of Hex1 source.now) result }
 {
     items_of(alloc, Dialect::Hex1, source)
 }
 
-/// The items of a hex2 source.
+/// The items of a hex2 source of at most 67,108,864 bytes, or the first refusal from left to right. Names lie in the source.
+///
+/// Public source: the language hex2 of stage0-posix and mescc-tools. docs/reference/hex2.md has the rules of this project's profile.
 pub fn items2<'s>(alloc: Global, source: &'s [u8]) -> Result<Items<'s>, HexRefusal>
     ensures { Reads (items_of Hex2 source.now) result }
 {
@@ -39,11 +84,7 @@ pub fn items2<'s>(alloc: Global, source: &'s [u8]) -> Result<Items<'s>, HexRefus
 }
 
 /// The items of a source.
-fn items_of<'s>(
-    alloc: Global,
-    dialect: Dialect,
-    source: &'s [u8],
-) -> Result<Items<'s>, HexRefusal>
+fn items_of<'s>(alloc: Global, dialect: Dialect, source: &'s [u8]) -> Result<Items<'s>, HexRefusal>
     ensures { Reads (items_of dialect source.now) result }
 {
     if source.len() > LONGEST_SOURCE {

@@ -1,9 +1,7 @@
 //! Tokens of hex1 and hex2.
 ghost use Rattle.hex.specs.Hex.{hex_digit_value, is_hex_digit};
-ghost use Rattle.hex_langs.specs.Tokens.{is_blank, begins_comment, gap_length, name_length, pair_at, field_at, named_by, rel_at, token_at, ends_name, opens_gap, byte_of, byte_at, second_name, pad_at, one_byte, IsPair};
+ghost use Rattle.hex_langs.specs.Tokens.{is_blank, begins_comment, gap_length, name_length, pair_at, field_at, named_by, signed, rel_at, token_at, ends_name, opens_gap, byte_of, byte_at, second_name, pad_at, one_byte, IsPair};
 ghost use Rattle.std.specs.List.{position_or_len};
-ghost use Rattle.hex_langs.specs.declared.item.Item.TheVariants.{Label, Abs};
-ghost use Rattle.hex_langs.specs.declared.token.Token.TheVariants.{Reference, Alone};
 ghost use Rattle.hex_langs.specs.declared.token.Dialect.TheVariants.{Hex2};
 ghost use Rattle.std.specs.Prelude.{◌≡◌, ℕ, List, ◌<◌, ◌≤◌, ◌+◌, ◌-◌, length, IfOk, IfSome, Some, None, drop, true, slice_index};
 
@@ -164,7 +162,12 @@ fn field_at<'s>(rest: &'s [u8]) -> Result<(Token<'s>, usize), Fault>
     if rest.len() < 8 {
         return Err(Fault::BadField);
     }
-    match (byte_at(rest, 0), byte_at(rest, 2), byte_at(rest, 4), byte_at(rest, 6)) {
+    match (
+        byte_at(rest, 0),
+        byte_at(rest, 2),
+        byte_at(rest, 4),
+        byte_at(rest, 6),
+    ) {
         (Some(a), Some(b), Some(c), Some(d)) => {
             Ok((Token::Field(u32::from_le_bytes([a, b, c, d])), 8))
         }
@@ -172,44 +175,35 @@ fn field_at<'s>(rest: &'s [u8]) -> Result<(Token<'s>, usize), Fault>
     }
 }
 
-/// A reference with the name at the front.
-fn reference<'s>(
-    dialect: Dialect,
-    kind: Kind,
-    rest: &'s [u8],
-) -> Result<(Token<'s>, usize), Fault>
-    ensures value { result ≡ named_by (Reference kind) (name_length dialect rest.now) rest.now }
-    ensures within { IfOk result (λ found. found.1 ≤ length rest.now) }
-{
-    let size = name_length(dialect, rest);
-    if size == 0 {
-        return Err(Fault::BadField);
-    }
-    Ok((Token::Reference(kind, Name::new(&rest[..size])), size))
+/// What a sign makes of the name behind it.
+#[derive(Clone, Copy, Debug)]
+enum Sign {
+    Label,
+    Absolute,
+    Reference(Kind),
 }
 
-/// A label with the name at the front.
-fn label<'s>(dialect: Dialect, rest: &'s [u8]) -> Result<(Token<'s>, usize), Fault>
-    ensures value { result ≡ named_by (λ name. Alone (Label name)) (name_length dialect rest.now) rest.now }
-    ensures within { IfOk result (λ found. found.1 ≤ length rest.now) }
+/// The token of a sign and a name.
+fn signed<'s>(sign: Sign, name: Name<'s>) -> Token<'s>
+    ensures { result ≡ signed sign name.entry }
 {
-    let size = name_length(dialect, rest);
-    if size == 0 {
-        return Err(Fault::BadField);
+    match sign {
+        Sign::Label => Token::Alone(Item::Label(name)),
+        Sign::Absolute => Token::Alone(Item::Abs(name)),
+        Sign::Reference(kind) => Token::Reference(kind, name),
     }
-    Ok((Token::Alone(Item::Label(Name::new(&rest[..size]))), size))
 }
 
-/// An absolute address with the name at the front.
-fn absolute<'s>(dialect: Dialect, rest: &'s [u8]) -> Result<(Token<'s>, usize), Fault>
-    ensures value { result ≡ named_by (λ name. Alone (Abs name)) (name_length dialect rest.now) rest.now }
+/// Behind a sign at once a name.
+fn named<'s>(dialect: Dialect, sign: Sign, rest: &'s [u8]) -> Result<(Token<'s>, usize), Fault>
+    ensures value { result ≡ named_by (signed sign) (name_length dialect rest.now) rest.now }
     ensures within { IfOk result (λ found. found.1 ≤ length rest.now) }
 {
     let size = name_length(dialect, rest);
     if size == 0 {
         return Err(Fault::BadField);
     }
-    Ok((Token::Alone(Item::Abs(Name::new(&rest[..size]))), size))
+    Ok((signed(sign, Name::new(&rest[..size])), size))
 }
 
 /// Behind `%` a name, and in hex2 perhaps `>` and a second one.
@@ -261,12 +255,12 @@ pub(crate) fn token_at<'s>(
     match byte {
         b'0'..=b'9' | b'a'..=b'f' | b'A'..=b'F' => pair_at(byte, rest),
         b'.' => field_at(rest),
-        b':' => label(dialect, rest),
-        b'!' => reference(dialect, Kind::I, rest),
-        b'@' => reference(dialect, Kind::B, rest),
-        b'$' => reference(dialect, Kind::J, rest),
-        b'~' => reference(dialect, Kind::U, rest),
-        b'&' => absolute(dialect, rest),
+        b':' => named(dialect, Sign::Label, rest),
+        b'!' => named(dialect, Sign::Reference(Kind::I), rest),
+        b'@' => named(dialect, Sign::Reference(Kind::B), rest),
+        b'$' => named(dialect, Sign::Reference(Kind::J), rest),
+        b'~' => named(dialect, Sign::Reference(Kind::U), rest),
+        b'&' => named(dialect, Sign::Absolute, rest),
         b'%' => relative(dialect, rest),
         _ => pad_at(dialect, byte),
     }

@@ -11,7 +11,7 @@ use crate::items::{Items, MOST_ITEMS};
 use crate::token::Token;
 use ddc_base::OutOfMemory;
 
-/// The bytes of an word word so far.
+/// The bytes of an open word so far.
 #[derive(Clone, Copy, Debug)]
 pub enum Begun {
     Nothing,
@@ -34,8 +34,11 @@ pub struct Open<'s> {
 /// Why a token has no place.
 #[derive(Clone, Copy, Debug)]
 pub enum Halt {
+    /// The word whose first field stands at this offset is not whole.
     Dangling(usize),
+    /// The reference at this offset is the second one of its word.
     Second(usize),
+    /// One more item than a list may have would be formed.
     TooLong,
     OutOfMemory,
 }
@@ -50,7 +53,7 @@ impl From<OutOfMemory> for Halt {
     }
 }
 
-/// Takes one token behind an word word, or behind none.
+/// Takes one token behind an open word, or behind none.
 pub fn take<'s>(
     items: &mut Items<'s>,
     word: Option<Open<'s>>,
@@ -121,7 +124,7 @@ pub fn take_byte<'s>(
     }
 }
 
-/// A byte of an word word.
+/// Takes a byte of an open word.
 fn byte_of_word<'s>(
     items: &mut Items<'s>,
     word: Open<'s>,

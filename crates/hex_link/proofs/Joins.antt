@@ -9,7 +9,8 @@ use Rattle.hex_langs.specs.declared.reader.HexRefusal.{HexRefusal}
 use Rattle.hex_langs.specs.declared.reader.HexRefusal.TheVariants as refusal
 use Rattle.hex_link.specs.declared.number.Miss.{Miss}
 use Rattle.indexmap.specs.IndexMap.{get, IndexMap}
-use Rattle.hex_link.specs.Link.{address_of, behind, bytes_of, four, joined, Labels, link_of, Links, number_of, onto, pad_size, Puts, refused, same_name, size_at, Tables, unless_repeat}
+use Rattle.hex_link.specs.Link.{address_of, behind, bytes_of, four, joined, Labels, link_of, Links, number_of, onto, pad_size, refused, same_name, size_at, unless_repeat}
+use Rattle.hex_link.specs.Representation.Tables.{Puts, Tables}
 
 pub puts-ok : (meant : Result (List ℕ) Miss) (old new : List ℕ) → Puts (Ok tt) meant old new
     → (bytes : List ℕ) × (meant ≡ Ok bytes) × (new ≡ old ++ bytes)
@@ -20,7 +21,7 @@ four-size : (number : Result ℕ Miss) (bytes : List ℕ) → four number ≡ Ok
 four-size (Ok n) bytes is = let same : to_le_bytes w32 n ≡ bytes = cc in sym (ap length same)
 four-size (Err miss) bytes is = absurd (cc)
 
-bytes-size : (labels : Labels) (place : ℕ) (it : Item) (bytes : List ℕ) → bytes_of labels place it ≡ Ok bytes → length bytes ≡ size_at place it
+pub bytes-size : (labels : Labels) (place : ℕ) (it : Item) (bytes : List ℕ) → bytes_of labels place it ≡ Ok bytes → length bytes ≡ size_at place it
 bytes-size labels place (Byte byte) bytes is = let same : byte ∷ [] ≡ bytes = cc in sym (ap length same)
 bytes-size labels place (Label name) bytes is = let same : [] ≡ bytes = cc in sym (ap length same)
 bytes-size labels place Pad bytes is = let same : replicate (pad_size place) 0 ≡ bytes = cc in sym (ap length same) ∙ length-replicate {A = ℕ} (pad_size place) 0
@@ -52,12 +53,13 @@ joined-more labels base index it left old new whole is puts =
     let size = bytes-size labels (base + length old) it put.0 put.1 in
     let length_is : length new ≡ length old + length put.0 = ap length put.2 ∙ length-append old put.0 in
     let next_is : base + length old + size_at (base + length old) it ≡ base + length new = omega (arith, size, length_is) in
-    let rest = joined labels (base + length old + size_at (base + length old) it) (index + 1) left in
-    (is ∙ ap (λ (b : Result (List ℕ) Miss). onto old (behind b index rest)) put.1
-     ∙ onto-twice old put.0 rest
-     ∙ ap (λ (bytes : List ℕ). onto bytes rest) (sym put.2)
-     ∙ ap (λ (n : ℕ). onto new (joined labels n (index + 1) left)) next_is,
-     omega (arith, size, length_is, size-small (base + length old) it))
+    let rest = joined labels (base + length old + size_at (base + length old) it) (index + 1) left in (
+      is ∙ ap (λ (b : Result (List ℕ) Miss). onto old (behind b index rest)) put.1
+          ∙ onto-twice old put.0 rest
+          ∙ ap (λ (bytes : List ℕ). onto bytes rest) (sym put.2)
+          ∙ ap (λ (n : ℕ). onto new (joined labels n (index + 1) left)) next_is,
+      omega (arith, size, length_is, size-small (base + length old) it),
+    )
 
 -- at an item that has no bytes
 pub joined-refused : (labels : Labels) (base index : ℕ) (it : Item) (left : List Item) (old : List ℕ) (miss : Miss) (whole : Result (List ℕ) HexRefusal)

@@ -10,7 +10,8 @@ use Rattle.hex_langs.specs.declared.item.Item.{Item}
 use Rattle.hex_langs.specs.declared.item.Item.TheVariants.{Label}
 use Rattle.hex_langs.specs.declared.reader.HexRefusal.{HexRefusal}
 use Rattle.hex_langs.specs.declared.reader.HexRefusal.TheVariants as refusal
-use Rattle.hex_link.specs.Link.{address_of, defines, first_repeat, label_in, Noted, Notes, or_else, repeats, same_name, size_at}
+use Rattle.hex_link.specs.Link.{address_of, defines, first_repeat, label_in, repeats, same_name, size_at}
+use Rattle.hex_link.specs.Representation.Tables.{Noted, Notes, or_else}
 
 keys_of-append : (es fs : List (List ℕ × ℕ)) → keys_of (es ++ fs) ≡ keys_of es ++ keys_of fs
 keys_of-append [] fs = refl
@@ -50,28 +51,28 @@ pub found-more : {S : Type 0} (it : Item) (left : List Item) (address next : ℕ
     → whole ≡ or_else (get same_name new name) (address_of next left name)
 found-more it left address next old new name whole noted next_is is =
     by (defines name it) refl
-    where
-      by : (test : Bool) → defines name it ≡ test → whole ≡ or_else (get same_name new name) (address_of next left name)
-      by true here =
-          let before = noted.fresh name here in
-          let after : get same_name new name ≡ Some address = noted.found name ∙ ap (λ (t : Bool). cond t (Some address) (get same_name old name)) here in
-          is ∙ ap (λ (o : Option ℕ). or_else o (address_of address (it ∷ left) name)) before
-          ∙ ap (λ (t : Bool). cond t (Some address) (address_of (address + size_at address it) left name)) here
-          ∙ sym (ap (λ (o : Option ℕ). or_else o (address_of next left name)) after)
-      by false other =
-          let after : get same_name new name ≡ get same_name old name = noted.found name ∙ ap (λ (t : Bool). cond t (Some address) (get same_name old name)) other in
-          is ∙ ap (λ (t : Bool). or_else (get same_name old name) (cond t (Some address) (address_of (address + size_at address it) left name))) other
-          ∙ ap (λ (n : ℕ). or_else (get same_name old name) (address_of n left name)) (sym next_is)
-          ∙ sym (ap (λ (o : Option ℕ). or_else o (address_of next left name)) after)
+  where
+    by : (test : Bool) → defines name it ≡ test → whole ≡ or_else (get same_name new name) (address_of next left name)
+    by true here =
+        let before = noted.fresh name here in
+        let after : get same_name new name ≡ Some address = noted.found name ∙ ap (λ (t : Bool). cond t (Some address) (get same_name old name)) here in
+        is ∙ ap (λ (o : Option ℕ). or_else o (address_of address (it ∷ left) name)) before
+        ∙ ap (λ (t : Bool). cond t (Some address) (address_of (address + size_at address it) left name)) here
+        ∙ sym (ap (λ (o : Option ℕ). or_else o (address_of next left name)) after)
+    by false other =
+        let after : get same_name new name ≡ get same_name old name = noted.found name ∙ ap (λ (t : Bool). cond t (Some address) (get same_name old name)) other in
+        is ∙ ap (λ (t : Bool). or_else (get same_name old name) (cond t (Some address) (address_of (address + size_at address it) left name))) other
+        ∙ ap (λ (n : ℕ). or_else (get same_name old name) (address_of n left name)) (sym next_is)
+        ∙ sym (ap (λ (o : Option ℕ). or_else o (address_of next left name)) after)
 
 pub small-more : {S : Type 0} (it : Item) (address : ℕ) (old new : IndexMap (List ℕ) ℕ S) (name : List ℕ) → Noted it address old new
     → address < 2 ^ 40 → IfSome (get same_name old name) (λ at. at < 2 ^ 40) → IfSome (get same_name new name) (λ at. at < 2 ^ 40)
 small-more it address old new name noted near small =
     subst (λ (o : Option ℕ). IfSome o (λ at. at < 2 ^ 40)) (sym (noted.found name)) (by (defines name it))
-    where
-      by : (test : Bool) → IfSome (cond test (Some address) (get same_name old name)) (λ at. at < 2 ^ 40)
-      by true = near
-      by false = small
+  where
+    by : (test : Bool) → IfSome (cond test (Some address) (get same_name old name)) (λ at. at < 2 ^ 40)
+    by true = near
+    by false = small
 
 pub repeats-more : {S : Type 0} (it : Item) (left : List Item) (address index : ℕ) (old new : IndexMap (List ℕ) ℕ S) → Noted it address old new
     → first_repeat (keys old) index (it ∷ left) ≡ first_repeat (keys new) (index + 1) left

@@ -1,14 +1,13 @@
 //! The bytes of all items.
 ghost use Rattle.std.specs.Prelude.{◌≡◌, ◌<◌, ◌≤◌, ◌^◌, ◌++◌, ℕ, List, length, OnOk, OnErr, replicate};
 ghost use Rattle.indexmap.specs.IndexMap.{get};
-ghost use Rattle.hex_link.specs.Link.{AreSmall, joined, Links, link_of, same_name, bytes_of, Puts};
+ghost use Rattle.hex_link.specs.Link.{joined, Links, link_of, same_name, bytes_of};
+ghost use Rattle.hex_link.specs.Representation.Tables.{AreSmall, Puts};
 
 use crate::labels::{item_at, labels_of};
 use crate::number::{Miss, number_of};
 use ddc_base::{Bytes, OutOfMemory};
-use hex_langs::item::{Item, Name};
-use hex_langs::items::Items;
-use hex_langs::reader::HexRefusal;
+use hex_langs::{HexRefusal, Item, Items, Name};
 use indexmap::IndexMap;
 use std::alloc::Global;
 

@@ -1,11 +1,10 @@
 //! The addresses of labels.
 ghost use Rattle.std.specs.Prelude.{◌≡◌, ◌<◌, ◌≤◌, ◌^◌, ℕ, List, length, slice_index_or};
 ghost use Rattle.indexmap.specs.IndexMap.{get};
-ghost use Rattle.hex_link.specs.Link.{size_at, Tables, Notes};
+ghost use Rattle.hex_link.specs.Link.{size_at};
+ghost use Rattle.hex_link.specs.Representation.Tables.{Tables, Notes};
 
-use hex_langs::item::{Item, Name};
-use hex_langs::items::Items;
-use hex_langs::reader::HexRefusal;
+use hex_langs::{HexRefusal, Item, Items, Name};
 use indexmap::IndexMap;
 use std::alloc::Global;
 

@@ -3,10 +3,11 @@ ghost use Rattle.std.specs.Prelude.{◌≡◌, ◌<◌, ◌≤◌, ◌-ℤ◌, �
 ghost use Rattle.hex_langs.specs.declared.item.Kind.TheVariants.{U};
 ghost use Rattle.indexmap.specs.IndexMap.{get};
 ghost use Rattle.std.specs.Cmp.Lexicographic.{pointwise};
-ghost use Rattle.hex_link.specs.Link.{distance_number, word_number, number_of, i_field, b_field, j_field, wrapped, fits_even, same_name, AreSmall};
+ghost use Rattle.hex_link.specs.Link.{distance_number, word_number, number_of, i_field, b_field, j_field, wrapped, fits_even, same_name};
+ghost use Rattle.hex_link.specs.Representation.Tables.{AreSmall};
 ghost use Rattle.std.specs.Prelude.{◌≤ℤ◌, ◌^◌, neg_ℤ, unsigned_abs};
 
-use hex_langs::item::{Item, Kind, Name};
+use hex_langs::{Item, Kind, Name};
 use indexmap::IndexMap;
 
 /// Why an item has no number.

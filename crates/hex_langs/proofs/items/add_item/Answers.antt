@@ -1,6 +1,6 @@
 use Rattle.std.proofs.Common.{arith, ap, sym, subst, ◌∙◌, ◌≡◌, ◌++◌, ◌∷◌, [], List, ℕ, ◌+◌, length}
 use Rattle.hex_langs.specs.declared.item.Item.{Item}
-use Rattle.hex_langs.specs.Packed.{ArePacked, items_of}
+use Rattle.hex_langs.specs.Representation.Packed.{ArePacked, items_of}
 use Rattle.hex_langs.proofs.Packing.{packed-other, pushed-byte, pushed-other}
 use Rattle.hex_langs.proofs.items.add_item.Goals as goal
 

@@ -108,7 +108,7 @@ returns-in-None c =
     let source = c.args.source.now in
     let done = at_drop_all (reading c.args.dialect c.loop-at.at 0) source c.loop-at.at (omega arith) ∙ reading-end c.args.dialect c.loop-at.at in
     let whole = c.loop-at.invariant.whole ∙ ap (λ l. with_front c.loop-at.items (formed c.loop-at.word l)) done
-        ∙ ap (λ word. with_front c.loop-at.items (formed word Ends)) c.in-None.is in
+    ∙ ap (λ word. with_front c.loop-at.items (formed word Ends)) c.in-None.is in
     items_of-judged c.args.dialect source (omega arith) ∙ judged-end _ c.loop-at.items (end_of None) whole c.loop-at.invariant.few
 
 pub returns : goal.returns
@@ -116,5 +116,5 @@ returns c =
     let source = c.args.source.now in
     let done = at_drop_all (reading c.args.dialect c.loop-at.at 0) source c.loop-at.at (omega arith) ∙ reading-end c.args.dialect c.loop-at.at in
     let whole = c.loop-at.invariant.whole ∙ ap (λ l. with_front c.loop-at.items (formed c.loop-at.word l)) done
-        ∙ ap (λ word. with_front c.loop-at.items (formed word Ends)) c.in-Some.is in
+    ∙ ap (λ word. with_front c.loop-at.items (formed word Ends)) c.in-Some.is in
     items_of-judged c.args.dialect source (omega arith) ∙ judged-end _ c.loop-at.items (end_of (Some c.in-Some.word)) whole c.loop-at.invariant.few

@@ -1,6 +1,7 @@
 use Rattle.std.proofs.Common.{◌≡◌, ◌≤◌, ◌+◌, ◌*◌, ℕ, List, [], drop}
 use Rattle.indexmap.specs.IndexMap.{get, keys}
-use Rattle.hex_link.specs.Link.{address_of, AreSmall, first_repeat, or_else, same_name}
+use Rattle.hex_link.specs.Link.{address_of, first_repeat, same_name}
+use Rattle.hex_link.specs.Representation.Tables.{AreSmall, or_else}
 use Rattle.hex_link.proofs.labels.labels_of.Given as goal
 
 -- a name has the address in the table, else the one that what is left gives it
