@@ -3,7 +3,8 @@ use Rattle.std.proofs.Common.{◌≡◌, ℕ, suc, ◌+◌, ◌<◌, ◌==◌, B
 use Rattle.std.proofs.lemmas.Grind.{common_steps}
 use Rattle.std.proofs.lemmas.Bool.Decides.{nat_tests}
 use Rattle.std.specs.List.{position_or_len}
-use Rattle.hex_langs.specs.Tokens.{gap_from, is_blank, begins_comment, ends_name}
+use Rattle.hex_langs.specs.Tokens.{gap_from, is_blank, ends_name}
+use Rattle.hex_langs.specs.Hex0.{begins_comment}
 
 pub gap_from-comment : (byte : ℕ) (left : List ℕ) → gap_from true (byte ∷ left) ≡ 1 + gap_from (not (byte == 10)) left
 gap_from-comment byte left = omega arith

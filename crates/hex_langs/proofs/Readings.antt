@@ -14,7 +14,8 @@ use Rattle.hex_langs.specs.declared.words.Halt.{Halt}
 use Rattle.hex_langs.specs.declared.words.Halt.TheVariants as halt
 use Rattle.hex_langs.specs.declared.reader.HexRefusal.{HexRefusal}
 use Rattle.hex_langs.specs.declared.reader.HexRefusal.TheVariants.{TooLong}
-use Rattle.hex_langs.specs.Tokens.{begins_comment, gap_from, gap_length, is_blank, opens_gap, token_at}
+use Rattle.hex_langs.specs.Tokens.{gap_from, gap_length, is_blank, opens_gap, token_at}
+use Rattle.hex_langs.specs.Hex0.{begins_comment}
 use Rattle.hex_langs.specs.Words.{Step, taken, Takes}
 use Rattle.hex_langs.specs.Reading.{answer, End, Ends, Faulted, Faulty, Formed, fault_at, formed, goes_on, Halted, halted, items_of, judged, Reading, Reads, reading, Then, with_front}
 

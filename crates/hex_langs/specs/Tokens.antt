@@ -4,6 +4,7 @@ use Rattle.std.specs.Prelude.{◌≡◌, ℕ, zero, suc, ◌+◌, ◌*◌, ◌-�
 use Rattle.std.specs.List.{position_or_len}
 use Rattle.std.specs.Int.{w32, from_le_bytes}
 use Rattle.hex.specs.Hex.{hex_digit_value, is_hex_digit}
+use Rattle.hex_langs.specs.Hex0.{begins_comment}
 use Rattle.hex_langs.specs.declared.item.Kind.{Kind}
 use Rattle.hex_langs.specs.declared.item.Kind.TheVariants.{I, B, J, U}
 use Rattle.hex_langs.specs.declared.item.Item.{Item}
@@ -20,10 +21,6 @@ use Rattle.hex_langs.specs.declared.token.Token.TheVariants.{Byte, Field, Refere
 -- blanks: 20, 09, 0A and 0D
 abbrev pub is_blank : ℕ → Bool
 is_blank byte = byte == 32 || byte == 9 || byte == 10 || byte == 13
-
--- `#` and `;` begin a comment
-abbrev pub begins_comment : ℕ → Bool
-begins_comment byte = byte == 35 || byte == 59
 
 -- how many bytes of blanks and comments stand at the front; `true`: the front lies in a comment, which runs up to and over the next LF
 abbrev pub gap_from : Bool → List ℕ → ℕ

@@ -1,6 +1,7 @@
 //! Tokens of hex1 and hex2.
 ghost use Rattle.hex.specs.Hex.{hex_digit_value, is_hex_digit};
-ghost use Rattle.hex_langs.specs.Tokens.{is_blank, begins_comment, gap_length, name_length, pair_at, field_at, named_by, signed, rel_at, token_at, ends_name, opens_gap, byte_of, byte_at, second_name, pad_at, one_byte, IsPair};
+ghost use Rattle.hex_langs.specs.Tokens.{is_blank, gap_length, name_length, pair_at, field_at, named_by, signed, rel_at, token_at, ends_name, opens_gap, byte_of, byte_at, second_name, pad_at, one_byte, IsPair};
+ghost use Rattle.hex_langs.specs.Hex0.{begins_comment};
 ghost use Rattle.std.specs.List.{position_or_len};
 ghost use Rattle.hex_langs.specs.declared.token.Dialect.TheVariants.{Hex2};
 ghost use Rattle.std.specs.Prelude.{◌≡◌, ℕ, List, ◌<◌, ◌≤◌, ◌+◌, ◌-◌, length, IfOk, IfSome, Some, None, drop, true, slice_index};
