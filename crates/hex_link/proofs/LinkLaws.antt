@@ -1,11 +1,18 @@
 -- What linking does not depend on.
-use Rattle.std.proofs.Common.{◌≡◌, ℕ, ◌+◌, Bool, true, false, cond, ◌&&◌, List, [], ◌∷◌, ◌++◌, length, map, length-append, Option, Some, None, Result, Ok, Err, IsTrue, refl, sym, ap, subst, ◌∙◌, arith}
+use Rattle.std.proofs.Common.{◌≡◌, ℕ, ◌+◌, ◌≤◌, Bool, true, false, cond, ◌&&◌, List, [], ◌∷◌, ◌++◌, length, map, length-append, Option, Some, None, Result, Ok, Err, IsTrue, refl, sym, ap, subst, ◌∙◌, arith}
 use Rattle.std.specs.List.{list_all, list_any}
 use Rattle.std.proofs.lemmas.Slice.Eq.{bytes_eq-Decides}
 use Rattle.hex_langs.specs.declared.item.Item.{Item}
 use Rattle.hex_langs.specs.declared.item.Item.TheVariants.{Byte, Label, Word, Rel, Gap, Abs, Pad}
 use Rattle.hex_langs.specs.declared.reader.HexRefusal.{HexRefusal}
 use Rattle.hex_link.specs.declared.number.Miss.{Miss}
+use Rattle.hex_langs.specs.declared.token.Dialect.TheVariants as dialect
+use Rattle.hex_langs.specs.Hex0.{HasEvenDigits, hex0_of}
+use Rattle.hex_langs.specs.Plain.{is_plain}
+use Rattle.hex_langs.proofs.PlainSources.{plain-items}
+use Rattle.hex_link.specs.declared.values.Language.{Language}
+use Rattle.hex_link.specs.declared.values.Language.TheVariants.{Hex0, Hex1, Hex2}
+use Rattle.hex_link.specs.Values.{linked, value_of}
 use Rattle.hex_link.specs.Laws.{end_of, is_fixed, KeepsApart, renamed}
 use Rattle.hex_link.specs.Link.{address_of, behind, bytes_of, defines, first_repeat, joined, label_in, Labels, link_of, number_of, onto, refused, repeats, same_name, size_at, unless_repeat}
 use Rattle.hex_link.proofs.Joins.{bytes-size}
@@ -169,3 +176,28 @@ names-do-not-matter rename apart items base =
     (repeat-renamed rename apart [] 0 items)
     ∙ ap (unless_repeat (first_repeat [] 0 items))
     (joined-renamed rename (address_of base items) (address_of base (map (renamed rename) items)) (address-renamed rename apart base items) base 0 items)
+
+-- ---- bytes alone
+
+no-repeat : (index : ℕ) (bytes : List ℕ) → first_repeat [] index (map Byte bytes) ≡ None
+no-repeat index [] = refl
+no-repeat index (byte ∷ bytes) = no-repeat (index + 1) bytes
+
+joined-bytes : (labels : Labels) (address index : ℕ) (bytes : List ℕ) → joined labels address index (map Byte bytes) ≡ Ok bytes
+joined-bytes labels address index [] = refl
+joined-bytes labels address index (byte ∷ bytes) = ap (onto (byte ∷ [])) (joined-bytes labels (address + 1) (index + 1) bytes)
+
+link-bytes : (bytes : List ℕ) (base : ℕ) → link_of (map Byte bytes) base ≡ Ok bytes
+unfolding link_of
+link-bytes bytes base =
+    ap (λ (repeat : Option ℕ). unless_repeat repeat (joined (address_of base (map Byte bytes)) base 0 (map Byte bytes))) (no-repeat 0 bytes)
+    ∙ joined-bytes (address_of base (map Byte bytes)) base 0 bytes
+
+linked-bytes : (base : ℕ) (items : Result (List Item) HexRefusal) (bytes : List ℕ) → items ≡ Ok (map Byte bytes) → linked base items ≡ Ok bytes
+linked-bytes base items bytes is = ap (linked base) is ∙ link-bytes bytes base
+
+pub plain-values : (language : Language) (base : ℕ) (source : List ℕ) → length source ≤ 67108864 → IsTrue (is_plain source) → HasEvenDigits source
+    → value_of language base source ≡ Ok (hex0_of source)
+plain-values Hex0 base source short plain even = refl
+plain-values Hex1 base source short plain even = linked-bytes base _ (hex0_of source) (plain-items dialect.Hex1 source short plain even)
+plain-values Hex2 base source short plain even = linked-bytes base _ (hex0_of source) (plain-items dialect.Hex2 source short plain even)
