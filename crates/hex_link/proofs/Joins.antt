@@ -3,10 +3,10 @@ use Rattle.std.proofs.Common.{◌≡◌, ℕ, ◌+◌, ◌*◌, ◌<◌, ◌≤�
 use Rattle.std.proofs.lemmas.List.{length-replicate}
 use Rattle.std.specs.Prelude.{replicate}
 use Rattle.std.specs.Int.{w32, to_le_bytes}
-use Rattle.hex_langs.specs.declared.item.Item.{Item}
-use Rattle.hex_langs.specs.declared.item.Item.TheVariants.{Byte, Label, Word, Rel, Gap, Abs, Pad}
-use Rattle.hex_langs.specs.declared.reader.HexRefusal.{HexRefusal}
-use Rattle.hex_langs.specs.declared.reader.HexRefusal.TheVariants as refusal
+use Rattle.hex_items.specs.declared.item.Item.{Item}
+use Rattle.hex_items.specs.declared.item.Item.TheVariants.{Byte, Label, Word, Rel, Gap, Abs, Pad}
+use Rattle.hex_items.specs.declared.reader.HexRefusal.{HexRefusal}
+use Rattle.hex_items.specs.declared.reader.HexRefusal.TheVariants as refusal
 use Rattle.hex_link.specs.declared.number.Miss.{Miss}
 use Rattle.indexmap.specs.IndexMap.{get, IndexMap}
 use Rattle.hex_link.specs.Link.{address_of, behind, bytes_of, four, joined, Labels, link_of, Links, number_of, onto, pad_size, refused, same_name, size_at, unless_repeat}

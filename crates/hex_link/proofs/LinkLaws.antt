@@ -2,14 +2,14 @@
 use Rattle.std.proofs.Common.{◌≡◌, ℕ, ◌+◌, ◌≤◌, Bool, true, false, cond, ◌&&◌, List, [], ◌∷◌, ◌++◌, length, map, length-append, Option, Some, None, Result, Ok, Err, IsTrue, refl, sym, ap, subst, ◌∙◌, arith}
 use Rattle.std.specs.List.{list_all, list_any}
 use Rattle.std.proofs.lemmas.Slice.Eq.{bytes_eq-Decides}
-use Rattle.hex_langs.specs.declared.item.Item.{Item}
-use Rattle.hex_langs.specs.declared.item.Item.TheVariants.{Byte, Label, Word, Rel, Gap, Abs, Pad}
-use Rattle.hex_langs.specs.declared.reader.HexRefusal.{HexRefusal}
+use Rattle.hex_items.specs.declared.item.Item.{Item}
+use Rattle.hex_items.specs.declared.item.Item.TheVariants.{Byte, Label, Word, Rel, Gap, Abs, Pad}
+use Rattle.hex_items.specs.declared.reader.HexRefusal.{HexRefusal}
 use Rattle.hex_link.specs.declared.number.Miss.{Miss}
-use Rattle.hex_langs.specs.declared.token.Dialect.TheVariants as dialect
+use Rattle.hex_items.specs.declared.token.Dialect.TheVariants as dialect
 use Rattle.hex_langs.specs.Hex0.{HasEvenDigits, hex0_of}
-use Rattle.hex_langs.specs.Plain.{is_plain}
-use Rattle.hex_langs.proofs.PlainSources.{plain-items}
+use Rattle.hex_items.specs.Plain.{is_plain}
+use Rattle.hex_items.proofs.PlainSources.{plain-items}
 use Rattle.hex_link.specs.declared.values.Language.{Language}
 use Rattle.hex_link.specs.declared.values.Language.TheVariants.{Hex0, Hex1, Hex2}
 use Rattle.hex_link.specs.Values.{linked, value_of}

@@ -6,10 +6,10 @@ use Rattle.std.specs.List.{list_any}
 use Rattle.std.specs.Map.{keys_of}
 use Rattle.indexmap.specs.IndexMap.{get, IndexMap, insert_entry, keys}
 use Rattle.indexmap.proofs.CallerLemmas.{insert_entry-new}
-use Rattle.hex_langs.specs.declared.item.Item.{Item}
-use Rattle.hex_langs.specs.declared.item.Item.TheVariants.{Label}
-use Rattle.hex_langs.specs.declared.reader.HexRefusal.{HexRefusal}
-use Rattle.hex_langs.specs.declared.reader.HexRefusal.TheVariants as refusal
+use Rattle.hex_items.specs.declared.item.Item.{Item}
+use Rattle.hex_items.specs.declared.item.Item.TheVariants.{Label}
+use Rattle.hex_items.specs.declared.reader.HexRefusal.{HexRefusal}
+use Rattle.hex_items.specs.declared.reader.HexRefusal.TheVariants as refusal
 use Rattle.hex_link.specs.Link.{address_of, defines, first_repeat, label_in, repeats, same_name, size_at}
 use Rattle.hex_link.specs.Representation.Tables.{Noted, Notes, or_else}
 

@@ -1,7 +1,7 @@
 -- What the laws of linking say.
 use Rattle.std.specs.Prelude.{◌≡◌, ℕ, ◌+◌, Bool, true, false, List, [], ◌∷◌}
-use Rattle.hex_langs.specs.declared.item.Item.{Item}
-use Rattle.hex_langs.specs.declared.item.Item.TheVariants.{Byte, Label, Word, Rel, Gap, Abs, Pad}
+use Rattle.hex_items.specs.declared.item.Item.{Item}
+use Rattle.hex_items.specs.declared.item.Item.TheVariants.{Byte, Label, Word, Rel, Gap, Abs, Pad}
 use Rattle.hex_link.specs.Link.{size_at}
 
 -- an item that is no reference and no pad

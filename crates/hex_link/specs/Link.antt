@@ -5,12 +5,12 @@ use Rattle.std.specs.Prelude.{◌≡◌, ℕ, ◌+◌, ◌-◌, ◌*◌, ◌/◌
 use Rattle.std.specs.Int.{w32, to_le_bytes, int_rem_euclid}
 use Rattle.std.specs.List.{list_any}
 use Rattle.std.specs.Cmp.Lexicographic.{pointwise}
-use Rattle.hex_langs.specs.declared.item.Kind.{Kind}
-use Rattle.hex_langs.specs.declared.item.Kind.TheVariants.{I, B, J, U}
-use Rattle.hex_langs.specs.declared.item.Item.{Item}
-use Rattle.hex_langs.specs.declared.item.Item.TheVariants.{Byte, Label, Word, Rel, Gap, Abs, Pad}
-use Rattle.hex_langs.specs.declared.reader.HexRefusal.{HexRefusal}
-use Rattle.hex_langs.specs.declared.reader.HexRefusal.TheVariants as refusal
+use Rattle.hex_items.specs.declared.item.Kind.{Kind}
+use Rattle.hex_items.specs.declared.item.Kind.TheVariants.{I, B, J, U}
+use Rattle.hex_items.specs.declared.item.Item.{Item}
+use Rattle.hex_items.specs.declared.item.Item.TheVariants.{Byte, Label, Word, Rel, Gap, Abs, Pad}
+use Rattle.hex_items.specs.declared.reader.HexRefusal.{HexRefusal}
+use Rattle.hex_items.specs.declared.reader.HexRefusal.TheVariants as refusal
 use Rattle.hex_link.specs.declared.number.Miss.{Miss}
 use Rattle.hex_link.specs.declared.number.Miss.TheVariants.{NoLabel, OutOfReach}
 

@@ -1,10 +1,10 @@
 -- The value of a source: the bytes that it stands for in its language. docs/reference/linking.md says the same for people.
 use Rattle.std.specs.Prelude.{ℕ, List, Result, Ok, Err}
-use Rattle.hex_langs.specs.declared.item.Item.{Item}
-use Rattle.hex_langs.specs.declared.reader.HexRefusal.{HexRefusal}
-use Rattle.hex_langs.specs.declared.token.Dialect.TheVariants as dialect
+use Rattle.hex_items.specs.declared.item.Item.{Item}
+use Rattle.hex_items.specs.declared.reader.HexRefusal.{HexRefusal}
+use Rattle.hex_items.specs.declared.token.Dialect.TheVariants as dialect
 use Rattle.hex_langs.specs.Hex0.{hex0_of}
-use Rattle.hex_langs.specs.Reading.{items_of}
+use Rattle.hex_items.specs.Reading.{items_of}
 use Rattle.hex_link.specs.declared.values.Language.{Language}
 use Rattle.hex_link.specs.declared.values.Language.TheVariants.{Hex0, Hex1, Hex2}
 use Rattle.hex_link.specs.Link.{link_of}

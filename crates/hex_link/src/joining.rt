@@ -7,7 +7,7 @@ ghost use Rattle.hex_link.specs.Representation.Tables.{AreSmall, Puts};
 use crate::labels::{item_at, labels_of};
 use crate::number::{Miss, number_of};
 use ddc_base::{Bytes, OutOfMemory};
-use hex_langs::{HexRefusal, Item, Items, Name};
+use hex_items::{HexRefusal, Item, Items, Name};
 use indexmap::IndexMap;
 use std::alloc::Global;
 

@@ -4,7 +4,7 @@ ghost use Rattle.indexmap.specs.IndexMap.{get};
 ghost use Rattle.hex_link.specs.Link.{size_at};
 ghost use Rattle.hex_link.specs.Representation.Tables.{Tables, Notes};
 
-use hex_langs::{HexRefusal, Item, Items, Name};
+use hex_items::{HexRefusal, Item, Items, Name};
 use indexmap::IndexMap;
 use std::alloc::Global;
 

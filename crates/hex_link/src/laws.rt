@@ -1,9 +1,9 @@
 //! What holds of linking. Each law is the contract of a function that does nothing.
 ghost use Rattle.std.specs.Prelude.{◌≡◌, ℕ, ◌+◌, ◌≤◌, List, Ok, length, map, IsTrue};
 ghost use Rattle.std.specs.List.{list_all};
-ghost use Rattle.hex_langs.specs.declared.item.Item.{Item};
+ghost use Rattle.hex_items.specs.declared.item.Item.{Item};
 ghost use Rattle.hex_langs.specs.Hex0.{hex0_of, HasEvenDigits};
-ghost use Rattle.hex_langs.specs.Plain.{is_plain};
+ghost use Rattle.hex_items.specs.Plain.{is_plain};
 ghost use Rattle.hex_link.specs.declared.values.Language.{Language};
 ghost use Rattle.hex_link.specs.Laws.{is_fixed, end_of, renamed, KeepsApart};
 ghost use Rattle.hex_link.specs.Link.{link_of};

@@ -1,13 +1,13 @@
 //! The numbers of items of four bytes.
 ghost use Rattle.std.specs.Prelude.{◌≡◌, ◌<◌, ◌≤◌, ◌-ℤ◌, ◌+ℤ◌, pos, nat_eq, List, ℕ, IfSome};
-ghost use Rattle.hex_langs.specs.declared.item.Kind.TheVariants.{U};
+ghost use Rattle.hex_items.specs.declared.item.Kind.TheVariants.{U};
 ghost use Rattle.indexmap.specs.IndexMap.{get};
 ghost use Rattle.std.specs.Cmp.Lexicographic.{pointwise};
 ghost use Rattle.hex_link.specs.Link.{distance_number, word_number, number_of, i_field, b_field, j_field, wrapped, fits_even, same_name};
 ghost use Rattle.hex_link.specs.Representation.Tables.{AreSmall};
 ghost use Rattle.std.specs.Prelude.{◌≤ℤ◌, ◌^◌, neg_ℤ, unsigned_abs};
 
-use hex_langs::{Item, Kind, Name};
+use hex_items::{Item, Kind, Name};
 use indexmap::IndexMap;
 
 /// Why an item has no number.

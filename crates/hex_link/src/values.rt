@@ -5,7 +5,8 @@ ghost use Rattle.hex_link.specs.Values.{value_of, linked};
 
 use crate::joining::link;
 use ddc_base::{Bytes, OutOfMemory};
-use hex_langs::{HexRefusal, Items, hex0, items1, items2};
+use hex_items::{HexRefusal, Items, items1, items2};
+use hex_langs::hex0;
 use std::alloc::Global;
 
 /// A language in which a source stands for bytes.

@@ -1,9 +1,9 @@
 -- What serves the table of labels and the pass over the items. No promise rests on its being read.
 use Rattle.std.specs.Prelude.{◌≡◌, ℕ, ◌^◌, ◌<◌, Bool, true, false, if◌then◌else◌, List, [], ◌++◌, Option, Some, None, IfSome, Result, Ok, Err}
 use Rattle.indexmap.specs.IndexMap.{IndexMap, get, keys}
-use Rattle.hex_langs.specs.declared.item.Item.{Item}
-use Rattle.hex_langs.specs.declared.reader.HexRefusal.{HexRefusal}
-use Rattle.hex_langs.specs.declared.reader.HexRefusal.TheVariants as refusal
+use Rattle.hex_items.specs.declared.item.Item.{Item}
+use Rattle.hex_items.specs.declared.reader.HexRefusal.{HexRefusal}
+use Rattle.hex_items.specs.declared.reader.HexRefusal.TheVariants as refusal
 use Rattle.hex_link.specs.declared.joining.PutFail.{PutFail}
 use Rattle.hex_link.specs.declared.joining.PutFail.TheVariants as put
 use Rattle.hex_link.specs.declared.number.Miss.{Miss}
