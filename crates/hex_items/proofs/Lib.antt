@@ -1,0 +1,4 @@
+pub mod Gaps
+pub mod Packing
+pub mod PlainSources
+pub mod Readings

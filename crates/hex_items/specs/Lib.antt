@@ -1,0 +1,6 @@
+pub mod Tokens
+pub mod Words
+pub mod Reading
+pub mod Refusals
+pub mod Plain
+pub mod Representation

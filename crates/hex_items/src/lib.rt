@@ -1,0 +1,15 @@
+//! hex1 and hex2: what items a source stands for, before they are linked.
+//!
+//! The rules, with their public sources, are in docs/reference/hex1.md and hex2.md.
+#![tactic(auto)]
+
+mod item;
+mod items;
+pub mod laws;
+mod reader;
+mod token;
+mod words;
+
+pub use item::{Item, Kind, Name};
+pub use items::Items;
+pub use reader::{HexRefusal, items1, items2};

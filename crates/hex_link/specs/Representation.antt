@@ -1,0 +1,2 @@
+-- What serves the code that links. No promise rests on its being read.
+pub mod Tables
