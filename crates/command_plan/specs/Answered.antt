@@ -2,7 +2,7 @@
 -- for people.
 use Rattle.std.specs.Prelude.{ℕ, Bool, true, false}
 use Rattle.command_plan.specs.declared.status.Status.{Status}
-use Rattle.command_plan.specs.declared.status.Status.TheVariants.{Yes, Usage, Differs, RunFailed, FileRefused, ShelfFault, OutFault, OutOfMemory}
+use Rattle.command_plan.specs.declared.status.Status.TheVariants.{Yes, Usage, Differs, RunFailed, CheckFailed, FileRefused, ShelfFault, OutFault, OutOfMemory}
 
 -- the exit status of the program
 abbrev pub number_of : Status → ℕ
@@ -10,6 +10,7 @@ number_of Yes = 0
 number_of Usage = 2
 number_of Differs = 3
 number_of RunFailed = 6
+number_of CheckFailed = 7
 number_of FileRefused = 10
 number_of ShelfFault = 11
 number_of OutFault = 12
@@ -21,6 +22,7 @@ is_answer Yes = true
 is_answer Usage = true
 is_answer Differs = true
 is_answer RunFailed = true
+is_answer CheckFailed = true
 is_answer FileRefused = true
 is_answer ShelfFault = false
 is_answer OutFault = false

@@ -12,6 +12,8 @@ pub enum Status {
     Differs = 3,
     /// A program was not started, or did not exit with 0.
     RunFailed = 6,
+    /// A language refused a source.
+    CheckFailed = 7,
     /// A needed file is not held, or has more bytes than are allowed.
     FileRefused = 10,
     /// The shelf failed in this call.

@@ -8,7 +8,7 @@ ghost use Rattle.ddc_app.specs.Concluding.{PutEnds, Concludes};
 
 use command_plan::{Answer, Status, Stop, usage};
 use ddc_base::{PutFail, Shelf, Sink};
-use language_commands::hex0;
+use language_commands::{asm, hex0};
 use machine_commands::{list, run};
 use std::alloc::Global;
 
@@ -56,6 +56,7 @@ fn perform<S: Shelf>(alloc: Global, words: &[&str], shelf: &mut S) -> Result<Ans
     };
     match *first {
         "hex0" => hex0::perform(alloc, words, shelf),
+        "asm" => asm::perform(alloc, words, shelf),
         "list" => list::perform(alloc, words, shelf),
         "run" => run::perform(alloc, words, shelf),
         _ => usage(alloc),

@@ -3,4 +3,5 @@
 //! Their rules for people: docs/reference/command-line.md.
 #![tactic(auto)]
 
+pub mod asm;
 pub mod hex0;

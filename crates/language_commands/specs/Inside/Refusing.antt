@@ -1,0 +1,16 @@
+-- The answer to a refusal of a language, which is none of the source's where memory was wanting. No promise rests on its being read.
+use Rattle.std.specs.Prelude.{◌≡◌, Result, Err}
+use Rattle.hex_items.specs.declared.reader.HexRefusal.{HexRefusal}
+use Rattle.hex_items.specs.declared.reader.HexRefusal.TheVariants as refusal
+use Rattle.hex_items.specs.Refusals.{number_of, place_of}
+use Rattle.command_plan.specs.declared.answer.Answer.{Answer}
+use Rattle.command_plan.specs.declared.status.Status.TheVariants.{CheckFailed}
+use Rattle.command_plan.specs.declared.stop.Stop.{Stop}
+use Rattle.command_plan.specs.declared.stop.Stop.TheVariants as stop
+use Rattle.command_plan.specs.Plan.{answers}
+use Rattle.command_plan.specs.Steps.{Says}
+use Rattle.language_commands.specs.Asm.{refused_line}
+
+abbrev pub Refuses : HexRefusal → Result Answer Stop → Type 0
+Refuses refusal.OutOfMemory result = result ≡ Err stop.OutOfMemory
+Refuses why result = Says (answers CheckFailed (refused_line (number_of why) (place_of why))) result
