@@ -11,3 +11,4 @@ pub mod Programs
 pub mod Acts
 pub mod StartLaw
 pub mod Boxes
+pub mod Numbers

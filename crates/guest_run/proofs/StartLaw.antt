@@ -1,11 +1,12 @@
 -- A program with a valid box starts in a valid state.
 use Rattle.std.proofs.Common.{◌≡◌, ℕ, ◌+◌, ◌-◌, ◌%◌, ◌^◌, ◌<◌, ◌≤◌, Bool, true, false, List, [], ◌∷◌, ◌++◌, length, drop, replicate, Result, Ok, Err, refl, sym, ap, ◌∙◌, subst, arith}
-use Rattle.std.specs.Prelude.{All, is_some, nat_lt}
+use Rattle.std.specs.Prelude.{All, Any, is_some, nat_lt}
 use Rattle.std.specs.List.{flat_map, fold}
 use Rattle.std.specs.FinMap.{empty, get-empty}
 use Rattle.std.specs.Ordering.{nat_cmp}
 use Rattle.std.proofs.lemmas.List.{length-set, length-take}
-use Rattle.std.proofs.lemmas.List.Elements.{All-append, All-cons, All-drop, All-from_get_or, All-head, All-nil, All-replicate, All-tail, All-take}
+use Rattle.std.proofs.lemmas.List.Elements.{All-append, All-cons, All-drop, All-from_get_or, All-head, All-nil, All-replicate, All-set, All-tail, All-take}
+use Rattle.std.proofs.lemmas.Bool.Decides.{nat_tests}
 use Rattle.std.proofs.lemmas.Option.{none-some}
 use Rattle.paged_mem.specs.Memory.{Memory, IsWhole, bytes_of, with_bytes, zeros}
 use Rattle.paged_mem.proofs.Mapped.{length-zeros}
@@ -16,8 +17,8 @@ use Rattle.elf_load.specs.declared.Image.{Image}
 use Rattle.elf_load.specs.declared.Segment.{Segment}
 use Rattle.elf_load.specs.declared.refusal.ElfRefusal.{ElfRefusal}
 use Rattle.elf_load.proofs.Images.{image-sound}
-use Rattle.elf_load.specs.Image.{image_of, IsSound}
-use Rattle.elf_load.specs.Segments.{first_page, paged_size, IsPlaced}
+use Rattle.elf_load.specs.Image.{image_of, IsLoadable}
+use Rattle.elf_load.specs.Segments.{first_page, holds_address, paged_size, IsPlaced}
 use Rattle.linux_calls.proofs.Wholes.{whole-mapped, whole-written}
 use Rattle.guest_run.specs.Stack.{ended, gap, joined, stack_bytes, stack_end, stack_pointer, stack_size, start_size, words}
 use Rattle.guest_run.specs.Placed.{segment_bytes, with_segment, with_segments, with_stack}
@@ -107,8 +108,21 @@ memory-whole program segments args env are placed of_args of_env fits =
     paged-whole (with_segments program segments) (stack_end - stack_size) stack_size (stack_pointer args env) (stack_bytes args env)
     (segments-whole program segments empty are placed empty-whole) refl refl (omega arith) low (omega arith) (stack-bytes args env of_args of_env)
 
+-- an address in a segment is low
+held_below : (entry : ℕ) (segment : Segment) → holds_address entry segment ≡ true → entry < segment.at + segment.in_memory
+held_below entry segment held = grind (arith, nat_tests)
+
+entry_low : (size : ℕ) (segments : List Segment) (entry : ℕ) → All (IsPlaced size) segments → Any (λ segment. holds_address entry segment ≡ true) segments → entry < 2 ^ 64
+entry_low size segments entry placed inside =
+    let (k, segment, lt, is, held) = inside in
+    let at = subst (IsPlaced size) is (placed k segment lt) in
+    let low = at.low in
+    let end = page_end-is segment in
+    let below = held_below entry segment held in
+    omega arith
+
 -- the state of a start
-pub start-valid : (program : List ℕ) (setting : Setting) (image : Image) → AreBytes program → IsBox setting → IsSound (length program) image
+pub start-valid : (program : List ℕ) (setting : Setting) (image : Image) → AreBytes program → IsBox setting → IsLoadable (length program) image
     → start_size setting.args setting.env ≤ 131072 → files_size setting.files ≤ most_total → IsValid (start_state program setting image)
 unfolding start_state
 start-valid program setting image are box sound fits small = record {
@@ -117,6 +131,10 @@ start-valid program setting image are box sound fits small = record {
     zero = refl;
     aligned = sound.entry_aligned;
     whole = memory-whole program image.segments.items setting.args setting.env are sound.placed box.arg_bytes box.env_bytes fits;
+  };
+  numbers = record {
+    registers = All-set (λ value. value < 2 ^ 64) (replicate 32 0) 2 (stack_pointer setting.args setting.env) (omega arith) (All-replicate (λ value. value < 2 ^ 64) 32 0 (omega arith));
+    pc = entry_low (length program) image.segments.items image.entry sound.placed sound.entry_inside;
   };
   fits = fits_start program setting.args setting.env image setting.heap sound fits box.heap;
   files = start-sound setting.files box.files box.few small;

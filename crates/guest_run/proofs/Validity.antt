@@ -10,10 +10,11 @@ use Rattle.rv64_machine.specs.Hart as hart
 use Rattle.linux_calls.specs.declared.Heap.{Heap}
 use Rattle.linux_calls.specs.HeapOf.{IsHeapOf, is_beside_heap, page_up}
 use Rattle.linux_calls.specs.Calls.{Outcome, State, answer_of, state}
-use Rattle.linux_calls.specs.Rules.{LeavesState}
+use Rattle.linux_calls.specs.Rules.{IsState, LeavesNumber, LeavesState}
 use Rattle.linux_calls.specs.Calls as call
 use Rattle.linux_calls.proofs.Heaps.{IsHeapOf-same}
 use Rattle.linux_calls.proofs.StateLaw.{syscall-state}
+use Rattle.linux_calls.proofs.SmallAnswers.{syscall-small}
 use Rattle.guest_run.specs.Stack.{stack_end, stack_size}
 use Rattle.guest_run.specs.State.{GuestState}
 use Rattle.guest_run.specs.Valid.{Fits, IsValid, pages_beside, pages_from}
@@ -23,6 +24,7 @@ use Rattle.std.proofs.lemmas.Option.{same_Some}
 use Rattle.linux_calls.proofs.Keeping.{call_keeps, OutcomeKeeps}
 use Rattle.guest_run.proofs.Running.{before}
 use Rattle.guest_run.proofs.Acts.{act-hart, answered-hart}
+use Rattle.guest_run.proofs.Numbers.{act-numbers, answered-numbers}
 
 -- heaps at one place with one limit have the same pages beside them
 same_beside : (one other : Heap) (q : ℕ) → other.first ≡ one.first → other.limit ≡ one.limit → is_beside_heap other q ≡ is_beside_heap one q
@@ -71,31 +73,34 @@ abbrev ValidIn : Next → Type 0
 ValidIn (Goes guest) = IsValid guest
 ValidIn (Ends end) = Unit {0}
 
-valid_after_call : (guest : GuestState) (meant : Outcome) → IsValid guest → LeavesState meant
+valid_after_call : (guest : GuestState) (meant : Outcome) → IsValid guest → LeavesState meant → LeavesNumber meant
     → OutcomeKeeps (state guest.hart.memory guest.world guest.heap) meant → ValidIn (after_call guest meant)
-valid_after_call guest (call.goes answer left) valid leaves keeps =
+valid_after_call guest (call.goes answer left) valid leaves number keeps =
     let hart = valid.hart in
     let moved : IsHart (record guest.hart { memory = left.memory }) =
     record { count = hart.count; zero = hart.zero; aligned = hart.aligned; whole = leaves.memory } in
     record {
       hart = answered-hart (record guest.hart { memory = left.memory }) (answer_of answer) moved;
+      numbers = answered-numbers (record guest.hart { memory = left.memory }) (answer_of answer) number (record { registers = valid.numbers.registers; pc = valid.numbers.pc });
       fits = fits_too guest.hart.memory left.memory guest.heap left.heap valid.fits keeps.first keeps.limit keeps.heap_of keeps.beside;
       files = leaves.files;
     }
-valid_after_call guest (call.exits status) valid leaves keeps = tt
-valid_after_call guest (call.is_unknown number) valid leaves keeps = tt
+valid_after_call guest (call.exits status) valid leaves number keeps = tt
+valid_after_call guest (call.is_unknown n) valid leaves number keeps = tt
 
 valid_after : (guest : GuestState) (an_act : Act) → act guest.hart ≡ an_act → IsValid guest → ValidIn (after_act guest an_act)
 valid_after guest (hart.Goes to) is valid = record {
   hart = act-hart guest.hart to valid.hart is;
+  numbers = act-numbers guest.hart to valid.hart.whole valid.numbers is;
   fits = fits_too guest.hart.memory to.memory guest.heap guest.heap valid.fits refl refl
       (IsHeapOf-same guest.hart.memory to.memory guest.heap (act-mapping guest.hart to is) valid.fits.heap_of) (λ q apart. act-mapping guest.hart to is q);
   files = valid.files;
 }
 valid_after guest hart.Calls is valid =
     let before : State = state guest.hart.memory guest.world guest.heap in
+    let order : IsState before = record { memory = valid.hart.whole; files = valid.files; heap = valid.fits.heap_of } in
     valid_after_call guest (outcome_of guest) valid
-    (syscall-state (call_number guest) (call_arguments guest) before (record { memory = valid.hart.whole; files = valid.files; heap = valid.fits.heap_of }))
+    (syscall-state (call_number guest) (call_arguments guest) before order) (syscall-small (call_number guest) (call_arguments guest) before order)
     (call_keeps (call_number guest) (call_arguments guest) before valid.fits.heap_of)
 valid_after guest (hart.Traps cause) is valid = tt
 

@@ -7,3 +7,4 @@ pub mod Wholes
 pub mod SoundLaw
 pub mod Keeping
 pub mod StateLaw
+pub mod SmallAnswers

@@ -1,8 +1,8 @@
 -- What calls keep: an error leaves the state, and a state in order stays so.
-use Rattle.std.specs.Prelude.{◌≡◌, ⊤, IsErr}
+use Rattle.std.specs.Prelude.{◌≡◌, ◌<◌, ◌^◌, ⊤, IsErr}
 use Rattle.paged_mem.specs.Memory.{IsWhole}
 use Rattle.mem_files.specs.Sound.{IsSound}
-use Rattle.linux_calls.specs.Calls.{State, Outcome, goes, exits, is_unknown}
+use Rattle.linux_calls.specs.Calls.{State, Outcome, goes, exits, is_unknown, answer_of}
 use Rattle.linux_calls.specs.HeapOf.{IsHeapOf}
 
 -- an outcome that is an error leaves the state
@@ -22,6 +22,12 @@ pub record IsState (s : State) : Type 0 where
   pub memory : IsWhole s.memory
   pub files : IsSound s.files
   pub heap : IsHeapOf s.memory s.heap
+
+-- what the guest gets is a number of 64 bits
+abbrev pub LeavesNumber : Outcome → Type 0
+LeavesNumber (goes answer next) = answer_of answer < 2 ^ 64
+LeavesNumber (exits status) = ⊤
+LeavesNumber (is_unknown n) = ⊤
 
 -- the state after an outcome is in order
 abbrev pub LeavesState : Outcome → Type 0

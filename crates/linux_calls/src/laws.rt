@@ -5,7 +5,7 @@ ghost use Rattle.paged_mem.specs.Memory.{Memory, IsWhole};
 ghost use Rattle.linux_calls.specs.HeapOf.{resized};
 ghost use Rattle.linux_calls.specs.Calls.{State, syscall};
 ghost use Rattle.linux_calls.specs.Linux.{efault, enotdir, enametoolong, at_fdcwd, sys_unlinkat, sys_faccessat, sys_fchmodat, sys_openat, sys_close, sys_lseek, sys_read, sys_write, sys_exit, sys_exit_group, sys_brk};
-ghost use Rattle.linux_calls.specs.Rules.{IsState, LeavesOnError, LeavesSound, LeavesState};
+ghost use Rattle.linux_calls.specs.Rules.{IsState, LeavesNumber, LeavesOnError, LeavesSound, LeavesState};
 ghost use Rattle.mem_files.specs.Sound.{IsSound};
 
 use crate::*;
@@ -37,6 +37,12 @@ pub fn files_stay_sound()
 pub fn states_stay_in_order()
     ensures { (number : ℕ) (arguments : List ℕ) (state : State) → IsState state
         → LeavesState (syscall number arguments state) }
+{}
+
+/// What a guest gets from a call, given a state in order, is a number of 64 bits.
+pub fn answers_are_numbers()
+    ensures { (number : ℕ) (arguments : List ℕ) (state : State) → IsState state
+        → LeavesNumber (syscall number arguments state) }
 {}
 
 /// The numbers of the code are those of Linux.

@@ -1,0 +1,335 @@
+//! Files: scripts of calls, with what Linux's manual pages and the limits of this project say of them.
+ghost use Rattle.mem_files.specs.Calls.{fits};
+ghost use Rattle.std.specs.Prelude.{◌≡◌, Ok, length};
+
+use ddc_base::OutOfMemory;
+use mem_files::*;
+use std::alloc::Global;
+use std::process::Abort;
+use std::test::Fail;
+
+/// One call of a script. `Read`, `Stream`, `Content` and `NameAfter` hold what is wanted last, and answer 0 where it comes.
+#[derive(Clone, Copy, Debug)]
+enum Call<'a> {
+    Place(&'a [u8], &'a [u8]),
+    Open(&'a [u8], u32),
+    Close(u32),
+    Seek(u32, i64, u32),
+    Read(u32, u64, &'a [u8]),
+    Write(u32, &'a [u8]),
+    Fits(u32, u64),
+    Remove(&'a [u8]),
+    Exists(&'a [u8]),
+    Content(&'a [u8], Option<&'a [u8]>),
+    Out(&'a [u8]),
+    Errors(&'a [u8]),
+    NameAfter(Option<&'a [u8]>, Option<&'a [u8]>),
+}
+
+/// A call, and what it answers: a value, or an error's number negated.
+type Row = (Call<'static>, i64);
+
+/// What cannot be where a script is right: other bytes, a name that isn't stripped, no memory.
+const WRONG: i64 = -1000;
+
+/// A call's answer as a program sees it: a value, or an error's number negated.
+fn answer(files: &mut Files, call: Call<'_>) -> i64 {
+    match call {
+        Call::Place(name, content) => match files.place(name, content) {
+            Ok(()) => 0,
+            Err(PlaceRefusal::BadName) => 1,
+            Err(PlaceRefusal::Twice) => 2,
+            Err(PlaceRefusal::Full) => 3,
+            Err(PlaceRefusal::OutOfMemory) => WRONG,
+        },
+        Call::Open(name, flags) if is_stripped_name(name) => match files.open_name(name, flags) {
+            Ok(fd) => i64::from(fd),
+            Err(FileRefusal::Errno(errno)) => -i64::from(errno),
+            Err(FileRefusal::OutOfMemory) => WRONG,
+        },
+        Call::Close(fd) => done(files.close(fd)),
+        Call::Seek(fd, offset, whence) => match files.seek(fd, offset, whence) {
+            Ok(cursor) => i64::try_from(cursor).unwrap_or(WRONG),
+            Err(errno) => -i64::from(errno),
+        },
+        Call::Read(fd, count, want) => read(files, fd, count, want),
+        Call::Write(fd, bytes) => match files.fits(fd, bytes.len() as u64) {
+            Ok(()) => write(files, fd, bytes),
+            Err(errno) => -i64::from(errno),
+        },
+        Call::Fits(fd, count) => done(files.fits(fd, count)),
+        Call::Remove(name) if is_stripped_name(name) => done(files.remove(name)),
+        Call::Exists(name) if is_stripped_name(name) => i64::from(files.exists(name)),
+        Call::Content(name, want) if is_stripped_name(name) => zero_if(files.content(name) == want),
+        Call::Out(want) => zero_if(files.stream(1) == want),
+        Call::Errors(want) => zero_if(files.stream(2) == want),
+        Call::NameAfter(name, want) => zero_if(files.name_after(name) == want),
+        _ => WRONG,
+    }
+}
+
+fn zero_if(is: bool) -> i64 {
+    if is { 0 } else { WRONG }
+}
+
+fn done(outcome: Result<(), u16>) -> i64 {
+    match outcome {
+        Ok(()) => 0,
+        Err(errno) => -i64::from(errno),
+    }
+}
+
+/// Writes bytes that fit.
+fn write(files: &mut Files, fd: u32, bytes: &[u8]) -> i64
+    requires { fits files.old fd (length bytes.now) ≡ Ok tt }
+{
+    match files.write(fd, bytes) {
+        Ok(()) => 0,
+        Err(OutOfMemory) => WRONG,
+    }
+}
+
+/// Reads, and moves the cursor.
+fn read(files: &mut Files, fd: u32, count: u64, want: &[u8]) -> i64 {
+    let count = match files.ready(fd, count) {
+        Ok(bytes) if bytes == want => bytes.len() as u64,
+        Ok(_) => return WRONG,
+        Err(errno) => return -i64::from(errno),
+    };
+    files.skip(fd, count);
+    0
+}
+
+/// Runs a script on new files, and asks for each call's answer.
+fn run(rt: &impl Abort, alloc: Global, script: &[Row]) -> Result<Files, Fail> {
+    let mut files = Files::new(alloc)?;
+    go_on(rt, &mut files, script);
+    Ok(files)
+}
+
+fn go_on(rt: &impl Abort, files: &mut Files, script: &[Row]) {
+    for (index, (call, want)) in script.iter().enumerate() {
+        assert_eq!(rt; answer(files, *call), *want, "call {index}");
+    }
+}
+
+/// Names that are guest file names, those that are held already, and what is no name.
+const NAMES: [Row; 10] = [
+    (Call::NameAfter(None, None), 0),
+    (Call::Place(b"a", b"x"), 0),
+    (Call::Place(b"./a", b"x"), 2),
+    (Call::Place(b"././b", b"x"), 0),
+    (Call::Place(b"b", b"x"), 2),
+    (Call::Place(b"", b"x"), 1),
+    (Call::Place(b"./", b"x"), 1),
+    (Call::Place(b"c\0", b"x"), 1),
+    (Call::Place(&[b'n'; 255], b"x"), 0),
+    (Call::Place(&[b'n'; 256], b"x"), 1),
+];
+
+/// The names in the order of their bytes.
+const ORDERED: [Row; 10] = [
+    (Call::Place(b"b", b""), 0),
+    (Call::Place(b"a/b", b""), 0),
+    (Call::Place(b"a", b""), 0),
+    (Call::Place(b"\xff", b""), 0),
+    (Call::NameAfter(None, Some(b"a")), 0),
+    (Call::NameAfter(Some(b"a"), Some(b"a/b")), 0),
+    (Call::NameAfter(Some(b"a/b"), Some(b"b")), 0),
+    (Call::NameAfter(Some(b"aa"), Some(b"b")), 0),
+    (Call::NameAfter(Some(b"b"), Some(b"\xff")), 0),
+    (Call::NameAfter(Some(b"\xff"), None), 0),
+];
+
+/// The flags are looked at before the descriptors, and these before the name.
+const NO_MORE_DESCRIPTORS: [Row; 8] = [
+    (Call::Open(b"f", O_RDONLY), -24),
+    (Call::Open(b"g", O_RDONLY), -24),
+    (Call::Open(b"f", O_CREAT | O_EXCL), -24),
+    (Call::Open(b"f", O_ACCMODE), -22),
+    (Call::Close(1023), 0),
+    (Call::Open(b"g", O_RDONLY), -2),
+    (Call::Open(b"f", O_CREAT | O_EXCL), -17),
+    (Call::Open(b"f", O_RDONLY), 1023),
+];
+
+/// What goes on with 4,096 names, and what does not.
+const NO_MORE_NAMES: [Row; 9] = [
+    (Call::Place(b"f", b""), 3),
+    (Call::Place(b"@@", b""), 2),
+    (Call::Place(b"", b""), 1),
+    (Call::Open(b"f", O_CREAT), -28),
+    (Call::Open(b"f", O_RDONLY), -2),
+    (Call::Open(b"@@", O_CREAT | O_EXCL), -17),
+    (Call::Open(b"@@", O_CREAT), 3),
+    (Call::Remove(b"A@"), 0),
+    (Call::Open(b"f", O_CREAT), 4),
+];
+
+/// Writes that end at the limit of a file and at that of all bytes, and one byte past each. A file that would be too large
+/// is refused before too many bytes in all, and a bad descriptor before both.
+const NO_MORE_BYTES: [Row; 22] = [
+    (Call::Open(b"a", O_RDWR | O_CREAT), 3),
+    (Call::Seek(3, 268_435_455, SEEK_SET), 268_435_455),
+    (Call::Write(3, b"ab"), -27),
+    (Call::Write(3, b"a"), 0),
+    (Call::Write(3, b"b"), -27),
+    (Call::Write(3, b""), 0),
+    (Call::Open(b"b", O_RDWR | O_CREAT), 4),
+    (Call::Seek(4, 268_435_452, SEEK_SET), 268_435_452),
+    (Call::Write(4, b"x"), 0),
+    (Call::Write(1, b"1234"), -28),
+    (Call::Write(1, b"123"), 0),
+    (Call::Write(1, b"4"), -28),
+    (Call::Write(4, b"yyy"), -28),
+    (Call::Write(4, b"yyyy"), -27),
+    (Call::Fits(0, 1 << 40), -9),
+    (Call::Place(b"c", b"1"), 3),
+    (Call::Place(b"c", b""), 0),
+    (Call::Seek(4, 0, SEEK_SET), 0),
+    (Call::Write(4, b"zz"), 0),
+    (Call::Seek(4, 0, SEEK_END), 268_435_453),
+    (Call::Open(b"a", O_RDONLY | O_TRUNC), 5),
+    (Call::Write(4, b"yyy"), 0),
+];
+
+/// lseek(2), in a file of five bytes.
+const SEEKS: [Row; 17] = [
+    (Call::Place(b"f", b"01234"), 0),
+    (Call::Open(b"f", O_RDONLY), 3),
+    (Call::Seek(3, 2, SEEK_SET), 2),
+    (Call::Seek(3, 2, SEEK_CUR), 4),
+    (Call::Seek(3, -4, SEEK_CUR), 0),
+    (Call::Seek(3, -1, SEEK_CUR), -22),
+    (Call::Seek(3, -1, SEEK_END), 4),
+    (Call::Seek(3, 9, SEEK_END), 14),
+    (Call::Seek(3, 9, SEEK_SET), 9),
+    (Call::Seek(3, -6, SEEK_END), -22),
+    (Call::Seek(3, 0, 3), -22),
+    (Call::Seek(3, i64::MAX, SEEK_SET), i64::MAX),
+    (Call::Read(3, 1, b""), 0),
+    (Call::Seek(3, 1, SEEK_CUR), -22),
+    (Call::Seek(0, 0, SEEK_SET), -29),
+    (Call::Seek(1, 0, 9), -29),
+    (Call::Seek(4, 0, 9), -9),
+];
+
+/// write(2), read(2) and unlink(2): a gap, an end, a name that goes while its file is open.
+const WRITES_AND_READS: [Row; 18] = [
+    (Call::Open(b"g", O_RDWR | O_CREAT), 3),
+    (Call::Write(3, b"ab"), 0),
+    (Call::Seek(3, 2, SEEK_CUR), 4),
+    (Call::Write(3, b"cd"), 0),
+    (Call::Open(b"g", O_WRONLY | O_APPEND), 4),
+    (Call::Write(4, b"e"), 0),
+    (Call::Read(4, 1, b""), -9),
+    (Call::Read(3, 9, b"e"), 0),
+    (Call::Seek(3, 1, SEEK_SET), 1),
+    (Call::Write(3, b"B"), 0),
+    (Call::Read(3, 3, b"\0\0c"), 0),
+    (Call::Read(3, 9, b"de"), 0),
+    (Call::Remove(b"h"), -2),
+    (Call::Remove(b"g"), 0),
+    (Call::Open(b"g", O_RDWR | O_CREAT), 5),
+    (Call::Write(4, b"!"), 0),
+    (Call::Read(3, 9, b"!"), 0),
+    (Call::Read(5, 9, b""), 0),
+];
+
+/// The streams, the descriptors that are used again, O_TRUNC, the most bytes of a file, and what a name holds after calls.
+const CLOSES_AND_FITS: [Row; 28] = [
+    (Call::Place(b"f", b"old"), 0),
+    (Call::Open(b"f", O_RDWR), 3),
+    (Call::Open(b"f", O_RDONLY | O_TRUNC), 4),
+    (Call::Seek(3, 0, SEEK_END), 0),
+    (Call::Write(1, b"out"), 0),
+    (Call::Write(2, b"err"), 0),
+    (Call::Write(0, b""), -9),
+    (Call::Read(0, 1, b""), 0),
+    (Call::Read(1, 1, b""), -9),
+    (Call::Fits(3, 268_435_456), 0),
+    (Call::Fits(3, 268_435_457), -27),
+    (Call::Fits(2, 268_435_453), 0),
+    (Call::Fits(2, 268_435_454), -27),
+    (Call::Fits(4, 0), -9),
+    (Call::Close(4), 0),
+    (Call::Close(4), -9),
+    (Call::Close(1), 0),
+    (Call::Open(b"f", O_RDONLY), 1),
+    (Call::Open(b"f", O_RDONLY), 4),
+    (Call::Exists(b"f"), 1),
+    (Call::Content(b"f", Some(b"")), 0),
+    (Call::Write(3, b"new"), 0),
+    (Call::Content(b"f", Some(b"new")), 0),
+    (Call::Remove(b"f"), 0),
+    (Call::Exists(b"f"), 0),
+    (Call::Content(b"f", None), 0),
+    (Call::Out(b"out"), 0),
+    (Call::Errors(b"err"), 0),
+];
+
+/// openat(2): flags, and what they answer where the file is absent, and where it is present.
+const OPENS: [(u32, i64, i64); 8] = [
+    (O_RDONLY, -2, 3),
+    (O_RDWR, -2, 3),
+    (O_ACCMODE, -22, -22),
+    (O_ACCMODE | O_CREAT | O_EXCL, -22, -22),
+    (O_WRONLY | O_CREAT, 3, 3),
+    (O_CREAT | O_EXCL, 3, -17),
+    (O_EXCL, -2, 3),
+    (O_WRONLY | O_TRUNC, -2, 3),
+];
+
+const HELD: [Row; 1] = [(Call::Place(b"f", b"x"), 0)];
+
+/// Scripts that begin with no files.
+#[test]
+fn runs_scripts(rt: HostRuntime) -> Result<(), Fail> {
+    let scripts = [
+        NAMES.as_slice(),
+        ORDERED.as_slice(),
+        NO_MORE_BYTES.as_slice(),
+        SEEKS.as_slice(),
+        WRITES_AND_READS.as_slice(),
+        CLOSES_AND_FITS.as_slice(),
+    ];
+    for script in scripts {
+        run(&rt, rt.alloc(), script)?;
+    }
+    Ok(())
+}
+
+#[test]
+fn opens_by_flags(rt: HostRuntime) -> Result<(), Fail> {
+    for (flags, absent, present) in OPENS {
+        let mut files = run(&rt, rt.alloc(), &[])?;
+        assert_eq!(rt; answer(&mut files, Call::Open(b"f", flags)), absent);
+        let mut files = run(&rt, rt.alloc(), &HELD)?;
+        assert_eq!(rt; answer(&mut files, Call::Open(b"f", flags)), present);
+    }
+    Ok(())
+}
+
+/// The 1,024th descriptor is the last.
+#[test]
+fn runs_out_of_descriptors(rt: HostRuntime) -> Result<(), Fail> {
+    let mut files = run(&rt, rt.alloc(), &HELD)?;
+    for fd in 3..1024 {
+        assert_eq!(rt; answer(&mut files, Call::Open(b"f", O_RDONLY)), fd);
+    }
+    go_on(&rt, &mut files, &NO_MORE_DESCRIPTORS);
+    Ok(())
+}
+
+/// The 4,096th name is the last.
+#[test]
+fn runs_out_of_names(rt: HostRuntime) -> Result<(), Fail> {
+    let mut files = run(&rt, rt.alloc(), &[])?;
+    for first in 64..128 {
+        for second in 64..128 {
+            assert_eq!(rt; answer(&mut files, Call::Place(&[first, second], b"")), 0);
+        }
+    }
+    go_on(&rt, &mut files, &NO_MORE_NAMES);
+    Ok(())
+}
