@@ -12,7 +12,7 @@ use Rattle.elf_load.specs.declared.refusal.ElfRefusal.{ElfRefusal}
 use Rattle.elf_load.specs.declared.refusal.ElfRefusal.TheVariants.{NoLoad, TooMany}
 use Rattle.elf_load.specs.Fields.{e_entry, p_memsz}
 use Rattle.elf_load.specs.Segments.{page_up, first_page, page_end, end_of, is_out_of_range, is_load, paged_size, segment_at, share_page, any_share, holds_address, break_after, loads_among, segments_of, IsLow, AreApart}
-use Rattle.elf_load.specs.Image.{first_refusal, table_rules, placing_rules, entry_rules, accepted_image, IsSound}
+use Rattle.elf_load.specs.Image.{first_refusal, table_rules, placing_rules, entry_rules, accepted_image, IsLoadable}
 use Rattle.elf_load.proofs.Pages.{all_low, none_at, range_of, page_up_low}
 
 -- what holds of the first element and of the others
@@ -129,7 +129,7 @@ pub sound : (file : List ℕ) (size : ℕ)
     → first_refusal (table_rules file) ≡ None
     → first_refusal (placing_rules size (segments_of file)) ≡ None
     → first_refusal (entry_rules (e_entry file) (segments_of file)) ≡ None
-    → IsSound size (accepted_image file)
+    → IsLoadable size (accepted_image file)
 unfolding table_rules placing_rules entry_rules
 sound file size table placing entry =
     let counted : first_refusal ((length (segments_of file) == 0, NoLoad) ∷ (nat_lt 16 (length (segments_of file)), TooMany) ∷ []) ≡ None = others_fail _ _ _ table in

@@ -1,6 +1,6 @@
 -- The image of a file: its first refusal, or what is to be placed in memory.
 -- docs/reference/loader.md says the same for people.
-use Rattle.std.specs.Prelude.{◌≡◌, ◌≤◌, ◌<◌, ℕ, ◌+◌, ◌*◌, ◌%◌, ◌^◌, ◌==◌, Bool, ◌&&◌, ◌||◌, not, cond, nat_eq, nat_lt, List, [], ◌∷◌, ◌++◌, length, Option, Some, None, Result, Ok, Err, All, AllPairs, Any, sum_by, true, MatchResult}
+use Rattle.std.specs.Prelude.{◌≡◌, ◌≤◌, ◌<◌, ℕ, ◌+◌, ◌*◌, ◌%◌, ◌^◌, ◌==◌, Bool, ◌&&◌, ◌||◌, not, cond, nat_eq, nat_lt, List, [], ◌∷◌, ◌++◌, length, Option, Some, None, Result, Ok, Err, All, AllPairs, Any, sum_by, true}
 use Rattle.std.specs.List.{list_any, starts_with}
 use Rattle.elf_load.specs.declared.Segment.{Segment}
 use Rattle.elf_load.specs.declared.Image.{Image}
@@ -73,13 +73,8 @@ refused_or None image = Ok image
 unfoldable pub image_of : List ℕ → Result Image ElfRefusal
 image_of file = refused_or (first_refusal (rules file)) (accepted_image file)
 
--- the file holds an ELF header and the header table that it names
-pub record HoldsTable (file : List ℕ) : Type 0 where
-  pub header : 64 ≤ length file
-  pub table : e_phoff file + 56 * e_phnum file ≤ length file
-
 -- what every accepted image is, in a file of `size` bytes
-pub record IsSound (size : ℕ) (image : Image) : Type 0 where
+pub record IsLoadable (size : ℕ) (image : Image) : Type 0 where
   pub some : 0 < length image.segments.items
   pub few : length image.segments.items ≤ 16
   pub placed : All (IsPlaced size) image.segments.items
@@ -90,8 +85,3 @@ pub record IsSound (size : ℕ) (image : Image) : Type 0 where
   pub break_aligned : image.first_break % 4096 ≡ 0
   pub break_above : All (λ segment. page_end segment ≤ image.first_break) image.segments.items
   pub break_low : image.first_break ≤ 2 ^ 37
-
--- a check answers `Ok` where no rule of its list fits, and else the first refusal
-abbrev pub Judges : {T : Type 0} → List Rule → Result T ElfRefusal → Type 0
-Judges list answer =
-    MatchResult answer (λ _. first_refusal list ≡ None) (λ refusal. first_refusal list ≡ Some refusal)

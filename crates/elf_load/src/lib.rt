@@ -4,7 +4,8 @@
 #![tactic(auto)]
 
 ghost use Rattle.elf_load.specs.Fields.{e_entry};
-ghost use Rattle.elf_load.specs.Image.{image_of, header_rules, IsSound, Judges};
+ghost use Rattle.elf_load.specs.Image.{image_of, header_rules, IsLoadable};
+ghost use Rattle.elf_load.specs.Inside.Checks.{Judges};
 ghost use Rattle.std.specs.Prelude.{◌≡◌, length, IfOk};
 
 use arrayvec::ArrayVec;
@@ -50,7 +51,7 @@ pub struct Image {
 pub fn read_image(file: &[u8]) -> Result<Image, ElfRefusal>
     ensures value { result ≡ image_of file.now }
     // What the layer above relies on.
-    ensures sound { IfOk result (IsSound (length file.now)) }
+    ensures sound { IfOk result (IsLoadable (length file.now)) }
 {
     checks::check_header(file)?;
     let segments = table::read_segments(file)?;

@@ -18,7 +18,7 @@ use Rattle.linux_calls.proofs.Heaps.{same_after_write}
 use Rattle.elf_load.specs.declared.Segment.{Segment}
 use Rattle.elf_load.specs.declared.Image.{Image}
 use Rattle.elf_load.specs.Segments.{first_page, page_end, paged_size, IsPlaced}
-use Rattle.elf_load.specs.Image.{IsSound}
+use Rattle.elf_load.specs.Image.{IsLoadable}
 use Rattle.guest_run.specs.Stack.{addresses, gap, joined, stack_bytes, stack_end, stack_pointer, stack_size, start_size, texts_at, word_count, words}
 use Rattle.guest_run.specs.Placed.{with_segments, with_stack}
 use Rattle.guest_run.specs.Valid.{Fits, pages_beside, pages_from}
@@ -236,7 +236,7 @@ few_pages program segments at bytes heap' placed low ends together =
     few_from program segments at bytes heap' (2 ^ 26) placed low ends together
 
 -- the heap of a program that starts is empty, and free up to its limit
-heap_starts : (program : List ℕ) (image : Image) (at : ℕ) (bytes : List ℕ) (limit : ℕ) → IsSound (length program) image → limit ≤ 2 ^ 30
+heap_starts : (program : List ℕ) (image : Image) (at : ℕ) (bytes : List ℕ) (limit : ℕ) → IsLoadable (length program) image → limit ≤ 2 ^ 30
     → stack_end - stack_size ≤ at
     → IsHeapOf (with_stack (with_segments program image.segments.items) at bytes)
     (record { first = image.first_break; now = image.first_break; limit = limit })
@@ -257,7 +257,7 @@ heap_starts program image at bytes limit sound small low =
           (λ k d lt. let above = sound.break_above k d lt in inr (omega arith));
     }
 
-pub fits_start : (program : List ℕ) (args env : List (List ℕ)) (image : Image) (limit : ℕ) → IsSound (length program) image
+pub fits_start : (program : List ℕ) (args env : List (List ℕ)) (image : Image) (limit : ℕ) → IsLoadable (length program) image
     → start_size args env ≤ 131072 → limit ≤ 2 ^ 30
     → Fits (with_stack (with_segments program image.segments.items) (stack_pointer args env) (stack_bytes args env))
     (record { first = image.first_break; now = image.first_break; limit = limit })

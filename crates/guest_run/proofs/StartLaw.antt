@@ -16,7 +16,7 @@ use Rattle.elf_load.specs.declared.Image.{Image}
 use Rattle.elf_load.specs.declared.Segment.{Segment}
 use Rattle.elf_load.specs.declared.refusal.ElfRefusal.{ElfRefusal}
 use Rattle.elf_load.proofs.Images.{image-sound}
-use Rattle.elf_load.specs.Image.{image_of, IsSound}
+use Rattle.elf_load.specs.Image.{image_of, IsLoadable}
 use Rattle.elf_load.specs.Segments.{first_page, paged_size, IsPlaced}
 use Rattle.linux_calls.proofs.Wholes.{whole-mapped, whole-written}
 use Rattle.guest_run.specs.Stack.{ended, gap, joined, stack_bytes, stack_end, stack_pointer, stack_size, start_size, words}
@@ -108,7 +108,7 @@ memory-whole program segments args env are placed of_args of_env fits =
     (segments-whole program segments empty are placed empty-whole) refl refl (omega arith) low (omega arith) (stack-bytes args env of_args of_env)
 
 -- the state of a start
-pub start-valid : (program : List ℕ) (setting : Setting) (image : Image) → AreBytes program → IsBox setting → IsSound (length program) image
+pub start-valid : (program : List ℕ) (setting : Setting) (image : Image) → AreBytes program → IsBox setting → IsLoadable (length program) image
     → start_size setting.args setting.env ≤ 131072 → files_size setting.files ≤ most_total → IsValid (start_state program setting image)
 unfolding start_state
 start-valid program setting image are box sound fits small = record {

@@ -1,5 +1,5 @@
 ghost use Rattle.guest_run.specs.Run.{Runs};
-ghost use Rattle.elf_load.specs.Image.{IsSound};
+ghost use Rattle.elf_load.specs.Image.{IsLoadable};
 ghost use Rattle.guest_run.specs.Setting.{files_size};
 ghost use Rattle.guest_run.specs.Stack.{start_size};
 ghost use Rattle.guest_run.specs.Start.{start_of, start_state, Starts};
@@ -151,7 +151,7 @@ pub enum StartRefusal {
 
 /// The image of a program that starts, or the first refusal.
 fn judged(program: &[u8], setting: &RunBox) -> Result<Image, StartRefusal>
-    ensures sound { IfOk result (IsSound (length program.now)) }
+    ensures sound { IfOk result (IsLoadable (length program.now)) }
     ensures texts { OnOk result (start_size setting.now.args setting.now.env ≤ 131072) }
     ensures files { OnOk result (files_size setting.now.files ≤ most_total) }
     ensures state { IfOk result (λ image. start_of program.now setting.now ≡ Ok (start_state program.now setting.now image)) }
@@ -177,7 +177,7 @@ fn started<R: Ram>(
     setting: &RunBox,
     image: &Image,
 ) -> Result<Guest<R>, OutOfMemory>
-    requires sound { IsSound (length program.now) image.now }
+    requires sound { IsLoadable (length program.now) image.now }
     requires texts { start_size setting.now.args setting.now.env ≤ 131072 }
     requires files { files_size setting.now.files ≤ most_total }
     ensures { IfOk result (λ guest. guest ≡ start_state program.now setting.now image.now) }

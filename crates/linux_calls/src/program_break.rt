@@ -8,12 +8,15 @@ use crate::{CallEnd, Heap};
 use ddc_base::OutOfMemory;
 use paged_mem::Ram;
 
+/// The bytes of a page.
+const PAGE: u64 = 4_096;
+
 /// An address rounded up to whole pages.
 fn page_up(address: u64) -> u64
     requires { address ≤ 2 ^ 38 }
     ensures { result ≡ page_up address }
 {
-    address.next_multiple_of(4096)
+    address.next_multiple_of(PAGE)
 }
 
 /// Maps the pages from `old` to `new`, or takes away those from `new` to `old`.
@@ -28,9 +31,9 @@ fn resize<R: Ram>(ram: &mut R, old: u64, new: u64) -> Result<(), OutOfMemory>
     ensures grows { OnErr result (old < new) }
 {
     if old < new {
-        ram.map_zero(old, (new - old) / 4096)
+        ram.map_zero(old, (new - old) / PAGE)
     } else {
-        ram.unmap(new, (old - new) / 4096);
+        ram.unmap(new, (old - new) / PAGE);
         Ok(())
     }
 }

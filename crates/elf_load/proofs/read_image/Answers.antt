@@ -3,7 +3,7 @@ use Rattle.std.proofs.lemmas.Result.{err_from_is_err_and}
 use Rattle.elf_load.specs.declared.Image.{Image}
 use Rattle.elf_load.specs.Fields.{e_entry}
 use Rattle.elf_load.specs.Segments.{segments_of, break_after}
-use Rattle.elf_load.specs.Image.{first_refusal, placing_rules, entry_rules, accepted_image, IsSound}
+use Rattle.elf_load.specs.Image.{first_refusal, placing_rules, entry_rules, accepted_image, IsLoadable}
 use Rattle.elf_load.proofs.Judging.{by_header, by_table, by_placing, by_entry, same_image}
 use Rattle.elf_load.proofs.Soundness.{sound}
 use Rattle.elf_load.proofs.read_image.Goals as goal
@@ -64,5 +64,5 @@ returns-clause-value c =
 
 pub returns-clause-sound : goal.returns-clause-sound
 returns-clause-sound c =
-    subst (IsSound (length c.args.file.now)) (sym (same c))
+    subst (IsLoadable (length c.args.file.now)) (sym (same c))
     (sound c.args.file.now (length c.args.file.now) c.in_ok-segments.ensures.judged (placed c) (entered c))
