@@ -1,4 +1,7 @@
-use ddc_base::{Bytes, digest, first_difference, put_decimal, put_hex, read_decimal};
+use ddc_base::{
+    Bytes, HexFail, ListOf, Name, digest, first_difference, put_decimal, put_hex, read_decimal,
+    read_hex,
+};
 use std::test::Fail;
 
 #[test]
@@ -49,6 +52,62 @@ fn numbers_as_text(rt: HostRuntime) -> Result<(), Fail> {
         text.as_slice(),
         b"abc ba7816bf8f01cfea414140de5dae2223b00361a396177a9cb410ff61f20015ad".as_slice()
     );
+    Ok(())
+}
+
+#[test]
+fn bytes_from_text(rt: HostRuntime) -> Result<(), Fail> {
+    let table: [(&[u8], Result<&[u8], HexFail>); 8] = [
+        (b"", Ok(b"")),
+        (b"00", Ok(b"\x00")),
+        (b"0a9f", Ok(b"\x0A\x9F")),
+        (b"ff7e", Ok(b"\xFF\x7E")),
+        (b"a", Err(HexFail::Bad)),
+        (b"0A", Err(HexFail::Bad)),
+        (b"0g", Err(HexFail::Bad)),
+        (b"0 1 ", Err(HexFail::Bad)),
+    ];
+    for (text, value) in table {
+        match read_hex(rt.alloc(), text) {
+            Ok(bytes) => assert!(rt; value == Ok(bytes.as_slice())),
+            Err(fail) => assert!(rt; value == Err(fail)),
+        }
+    }
+    Ok(())
+}
+
+#[test]
+fn names_in_a_list(rt: HostRuntime) -> Result<(), Fail> {
+    let mut names = ListOf::new(rt.alloc());
+    assert!(rt; names.is_empty());
+    let table: [(&[u8], bool); 9] = [
+        (b"a", true),
+        (b"hex0_seed", true),
+        (b"_9", true),
+        (b"abcdefghijklmnopqrstuvwxyz_01234", true),
+        (b"abcdefghijklmnopqrstuvwxyz_012345", false),
+        (b"", false),
+        (b"A", false),
+        (b"a-b", false),
+        (b"a\xFF", false),
+    ];
+    for (text, is_name) in table {
+        let name = Name::read(text);
+        assert_eq!(rt; name.is_some(), is_name);
+        if let Some(name) = name {
+            assert_eq!(rt; name.bytes(), text);
+            assert!(rt; name.copy() == name);
+            names.push(name)?;
+        }
+    }
+    assert_eq!(rt; names.len(), 4);
+    assert!(rt;
+        names
+            .get(2)
+            .is_some_and(|name| name.bytes() == b"_9".as_slice())
+    );
+    assert!(rt; names.get(4).is_none());
+    assert_eq!(rt; names.as_slice().len(), 4);
     Ok(())
 }
 

@@ -1,5 +1,6 @@
--- How the fields of the objects are seen. It serves the proofs: no promise rests on its being read.
+-- How the fields of the objects are seen, and tests that compute. It serves the proofs: no promise rests on its being read.
 pub mod FailedCall
+pub mod HexTests
 pub mod Host
 pub mod MemoryFiles
 pub mod MemoryViews
