@@ -53,15 +53,15 @@ unfoldable pub failed_line : List (List ℕ) → ℕ → List ℕ
 failed_line cause step = line (codes "failed" ∷ (cause ++ step_words step))
 
 -- the length and the digest of bytes
-abbrev pub mark : List ℕ → List (List ℕ)
-mark bytes = decimal (length bytes) ∷ encode_lower (sha256 bytes) ∷ []
+abbrev pub length_and_digest : List ℕ → List (List ℕ)
+length_and_digest bytes = decimal (length bytes) ∷ encode_lower (sha256 bytes) ∷ []
 
 -- what a stream collected, and a name that is left with its content
 unfoldable pub stream_line : ℕ → List ℕ → List ℕ
-stream_line which bytes = line (codes "stream" ∷ decimal which ∷ mark bytes)
+stream_line which bytes = line (codes "stream" ∷ decimal which ∷ length_and_digest bytes)
 
 unfoldable pub left_line : List ℕ × List ℕ → List ℕ
-left_line file = line (codes "left" ∷ encode_lower file.0 ∷ mark file.1)
+left_line file = line (codes "left" ∷ encode_lower file.0 ∷ length_and_digest file.1)
 
 -- an exit: its status and step, both streams (the first is the program's first output), and every file that is left, by the bytes of
 -- its name
