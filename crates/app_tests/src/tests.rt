@@ -1,5 +1,7 @@
 use ddc_app::{Status, run};
-use ddc_base::{MemShelf, MemSink, OutOfMemory};
+use crate::copying::copy_twice;
+use command_plan::Stop;
+use ddc_base::{Call, MemShelf, MemSink, OutOfMemory};
 use std::alloc::Global;
 use std::process::Abort;
 use std::test::Fail;
@@ -193,4 +195,47 @@ fn statuses_have_their_numbers(rt: HostRuntime) {
     for (status, number) in table {
         assert_eq!(rt; status.number(), number);
     }
+}
+
+/// Whether a shelf answered loads of these names, of at most so many bytes each, and nothing else.
+fn answered_loads(shelf: &MemShelf, names: &[&str], most: u64) -> bool {
+    shelf.calls().len() == names.len()
+        && shelf.calls().iter().zip(names).all(|(call, name)| match call {
+            Call::Load { name: loaded, limit } => {
+                loaded.as_slice() == name.as_bytes() && *limit == most
+            }
+            Call::Save { .. } => false,
+        })
+}
+
+#[test]
+fn only_the_plan_is_asked(rt: HostRuntime) -> Result<(), Fail> {
+    let alloc = rt.alloc();
+    let mut shelf = worked_shelf(alloc)?;
+    let mut out = MemSink::new(alloc);
+    let words = ["hex0", "commented", "pair"];
+    assert_eq!(rt; run(alloc, &words, &mut shelf, &mut out), Status::Yes);
+    assert!(rt; answered_loads(&shelf, &["commented", "pair"], 268_435_456));
+    assert_eq!(rt; out.pieces().len(), 1);
+    Ok(())
+}
+
+#[test]
+fn names_are_saved_in_order(rt: HostRuntime) -> Result<(), Fail> {
+    let alloc = rt.alloc();
+    let mut shelf = worked_shelf(alloc)?;
+    shelf.fail_save(2)?;
+    match copy_twice(alloc, &mut shelf, "pair", "one", "two") {
+        Err(Stop::ShelfFault(text)) => {
+            assert_eq!(rt; text.as_slice(), b"shelf fault two\n".as_slice())
+        }
+        _ => assert!(rt; false),
+    }
+    assert_eq!(rt; shelf.get("one"), Some([0x7F, 0x45].as_slice()));
+    match copy_twice(alloc, &mut shelf, "pair", "one", "two") {
+        Ok(answer) => assert_eq!(rt; answer.text.as_slice(), b"equal 2\n".as_slice()),
+        Err(_) => assert!(rt; false),
+    }
+    assert_eq!(rt; shelf.get("two"), Some([0x7F, 0x45].as_slice()));
+    Ok(())
 }

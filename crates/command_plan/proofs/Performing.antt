@@ -15,9 +15,9 @@ use Rattle.command_plan.specs.declared.answer.Answer.{Answer}
 use Rattle.command_plan.specs.declared.stop.Stop.{Stop}
 use Rattle.command_plan.specs.declared.stop.Stop.TheVariants as stop
 use Rattle.command_plan.specs.Plan.{Plan, answers, needs, sets, follow, outcome, asked, files_after, IsSettled}
-use Rattle.command_plan.specs.Endings.{Completes, Stops, StandsAt, Fails, FailsAt, named}
+use Rattle.command_plan.specs.Endings.{Completes, Stops, StandsAt, Fails, FailsAt, failure_of}
 use Rattle.command_plan.specs.Performs.{Answers, Faults, Performs}
-use Rattle.command_plan.specs.Steps.{Says, IsRefusal, Fetches, Stores}
+use Rattle.command_plan.specs.Steps.{Says, IsRefusal, Fetches, Saves}
 
 -- a fact that holds where the shelf tells, on a shelf that tells
 where_told : {P : Type 0} (tells : Bool) → IsTrue tells → OnTrue tells P → P
@@ -191,7 +191,7 @@ save_failed name content next old new s = record {
   }));
 }
 
-pub ends_at_save : (name content : List ℕ) (next : Plan) (old new : ShelfState) (ending : Stop) → Stores name content old new (Err ending) → Performs (sets name content next) old new (Err ending)
+pub ends_at_save : (name content : List ℕ) (next : Plan) (old new : ShelfState) (ending : Stop) → Saves name content old new (Err ending) → Performs (sets name content next) old new (Err ending)
 ends_at_save name content next old new (stop.Answered answer) s = absurd s.by_result
 ends_at_save name content next old new (stop.ShelfFault text) s =
     record { by_result = record { call = (operation.Save, name); failed = save_failed name content next old new s.by_result.0; names = s.by_result.1 } }
@@ -275,7 +275,7 @@ fails_on plan old next mid new call l f = record {
       let at = where_told mid.tells (l.tells ∙ told) f.place in
       (suc at.0, record {
         calls = front_on plan old next mid new at.0 l told at.1.calls;
-        next = ap (λ calls. option_map named (slice_get calls (suc at.0))) (l.calls told).2 ∙ at.1.next;
+        next = ap (λ calls. option_map failure_of (slice_get calls (suc at.0))) (l.calls told).2 ∙ at.1.next;
         files = rw (l.files told at.0) at.1.files;
       }));
 }
@@ -329,13 +329,13 @@ save_leads name content next old = record {
   files = λ told count. rw told refl;
 }
 
-pub goes_on_after_save : (name content : List ℕ) (next : Plan) (old mid new : ShelfState) (done : Unit {0}) (result : Result Answer Stop) → Stores name content old mid (Ok done) → Performs next mid new result → Performs (sets name content next) old new result
+pub goes_on_after_save : (name content : List ℕ) (next : Plan) (old mid new : ShelfState) (done : Unit {0}) (result : Result Answer Stop) → Saves name content old mid (Ok done) → Performs next mid new result → Performs (sets name content next) old new result
 goes_on_after_save name content next old mid new done result s p =
     let P : ShelfState → Type 0 = λ shelf. Performs next shelf new result in
     goes_on (sets name content next) old next (after_call (Save name content) (after_setting name content old)) new result (save_leads name content next old) (subst P s.by_result p)
 
 -- an answer after a save
-pub answers_after_save : (name content : List ℕ) (old new : ShelfState) (done : Unit {0}) (answer : Answer) → Stores name content old new (Ok done) → Performs (sets name content (answers answer.status answer.text)) old new (Ok answer)
+pub answers_after_save : (name content : List ℕ) (old new : ShelfState) (done : Unit {0}) (answer : Answer) → Saves name content old new (Ok done) → Performs (sets name content (answers answer.status answer.text)) old new (Ok answer)
 answers_after_save name content old new done answer s =
     goes_on_after_save name content (answers answer.status answer.text) old new new done (Ok answer) s (record { by_result = answered (answers answer.status answer.text) new answer refl })
 

@@ -5,16 +5,16 @@ use Rattle.command_plan.specs.declared.status.Status.{Status}
 use Rattle.command_plan.specs.declared.status.Status.TheVariants.{Yes, Usage, Differs, RunFailed, CheckFailed, FileRefused, ShelfFault, OutFault, OutOfMemory}
 
 -- the exit status of the program
-abbrev pub number_of : Status → ℕ
-number_of Yes = 0
-number_of Usage = 2
-number_of Differs = 3
-number_of RunFailed = 6
-number_of CheckFailed = 7
-number_of FileRefused = 10
-number_of ShelfFault = 11
-number_of OutFault = 12
-number_of OutOfMemory = 13
+abbrev pub exit_status : Status → ℕ
+exit_status Yes = 0
+exit_status Usage = 2
+exit_status Differs = 3
+exit_status RunFailed = 6
+exit_status CheckFailed = 7
+exit_status FileRefused = 10
+exit_status ShelfFault = 11
+exit_status OutFault = 12
+exit_status OutOfMemory = 13
 
 -- every status is an answer but the two faults and want of memory
 abbrev pub is_answer : Status → Bool

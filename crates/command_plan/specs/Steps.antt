@@ -40,12 +40,12 @@ FetchesBy name limit old new (Err stop.OutOfMemory) =
 pub record Fetches (name : List ℕ) (limit : ℕ) (old new : ShelfState) (result : Result (List ℕ) Stop) : Type 0 where
   pub by_result : FetchesBy name limit old new result
 
-abbrev pub StoresBy : List ℕ → List ℕ → ShelfState → ShelfState → Result (Unit {0}) Stop → Type 0
-StoresBy name content old new (Ok _) = new ≡ after_call (Save name content) (after_setting name content old)
-StoresBy name content old new (Err (stop.Answered answer)) = ⊥
-StoresBy name content old new (Err (stop.ShelfFault text)) = SaveFails name old new × (text ≡ shelf_fault_line name)
-StoresBy name content old new (Err stop.OutOfMemory) = (new ≡ old) ⊎ SaveFails name old new
+abbrev pub SavesBy : List ℕ → List ℕ → ShelfState → ShelfState → Result (Unit {0}) Stop → Type 0
+SavesBy name content old new (Ok _) = new ≡ after_call (Save name content) (after_setting name content old)
+SavesBy name content old new (Err (stop.Answered answer)) = ⊥
+SavesBy name content old new (Err (stop.ShelfFault text)) = SaveFails name old new × (text ≡ shelf_fault_line name)
+SavesBy name content old new (Err stop.OutOfMemory) = (new ≡ old) ⊎ SaveFails name old new
 
 -- a name was set, or ended the command
-pub record Stores (name content : List ℕ) (old new : ShelfState) (result : Result (Unit {0}) Stop) : Type 0 where
-  pub by_result : StoresBy name content old new result
+pub record Saves (name content : List ℕ) (old new : ShelfState) (result : Result (Unit {0}) Stop) : Type 0 where
+  pub by_result : SavesBy name content old new result

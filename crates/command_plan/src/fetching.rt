@@ -1,7 +1,7 @@
 ghost use Rattle.ddc_base.specs.Outside.{IsFileName};
 ghost use Rattle.command_plan.specs.Performs.{Performs};
 ghost use Rattle.command_plan.specs.Plan.{answers, sets};
-ghost use Rattle.command_plan.specs.Steps.{Fetches, Says, Stores};
+ghost use Rattle.command_plan.specs.Steps.{Fetches, Says, Saves};
 ghost use Rattle.command_plan.specs.Words as words;
 
 use crate::answer::Answer;
@@ -55,7 +55,7 @@ pub fn store<S: Shelf>(
     content: &[u8],
 ) -> Result<(), Stop>
     requires { IsFileName name.now }
-    ensures { Stores name.now content.now (S.state shelf.old) (S.state shelf.new) result }
+    ensures { Saves name.now content.now (S.state shelf.old) (S.state shelf.new) result }
 {
     match shelf.save(name, content) {
         Ok(()) => Ok(()),

@@ -1,5 +1,5 @@
 ghost use Rattle.std.specs.Prelude.{◌≡◌};
-ghost use Rattle.command_plan.specs.Answered.{number_of};
+ghost use Rattle.command_plan.specs.Answered.{exit_status};
 
 /// How a call ended. docs/reference/command-line.md says when each comes.
 #[derive(Clone, Copy, Debug, PartialEq, Eq)]
@@ -27,7 +27,7 @@ pub enum Status {
 impl Status {
     /// The exit status of a program that ends so.
     pub fn number(self) -> u8
-        ensures { result ≡ number_of self }
+        ensures { result ≡ exit_status self }
     {
         self as u8
     }

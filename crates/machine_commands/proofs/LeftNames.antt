@@ -1,5 +1,5 @@
 -- A walk over sorted names by "the first one after".
-use Rattle.std.proofs.Common.{◌≡◌, ℕ, ◌<◌, Bool, true, false, cond, ◌&&◌, ◌||◌, T, IsTrue, is_some, Option, Some, None, List, [], ◌∷◌, ◌++◌, length, map, filter, find, append_assoc, refl, sym, ap, subst, ◌∙◌, arith}
+use Rattle.std.proofs.Common.{◌≡◌, ℕ, ◌<◌, Bool, true, false, cond, ◌&&◌, ◌||◌, T, IsTrue, is_some, unwrap_or, Option, Some, None, List, [], ◌∷◌, ◌++◌, length, map, filter, find, append_assoc, refl, sym, ap, subst, ◌∙◌, arith}
 use Rattle.std.specs.Ordering.{is_lt, is_eq, eq_by_cmp}
 use Rattle.std.specs.declared.cmp.Ordering.{Ordering}
 use Rattle.std.specs.declared.cmp.Ordering.TheVariants.{Less, Equal, Greater}
@@ -7,13 +7,21 @@ use Rattle.std.specs.Cmp.Lexicographic.{nat_list_cmp_total}
 use Rattle.std.specs.Cmp.{tied_itself}
 use Rattle.std.specs.FinMap as finite
 use Rattle.std.specs.FinMap.Entries.{below_all}
-use Rattle.std.specs.List.{list_any}
+use Rattle.std.specs.List.{list_any, flat_map}
 use Rattle.mem_files.specs.Names.{bytes_cmp, is_stripped_name}
-use Rattle.mem_files.specs.World.{World}
+use Rattle.mem_files.specs.World.{World, content_of}
 use Rattle.mem_files.specs.Sound.{IsSound}
-use Rattle.mem_files.specs.Calls.{is_after}
+use Rattle.mem_files.specs.Calls.{is_after, content_at}
+use Rattle.mem_files.specs.Outputs.{left, named_content}
 use Rattle.std.proofs.lemmas.List.{append-nil}
-use Rattle.machine_commands.specs.RunProgram.{left_line, left_lines}
+use Rattle.machine_commands.specs.RunProgram.{left_line}
+
+-- the line of what is left under a name, and those of several
+abbrev pub name_line : World → List ℕ → List ℕ
+name_line w name = left_line (name, unwrap_or (content_at w name) [])
+
+abbrev pub name_lines : World → List (List ℕ) → List ℕ
+name_lines w names = flat_map (name_line w) names
 
 -- a name is before every name of these
 abbrev pub IsBelowAll : List ℕ → List (List ℕ) → Type 0
@@ -141,17 +149,17 @@ pub walk-name : (w : World) (given : Option (List ℕ)) (name : List ℕ) → Is
 walk-name w given name sound found =
     let held : is_some (finite.get w.names name) ≡ true = finite.contains_key-keys w.names name ∙ found-among given name (finite.keys w.names) found in
     let number = some_number (finite.get w.names name) held in
-    sound.good_names name number.0 number.1
+    sound.within.good_names name number.0 number.1
 
 -- the names of a world rise
 pub names-rise : (w : World) → Rise (finite.keys w.names)
 names-rise w = keys-rise (finite.entries w.names) (finite.entries_sorted w.names)
 
 -- one turn of the walk with its line
-pub walk-step : (w : World) (given : Option (List ℕ)) (name text whole : List ℕ) → find (is_after given) (finite.keys w.names) ≡ Some name → text ++ left_lines w (filter (is_after given) (finite.keys w.names)) ≡ whole → (text ++ left_line w name) ++ left_lines w (filter (is_after (Some name)) (finite.keys w.names)) ≡ whole
+pub walk-step : (w : World) (given : Option (List ℕ)) (name text whole : List ℕ) → find (is_after given) (finite.keys w.names) ≡ Some name → text ++ name_lines w (filter (is_after given) (finite.keys w.names)) ≡ whole → (text ++ name_line w name) ++ name_lines w (filter (is_after (Some name)) (finite.keys w.names)) ≡ whole
 walk-step w given name text whole found before =
     let turn = walk-turn given name (finite.keys w.names) (names-rise w) found in
-    append_assoc text (left_line w name) (left_lines w (filter (is_after (Some name)) (finite.keys w.names))) ∙ (rw turn at before)
+    append_assoc text (name_line w name) (name_lines w (filter (is_after (Some name)) (finite.keys w.names))) ∙ (rw turn at before)
 
 -- fewer names are left after a turn
 pub walk-shorter : (w : World) (given : Option (List ℕ)) (name : List ℕ) → find (is_after given) (finite.keys w.names) ≡ Some name → length (filter (is_after (Some name)) (finite.keys w.names)) < length (filter (is_after given) (finite.keys w.names))
@@ -160,7 +168,40 @@ walk-shorter w given name found =
     rw turn (omega arith)
 
 -- the text is whole where no name is left
-pub walk-whole : (w : World) (given : Option (List ℕ)) (text whole : List ℕ) → find (is_after given) (finite.keys w.names) ≡ None → text ++ left_lines w (filter (is_after given) (finite.keys w.names)) ≡ whole → text ≡ whole
+pub walk-whole : (w : World) (given : Option (List ℕ)) (text whole : List ℕ) → find (is_after given) (finite.keys w.names) ≡ None → text ++ name_lines w (filter (is_after given) (finite.keys w.names)) ≡ whole → text ≡ whole
 walk-whole w given text whole none before =
     let end = walk-end given (finite.keys w.names) none in
     sym (append-nil text) ∙ (rw end at before)
+
+-- a name that comes after another is not that one
+not-tied : (a b : List ℕ) → is_lt (bytes_cmp a b) ≡ true → eq_by_cmp bytes_cmp b a ≡ false
+not-tied a b p =
+    let e : bytes_cmp a b ≡ Less = less _ p in
+    rw (nat_list_cmp_total.antisymm b a, e) refl
+
+-- each of these entries is found in a list
+abbrev AreFound : List (List ℕ × ℕ) → List (List ℕ × ℕ) → Type 0
+AreFound all [] = Unit {0}
+AreFound all (e ∷ es) = (finite.find bytes_cmp e.0 all ≡ Some e.1) × AreFound all es
+
+found-behind : (e : List ℕ × ℕ) (all es : List (List ℕ × ℕ)) → IsBelowAll e.0 (map (λ f. f.0) es) → AreFound all es → AreFound (e ∷ all) es
+found-behind e all [] below found = tt
+found-behind e all (f ∷ fs) below found = (rw (not-tied e.0 f.0 below.0) found.0, found-behind e all fs below.1 found.1)
+
+all-found : (es : List (List ℕ × ℕ)) → Rise (map (λ e. e.0) es) → AreFound es es
+all-found [] rise = tt
+all-found (e ∷ es) rise =
+    let tied : eq_by_cmp bytes_cmp e.0 e.0 ≡ true = ap is_eq (tied_itself nat_list_cmp_total e.0) in
+    (rw tied refl, found-behind e es es rise.0 (all-found es rise.1))
+
+-- the lines by names are those of the names with their contents
+lines-found : (w : World) (es : List (List ℕ × ℕ)) → AreFound (finite.entries w.names) es → flat_map left_line (map (named_content w) es) ≡ name_lines w (map (λ e. e.0) es)
+lines-found w [] found = refl
+lines-found w (e ∷ es) found =
+    let held : finite.get w.names e.0 ≡ Some e.1 = finite.get-entries w.names e.0 ∙ found.0 in
+    let content : unwrap_or (content_at w e.0) [] ≡ content_of w e.1 = rw held refl in
+    λ i. left_line (e.0, sym content i) ++ lines-found w es found.1 i
+
+pub name_lines-left : (w : World) → name_lines w (finite.keys w.names) ≡ flat_map left_line (left w)
+unfolding left
+name_lines-left w = sym (lines-found w (finite.entries w.names) (all-found (finite.entries w.names) (names-rise w)))

@@ -5,10 +5,10 @@ use Rattle.byteorder.specs.Endian.{little_number}
 use Rattle.hex.specs.Hex.{encode_lower}
 use Rattle.rv64_decode.specs.Decode.{decoded}
 use Rattle.machine_commands.specs.Texts.{hex_word}
-use Rattle.machine_commands.specs.List.{shown, word_line, rest_line, listing}
+use Rattle.machine_commands.specs.List.{instruction_text, word_line, rest_line, listing}
 
 -- a word's line from its parts
-pub word_line-parts : (text : List ℕ) (offset word : ℕ) → (((text ++ (hex_word offset ++ 32 ∷ [])) ++ (hex_word word ++ 32 ∷ [])) ++ shown offset (decoded word)) ++ 10 ∷ [] ≡ text ++ word_line offset word
+pub word_line-parts : (text : List ℕ) (offset word : ℕ) → (((text ++ (hex_word offset ++ 32 ∷ [])) ++ (hex_word word ++ 32 ∷ [])) ++ instruction_text offset (decoded word)) ++ 10 ∷ [] ≡ text ++ word_line offset word
 unfolding word_line
 word_line-parts text offset word = simp append_assoc
 

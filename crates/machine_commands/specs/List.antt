@@ -13,13 +13,13 @@ use Rattle.command_plan.specs.Words.{is_file_word, usage}
 use Rattle.command_plan.specs.Plan.{Plan, answers, needs}
 
 -- the instruction at an offset, or `?` for a word that is none
-abbrev pub shown : ℕ → Option Inst → List ℕ
-shown offset (Some inst) = text inst offset
-shown offset None = codes "?"
+abbrev pub instruction_text : ℕ → Option Inst → List ℕ
+instruction_text offset (Some inst) = text inst offset
+instruction_text offset None = codes "?"
 
 -- the line of a word at an offset
 unfoldable pub word_line : ℕ → ℕ → List ℕ
-word_line offset word = line (hex_word offset ∷ hex_word word ∷ shown offset (decoded word) ∷ [])
+word_line offset word = line (hex_word offset ∷ hex_word word ∷ instruction_text offset (decoded word) ∷ [])
 
 -- the line of one to three bytes that are left
 unfoldable pub rest_line : ℕ → List ℕ → List ℕ

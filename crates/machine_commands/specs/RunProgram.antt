@@ -11,7 +11,7 @@ use Rattle.elf_load.specs.Refusal.{number_of}
 use Rattle.rv64_machine.specs.declared.answer.Cause.{Cause}
 use Rattle.rv64_machine.specs.declared.answer.Cause.TheVariants as cause
 use Rattle.mem_files.specs.World.{World}
-use Rattle.mem_files.specs.Calls.{content_at}
+use Rattle.mem_files.specs.Outputs.{FirstStream, left, out}
 use Rattle.guest_run.specs.Setting.{Setting, is_text}
 use Rattle.guest_run.specs.State.{GuestState}
 use Rattle.guest_run.specs.Start.{Refusal, Elf, ArgsTooLong, BoxTooLarge, start_of}
@@ -53,26 +53,25 @@ unfoldable pub failed_line : List (List ℕ) → ℕ → List ℕ
 failed_line cause step = line (codes "failed" ∷ (cause ++ step_words step))
 
 -- the length and the digest of bytes
-abbrev pub mark : List ℕ → List (List ℕ)
-mark bytes = decimal (length bytes) ∷ encode_lower (sha256 bytes) ∷ []
+abbrev pub length_and_digest : List ℕ → List (List ℕ)
+length_and_digest bytes = decimal (length bytes) ∷ encode_lower (sha256 bytes) ∷ []
 
--- what a stream collected, and what is left under a name
+-- what a stream collected, and a name that is left with its content
 unfoldable pub stream_line : ℕ → List ℕ → List ℕ
-stream_line which bytes = line (codes "stream" ∷ decimal which ∷ mark bytes)
+stream_line which bytes = line (codes "stream" ∷ decimal which ∷ length_and_digest bytes)
 
-unfoldable pub left_line : World → List ℕ → List ℕ
-left_line world name = line (codes "left" ∷ encode_lower name ∷ mark (unwrap_or (content_at world name) []))
+unfoldable pub left_line : List ℕ × List ℕ → List ℕ
+left_line file = line (codes "left" ∷ encode_lower file.0 ∷ length_and_digest file.1)
 
--- an exit: its status and step, both streams, and every file that is left, by the bytes of its name
+-- an exit: its status and step, both streams (the first is the program's first output), and every file that is left, by the bytes of
+-- its name
 unfoldable pub exited_line : ℕ → ℕ → List ℕ
 exited_line status step = line (codes "exited" ∷ decimal status ∷ step_words step)
 
-abbrev pub left_lines : World → List (List ℕ) → List ℕ
-left_lines world names = flat_map (left_line world) names
-
 unfoldable pub exited_text : ℕ → ℕ → World → List ℕ
 exited_text status step world =
-    exited_line status step ++ (stream_line 1 world.stream1 ++ (stream_line 2 world.stream2 ++ left_lines world (map.keys world.names)))
+    exited_line status step
+    ++ (stream_line 1 (unwrap_or (out world FirstStream) []) ++ (stream_line 2 world.stream2 ++ flat_map left_line (left world)))
 
 -- what is said of a run of at most `most` steps, by its first end and the state that this leaves; the end's own step is counted too
 abbrev pub status_of : ℕ → Status

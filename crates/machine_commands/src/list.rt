@@ -9,7 +9,7 @@ ghost use Rattle.command_plan.specs.Performs.{Performs};
 ghost use Rattle.command_plan.specs.Steps.{Says};
 ghost use Rattle.command_plan.specs.Plan.{answers};
 ghost use Rattle.machine_commands.specs.Texts.{hex_word};
-ghost use Rattle.machine_commands.specs.List.{shown, word_line, rest_line, listing, list_file, list_plan};
+ghost use Rattle.machine_commands.specs.List.{instruction_text, word_line, rest_line, listing, list_file, list_plan};
 
 use byteorder::{BigEndian, ByteOrder, LittleEndian};
 use command_plan::words::is_file_word;
@@ -99,7 +99,7 @@ fn put_word(text: &mut Bytes, offset: u32, bytes: &[u8]) -> Result<(), OutOfMemo
 
 /// Adds a word's instruction, or `?`.
 fn put_instruction(text: &mut Bytes, offset: u32, word: u32) -> Result<(), OutOfMemory>
-    ensures { OnOk result (text.new ≡ text.old ++ shown offset (decoded word)) }
+    ensures { OnOk result (text.new ≡ text.old ++ instruction_text offset (decoded word)) }
 {
     match decode(word) {
         Some(inst) => text.extend(print(&inst, u64::from(offset)).as_slice()),

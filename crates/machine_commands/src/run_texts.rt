@@ -1,11 +1,13 @@
 //! The texts of the command `run`.
-ghost use Rattle.std.specs.Prelude.{◌≡◌, ◌++◌, ◌∷◌, [], OnOk, IfOk, codes, decimal, string_bytes, IsTrue};
-ghost use Rattle.std.specs.FinMap as map;
+ghost use Rattle.std.specs.Prelude.{◌≡◌, ◌++◌, ◌∷◌, [], OnOk, IfOk, codes, decimal, string_bytes, unwrap_or, IsTrue};
+ghost use Rattle.std.specs.List.{flat_map};
 ghost use Rattle.hex.specs.Hex.{encode_lower};
+ghost use Rattle.mem_files.specs.Calls.{content_at};
 ghost use Rattle.mem_files.specs.Names.{is_stripped_name};
+ghost use Rattle.mem_files.specs.Outputs.{left};
 ghost use Rattle.mem_files.specs.Sound.{IsSound};
 ghost use Rattle.machine_commands.specs.Texts.{hex_word, hex_address};
-ghost use Rattle.machine_commands.specs.RunProgram.{trap_words, failed_line, stream_line, left_line, left_lines, exited_line, exited_text};
+ghost use Rattle.machine_commands.specs.RunProgram.{trap_words, failed_line, stream_line, left_line, exited_line, exited_text};
 
 use byteorder::{BigEndian, ByteOrder};
 use ddc_base::{Bytes, OutOfMemory, digest};
@@ -155,7 +157,7 @@ fn stream(alloc: Global, which: u8, bytes: &[u8]) -> Result<Bytes, OutOfMemory>
 #[tactic(auto, unfolding(crate::specs::RunProgram::left_line))]
 fn left(alloc: Global, files: &Files, name: &[u8]) -> Result<Bytes, OutOfMemory>
     requires { IsTrue (is_stripped_name name.now) }
-    ensures { IfOk result (λ text. text ≡ left_line files.now name.now) }
+    ensures { IfOk result (λ text. text ≡ left_line (name.now, unwrap_or (content_at files.now name.now) [])) }
 {
     let content = files.content(name).unwrap_or(&[]);
     let size = content.len();
@@ -167,7 +169,7 @@ fn left(alloc: Global, files: &Files, name: &[u8]) -> Result<Bytes, OutOfMemory>
 /// The lines of all files that are left, by the bytes of their names.
 fn put_left(alloc: Global, text: &mut Bytes, files: &Files) -> Result<(), OutOfMemory>
     requires { IsSound files.now }
-    ensures { OnOk result (text.new ≡ text.old ++ left_lines files.now (map.keys files.now.names)) }
+    ensures { OnOk result (text.new ≡ text.old ++ flat_map left_line (left files.now)) }
 {
     let mut last: Option<&[u8]> = None;
     while let Some(name) = files.name_after(last) {

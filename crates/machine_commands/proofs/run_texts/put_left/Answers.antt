@@ -1,5 +1,5 @@
-use Rattle.std.proofs.Common.{sym, refl}
-use Rattle.machine_commands.proofs.LeftNames.{walk-start, walk-name, walk-step, walk-shorter, walk-whole}
+use Rattle.std.proofs.Common.{◌++◌, sym, refl, ap, ◌∙◌}
+use Rattle.machine_commands.proofs.LeftNames.{walk-start, walk-name, walk-step, walk-shorter, walk-whole, name_lines-left}
 use Rattle.machine_commands.proofs.run_texts.put_left.Goals as goal
 
 pub loop-name-init : goal.loop-name-init
@@ -17,4 +17,5 @@ loop-name-preserved c =
     (walk-step c.args.files.now _ _ _ _ (sym c.in-Some.ensures) c.loop-name.invariant)
 
 pub returns : goal.returns
-returns c = walk-whole c.args.files.now _ _ _ (sym c.in_default.ensures) c.loop-name.invariant
+returns c =
+    walk-whole c.args.files.now _ _ _ (sym c.in_default.ensures) c.loop-name.invariant ∙ ap (λ lines. c.args.text.now ++ lines) (name_lines-left c.args.files.now)

@@ -1,13 +1,13 @@
 use Rattle.std.proofs.Common.{◌≡◌, ◌++◌, length, filter, option_copied}
 use Rattle.std.specs.FinMap as map
 use Rattle.mem_files.specs.Calls.{is_after}
-use Rattle.machine_commands.specs.RunProgram.{left_lines}
+use Rattle.machine_commands.proofs.LeftNames.{name_lines}
 use Rattle.machine_commands.proofs.run_texts.put_left.Given as goal
 
 abbrev pub invariant-loop-name : goal.invariant-loop-name
 invariant-loop-name l =
-    l.text ++ left_lines l.files (filter (is_after (option_copied l.last)) (map.keys l.files.names))
-    ≡ l.initial.text ++ left_lines l.files (map.keys l.files.names)
+    l.text ++ name_lines l.files (filter (is_after (option_copied l.last)) (map.keys l.files.names))
+    ≡ l.initial.text ++ name_lines l.files (map.keys l.files.names)
 
 abbrev pub decreases-loop-name : goal.decreases-loop-name
 decreases-loop-name l = length (filter (is_after (option_copied l.last)) (map.keys l.files.names))
