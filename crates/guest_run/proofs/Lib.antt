@@ -8,3 +8,4 @@ pub mod Starting
 pub mod Stepping
 pub mod Texts
 pub mod Validity
+pub mod Stretching

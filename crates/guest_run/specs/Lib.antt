@@ -5,3 +5,4 @@ pub mod Valid
 pub mod Run
 pub mod Setting
 pub mod Start
+pub mod Stretch
