@@ -12,3 +12,4 @@ pub mod Acts
 pub mod StartLaw
 pub mod Boxes
 pub mod Numbers
+pub mod Stretching

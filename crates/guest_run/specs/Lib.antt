@@ -7,3 +7,4 @@ pub mod Setting
 pub mod Start
 pub mod Program
 pub mod Inside
+pub mod Stretch

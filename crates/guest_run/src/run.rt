@@ -1,6 +1,7 @@
 //! The steps of a guest, over its parts.
 ghost use Rattle.guest_run.specs.Run.{Runs, Steps};
 ghost use Rattle.guest_run.specs.State.{guest_state};
+ghost use Rattle.guest_run.specs.Stretch.{Stretches};
 ghost use Rattle.linux_calls.specs.HeapOf.{IsHeapOf};
 ghost use Rattle.rv64_machine.specs.Hart.{act};
 ghost use Rattle.rv64_machine.specs.Hart as machine;
@@ -41,34 +42,35 @@ pub(crate) fn run_parts<R: Ram>(
     ensures { Runs (guest_state hart.old files.old heap.old steps.old) most result
         (guest_state hart.new files.new heap.new steps.new) }
 {
-    for taken in 0..most {
-        match step(alloc, hart, files, heap, steps) {
-            None => {}
-            Some(end) => return end,
+    let end = *steps + most;
+    while *steps < end {
+        if let Some(end) = stretch(alloc, hart, files, heap, steps, end - *steps) {
+            return end;
         }
     }
     RunEnd::Spent
 }
 
-/// One step; none where the guest went on, else why it did not.
-fn step<R: Ram>(
+/// At most `most` steps: instructions up to a call, and the call. None where the guest goes on, else why it does not.
+fn stretch<R: Ram>(
     alloc: Global,
     hart: &mut Hart<R>,
     files: &mut Files,
     heap: &mut Heap,
     steps: &mut u64,
+    most: u64,
 ) -> Option<RunEnd>
+    requires some { 0 < most }
     requires heap_of { IsHeapOf hart.old.memory heap.old }
-    requires counted { steps.old + 1 < 2 ^ 64 }
-    ensures step { Steps (guest_state hart.old files.old heap.old steps.old) result
+    requires counted { steps.old + most < 2 ^ 64 }
+    ensures steps { Stretches (guest_state hart.old files.old heap.old steps.old) most result
         (guest_state hart.new files.new heap.new steps.new) }
     ensures kept { IsHeapOf hart.new.memory heap.new }
 {
-    match hart.step() {
-        StepEnd::Done => {
-            *steps += 1;
-            None
-        }
+    let (end, done) = hart.run(most);
+    *steps += done;
+    match end {
+        StepEnd::Done => None,
         StepEnd::Call => serve(alloc, hart, files, heap, steps),
         StepEnd::Trap(cause) => Some(RunEnd::Trapped(cause)),
         StepEnd::OutOfMemory => Some(RunEnd::OutOfMemory),

@@ -1,5 +1,5 @@
 -- A hart and one act of it (docs/reference/machine.md).
-use Rattle.std.specs.Prelude.{◌≡◌, ℕ, ◌*◌, ◌%◌, ◌==◌, Bool, true, false, if◌then◌else◌, IsTrue, length, List, slice_index, slice_set, Option, None, Some, option_map, option_and_then, refl}
+use Rattle.std.specs.Prelude.{◌≡◌, ℕ, zero, suc, ◌*◌, ◌%◌, ◌<◌, ◌==◌, Bool, true, false, if◌then◌else◌, IsTrue, length, List, slice_index, slice_set, Option, None, Some, option_map, option_and_then, refl}
 use Rattle.std.specs.Coded.{Coded, code_by, coded×, coded_ℕ, coded_list}
 use Rattle.std.specs.FinMap as map
 use Rattle.paged_mem.specs.Memory.{IsWhole, Memory, maps, reads, writes}
@@ -124,3 +124,21 @@ Ends an_act effect old end.OutOfMemory new = IsTrue (goes_on an_act) × IsTrue (
 -- what a step answers, and the state that it leaves: its act's, or want of memory in a store that would go on
 abbrev pub Steps : HartState → StepEnd → HartState → Type 0
 Steps old end new = Ends (act old) (effect_at old) old end new
+
+-- the state in which an act went on
+abbrev pub went_to : Act → Option HartState
+went_to (Goes next) = Some next
+went_to _ = None
+
+-- the state after so many acts that went on; none where one of them did not
+unfoldable pub after : HartState → ℕ → Option HartState
+after hart zero = Some hart
+after hart (suc count) = option_and_then (λ last. went_to (act last)) (after hart count)
+
+-- how at most so many steps ended, after so many that went on, and the state that they left: all of them went on, or the next one
+-- did not, and left the state
+abbrev pub Runs : HartState → ℕ → ℕ → StepEnd → HartState → Type 0
+Runs old most done end.Done new = (done ≡ most) × (after old done ≡ Some new)
+Runs old most done end.Call new = (done < most) × (after old done ≡ Some new) × Steps new end.Call new
+Runs old most done (end.Trap cause) new = (done < most) × (after old done ≡ Some new) × Steps new (end.Trap cause) new
+Runs old most done end.OutOfMemory new = (done < most) × (after old done ≡ Some new) × Steps new end.OutOfMemory new

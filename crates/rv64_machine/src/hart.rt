@@ -3,7 +3,7 @@ ghost use Rattle.rv64_decode.specs.Decode.{decoded};
 ghost use Rattle.rv64_table.specs.Table.{row_for};
 ghost use Rattle.paged_mem.specs.Ram.{count_of};
 ghost use Rattle.rv64_machine.specs.Arithmetic.{sign_extended};
-ghost use Rattle.rv64_machine.specs.Hart.{carried, effect_of, Ends, following, HartState, IsHart, runs, Steps, with_register};
+ghost use Rattle.rv64_machine.specs.Hart.{carried, effect_of, Ends, following, HartState, IsHart, runs, Runs, Steps, with_register};
 ghost use Rattle.std.specs.FinMap.{contains_key};
 ghost use Rattle.std.specs.Borrow.{Lends, sem};
 ghost use Rattle.rv64_machine.specs.contracts.hart.Hart.{the_row};
@@ -117,6 +117,7 @@ impl<R: Ram> Hart<R> {
     ///
     /// Want of memory can come only in a store that would go on, and like every answer but `Done` it
     /// leaves the hart as it was.
+    #[inline(always)]
     pub fn step(&mut self) -> StepEnd
         ensures act { Steps self.old result self.new }
         // No step maps or unmaps an address.
@@ -124,6 +125,23 @@ impl<R: Ram> Hart<R> {
             → contains_key self.new.memory address ≡ contains_key self.old.memory address }
     {
         self.advance()
+    }
+
+    /// Steps until one does not go on, at most `most` of them: how the last one ended, and how many went on before it.
+    pub fn run(&mut self, most: u64) -> (StepEnd, u64)
+        ensures acts { Runs self.old most result.1 result.0 self.new }
+        ensures mapping { (address : ℕ)
+            → contains_key self.new.memory address ≡ contains_key self.old.memory address }
+    {
+        for done in 0..most {
+            match self.step() {
+                StepEnd::Done => {}
+                StepEnd::Call => return (StepEnd::Call, done),
+                StepEnd::Trap(cause) => return (StepEnd::Trap(cause), done),
+                StepEnd::OutOfMemory => return (StepEnd::OutOfMemory, done),
+            }
+        }
+        (StepEnd::Done, most)
     }
 
     /// A step as its act says it.
@@ -135,12 +153,12 @@ impl<R: Ram> Hart<R> {
         let Some(word) = self.ram.load(self.pc, Width::W4) else {
             return StepEnd::Trap(Cause::FetchUnmapped(self.pc));
         };
-        self.run(word as u32)
+        self.obey(word as u32)
     }
 
     /// Carries out a word.
     #[inline(always)]
-    fn run(&mut self, word: u32) -> StepEnd
+    fn obey(&mut self, word: u32) -> StepEnd
         ensures { Ends (runs self.old word (decoded word)) (option_map (effect_of self.old) (decoded word)) self.old result self.new }
     {
         match row_of(word) {

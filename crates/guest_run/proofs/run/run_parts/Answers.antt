@@ -1,27 +1,39 @@
-use Rattle.std.proofs.Common.{◌≡◌, ◌+◌, arith}
+use Rattle.std.proofs.Common.{◌≡◌, ◌-◌, ap, ◌∙◌, arith}
+use Rattle.guest_run.specs.Run.{after}
 use Rattle.guest_run.specs.State.{guest_state}
-use Rattle.guest_run.proofs.Running.{after-none, after-on, ended, spent}
-use Rattle.guest_run.proofs.Stepping.{next-counted}
+use Rattle.guest_run.proofs.Running.{after-none, spent}
+use Rattle.guest_run.proofs.Stretching.{run_ends, run_on}
 use Rattle.guest_run.proofs.run.run_parts.Goals as goal
 
-pub loop-taken-init : goal.loop-taken-init
-loop-taken-init g c = (after-none _, omega arith, c.requires.heap_of)
+pub loop-steps-init : goal.loop-steps-init
+loop-steps-init g c =
+    let none : c.args.steps.now - c.args.steps.now ≡ 0 = omega arith in
+    (ap (after _) none ∙ after-none _, omega arith, omega arith, c.requires.heap_of)
 
 pub returns-in-Some : goal.returns-in-Some
 returns-in-Some g c =
-    ended _ (guest_state c.loop-taken.hart c.loop-taken.files c.loop-taken.heap c.loop-taken.steps) _ c.loop-taken.taken c.args.most c.in-Some.end
-    c.loop-taken.invariant.0 c.loop-taken.invariant.1 c.loop-taken-test.true c.in-Some.ensures.step
+    let inv = c.loop-steps.invariant in
+    run_ends (guest_state c.args.hart.now c.args.files.now c.args.heap.now c.args.steps.now)
+    (guest_state c.loop-steps.hart c.loop-steps.files c.loop-steps.heap c.loop-steps.steps) _ _ c.args.most c.in-Some.end
+    inv.0 inv.1 (omega (arith, inv.1, inv.2)) c.in-Some.ensures.steps
 
-pub loop-taken-preserved : goal.loop-taken-preserved
-loop-taken-preserved g c =
-    let more : c.step.new.steps ≡ c.loop-taken.steps + 1 =
-    next-counted (guest_state c.loop-taken.hart c.loop-taken.files c.loop-taken.heap c.loop-taken.steps)
-    (guest_state c.step.new.hart c.step.new.files c.step.new.heap c.step.new.steps) c.in-None.ensures.step in
-    let counted = c.loop-taken.invariant.1 in (
-      after-on _ (guest_state c.loop-taken.hart c.loop-taken.files c.loop-taken.heap c.loop-taken.steps) _ c.loop-taken.taken c.loop-taken.invariant.0 c.in-None.ensures.step,
-      omega arith,
-      c.in-None.ensures.kept,
-    )
+pub loop-steps-smaller : goal.loop-steps-smaller
+loop-steps-smaller g c =
+    let inv = c.loop-steps.invariant in
+    let on = run_on (guest_state c.args.hart.now c.args.files.now c.args.heap.now c.args.steps.now)
+    (guest_state c.loop-steps.hart c.loop-steps.files c.loop-steps.heap c.loop-steps.steps)
+    (guest_state c.stretch.new.hart c.stretch.new.files c.stretch.new.heap c.stretch.new.steps) _ inv.0 inv.1 c.in_default.ensures.steps in
+    omega (arith, on.1, c.loop-steps-test.true)
+
+pub loop-steps-preserved : goal.loop-steps-preserved
+loop-steps-preserved g c =
+    let inv = c.loop-steps.invariant in
+    let on = run_on (guest_state c.args.hart.now c.args.files.now c.args.heap.now c.args.steps.now)
+    (guest_state c.loop-steps.hart c.loop-steps.files c.loop-steps.heap c.loop-steps.steps)
+    (guest_state c.stretch.new.hart c.stretch.new.files c.stretch.new.heap c.stretch.new.steps) _ inv.0 inv.1 c.in_default.ensures.steps in
+    (on.0, omega (arith, inv.1, on.1), omega (arith, inv.1, inv.2, on.2), c.in_default.ensures.kept)
 
 pub returns : goal.returns
-returns g c = spent _ _ c.loop-taken.taken c.args.most (omega arith) c.loop-taken.invariant.0
+returns g c =
+    let inv = c.loop-steps.invariant in
+    spent _ _ (c.loop-steps.steps - c.args.steps.now) c.args.most (omega (arith, inv.1, inv.2, c.loop-steps-test.false)) inv.0
