@@ -1,5 +1,5 @@
 //! Calls in a row: what Linux answers (tests/calls/expected.txt), and this project's own limits and orders.
-ghost use Rattle.std.specs.Prelude.{◌≡◌};
+ghost use Rattle.std.specs.Prelude.{◌≡◌, ◌<◌};
 ghost use Rattle.std.proofs.Props.{props};
 ghost use Rattle.linux_calls.specs.HeapOf.{IsHeapOf};
 
@@ -358,26 +358,30 @@ fn the_last_descriptor(rt: HostRuntime) {
     guest.run(&rt, rt.alloc(), &TOO_MANY);
 }
 
+const MADE_AND_CLOSED: [Row; 2] = [
+    (SYS_OPENAT, [CWD, BUFFER, 64], 3),
+    (SYS_CLOSE, [3, 0, 0], 0),
+];
+
+/// Makes the files of 256 names that begin with one letter.
+fn make_names(rt: &impl Abort, alloc: Global, guest: &mut Guest, first: u8)
+    requires { first < 16 }
+{
+    for second in 0..16 {
+        for third in 0..16 {
+            let name = [letter(first), letter(second), letter(third), 0];
+            assert!(rt; guest.put(BUFFER as u64, &name));
+            guest.run(rt, alloc, &MADE_AND_CLOSED);
+        }
+    }
+}
+
 /// With 4,096 names no other file is made; those that are there open as ever.
 #[test]
 fn the_last_name(rt: HostRuntime) {
     let mut guest = with_texts(rt.alloc()).expect(&rt, "memory");
-    for i in 0..4096u64 {
-        let name = [
-            letter((i / 256) as u8),
-            letter((i / 16 % 16) as u8),
-            letter((i % 16) as u8),
-            0,
-        ];
-        assert!(rt; guest.put(BUFFER as u64, &name));
-        guest.run(
-            &rt,
-            rt.alloc(),
-            &[
-                (SYS_OPENAT, [CWD, BUFFER, 64], 3),
-                (SYS_CLOSE, [3, 0, 0], 0),
-            ],
-        );
+    for first in 0..16 {
+        make_names(&rt, rt.alloc(), &mut guest, first);
     }
     guest.run(&rt, rt.alloc(), &NO_MORE_NAMES);
 }
