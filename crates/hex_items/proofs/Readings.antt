@@ -18,7 +18,7 @@ use Rattle.hex_items.specs.declared.reader.HexRefusal.TheVariants.{TooLong}
 use Rattle.hex_items.specs.Tokens.{gap_from, gap_length, is_blank, opens_gap, pair_at, token_at}
 use Rattle.hex_langs.specs.Hex0.{begins_comment}
 use Rattle.hex_items.specs.Words.{Step, taken, Takes}
-use Rattle.hex_items.specs.Reading.{answer, End, Ends, Faulted, Faulty, Formed, fault_at, formed, goes_on, Halted, halted, items_of, judged, Reading, Reads, reading, Then, with_front}
+use Rattle.hex_items.specs.Reading.{answer, Ending, Ends, Faulted, Faulty, Formed, fault_at, formed, behind_step, Halted, halted, items_of, judged, Reading, Reads, reading, Then, with_front}
 
 -- what is read already is passed over
 pub reading-inside : (dialect : Dialect) (at inside : ℕ) (left : List ℕ)
@@ -62,12 +62,12 @@ with_front-twice front more later = ap (λ (items : List Item). record { items =
 -- a token that has its place
 pub formed-token : (word next : Option Open) (at : ℕ) (token : Token) (later : Reading Fault) (more : List Item)
     → taken word at token ≡ Ok (more, next) → formed word (Then at token later) ≡ with_front more (formed next later)
-formed-token word next at token later more is = ap (λ (step : Step). goes_on step (λ then. formed then later)) is
+formed-token word next at token later more is = ap (λ (step : Step). behind_step step (λ then. formed then later)) is
 
 -- a token that has none
 pub formed-halt : (word : Option Open) (at : ℕ) (token : Token) (later : Reading Fault) (why : Halt)
     → taken word at token ≡ Err why → formed word (Then at token later) ≡ record { items = []; end = Halted why }
-formed-halt word at token later why is = ap (λ (step : Step). goes_on step (λ then. formed then later)) is
+formed-halt word at token later why is = ap (λ (step : Step). behind_step step (λ then. formed then later)) is
 
 -- a digit begins a byte
 pub token-digit : (dialect : Dialect) (byte : ℕ) (left : List ℕ) → is_hex_digit byte ≡ true → token_at dialect byte left ≡ pair_at byte left
@@ -140,7 +140,7 @@ judged-many : (whole : Formed Fault) → 33554432 < length whole.items → judge
 judged-many whole many = let over : nat_lt 33554432 (length whole.items) ≡ true = grind (arith, nat_tests) in cond-true _ _ _ over
 
 -- the items so far are few, and nothing comes behind them
-pub judged-end : (whole : Formed Fault) (items : List Item) (end : End Fault) → whole ≡ with_front items (record { items = []; end = end })
+pub judged-end : (whole : Formed Fault) (items : List Item) (end : Ending Fault) → whole ≡ with_front items (record { items = []; end = end })
     → length items ≤ 33554432 → judged whole ≡ answer items end
 judged-end whole items end is few =
     let all : whole ≡ record { items = items; end = end } = is ∙ ap (λ (all : List Item). record { items = all; end = end }) (append-nil items) in

@@ -32,34 +32,34 @@ reading dialect at zero (byte ∷ left) =
     ]
 
 -- how it ends
-pub data End (F : Type 0) : Type 0 where
-  Whole : End F
-  Halted : Halt → End F
-  Faulted : F → ℕ → End F
+pub data Ending (F : Type 0) : Type 0 where
+  Whole : Ending F
+  Halted : Halt → Ending F
+  Faulted : F → ℕ → Ending F
 
 -- the items up to the end or the first refusal
 pub record Formed (F : Type 0) : Type 0 where
   pub items : List Item
-  pub end : End F
+  pub end : Ending F
 
 abbrev pub with_front : {F : Type 0} → List Item → Formed F → Formed F
 with_front front formed = record { items = front ++ formed.items; end = formed.end }
 
 -- a word that is open at the end isn't whole
-abbrev pub end_of : {F : Type 0} → Option Open → End F
-end_of None = Whole
-end_of (Some word) = Halted (halt.Dangling word.first)
+abbrev pub word_end : {F : Type 0} → Option Open → Ending F
+word_end None = Whole
+word_end (Some word) = Halted (halt.Dangling word.first)
 
 -- behind one step: the items that it forms and what the rest gives, or no more
-abbrev pub goes_on : {F : Type 0} → Step → (Option Open → Formed F) → Formed F
-goes_on (Ok step) rest = with_front step.0 (rest step.1)
-goes_on (Err why) rest = record { items = []; end = Halted why }
+abbrev pub behind_step : {F : Type 0} → Step → (Option Open → Formed F) → Formed F
+behind_step (Ok step) rest = with_front step.0 (rest step.1)
+behind_step (Err why) rest = record { items = []; end = Halted why }
 
 -- the items of tokens, behind an open word or none
 abbrev pub formed : {F : Type 0} → Option Open → Reading F → Formed F
-formed word Ends = record { items = []; end = end_of word }
+formed word Ends = record { items = []; end = word_end word }
 formed word (Faulty why at) = record { items = []; end = Faulted why at }
-formed word (Then at token later) = goes_on (taken word at token) (λ next. formed next later)
+formed word (Then at token later) = behind_step (taken word at token) (λ next. formed next later)
 
 -- the refusal of a token without a place, and of a place without a token
 abbrev pub halted : Halt → HexRefusal
@@ -72,7 +72,7 @@ abbrev pub fault_at : Fault → ℕ → HexRefusal
 fault_at fault.OddDigits at = OddDigits at
 fault_at fault.BadField at = BadField at
 
-abbrev pub answer : List Item → End Fault → Result (List Item) HexRefusal
+abbrev pub answer : List Item → Ending Fault → Result (List Item) HexRefusal
 answer items Whole = Ok items
 answer items (Halted why) = Err (halted why)
 answer items (Faulted why at) = Err (fault_at why at)

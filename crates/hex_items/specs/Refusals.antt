@@ -3,23 +3,23 @@ use Rattle.std.specs.Prelude.{ℕ}
 use Rattle.hex_items.specs.declared.reader.HexRefusal.{HexRefusal}
 use Rattle.hex_items.specs.declared.reader.HexRefusal.TheVariants.{OddDigits, BadField, Dangling, DoubleLabel, NoLabel, OutOfReach, TooLong, OutOfMemory}
 
-abbrev pub number_of : HexRefusal → ℕ
-number_of (OddDigits at) = 1
-number_of (BadField at) = 2
-number_of (Dangling at) = 3
-number_of (DoubleLabel index) = 4
-number_of (NoLabel index) = 5
-number_of (OutOfReach index) = 6
-number_of TooLong = 7
-number_of OutOfMemory = 8
+abbrev pub refusal_number : HexRefusal → ℕ
+refusal_number (OddDigits at) = 1
+refusal_number (BadField at) = 2
+refusal_number (Dangling at) = 3
+refusal_number (DoubleLabel index) = 4
+refusal_number (NoLabel index) = 5
+refusal_number (OutOfReach index) = 6
+refusal_number TooLong = 7
+refusal_number OutOfMemory = 8
 
 -- the offset of a byte of the source, or the number of an item; 0 where there is none
-abbrev pub place_of : HexRefusal → ℕ
-place_of (OddDigits at) = at
-place_of (BadField at) = at
-place_of (Dangling at) = at
-place_of (DoubleLabel index) = index
-place_of (NoLabel index) = index
-place_of (OutOfReach index) = index
-place_of TooLong = 0
-place_of OutOfMemory = 0
+abbrev pub refusal_place : HexRefusal → ℕ
+refusal_place (OddDigits at) = at
+refusal_place (BadField at) = at
+refusal_place (Dangling at) = at
+refusal_place (DoubleLabel index) = index
+refusal_place (NoLabel index) = index
+refusal_place (OutOfReach index) = index
+refusal_place TooLong = 0
+refusal_place OutOfMemory = 0

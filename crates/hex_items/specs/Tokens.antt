@@ -87,10 +87,10 @@ abbrev pub named_by : (List ℕ → Token) → ℕ → List ℕ → Result (Toke
 named_by make size left = if size == 0 then Err BadField else Ok (make (take size left), size)
 
 -- what a sign makes of the name behind it
-abbrev pub signed : Sign → List ℕ → Token
-signed sign.Label name = Alone (item.Label name)
-signed sign.Absolute name = Alone (item.Abs name)
-signed (sign.Reference kind) name = Reference kind name
+abbrev pub sign_token : Sign → List ℕ → Token
+sign_token sign.Label name = Alone (item.Label name)
+sign_token sign.Absolute name = Alone (item.Abs name)
+sign_token (sign.Reference kind) name = Reference kind name
 
 -- behind `%` a name, and in hex2 perhaps `>` and a second one
 abbrev pub second_name : ℕ → ℕ → List ℕ → Result (Token × ℕ) Fault
@@ -118,12 +118,12 @@ unfoldable pub token_at : Dialect → ℕ → List ℕ → Result (Token × ℕ)
 token_at dialect byte left =
     if is_hex_digit byte then pair_at byte left
     else if byte == 46 then field_at left
-    else if byte == 58 then named_by (signed sign.Label) (name_length dialect left) left
-    else if byte == 33 then named_by (signed (sign.Reference I)) (name_length dialect left) left
-    else if byte == 64 then named_by (signed (sign.Reference B)) (name_length dialect left) left
-    else if byte == 36 then named_by (signed (sign.Reference J)) (name_length dialect left) left
-    else if byte == 126 then named_by (signed (sign.Reference U)) (name_length dialect left) left
-    else if byte == 38 then named_by (signed sign.Absolute) (name_length dialect left) left
+    else if byte == 58 then named_by (sign_token sign.Label) (name_length dialect left) left
+    else if byte == 33 then named_by (sign_token (sign.Reference I)) (name_length dialect left) left
+    else if byte == 64 then named_by (sign_token (sign.Reference B)) (name_length dialect left) left
+    else if byte == 36 then named_by (sign_token (sign.Reference J)) (name_length dialect left) left
+    else if byte == 126 then named_by (sign_token (sign.Reference U)) (name_length dialect left) left
+    else if byte == 38 then named_by (sign_token sign.Absolute) (name_length dialect left) left
     else if byte == 37 then rel_at dialect left
     else pad_at dialect byte left
 

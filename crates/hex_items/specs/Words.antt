@@ -17,8 +17,8 @@ use Rattle.hex_items.specs.declared.words.Halt.TheVariants.{Dangling, Second, To
 abbrev pub Step : Type 0
 Step = Result (List Item × Option Open) Halt
 
-abbrev pub opened : Open → Step
-opened word = Ok ([], Some word)
+abbrev pub still_open : Open → Step
+still_open word = Ok ([], Some word)
 
 -- the items of a whole word, whose four bytes were XORed with its fields
 abbrev pub word_items : Option (Kind × List ℕ) → ℕ → List Item
@@ -27,9 +27,9 @@ word_items (Some reference) value = item.Word value reference.0 reference.1 ∷ 
 
 -- a byte behind the bytes that an open word has
 abbrev pub byte_in : Open → Begun → ℕ → Step
-byte_in word Nothing byte = opened (record word { begun = One byte })
-byte_in word (One a) byte = opened (record word { begun = Two a byte })
-byte_in word (Two a b) byte = opened (record word { begun = Three a b byte })
+byte_in word Nothing byte = still_open (record word { begun = One byte })
+byte_in word (One a) byte = still_open (record word { begun = Two a byte })
+byte_in word (Two a b) byte = still_open (record word { begun = Three a b byte })
 byte_in word (Three a b c) byte = Ok (word_items word.reference (bit_xor word.mask (from_le_bytes w32 (a ∷ b ∷ c ∷ byte ∷ []))), None)
 
 abbrev pub byte_taken : Open → ℕ → Step
@@ -37,21 +37,21 @@ byte_taken word byte = byte_in word word.begun byte
 
 -- a field has its place before the bytes of the word
 abbrev pub field_in : Open → Begun → ℕ → Step
-field_in word Nothing mask = opened (record word { mask = bit_xor word.mask mask })
+field_in word Nothing mask = still_open (record word { mask = bit_xor word.mask mask })
 field_in word _ mask = Err (Dangling word.first)
 
 -- so has a reference, and there is only one
 abbrev pub reference_in : Open → Option (Kind × List ℕ) → Begun → ℕ → Kind → List ℕ → Step
 reference_in word (Some other) begun at kind name = Err (Second at)
-reference_in word None Nothing at kind name = opened (record word { reference = Some (kind, name) })
+reference_in word None Nothing at kind name = still_open (record word { reference = Some (kind, name) })
 reference_in word None _ at kind name = Err (Dangling word.first)
 
 -- a token at an offset, behind no open word or behind one
 abbrev pub taken : Option Open → ℕ → Token → Step
 taken None at (Byte byte) = Ok (item.Byte byte ∷ [], None)
 taken None at (Alone it) = Ok (it ∷ [], None)
-taken None at (Field mask) = opened (record { first = at; mask = mask; reference = None; begun = Nothing })
-taken None at (Reference kind name) = opened (record { first = at; mask = 0; reference = Some (kind, name); begun = Nothing })
+taken None at (Field mask) = still_open (record { first = at; mask = mask; reference = None; begun = Nothing })
+taken None at (Reference kind name) = still_open (record { first = at; mask = 0; reference = Some (kind, name); begun = Nothing })
 taken (Some word) at (Byte byte) = byte_taken word byte
 taken (Some word) at (Alone it) = Err (Dangling word.first)
 taken (Some word) at (Field mask) = field_in word word.begun mask

@@ -1,6 +1,6 @@
 //! Sources of hex1 and hex2, read to items.
 ghost use Rattle.hex_items.specs.Reading.{items_of, Reads, fault_at, halted};
-ghost use Rattle.hex_items.specs.Refusals.{number_of, place_of};
+ghost use Rattle.hex_items.specs.Refusals.{refusal_number, refusal_place};
 ghost use Rattle.hex_items.specs.declared.token.Dialect.TheVariants.{Hex1, Hex2};
 ghost use Rattle.std.specs.Prelude.{◌≡◌, ◌++◌, ◌≤◌, ◌<◌, length};
 
@@ -32,7 +32,7 @@ pub enum HexRefusal {
 impl HexRefusal {
     /// The number of the refusal, from 1.
     pub fn number(&self) -> u8
-        ensures { result ≡ number_of self.now }
+        ensures { result ≡ refusal_number self.now }
     {
         match self {
             HexRefusal::OddDigits(_) => 1,
@@ -48,7 +48,7 @@ impl HexRefusal {
 
     /// The offset or the item's number that it holds, and 0 where it holds none.
     pub fn place(&self) -> u64
-        ensures { result ≡ place_of self.now }
+        ensures { result ≡ refusal_place self.now }
     {
         match self {
             HexRefusal::OddDigits(at)

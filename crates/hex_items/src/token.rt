@@ -1,6 +1,6 @@
 //! Tokens of hex1 and hex2.
 ghost use Rattle.hex.specs.Hex.{hex_digit_value, is_hex_digit};
-ghost use Rattle.hex_items.specs.Tokens.{is_blank, gap_length, name_length, pair_at, field_at, named_by, signed, rel_at, token_at, ends_name, opens_gap, byte_of, byte_at, second_name, pad_at, one_byte, IsPair};
+ghost use Rattle.hex_items.specs.Tokens.{is_blank, gap_length, name_length, pair_at, field_at, named_by, sign_token, rel_at, token_at, ends_name, opens_gap, byte_of, byte_at, second_name, pad_at, one_byte, IsPair};
 ghost use Rattle.hex_langs.specs.Hex0.{begins_comment};
 ghost use Rattle.std.specs.List.{position_or_len};
 ghost use Rattle.hex_items.specs.declared.token.Dialect.TheVariants.{Hex2};
@@ -196,7 +196,7 @@ enum Sign {
 
 /// The token of a sign and a name.
 fn signed<'s>(sign: Sign, name: Name<'s>) -> Token<'s>
-    ensures { result ≡ signed sign name.entry }
+    ensures { result ≡ sign_token sign name.entry }
 {
     match sign {
         Sign::Label => Token::Alone(Item::Label(name)),
@@ -207,7 +207,7 @@ fn signed<'s>(sign: Sign, name: Name<'s>) -> Token<'s>
 
 /// Behind a sign at once a name.
 fn named<'s>(dialect: Dialect, sign: Sign, rest: &'s [u8]) -> Result<(Token<'s>, usize), Fault>
-    ensures value { result ≡ named_by (signed sign) (name_length dialect rest.now) rest.now }
+    ensures value { result ≡ named_by (sign_token sign) (name_length dialect rest.now) rest.now }
     ensures within { IfOk result (λ found. found.1 ≤ length rest.now) }
 {
     let size = name_length(dialect, rest);

@@ -13,14 +13,14 @@ use Rattle.hex_items.proofs.PlainSources.{plain-items}
 use Rattle.hex_link.specs.declared.values.Language.{Language}
 use Rattle.hex_link.specs.declared.values.Language.TheVariants.{Hex0, Hex1, Hex2}
 use Rattle.hex_link.specs.Values.{linked, value_of}
-use Rattle.hex_link.specs.Laws.{end_of, is_fixed, KeepsApart, renamed}
-use Rattle.hex_link.specs.Link.{address_of, behind, bytes_of, defines, first_repeat, joined, label_in, Labels, link_of, number_of, onto, refused, repeats, same_name, size_at, unless_repeat}
+use Rattle.hex_link.specs.Laws.{address_behind, is_fixed, KeepsApart, renamed}
+use Rattle.hex_link.specs.Link.{address_of, behind, item_bytes, defines, first_repeat, bytes_from, label_in, Labels, link_of, written_number, onto, refused, repeats, same_name, size_at, unless_repeat}
 use Rattle.hex_link.proofs.Joins.{bytes-size}
 
 -- ---- bases
 
 joined-fixed : (labels others : Labels) (address place index : ℕ) (items : List Item) → IsTrue (list_all is_fixed items)
-    → joined labels address index items ≡ joined others place index items
+    → bytes_from labels address index items ≡ bytes_from others place index items
 joined-fixed labels others address place index [] fixed = refl
 joined-fixed labels others address place index (Byte byte ∷ items) fixed =
     ap (onto (byte ∷ [])) (joined-fixed labels others (address + 1) (place + 1) (index + 1) items fixed)
@@ -49,12 +49,12 @@ behind-ok : (bytes : List ℕ) (own : Result (List ℕ) Miss) (index : ℕ) (lat
 behind-ok bytes (Ok front) index later is = (front, refl, is)
 behind-ok bytes (Err miss) index later is = absurd (cc)
 
-joined-size : (labels : Labels) (address index : ℕ) (items : List Item) (bytes : List ℕ) → joined labels address index items ≡ Ok bytes
-    → address + length bytes ≡ end_of address items
+joined-size : (labels : Labels) (address index : ℕ) (items : List Item) (bytes : List ℕ) → bytes_from labels address index items ≡ Ok bytes
+    → address + length bytes ≡ address_behind address items
 joined-size labels address index [] bytes is = let same : [] ≡ bytes = cc in omega (arith, ap length same)
 joined-size labels address index (it ∷ items) bytes is =
-    let front = behind-ok bytes (bytes_of labels address it) index (joined labels (address + size_at address it) (index + 1) items) is in
-    let rest = onto-ok front.0 bytes (joined labels (address + size_at address it) (index + 1) items) front.2 in
+    let front = behind-ok bytes (item_bytes labels address it) index (bytes_from labels (address + size_at address it) (index + 1) items) is in
+    let rest = onto-ok front.0 bytes (bytes_from labels (address + size_at address it) (index + 1) items) front.2 in
     let own = bytes-size labels address it front.0 front.1 in
     let later = joined-size labels (address + size_at address it) (index + 1) items rest.0 rest.1 in
     omega (arith, own, later, ap length rest.2, length-append front.0 rest.0)
@@ -63,10 +63,10 @@ unless-ok : (repeat : Option ℕ) (later : Result (List ℕ) HexRefusal) (bytes 
 unless-ok None later bytes is = is
 unless-ok (Some index) later bytes is = absurd (cc)
 
-pub bytes-end-behind-the-last : (items : List Item) (base : ℕ) (bytes : List ℕ) → link_of items base ≡ Ok bytes → base + length bytes ≡ end_of base items
+pub bytes-end-behind-the-last : (items : List Item) (base : ℕ) (bytes : List ℕ) → link_of items base ≡ Ok bytes → base + length bytes ≡ address_behind base items
 unfolding link_of
 bytes-end-behind-the-last items base bytes is =
-    joined-size (address_of base items) base 0 items bytes (unless-ok (first_repeat [] 0 items) (joined (address_of base items) base 0 items) bytes is)
+    joined-size (address_of base items) base 0 items bytes (unless-ok (first_repeat [] 0 items) (bytes_from (address_of base items) base 0 items) bytes is)
 
 -- ---- names
 
@@ -150,7 +150,7 @@ repeat-renamed rename apart seen index (it ∷ items) =
 
 -- the same addresses under both names give the same bytes
 bytes-renamed : (rename : List ℕ → List ℕ) (labels others : Labels) → ((name : List ℕ) → others (rename name) ≡ labels name)
-    → (address : ℕ) (it : Item) → bytes_of others address (renamed rename it) ≡ bytes_of labels address it
+    → (address : ℕ) (it : Item) → item_bytes others address (renamed rename it) ≡ item_bytes labels address it
 bytes-renamed rename labels others same address (Byte byte) = refl
 bytes-renamed rename labels others same address (Label name) = refl
 bytes-renamed rename labels others same address (Word value kind name) = rw (same name) refl
@@ -160,19 +160,19 @@ bytes-renamed rename labels others same address (Abs name) = rw (same name) refl
 bytes-renamed rename labels others same address Pad = refl
 
 joined-renamed : (rename : List ℕ → List ℕ) (labels others : Labels) → ((name : List ℕ) → others (rename name) ≡ labels name)
-    → (address index : ℕ) (items : List Item) → joined others address index (map (renamed rename) items) ≡ joined labels address index items
+    → (address index : ℕ) (items : List Item) → bytes_from others address index (map (renamed rename) items) ≡ bytes_from labels address index items
 joined-renamed rename labels others same address index [] = refl
 joined-renamed rename labels others same address index (it ∷ items) =
-    ap (λ (own : Result (List ℕ) Miss). behind own index (joined others (address + size_at address (renamed rename it)) (index + 1) (map (renamed rename) items)))
+    ap (λ (own : Result (List ℕ) Miss). behind own index (bytes_from others (address + size_at address (renamed rename it)) (index + 1) (map (renamed rename) items)))
     (bytes-renamed rename labels others same address it)
-    ∙ ap (λ (size : ℕ). behind (bytes_of labels address it) index (joined others (address + size) (index + 1) (map (renamed rename) items))) (size-renamed rename address it)
-    ∙ ap (behind (bytes_of labels address it) index) (joined-renamed rename labels others same (address + size_at address it) (index + 1) items)
+    ∙ ap (λ (size : ℕ). behind (item_bytes labels address it) index (bytes_from others (address + size) (index + 1) (map (renamed rename) items))) (size-renamed rename address it)
+    ∙ ap (behind (item_bytes labels address it) index) (joined-renamed rename labels others same (address + size_at address it) (index + 1) items)
 
 pub names-do-not-matter : (rename : List ℕ → List ℕ) → KeepsApart rename → (items : List Item) (base : ℕ)
     → link_of (map (renamed rename) items) base ≡ link_of items base
 unfolding link_of
 names-do-not-matter rename apart items base =
-    ap (λ (repeat : Option ℕ). unless_repeat repeat (joined (address_of base (map (renamed rename) items)) base 0 (map (renamed rename) items)))
+    ap (λ (repeat : Option ℕ). unless_repeat repeat (bytes_from (address_of base (map (renamed rename) items)) base 0 (map (renamed rename) items)))
     (repeat-renamed rename apart [] 0 items)
     ∙ ap (unless_repeat (first_repeat [] 0 items))
     (joined-renamed rename (address_of base items) (address_of base (map (renamed rename) items)) (address-renamed rename apart base items) base 0 items)
@@ -183,14 +183,14 @@ no-repeat : (index : ℕ) (bytes : List ℕ) → first_repeat [] index (map Byte
 no-repeat index [] = refl
 no-repeat index (byte ∷ bytes) = no-repeat (index + 1) bytes
 
-joined-bytes : (labels : Labels) (address index : ℕ) (bytes : List ℕ) → joined labels address index (map Byte bytes) ≡ Ok bytes
+joined-bytes : (labels : Labels) (address index : ℕ) (bytes : List ℕ) → bytes_from labels address index (map Byte bytes) ≡ Ok bytes
 joined-bytes labels address index [] = refl
 joined-bytes labels address index (byte ∷ bytes) = ap (onto (byte ∷ [])) (joined-bytes labels (address + 1) (index + 1) bytes)
 
 link-bytes : (bytes : List ℕ) (base : ℕ) → link_of (map Byte bytes) base ≡ Ok bytes
 unfolding link_of
 link-bytes bytes base =
-    ap (λ (repeat : Option ℕ). unless_repeat repeat (joined (address_of base (map Byte bytes)) base 0 (map Byte bytes))) (no-repeat 0 bytes)
+    ap (λ (repeat : Option ℕ). unless_repeat repeat (bytes_from (address_of base (map Byte bytes)) base 0 (map Byte bytes))) (no-repeat 0 bytes)
     ∙ joined-bytes (address_of base (map Byte bytes)) base 0 bytes
 
 linked-bytes : (base : ℕ) (items : Result (List Item) HexRefusal) (bytes : List ℕ) → items ≡ Ok (map Byte bytes) → linked base items ≡ Ok bytes

@@ -11,9 +11,9 @@ is_fixed (Label name) = true
 is_fixed it = false
 
 -- the address behind the last of items that stand from an address on
-abbrev pub end_of : ℕ → List Item → ℕ
-end_of address [] = address
-end_of address (it ∷ items) = end_of (address + size_at address it) items
+abbrev pub address_behind : ℕ → List Item → ℕ
+address_behind address [] = address
+address_behind address (it ∷ items) = address_behind (address + size_at address it) items
 
 -- an item with other names
 abbrev pub renamed : (List ℕ → List ℕ) → Item → Item

@@ -64,16 +64,16 @@ first_repeat seen index (it ∷ items) =
 -- ---- the numbers of items of four bytes
 
 -- modulo 2^32
-abbrev pub wrapped : ℤ → ℕ
-wrapped z = unsigned_abs (int_rem_euclid z (pos 4294967296))
+abbrev pub modulo_word : ℤ → ℕ
+modulo_word z = unsigned_abs (int_rem_euclid z (pos 4294967296))
 
 -- -2^31 <= d < 2^31
 abbrev pub fits_word : ℤ → Bool
 fits_word d = not (int_lt d (neg_ℤ (pos 2147483648))) && int_lt d (pos 2147483648)
 
 -- a number, unless it is out of reach
-abbrev pub number : Bool → ℕ → Result ℕ Miss
-number fits n = if fits then Ok n else Err OutOfReach
+abbrev pub in_reach : Bool → ℕ → Result ℕ Miss
+in_reach fits n = if fits then Ok n else Err OutOfReach
 
 -- bits 11..0 of an offset in bits 31..20
 abbrev pub i_field : ℕ → ℕ
@@ -93,19 +93,19 @@ j_field d = d / 1048576 % 2 * 2147483648 + d / 2 % 1024 * 2097152 + d / 2048 % 2
 
 -- d is even, and -half <= d < half
 abbrev pub fits_even : ℤ → ℕ → Bool
-fits_even d half = wrapped d % 2 == 0 && not (int_lt d (neg_ℤ (pos half))) && int_lt d (pos half)
+fits_even d half = modulo_word d % 2 == 0 && not (int_lt d (neg_ℤ (pos half))) && int_lt d (pos half)
 
 -- a word's value with the field of the distance of its label, by its kind. An I counts from the U before it, four bytes earlier; the
 -- upper part is rounded, since the lower one is signed
 abbrev pub word_number : ℕ → Kind → ℤ → Result ℕ Miss
-word_number value I d = Ok (bit_xor value (i_field (wrapped (d +ℤ pos 4))))
-word_number value B d = number (fits_even d 4096) (bit_xor value (b_field (wrapped d)))
-word_number value J d = number (fits_even d 1048576) (bit_xor value (j_field (wrapped d)))
-word_number value U d = number (fits_word (d +ℤ pos 2048)) (bit_xor value (upper_field (wrapped (d +ℤ pos 2048))))
+word_number value I d = Ok (bit_xor value (i_field (modulo_word (d +ℤ pos 4))))
+word_number value B d = in_reach (fits_even d 4096) (bit_xor value (b_field (modulo_word d)))
+word_number value J d = in_reach (fits_even d 1048576) (bit_xor value (j_field (modulo_word d)))
+word_number value U d = in_reach (fits_word (d +ℤ pos 2048)) (bit_xor value (upper_field (modulo_word (d +ℤ pos 2048))))
 
 -- a distance by itself
 abbrev pub distance_number : ℤ → Result ℕ Miss
-distance_number d = number (fits_word d) (wrapped d)
+distance_number d = in_reach (fits_word d) (modulo_word d)
 
 -- with the address of a label that is defined
 abbrev pub with_label : Option ℕ → (ℕ → Result ℕ Miss) → Result ℕ Miss
@@ -113,12 +113,12 @@ with_label (Some at) rest = rest at
 with_label None rest = Err NoLabel
 
 -- the number of an item of four bytes that stands at an address, by the addresses of labels; no other item has one
-abbrev pub number_of : Labels → ℕ → Item → Result ℕ Miss
-number_of labels p (Word value kind x) = with_label (labels x) (λ at. word_number value kind (pos at -ℤ pos p))
-number_of labels p (Rel x) = with_label (labels x) (λ at. distance_number (pos at -ℤ pos p -ℤ pos 4))
-number_of labels p (Gap x y) = with_label (labels x) (λ at. with_label (labels y) (λ from. distance_number (pos at -ℤ pos from)))
-number_of labels p (Abs x) = with_label (labels x) (λ at. number (nat_lt at 4294967296) at)
-number_of labels p it = Ok 0
+abbrev pub written_number : Labels → ℕ → Item → Result ℕ Miss
+written_number labels p (Word value kind x) = with_label (labels x) (λ at. word_number value kind (pos at -ℤ pos p))
+written_number labels p (Rel x) = with_label (labels x) (λ at. distance_number (pos at -ℤ pos p -ℤ pos 4))
+written_number labels p (Gap x y) = with_label (labels x) (λ at. with_label (labels y) (λ from. distance_number (pos at -ℤ pos from)))
+written_number labels p (Abs x) = with_label (labels x) (λ at. in_reach (nat_lt at 4294967296) at)
+written_number labels p it = Ok 0
 
 -- ---- bytes
 
@@ -128,11 +128,11 @@ four (Ok n) = Ok (to_le_bytes w32 n)
 four (Err miss) = Err miss
 
 -- the bytes of an item that stands at an address
-abbrev pub bytes_of : Labels → ℕ → Item → Result (List ℕ) Miss
-bytes_of labels p (Byte byte) = Ok (byte ∷ [])
-bytes_of labels p (Label name) = Ok []
-bytes_of labels p Pad = Ok (replicate (pad_size p) 0)
-bytes_of labels p it = four (number_of labels p it)
+abbrev pub item_bytes : Labels → ℕ → Item → Result (List ℕ) Miss
+item_bytes labels p (Byte byte) = Ok (byte ∷ [])
+item_bytes labels p (Label name) = Ok []
+item_bytes labels p Pad = Ok (replicate (pad_size p) 0)
+item_bytes labels p it = four (written_number labels p it)
 
 -- the refusal at an item
 abbrev pub refused : Miss → ℕ → HexRefusal
@@ -150,10 +150,10 @@ behind (Ok bytes) index later = onto bytes later
 behind (Err miss) index later = Err (refused miss index)
 
 -- the bytes of items from an address on, of which the first has a number
-abbrev pub joined : Labels → ℕ → ℕ → List Item → Result (List ℕ) HexRefusal
-joined labels address index [] = Ok []
-joined labels address index (it ∷ items) =
-    behind (bytes_of labels address it) index (joined labels (address + size_at address it) (index + 1) items)
+abbrev pub bytes_from : Labels → ℕ → ℕ → List Item → Result (List ℕ) HexRefusal
+bytes_from labels address index [] = Ok []
+bytes_from labels address index (it ∷ items) =
+    behind (item_bytes labels address it) index (bytes_from labels (address + size_at address it) (index + 1) items)
 
 -- a label that is defined again comes before everything else
 abbrev pub unless_repeat : Option ℕ → Result (List ℕ) HexRefusal → Result (List ℕ) HexRefusal
@@ -162,7 +162,7 @@ unless_repeat None later = later
 
 -- the bytes of items at a base, or the first refusal
 unfoldable pub link_of : List Item → ℕ → Result (List ℕ) HexRefusal
-link_of items base = unless_repeat (first_repeat [] 0 items) (joined (address_of base items) base 0 items)
+link_of items base = unless_repeat (first_repeat [] 0 items) (bytes_from (address_of base items) base 0 items)
 
 -- what linking answers: this, or want of memory
 abbrev pub Links : Result (List ℕ) HexRefusal → Result (List ℕ) HexRefusal → Type 0

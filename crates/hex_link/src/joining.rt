@@ -1,7 +1,7 @@
 //! The bytes of all items.
 ghost use Rattle.std.specs.Prelude.{◌≡◌, ◌<◌, ◌≤◌, ◌^◌, ◌++◌, ℕ, List, length, OnOk, OnErr, replicate};
 ghost use Rattle.indexmap.specs.IndexMap.{get};
-ghost use Rattle.hex_link.specs.Link.{joined, Links, link_of, same_name, bytes_of};
+ghost use Rattle.hex_link.specs.Link.{bytes_from, Links, link_of, same_name, item_bytes};
 ghost use Rattle.hex_link.specs.Representation.Tables.{AreSmall, Puts};
 
 use crate::labels::{item_at, labels_of};
@@ -47,7 +47,7 @@ fn put<'s>(
 ) -> Result<(), PutFail>
     requires place { place < 2 ^ 40 }
     requires small { AreSmall (λ name. get same_name table.now name) }
-    ensures { Puts result (bytes_of (λ name. get same_name table.now name) place item.now) out.old out.new }
+    ensures { Puts result (item_bytes (λ name. get same_name table.now name) place item.now) out.old out.new }
 {
     match item {
         Item::Byte(byte) => out.push(*byte)?,
@@ -80,7 +80,7 @@ fn joined<'s>(
 ) -> Result<Bytes, HexRefusal>
     requires base { base ≤ 2 ^ 37 }
     requires small { AreSmall (λ name. get same_name table.now name) }
-    ensures { Links result (joined (λ name. get same_name table.now name) base 0 items.now) }
+    ensures { Links result (bytes_from (λ name. get same_name table.now name) base 0 items.now) }
 {
     let mut out = Bytes::new(alloc);
     for index in 0..items.len() {

@@ -5,7 +5,7 @@ ghost use Rattle.hex_items.specs.declared.item.Item.{Item};
 ghost use Rattle.hex_langs.specs.Hex0.{hex0_of, HasEvenDigits};
 ghost use Rattle.hex_items.specs.Plain.{is_plain};
 ghost use Rattle.hex_link.specs.declared.values.Language.{Language};
-ghost use Rattle.hex_link.specs.Laws.{is_fixed, end_of, renamed, KeepsApart};
+ghost use Rattle.hex_link.specs.Laws.{is_fixed, address_behind, renamed, KeepsApart};
 ghost use Rattle.hex_link.specs.Link.{link_of};
 ghost use Rattle.hex_link.specs.Values.{value_of};
 
@@ -16,7 +16,7 @@ pub fn same_at_every_base()
 
 /// The bytes of items are as many as their sizes say: they end where the address behind the last item is.
 pub fn bytes_end_behind_the_last()
-    ensures { (items : List Item) → (base : ℕ) → (bytes : List ℕ) → link_of items base ≡ Ok bytes → base + length bytes ≡ end_of base items }
+    ensures { (items : List Item) → (base : ℕ) → (bytes : List ℕ) → link_of items base ≡ Ok bytes → base + length bytes ≡ address_behind base items }
 {}
 
 /// Linking looks at labels by name alone: other names that keep names apart change nothing.

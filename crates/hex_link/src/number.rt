@@ -3,7 +3,7 @@ ghost use Rattle.std.specs.Prelude.{◌≡◌, ◌<◌, ◌≤◌, ◌-ℤ◌, �
 ghost use Rattle.hex_items.specs.declared.item.Kind.TheVariants.{U};
 ghost use Rattle.indexmap.specs.IndexMap.{get};
 ghost use Rattle.std.specs.Cmp.Lexicographic.{pointwise};
-ghost use Rattle.hex_link.specs.Link.{distance_number, word_number, number_of, i_field, b_field, j_field, wrapped, fits_even, same_name};
+ghost use Rattle.hex_link.specs.Link.{distance_number, word_number, written_number, i_field, b_field, j_field, modulo_word, fits_even, same_name};
 ghost use Rattle.hex_link.specs.Representation.Tables.{AreSmall};
 ghost use Rattle.std.specs.Prelude.{◌≤ℤ◌, ◌^◌, neg_ℤ, unsigned_abs};
 
@@ -54,7 +54,7 @@ fn j_field(distance: u32) -> u32
 
 /// The low 32 bits.
 fn wrapped(distance: i64) -> u32
-    ensures { result ≡ wrapped distance }
+    ensures { result ≡ modulo_word distance }
 {
     distance.rem_euclid(4_294_967_296) as u32
 }
@@ -125,7 +125,7 @@ pub(crate) fn number_of<'s>(
 ) -> Result<u32, Miss>
     requires place { place < 2 ^ 40 }
     requires small { AreSmall (λ name. get same_name table.now name) }
-    ensures { result ≡ number_of (λ name. get same_name table.now name) place item.now }
+    ensures { result ≡ written_number (λ name. get same_name table.now name) place item.now }
 {
     match item {
         Item::Word(value, kind, name) => match address(table, name) {

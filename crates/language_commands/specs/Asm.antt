@@ -3,7 +3,7 @@ use Rattle.std.specs.Prelude.{ℕ, ◌^◌, ◌&&◌, Bool, not, nat_le, Option,
 use Rattle.ddc_base.specs.Decimals.{as_decimal}
 use Rattle.ddc_base.specs.Lines.{line}
 use Rattle.hex_items.specs.declared.reader.HexRefusal.{HexRefusal}
-use Rattle.hex_items.specs.Refusals.{number_of, place_of}
+use Rattle.hex_items.specs.Refusals.{refusal_number, refusal_place}
 use Rattle.hex_link.specs.declared.values.Language.{Language}
 use Rattle.hex_link.specs.declared.values.Language.TheVariants.{Hex0, Hex1, Hex2}
 use Rattle.hex_link.specs.Values.{value_of}
@@ -38,7 +38,7 @@ as_base word = within_bases (as_decimal word)
 -- a value is saved, a refusal is said
 abbrev pub saved : List ℕ → Result (List ℕ) HexRefusal → Plan
 saved out (Ok value) = sets out value (answers Yes (made_line (length value)))
-saved out (Err refusal) = answers CheckFailed (refused_line (number_of refusal) (place_of refusal))
+saved out (Err refusal) = answers CheckFailed (refused_line (refusal_number refusal) (refusal_place refusal))
 
 -- the source is needed, of at most 268,435,456 bytes, and its value is saved
 unfoldable pub asm_files : Language → ℕ → List ℕ → List ℕ → Plan

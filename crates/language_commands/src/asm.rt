@@ -5,7 +5,7 @@ ghost use Rattle.command_plan.specs.declared.status.Status.TheVariants.{CheckFai
 ghost use Rattle.command_plan.specs.Performs.{Performs};
 ghost use Rattle.command_plan.specs.Plan.{answers};
 ghost use Rattle.command_plan.specs.Steps.{Says};
-ghost use Rattle.hex_items.specs.Refusals.{number_of, place_of};
+ghost use Rattle.hex_items.specs.Refusals.{refusal_number, refusal_place};
 ghost use Rattle.hex_link.specs.Values.{value_of};
 ghost use Rattle.language_commands.specs.Asm.{made_line, refused_line, language_named, as_base, saved, asm_files, are_two_files, asm_plan};
 ghost use Rattle.language_commands.specs.Inside.Refusing.{Refuses};
@@ -131,7 +131,7 @@ fn refuse(alloc: Global, refusal: HexRefusal) -> Result<Answer, Stop>
 
 /// The answer to a source that has no value.
 fn refused(alloc: Global, refusal: HexRefusal) -> Result<Answer, Stop>
-    ensures { Says (answers CheckFailed (refused_line (number_of refusal) (place_of refusal))) result }
+    ensures { Says (answers CheckFailed (refused_line (refusal_number refusal) (refusal_place refusal))) result }
 {
     Ok(Answer {
         status: Status::CheckFailed,

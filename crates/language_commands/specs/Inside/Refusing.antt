@@ -2,7 +2,7 @@
 use Rattle.std.specs.Prelude.{◌≡◌, Result, Err}
 use Rattle.hex_items.specs.declared.reader.HexRefusal.{HexRefusal}
 use Rattle.hex_items.specs.declared.reader.HexRefusal.TheVariants as refusal
-use Rattle.hex_items.specs.Refusals.{number_of, place_of}
+use Rattle.hex_items.specs.Refusals.{refusal_number, refusal_place}
 use Rattle.command_plan.specs.declared.answer.Answer.{Answer}
 use Rattle.command_plan.specs.declared.status.Status.TheVariants.{CheckFailed}
 use Rattle.command_plan.specs.declared.stop.Stop.{Stop}
@@ -13,4 +13,4 @@ use Rattle.language_commands.specs.Asm.{refused_line}
 
 abbrev pub Refuses : HexRefusal → Result Answer Stop → Type 0
 Refuses refusal.OutOfMemory result = result ≡ Err stop.OutOfMemory
-Refuses why result = Says (answers CheckFailed (refused_line (number_of why) (place_of why))) result
+Refuses why result = Says (answers CheckFailed (refused_line (refusal_number why) (refusal_place why))) result

@@ -4,7 +4,7 @@ use Rattle.hex_items.specs.declared.item.Item.{Item}
 use Rattle.hex_items.specs.Tokens.{gap_length, token_at}
 use Rattle.hex_items.specs.declared.token.Token.TheVariants.{Byte}
 use Rattle.hex_items.specs.Words.{taken, Takes}
-use Rattle.hex_items.specs.Reading.{answer, end_of, Ends, Faulted, formed, items_of, judged, reading, Reads, Then, with_front, fault_at, halted}
+use Rattle.hex_items.specs.Reading.{answer, word_end, Ends, Faulted, formed, items_of, judged, reading, Reads, Then, with_front, fault_at, halted}
 use Rattle.hex_items.proofs.Packing.{length-packed}
 use Rattle.hex_items.proofs.Readings.{front_is, items_of-judged, items_of-long, judged-end, moves-fault, moves-gap, moves-token, formed-token, reading-end, reads-by, reads-fault, refuses, rest_is, takes-ok, token-digit, with_front-twice}
 use Rattle.hex_items.proofs.reader.items_of.Goals as goal
@@ -109,7 +109,7 @@ returns-in-None c =
     let done = at_drop_all (reading c.args.dialect c.loop-at.at 0) source c.loop-at.at (omega arith) ∙ reading-end c.args.dialect c.loop-at.at in
     let whole = c.loop-at.invariant.whole ∙ ap (λ l. with_front c.loop-at.items (formed c.loop-at.word l)) done
     ∙ ap (λ word. with_front c.loop-at.items (formed word Ends)) c.in-None.is in
-    items_of-judged c.args.dialect source (omega arith) ∙ judged-end _ c.loop-at.items (end_of None) whole c.loop-at.invariant.few
+    items_of-judged c.args.dialect source (omega arith) ∙ judged-end _ c.loop-at.items (word_end None) whole c.loop-at.invariant.few
 
 pub returns : goal.returns
 returns c =
@@ -117,4 +117,4 @@ returns c =
     let done = at_drop_all (reading c.args.dialect c.loop-at.at 0) source c.loop-at.at (omega arith) ∙ reading-end c.args.dialect c.loop-at.at in
     let whole = c.loop-at.invariant.whole ∙ ap (λ l. with_front c.loop-at.items (formed c.loop-at.word l)) done
     ∙ ap (λ word. with_front c.loop-at.items (formed word Ends)) c.in-Some.is in
-    items_of-judged c.args.dialect source (omega arith) ∙ judged-end _ c.loop-at.items (end_of (Some c.in-Some.word)) whole c.loop-at.invariant.few
+    items_of-judged c.args.dialect source (omega arith) ∙ judged-end _ c.loop-at.items (word_end (Some c.in-Some.word)) whole c.loop-at.invariant.few
