@@ -1,5 +1,5 @@
 #!/usr/bin/env python3
-"""Prints the tables of crates/rv64_decode/src/tests.rt, as the GNU assembler and objdump give them.
+"""Prints the tables of crates/machine_tests/src/instructions.rt, as the GNU assembler and objdump give them.
 
 It needs riscv64-linux-gnu-as, -ld, -objdump and -objcopy (Debian: binutils-riscv64-linux-gnu). Run it in this folder:
 
@@ -71,7 +71,7 @@ def main():
     if sys.argv[1:] != ["check"]:
         print(*(line + "," for line in lines), sep="\n")
         return
-    test = pathlib.Path(__file__).resolve().parents[2] / "crates/rv64_decode/src/tests.rt"
+    test = pathlib.Path(__file__).resolve().parents[2] / "crates/machine_tests/src/instructions.rt"
     standing = re.findall(r'\(0x\w{8}, "[^"]*"\)|0x\w{8}(?=[,\s\]])', test.read_text())
     if standing != lines:
         print("the tables differ:", *sorted(set(standing) ^ set(lines)), sep="\n")

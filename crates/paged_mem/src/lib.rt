@@ -17,6 +17,3 @@ mod rows;
 pub use flat::FlatRam;
 pub use paged::PagedRam;
 pub use ram::{PageView, Ram, StoreRefusal, Width};
-
-#[cfg(test)]
-mod tests;

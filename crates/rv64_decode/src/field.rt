@@ -1,6 +1,6 @@
 //! Bit ranges of a word, and the registers and the immediate that a form holds in them.
 
-ghost use Rattle.std.specs.Prelude.{if◌then◌else◌, ◌≡◌, ◌+◌, ◌-◌, ◌^◌, ◌<◌, ◌≤◌};
+ghost use Rattle.std.specs.Prelude.{if◌then◌else◌, ◌≡◌, ◌+◌, ◌-◌, ◌*◌, ◌^◌, ◌<◌, ◌≤◌};
 ghost use Rattle.rv64_decode.specs.Fields as fields;
 
 use rv64_table::Form;
@@ -73,32 +73,46 @@ pub fn immediate(form: Form, word: u32) -> i64
 {
     match form {
         Form::R | Form::E => 0,
-        Form::I => signed(12, bits(word, 31, 20)),
+        Form::I => upper_twelve(word),
         Form::H => i64::from(bits(word, 25, 20)),
         Form::K => i64::from(bits(word, 24, 20)),
-        Form::S => signed(12, (bits(word, 31, 25) << 5) + bits(word, 11, 7)),
-        Form::B => signed(13, branch_offset(word)),
+        Form::S => store_offset(word),
+        Form::B => branch_offset(word),
         Form::U => signed(32, bits(word, 31, 12) << 12),
-        Form::J => signed(21, jump_offset(word)),
+        Form::J => jump_offset(word),
     }
 }
 
-fn branch_offset(word: u32) -> u32
-    ensures value { result ≡ fields.branch_offset word }
-    ensures below { result < 2 ^ 13 }
+/// Bits 31..20 as the signed number that they are.
+#[inline(always)]
+fn upper_twelve(word: u32) -> i64
+    ensures { result ≡ fields.signed 12 (fields.bits word 31 20) }
 {
-    (bits(word, 31, 31) << 12)
-        + (bits(word, 7, 7) << 11)
-        + (bits(word, 30, 25) << 5)
-        + (bits(word, 11, 8) << 1)
+    i64::from(word.cast_signed() >> 20)
 }
 
-fn jump_offset(word: u32) -> u32
-    ensures value { result ≡ fields.jump_offset word }
-    ensures below { result < 2 ^ 21 }
+/// The offset of a store: bits 31..25 signed, and below them bits 11..7.
+#[inline(always)]
+fn store_offset(word: u32) -> i64
+    ensures { result ≡ fields.signed 12 (fields.bits word 31 25 * 2 ^ 5 + fields.bits word 11 7) }
 {
-    (bits(word, 31, 31) << 20)
-        + (bits(word, 19, 12) << 12)
-        + (bits(word, 20, 20) << 11)
-        + (bits(word, 30, 21) << 1)
+    i64::from(word.cast_signed() >> 25) * 0x20 + i64::from(bits(word, 11, 7))
+}
+
+/// The offset of a branch, whose sign is bit 31.
+#[inline(always)]
+fn branch_offset(word: u32) -> i64
+    ensures { result ≡ fields.signed 13 (fields.branch_offset word) }
+{
+    let low = (bits(word, 7, 7) << 11) + (bits(word, 30, 25) << 5) + (bits(word, 11, 8) << 1);
+    i64::from(word.cast_signed() >> 31) * 0x1000 + i64::from(low)
+}
+
+/// The offset of a jump, whose sign is bit 31.
+#[inline(always)]
+fn jump_offset(word: u32) -> i64
+    ensures { result ≡ fields.signed 21 (fields.jump_offset word) }
+{
+    let low = (bits(word, 19, 12) << 12) + (bits(word, 20, 20) << 11) + (bits(word, 30, 21) << 1);
+    i64::from(word.cast_signed() >> 31) * 0x10_0000 + i64::from(low)
 }

@@ -7,8 +7,6 @@
 mod field;
 pub mod laws;
 mod reading;
-#[cfg(test)]
-mod tests;
 mod text;
 mod writing;
 

@@ -10,8 +10,6 @@ mod arithmetic;
 mod effect;
 mod hart;
 pub mod laws;
-#[cfg(test)]
-mod tests;
 
 pub use answer::{Cause, StepEnd};
 pub use hart::Hart;

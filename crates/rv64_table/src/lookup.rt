@@ -208,31 +208,3 @@ fn system(word: u32) -> Option<Op>
         _ => None,
     }
 }
-
-#[cfg(test)]
-mod tests {
-    use super::*;
-    use crate::{laws, rows};
-
-    /// Words as the GNU assembler makes them.
-    #[test]
-    fn rows_of_assembled_words(rt: HostRuntime) {
-        laws::no_word_fits_two_rows();
-        laws::a_fitting_row_is_the_row();
-        for (word, want) in [
-            (0x4020_8fb3, Op::Sub),
-            (0x43f3_5293, Op::Srai),
-            (0x41f3_529b, Op::Sraiw),
-            (0x0ff0_000f, Op::Fence),
-            (0x0010_0073, Op::Ebreak),
-            (0x02c5_f53b, Op::Remuw),
-            (0xffff_f0b7, Op::Lui),
-        ] {
-            assert_eq!(rt; row_of(word), Some(want), "at {word:08x}");
-            let row = want.row();
-            assert_eq!(rt; word & row.mask, row.want, "at {word:08x}");
-            assert_eq!(rt; rows()[want as usize], row);
-        }
-        assert_eq!(rt; row_of(0xffff_ffff), None);
-    }
-}

@@ -1,6 +1,6 @@
 //! Words with the texts that the GNU assembler and objdump give them; tests/instructions/expected.py makes both tables.
 
-use crate::{decode, encode, laws, print};
+use rv64_decode::{decode, encode, laws, print};
 use std::test::Fail;
 
 /// Where the first word of the table stands: the addresses pass 2^64 - 1.

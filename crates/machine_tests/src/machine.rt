@@ -1,19 +1,20 @@
+//! Rows and acts of the machine, beside what an independent machine did and by the standard's tables.
 mod cases;
 
 ghost use Rattle.paged_mem.specs.Memory.{with_bytes, zeros};
 ghost use Rattle.std.specs.FinMap as map;
 ghost use Rattle.std.specs.Prelude.{◌≡◌, IfOk, replicate};
 
-use super::*;
 use cases::{BRANCHES, KNOWN, LOADS, REGISTERS, STORES};
 use ddc_base::OutOfMemory;
-use paged_mem::{FlatRam, Ram, Width};
+use paged_mem::{FlatRam, PagedRam, Ram, Width};
+use rv64_machine::{Cause, Hart, StepEnd, laws};
 use std::alloc::Global;
 use std::process::Abort;
 use std::test::Fail;
 
 /// A hart at 0x10000 over three pages of zeros from there on.
-fn fresh<R: Ram>(alloc: Global) -> Result<Hart<R>, OutOfMemory>
+fn made<R: Ram>(alloc: Global) -> Result<Hart<R>, OutOfMemory>
     ensures { IfOk result (λ hart. hart ≡ record {
       registers = replicate 32 0;
       pc = 65536;
@@ -23,6 +24,10 @@ fn fresh<R: Ram>(alloc: Global) -> Result<Hart<R>, OutOfMemory>
     let mut ram = R::empty(alloc);
     ram.map_zero(0x10000, 3)?;
     Ok(Hart::new(ram, 0x10000))
+}
+
+fn fresh<R: Ram>(rt: &impl Abort, alloc: Global) -> Hart<R> {
+    made(alloc).expect(rt, "memory")
 }
 
 /// Puts a word at the pc and steps over it.
@@ -98,18 +103,17 @@ fn check_stores<R: Ram>(rt: &impl Abort, hart: &mut Hart<R>) {
 }
 
 #[test]
-fn rows_do_what_an_independent_machine_does(rt: HostRuntime) -> Result<(), Fail> {
-    let mut hart: Hart<FlatRam> = fresh(rt.alloc())?;
+fn rows_do_what_an_independent_machine_does(rt: HostRuntime) {
+    let mut hart: Hart<PagedRam> = fresh(&rt, rt.alloc());
     check_registers(&rt, &mut hart);
     check_branches(&rt, &mut hart);
     place_known(&rt, &mut hart);
     check_loads(&rt, &mut hart);
     check_stores(&rt, &mut hart);
-    Ok(())
 }
 
 #[test]
-fn divisions_at_their_edges(rt: HostRuntime) -> Result<(), Fail> {
+fn divisions_at_their_edges(rt: HostRuntime) {
     // Division by zero and overflow, by the table in the standard's chapter on M, on 64 bits and on words.
     let table: [(u32, u64, u64, u64); 6] = [
         (
@@ -129,7 +133,7 @@ fn divisions_at_their_edges(rt: HostRuntime) -> Result<(), Fail> {
         ), // DIVW
         (0x02c5c53b, 0x180000000, 3, 0xFFFFFFFFD5555556), // DIVW
     ];
-    let mut hart: Hart<FlatRam> = fresh(rt.alloc())?;
+    let mut hart: Hart<PagedRam> = fresh(&rt, rt.alloc());
     for (word, a, b, result) in table {
         assert_eq!(rt;
             run_on(&rt, &mut hart, word, a, b),
@@ -137,27 +141,21 @@ fn divisions_at_their_edges(rt: HostRuntime) -> Result<(), Fail> {
             "word {word} on {a} and {b}"
         );
     }
-    Ok(())
 }
 
 /// Runs a word on 9 in x10 and a value of x11, and gives how the step ends, x10, and how far the pc went.
-fn run_once(
-    rt: &impl Abort,
-    alloc: Global,
-    word: u32,
-    x11: u64,
-) -> Result<(StepEnd, u64, u64), OutOfMemory> {
-    let mut hart: Hart<FlatRam> = fresh(alloc)?;
+fn run_once(rt: &impl Abort, alloc: Global, word: u32, x11: u64) -> (StepEnd, u64, u64) {
+    let mut hart: Hart<PagedRam> = fresh(rt, alloc);
     hart.set_reg(10, 9);
     hart.set_reg(11, x11);
     let end = run(rt, &mut hart, word);
     assert_eq!(rt; hart.reg(11), x11);
     assert_eq!(rt; hart.reg(0), 0);
-    Ok((end, hart.reg(10), hart.pc().wrapping_sub(0x10000)))
+    (end, hart.reg(10), hart.pc().wrapping_sub(0x10000))
 }
 
 #[test]
-fn rows_that_go_on(rt: HostRuntime) -> Result<(), Fail> {
+fn rows_that_go_on(rt: HostRuntime) {
     // A word, the value of x11, and then x10 and how far the pc went.
     let table: [(u32, u64, u64, u64); 8] = [
         (0xfff58013, 7, 9, 4), // ADDI x0, x11, -1
@@ -171,16 +169,15 @@ fn rows_that_go_on(rt: HostRuntime) -> Result<(), Fail> {
     ];
     for (word, x11, x10, way) in table {
         assert_eq!(rt;
-            run_once(&rt, rt.alloc(), word, x11)?,
+            run_once(&rt, rt.alloc(), word, x11),
             (StepEnd::Done, x10, way),
             "word {word}"
         );
     }
-    Ok(())
 }
 
 #[test]
-fn rows_that_stop(rt: HostRuntime) -> Result<(), Fail> {
+fn rows_that_stop(rt: HostRuntime) {
     // A word, the value of x11, and how the step ends, which leaves x10 and the pc.
     let trap = StepEnd::Trap;
     let table: [(u32, u64, StepEnd); 10] = [
@@ -201,34 +198,32 @@ fn rows_that_stop(rt: HostRuntime) -> Result<(), Fail> {
     ];
     for (word, x11, end) in table {
         assert_eq!(rt;
-            run_once(&rt, rt.alloc(), word, x11)?,
+            run_once(&rt, rt.alloc(), word, x11),
             (end, 9, 0),
             "word {word}"
         );
     }
-    Ok(())
 }
 
 #[test]
-fn calls_and_fetches(rt: HostRuntime) -> Result<(), Fail> {
-    let mut hart: Hart<FlatRam> = fresh(rt.alloc())?;
+fn calls_and_fetches(rt: HostRuntime) {
+    let mut hart: Hart<PagedRam> = fresh(&rt, rt.alloc());
     assert_eq!(rt; run(&rt, &mut hart, 0x00000073), StepEnd::Call);
     hart.answer(3);
     assert_eq!(rt; (hart.reg(10), hart.pc()), (3, 0x10004));
     // JAL x0, -8, out of the mapped pages: the jump is carried out, and the next fetch traps.
     assert_eq!(rt; run(&rt, &mut hart, 0xff9ff06f), StepEnd::Done);
     assert_eq!(rt; hart.step(), StepEnd::Trap(Cause::FetchUnmapped(0xFFFC)));
-    Ok(())
 }
 
 #[test]
-fn a_store_over_the_next_instruction_is_run(rt: HostRuntime) -> Result<(), Fail> {
+fn a_store_over_the_next_instruction_is_run(rt: HostRuntime) {
     // lui x5, 0x700; addi x5, x5, 0x513: together the word of addi x10, x0, 7. lui x6, 0x10; sw x5, 16(x6)
     // puts it over addi x10, x0, 1, which follows. Then addi x17, x0, 93; ecall.
     let program = [
         0x007002B7, 0x51328293, 0x00010337, 0x00532823, 0x00100513, 0x05D00893, 0x00000073,
     ];
-    let mut hart: Hart<FlatRam> = fresh(rt.alloc())?;
+    let mut hart: Hart<PagedRam> = fresh(&rt, rt.alloc());
     let mut at = 0x10000u64;
     for word in program {
         assert!(rt; hart.ram_mut().store(at, Width::W4, word).is_ok());
@@ -239,13 +234,17 @@ fn a_store_over_the_next_instruction_is_run(rt: HostRuntime) -> Result<(), Fail>
     }
     assert_eq!(rt; hart.step(), StepEnd::Call);
     assert_eq!(rt; (hart.reg(10), hart.reg(17)), (7, 93));
-    Ok(())
+    assert_eq!(rt;
+        hart.run(3),
+        (StepEnd::Call, 0),
+        "a call ends a run before it"
+    );
 }
 
 #[test]
 fn equal_harts_step_alike(rt: HostRuntime) -> Result<(), Fail> {
-    let mut one: Hart<FlatRam> = fresh(rt.alloc())?;
-    let mut other: Hart<FlatRam> = fresh(rt.alloc())?;
+    let mut one: Hart<PagedRam> = made(rt.alloc())?;
+    let mut other: Hart<FlatRam> = made(rt.alloc())?;
     let (first, second) = laws::equal_harts_step_alike(&mut one, &mut other);
     assert_eq!(rt; first, second);
     laws::only_stores_write();
@@ -253,4 +252,25 @@ fn equal_harts_step_alike(rt: HostRuntime) -> Result<(), Fail> {
     laws::a_store_writes_its_access();
     laws::a_stored_word_is_fetched();
     Ok(())
+}
+
+/// Two steps that do nothing, and then a word that is no instruction.
+#[test]
+fn runs_of_steps(rt: HostRuntime) {
+    let mut hart: Hart<PagedRam> = fresh(&rt, rt.alloc());
+    assert!(rt;
+        hart.ram_mut()
+            .store(0x10000, Width::W4, 0x0000_0013)
+            .is_ok()
+    );
+    assert!(rt;
+        hart.ram_mut()
+            .store(0x10004, Width::W4, 0x0000_0013)
+            .is_ok()
+    );
+    assert_eq!(rt; hart.run(0), (StepEnd::Done, 0));
+    assert_eq!(rt; hart.run(1), (StepEnd::Done, 1));
+    assert_eq!(rt; hart.pc(), 0x10004);
+    assert_eq!(rt; hart.run(9), (StepEnd::Trap(Cause::Illegal(0)), 1));
+    assert_eq!(rt; hart.pc(), 0x10008);
 }
