@@ -1,4 +1,5 @@
 //! One script of calls, run on both memories with the same answers. What is wanted follows from docs/reference/memory.md.
+use crate::page_address;
 use paged_mem::{FlatRam, PageView, PagedRam, Ram, StoreRefusal, Width};
 use std::process::Abort;
 
@@ -268,7 +269,7 @@ fn held_pages(rt: HostRuntime) {
     let mut ram = PagedRam::empty(rt.alloc());
     maps(&rt, &mut ram, 0, 3);
     assert_eq!(rt; ram.held(), 0);
-    loads(&rt, &ram, 8192, Width::W8, Some(0));
+    loads(&rt, &ram, page_address(2), Width::W8, Some(0));
     refuses(&rt, &mut ram, 12_284, Width::W8);
     assert_eq!(rt; ram.held(), 0, "a load and a refused store take none");
     stores(&rt, &mut ram, 4092, Width::W8, 1);
