@@ -1,4 +1,5 @@
--- That the memory of sound pages is whole, as the value of a `FlatRam` shows, with the lemmas that this rests on.
+-- That the memory of sound pages is whole, as the values of both memories show, with the lemmas that this rests on. But for
+-- `PagedMemory`, which contracts see of a `PagedRam`, no promise rests on its being read.
 use Rattle.std.proofs.Common.{◌≡◌, ◌≢◌, ℕ, suc, ◌+◌, ◌-◌, ◌*◌, ◌/◌, ◌%◌, ◌<◌, ◌≤◌, cond, Option, None, Some, is_some, List, [], ◌∷◌, length, get_or, take, drop, refl, sym, ap, ◌∙◌, arith, ◌⊎◌, inl, inr, length-drop, length-take}
 use Rattle.std.proofs.Props.{props}
 use Rattle.std.specs.Option.{option_map}

@@ -1,4 +1,5 @@
 -- What the rows that compute a value compute, taken from the table of meanings; it serves the code's split of that table.
+-- No promise rests on its being read.
 use Rattle.std.specs.Prelude.{ℕ}
 use Rattle.rv64_table.specs.declared.Op.{Op}
 use Rattle.rv64_table.specs.declared.Op.TheVariants.{Lui, Auipc}

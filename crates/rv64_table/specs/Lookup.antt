@@ -1,4 +1,4 @@
--- How the code finds a row: by the opcode, and then by funct3 and funct7 alone.
+-- How the code finds a row: by the opcode, and then by funct3 and funct7 alone. No promise rests on its being read.
 use Rattle.std.specs.Prelude.{ℕ, ◌/◌, ◌%◌, ◌^◌, Bool, true, false, ◌&&◌, ◌==◌, List, Option, option_map, find, filter}
 use Rattle.rv64_table.specs.declared.Row.{Row}
 use Rattle.rv64_table.specs.declared.Form.{Form}
