@@ -1,6 +1,6 @@
-use ddc_app::{Status, run};
 use crate::copying::copy_twice;
 use command_plan::Stop;
+use ddc_app::{Status, run};
 use ddc_base::{Call, MemShelf, MemSink, OutOfMemory};
 use std::alloc::Global;
 use std::process::Abort;
@@ -201,9 +201,10 @@ fn statuses_have_their_numbers(rt: HostRuntime) {
 fn answered_loads(shelf: &MemShelf, names: &[&str], most: u64) -> bool {
     shelf.calls().len() == names.len()
         && shelf.calls().iter().zip(names).all(|(call, name)| match call {
-            Call::Load { name: loaded, limit } => {
-                loaded.as_slice() == name.as_bytes() && *limit == most
-            }
+            Call::Load {
+                name: loaded,
+                limit,
+            } => { loaded.as_slice() == name.as_bytes() && *limit == most }
             Call::Save { .. } => false,
         })
 }
@@ -225,17 +226,19 @@ fn names_are_saved_in_order(rt: HostRuntime) -> Result<(), Fail> {
     let alloc = rt.alloc();
     let mut shelf = worked_shelf(alloc)?;
     shelf.fail_save(2)?;
-    match copy_twice(alloc, &mut shelf, "pair", "one", "two") {
+    let failed = copy_twice(alloc, &mut shelf, "pair", "one", "two");
+    match &failed {
         Err(Stop::ShelfFault(text)) => {
             assert_eq!(rt; text.as_slice(), b"shelf fault two\n".as_slice())
         }
         _ => assert!(rt; false),
     }
-    assert_eq!(rt; shelf.get("one"), Some([0x7F, 0x45].as_slice()));
-    match copy_twice(alloc, &mut shelf, "pair", "one", "two") {
+    assert_eq!(rt; shelf.get("one").unwrap_or(&[]), [0x7F, 0x45].as_slice());
+    let done = copy_twice(alloc, &mut shelf, "pair", "one", "two");
+    match &done {
         Ok(answer) => assert_eq!(rt; answer.text.as_slice(), b"equal 2\n".as_slice()),
         Err(_) => assert!(rt; false),
     }
-    assert_eq!(rt; shelf.get("two"), Some([0x7F, 0x45].as_slice()));
+    assert_eq!(rt; shelf.get("two").unwrap_or(&[]), [0x7F, 0x45].as_slice());
     Ok(())
 }

@@ -54,8 +54,8 @@ at_end : (plan : Plan) (files : Files) → files_after plan files (length (asked
 at_end (answers status text) files = refl
 at_end (needs name limit next) files =
     elim (loaded files name limit) as (λ l.
-      follow l (λ c. files_after (next c) files (length (follow l (λ b. asked (next b) files) (λ _. []) name))) (λ _. files) name
-      ≡ (follow l (λ c. outcome (next c) files) (λ text. record { status = FileRefused; text = text; files = files }) name).files) [
+    follow l (λ c. files_after (next c) files (length (follow l (λ b. asked (next b) files) (λ _. []) name))) (λ _. files) name
+    ≡ (follow l (λ c. outcome (next c) files) (λ text. record { status = FileRefused; text = text; files = files }) name).files) [
       | content.Bytes c ↦ at_end (next c) files
       | content.Absent ↦ refl
       | content.TooLong ↦ refl
@@ -70,11 +70,13 @@ stops_complete plan old new c = record {
   last_failed = c.last_failed;
   place = on_true old.tells (λ told.
       let settled = settled_by_telling plan old.tells told in
-      let all = asked plan old.files in
-      (length all, record {
-        calls = c.calls settled ∙ ap (λ calls. old.calls ++ calls) (sym (take_all (length all) all (le_refl (length all))));
-        files = c.files settled ∙ sym (at_end plan old.files);
-      }));
+      let all = asked plan old.files in (
+        length all,
+        record {
+          calls = c.calls settled ∙ ap (λ calls. old.calls ++ calls) (sym (take_all (length all) all (le_refl (length all))));
+          files = c.files settled ∙ sym (at_end plan old.files);
+        },
+      ));
 }
 
 -- memory was wanting before any call
@@ -184,11 +186,14 @@ save_failed name content next old new s = record {
   tells = ap (λ shelf. shelf.tells) s.failed;
   faults = ap (λ shelf. shelf.faults) s.failed;
   last_failed = ap (λ shelf. shelf.last_failed) s.failed;
-  place = on_true old.tells (λ _. (0, record {
-    calls = ap (λ shelf. shelf.calls) s.failed ∙ sym (append-nil old.calls);
-    next = refl;
-    files = s.files;
-  }));
+  place = on_true old.tells (λ _. (
+    0,
+    record {
+      calls = ap (λ shelf. shelf.calls) s.failed ∙ sym (append-nil old.calls);
+      next = refl;
+      files = s.files;
+    },
+  ));
 }
 
 pub ends_at_save : (name content : List ℕ) (next : Plan) (old new : ShelfState) (ending : Stop) → Saves name content old new (Err ending) → Performs (sets name content next) old new (Err ending)
@@ -259,11 +264,13 @@ stops_on plan old next mid new l s = record {
   faults = s.faults ∙ l.faults;
   last_failed = s.last_failed ∙ l.last_failed;
   place = on_true old.tells (λ told.
-      let at = where_told mid.tells (l.tells ∙ told) s.place in
-      (suc at.0, record {
-        calls = front_on plan old next mid new at.0 l told at.1.calls;
-        files = at.1.files ∙ sym (l.files told at.0);
-      }));
+      let at = where_told mid.tells (l.tells ∙ told) s.place in (
+        suc at.0,
+        record {
+          calls = front_on plan old next mid new at.0 l told at.1.calls;
+          files = at.1.files ∙ sym (l.files told at.0);
+        },
+      ));
 }
 
 fails_on : (plan : Plan) (old : ShelfState) (next : Plan) (mid new : ShelfState) (call : Operation × List ℕ) → Leads plan old next mid → Fails next call mid new → Fails plan call old new
@@ -272,12 +279,14 @@ fails_on plan old next mid new call l f = record {
   faults = f.faults ∙ ap one_more l.faults;
   last_failed = f.last_failed;
   place = on_true old.tells (λ told.
-      let at = where_told mid.tells (l.tells ∙ told) f.place in
-      (suc at.0, record {
-        calls = front_on plan old next mid new at.0 l told at.1.calls;
-        next = ap (λ calls. option_map failure_of (slice_get calls (suc at.0))) (l.calls told).2 ∙ at.1.next;
-        files = rw (l.files told at.0) at.1.files;
-      }));
+      let at = where_told mid.tells (l.tells ∙ told) f.place in (
+        suc at.0,
+        record {
+          calls = front_on plan old next mid new at.0 l told at.1.calls;
+          next = ap (λ calls. option_map failure_of (slice_get calls (suc at.0))) (l.calls told).2 ∙ at.1.next;
+          files = rw (l.files told at.0) at.1.files;
+        },
+      ));
 }
 
 goes_on : (plan : Plan) (old : ShelfState) (next : Plan) (mid new : ShelfState) (result : Result Answer Stop) → Leads plan old next mid → Performs next mid new result → Performs plan old new result

@@ -34,5 +34,5 @@ pub record LosesText (plan : Plan) (old new : ShelfState) (before after : SinkSt
   pub piece : List ℕ
   pub put : PutFails piece before after
   pub cause :
-    (Completes plan old new × (IsSettled plan old.tells → piece ≡ (outcome plan old.files).text))
-    ⊎ ((call : Operation × List ℕ) × Fails plan call old new × (piece ≡ shelf_fault_line call.1))
+      (Completes plan old new × (IsSettled plan old.tells → piece ≡ (outcome plan old.files).text))
+      ⊎ ((call : Operation × List ℕ) × Fails plan call old new × (piece ≡ shelf_fault_line call.1))
