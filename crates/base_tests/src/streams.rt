@@ -54,7 +54,8 @@ fn reads_within_a_limit(rt: HostRuntime) -> Result<(), Fail> {
         (9_000, 7, 0, 9_000),
         (9_000, 4_096, 9_000, 8_999),
         (9_000, 8_192, 3, 9_001),
-        (20_000, 20_000, 18_446_744_073_709_551_615, 20_000),
+        (20_000, 20_000, 20_000, 20_000),
+        (20_001, 20_001, 20_001, 20_000),
         (20_001, 20_001, 18_446_744_073_709_551_615, 20_000),
         (5_000, 64, 0, 18_446_744_073_709_551_615),
     ] {
@@ -70,6 +71,9 @@ fn reads_within_a_limit(rt: HostRuntime) -> Result<(), Fail> {
             Loaded::Absent => assert!(rt; false),
         }
     }
+    // Fewer bytes than are expected, where these are over the limit, are an error.
+    let stream = Stream::new(20_000, 4_096, usize::MAX);
+    assert!(rt; read_within(alloc, stream, 20_001, 20_000).is_err());
     // An error in mid-stream is no shorter content.
     for fails_after in [0, 1, 4_096, 9_000] {
         let stream = Stream::new(9_000, 512, fails_after);

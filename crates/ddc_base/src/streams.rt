@@ -1,7 +1,7 @@
-ghost use Rattle.std.specs.Prelude.{◌≡◌, ◌≢◌, ◌+◌, ◌++◌, IfOk, IfSome, OnOk, take};
+ghost use Rattle.std.specs.Prelude.{◌≡◌, ◌≢◌, ◌+◌, ◌-◌, ◌^◌, ◌<◌, ◌++◌, IfOk, IfSome, OnOk, take};
 ghost use Rattle.std.specs.Io.KnownBytes.{Appends};
 ghost use Rattle.ddc_base.specs.Outside.{IsWithin};
-ghost use Rattle.ddc_base.specs.Streams.{GivesAll};
+ghost use Rattle.ddc_base.specs.Streams.{GivesAll, PassesOver};
 
 use crate::byte_list::Bytes;
 use crate::outside::Loaded;
@@ -21,10 +21,33 @@ fn read_past<R: Read + Drop>(mut reader: R, limit: u64, content: &mut Vec<u8>) -
     Ok(())
 }
 
+/// Passes over so many bytes; where fewer are left, that is an error.
+fn pass_over<R: Read>(reader: &mut R, count: u64) -> io::Result<()>
+    ensures { OnOk result (PassesOver (R.remaining reader.old) (R.remaining reader.new) count) }
+{
+    let mut buffer = [0; 4096];
+    for _ in 0..count / 4096 {
+        reader.read_exact(&mut buffer)?;
+    }
+    let rest = (count % 4096) as usize;
+    reader.read_exact(&mut buffer[..rest])
+}
+
+/// That a reader has more left than the limit, of which it passes over as many bytes and one, and keeps none.
+fn too_long<R: Read + Drop>(mut reader: R, limit: u64) -> io::Result<Loaded>
+    requires { limit < 2 ^ 64 - 1 }
+    ensures all { IfOk result (GivesAll R.remaining reader limit) }
+    ensures too_long { IfOk result (λ given. given ≡ Loaded.TooLong) }
+{
+    pass_over(&mut reader, limit + 1)?;
+    Ok(Loaded::TooLong)
+}
+
 /// All that a reader has left, if that is at most `limit` bytes, and else `TooLong`.
 ///
-/// At most one byte past the limit is read. An error of the reader is this call's error. How many bytes are `expected` is a hint: at
-/// first there is room for one more than these, so that the end is met without growing.
+/// At most one byte past the limit is read. An error of the reader is this call's error. As many bytes are `expected`: where these are
+/// within the limit, there is room for one more at first, so that the end is met without growing; where they are more, none is kept, and
+/// it is an error if they are not there.
 pub fn read_within<R: Read + Drop>(
     alloc: Global,
     reader: R,
@@ -35,7 +58,10 @@ pub fn read_within<R: Read + Drop>(
     ensures within { IfOk result (IsWithin limit) }
     ensures held { IfOk result (λ given. given ≢ Loaded.Absent) }
 {
-    let room = expected.min(limit).saturating_add(1);
+    if expected > limit {
+        return too_long(reader, limit);
+    }
+    let room = expected.saturating_add(1);
     let mut content = Vec::with_capacity(alloc, usize::try_from(room).unwrap_or(0))?;
     read_past(reader, limit, &mut content)?;
     if content.len() as u64 > limit {
