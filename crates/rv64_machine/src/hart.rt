@@ -133,13 +133,15 @@ impl<R: Ram> Hart<R> {
         ensures mapping { (address : ℕ)
             → contains_key self.new.memory address ≡ contains_key self.old.memory address }
     {
-        for done in 0..most {
+        let mut left = most;
+        while left != 0 {
             match self.step() {
                 StepEnd::Done => {}
-                StepEnd::Call => return (StepEnd::Call, done),
-                StepEnd::Trap(cause) => return (StepEnd::Trap(cause), done),
-                StepEnd::OutOfMemory => return (StepEnd::OutOfMemory, done),
+                StepEnd::Call => return (StepEnd::Call, most - left),
+                StepEnd::Trap(cause) => return (StepEnd::Trap(cause), most - left),
+                StepEnd::OutOfMemory => return (StepEnd::OutOfMemory, most - left),
             }
+            left -= 1;
         }
         (StepEnd::Done, most)
     }
