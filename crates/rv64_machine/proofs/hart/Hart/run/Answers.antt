@@ -10,6 +10,6 @@ pub loop-left-preserved : goal.loop-left-preserved
 loop-left-preserved g c = (
   omega (arith, c.loop-left.invariant.0),
   ap (after c.args.self.now) (omega (arith, c.loop-left.invariant.0, c.loop-left-test.true))
-  ∙ after-on c.args.self.now c.loop-left.self c.step.new.self (c.args.most - c.loop-left.left) c.loop-left.invariant.1 c.in-Done.ensures.act,
+      ∙ after-on c.args.self.now c.loop-left.self c.step.new.self (c.args.most - c.loop-left.left) c.loop-left.invariant.1 c.in-Done.ensures.act,
   λ address. c.in-Done.ensures.mapping address ∙ c.loop-left.invariant.2 address,
 )
