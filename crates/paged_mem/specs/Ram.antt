@@ -1,5 +1,5 @@
 -- What the calls of a memory answer, by cases on the answer (docs/reference/memory.md).
-use Rattle.std.specs.Prelude.{◌≡◌, ℕ, ◌+◌, ◌*◌, ◌/◌, ◌%◌, ◌^◌, ◌<◌, ◌≤◌, true, false, Option, None, Some, Result, Ok, Err, List, length, ⊤}
+use Rattle.std.specs.Prelude.{◌≡◌, ℕ, ◌+◌, ◌*◌, ◌/◌, ◌%◌, ◌^◌, ◌<◌, ◌≤◌, Bool, true, false, Option, None, Some, Result, Ok, Err, List, length, ⊤}
 use Rattle.std.specs.FinMap.{get}
 use Rattle.paged_mem.specs.Memory.{Memory, maps, with_bytes, bytes_of, zeros}
 use Rattle.paged_mem.specs.declared.ram.Width.{Width}
@@ -26,6 +26,11 @@ Writes old at bytes (Err OutOfMemory) new = (maps old at (length bytes) ≡ true
 -- the low count bytes of a number are written, little-endian, under the same rules
 abbrev pub Stores : Memory → ℕ → ℕ → ℕ → Result ⊤ StoreRefusal → Memory → Type 0
 Stores old at count value result new = Writes old at (bytes_of count value) result new
+
+-- they are written, where the answer is true; else nothing is
+abbrev pub StoresNear : Memory → ℕ → ℕ → ℕ → Bool → Memory → Type 0
+StoresNear old at count value true new = (maps old at (length (bytes_of count value)) ≡ true) × (new ≡ with_bytes old at (bytes_of count value))
+StoresNear old at count value false new = new ≡ old
 
 -- the first mapped page that holds or follows an address, and the mapped pages in a row from it on
 pub record IsRun (m : Memory) (at first pages : ℕ) : Type 0 where

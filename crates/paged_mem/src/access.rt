@@ -1,7 +1,7 @@
 //! Reading and writing at addresses, over pages and their entries.
-ghost use Rattle.std.specs.Prelude.{◌≡◌, ℕ, ◌+◌, ◌-◌, ◌*◌, ◌%◌, ◌^◌, ◌<◌, ◌≤◌, length, IfSome, slice_index, unwrap_or, Err};
+ghost use Rattle.std.specs.Prelude.{◌≡◌, ℕ, ◌+◌, ◌-◌, ◌*◌, ◌%◌, ◌^◌, ◌<◌, ◌≤◌, length, IfSome, slice_index, unwrap_or, Err, Some};
 ghost use Rattle.paged_mem.specs.Memory.{bytes_at, maps, reads};
-ghost use Rattle.paged_mem.specs.Ram.{count_of, RunsFrom, shown, Stores, Writes};
+ghost use Rattle.paged_mem.specs.Ram.{count_of, RunsFrom, shown, Stores, StoresNear, Writes};
 ghost use Rattle.paged_mem.specs.Entries.{AreFull, ArePages, AreRowsOf, flat, held_pages};
 ghost use Rattle.paged_mem.specs.Flat.{memory_of, number_at, Rises};
 ghost use Rattle.paged_mem.specs.Paged.{pages_touched, TouchesUnheld};
@@ -78,12 +78,18 @@ fn load_anywhere(pages: &[u64], entries: &[Entry], at: u64, width: Width) -> Opt
     }
 }
 
-/// The number at an address; none where a byte of it is unmapped.
+/// The number at an address that lies within a page of one of the rows.
 #[inline(always)]
-pub fn load_at(pages: &[u64], entries: &[Entry], rows: &Rows, at: u64, width: Width) -> Option<u64>
-    requires pages { ArePages pages.now entries.now }
-    requires rows { AreRowsOf pages.now rows.now }
-    ensures value { result ≡ reads (memory_of pages.now (flat entries.now)) at (count_of width) }
+pub fn load_near(
+    _pages: &[u64],
+    entries: &[Entry],
+    rows: &Rows,
+    at: u64,
+    width: Width,
+) -> Option<u64>
+    requires pages { ArePages _pages.now entries.now }
+    requires rows { AreRowsOf _pages.now rows.now }
+    ensures value { IfSome result (λ value. reads (memory_of _pages.now (flat entries.now)) at (count_of width) ≡ Some value) }
     ensures fits { IfSome result (λ value. value < 2 ^ (8 * count_of width)) }
 {
     let low = (at % 4096) as usize;
@@ -92,7 +98,21 @@ pub fn load_at(pages: &[u64], entries: &[Entry], rows: &Rows, at: u64, width: Wi
             return Some(number_in(&entries[index], low, width));
         }
     }
-    load_anywhere(pages, entries, at, width)
+    None
+}
+
+/// The number at an address; none where a byte of it is unmapped.
+#[inline(always)]
+pub fn load_at(pages: &[u64], entries: &[Entry], rows: &Rows, at: u64, width: Width) -> Option<u64>
+    requires pages { ArePages pages.now entries.now }
+    requires rows { AreRowsOf pages.now rows.now }
+    ensures value { result ≡ reads (memory_of pages.now (flat entries.now)) at (count_of width) }
+    ensures fits { IfSome result (λ value. value < 2 ^ (8 * count_of width)) }
+{
+    match load_near(pages, entries, rows, at, width) {
+        Some(value) => Some(value),
+        None => load_anywhere(pages, entries, at, width),
+    }
 }
 
 /// Fills `out` from an address on; `false`, with `out` as it was, where a byte is unmapped.
@@ -144,6 +164,37 @@ pub fn write_at(
     }
 }
 
+/// Stores the low bytes of a number at an address that lies within a page of one of the rows, where that page holds its bytes.
+#[inline(always)]
+pub fn store_near(
+    _pages: &[u64],
+    entries: &mut [Entry],
+    rows: &Rows,
+    at: u64,
+    width: Width,
+    value: u64,
+) -> bool
+    requires pages { ArePages _pages.now entries.old }
+    requires rows { AreRowsOf _pages.now rows.now }
+    ensures pages { ArePages _pages.now entries.new }
+    ensures stores { StoresNear (memory_of _pages.now (flat entries.old)) at (count_of width) value result
+        (memory_of _pages.now (flat entries.new)) }
+    ensures held { held_pages _pages.now entries.new ≡ held_pages _pages.now entries.old }
+{
+    let low = (at % 4096) as usize;
+    let count = width.count() as usize;
+    let bytes = value.to_le_bytes();
+    if low + count <= 4096 {
+        if let Some(index) = rows.find(at) {
+            if entries[index].is_some() {
+                put_into(&mut entries[index], low, &bytes[..count]);
+                return true;
+            }
+        }
+    }
+    false
+}
+
 /// Stores the low bytes of a number at an address, all or none.
 #[inline(always)]
 pub fn store_at(
@@ -167,18 +218,16 @@ pub fn store_at(
     ensures wants { result ≡ Err StoreRefusal.OutOfMemory
         → TouchesUnheld (held_pages pages.now entries.old) at (count_of width) }
 {
-    let low = (at % 4096) as usize;
-    let count = width.count() as usize;
-    let bytes = value.to_le_bytes();
-    if low + count <= 4096 {
-        if let Some(index) = rows.find(at) {
-            if entries[index].is_some() {
-                put_into(&mut entries[index], low, &bytes[..count]);
-                return Ok(());
-            }
-        }
+    if store_near(pages, entries, rows, at, width, value) {
+        return Ok(());
     }
-    write_at(alloc, pages, entries, at, &bytes[..count])
+    write_at(
+        alloc,
+        pages,
+        entries,
+        at,
+        &value.to_le_bytes()[..width.count() as usize],
+    )
 }
 
 /// The page at an address: unmapped, zero where it holds no bytes, or its bytes.

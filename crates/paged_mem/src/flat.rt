@@ -65,6 +65,14 @@ impl Ram for FlatRam {
         }
     }
 
+    fn load_near(&self, _at: u64, _width: Width) -> Option<u64> {
+        None
+    }
+
+    fn store_near(&mut self, _at: u64, _width: Width, _value: u64) -> bool {
+        false
+    }
+
     fn mapped(&self, at: u64, count: u64) -> bool {
         span(&self.pages, at, count).is_some()
     }

@@ -1,12 +1,14 @@
 ghost use Rattle.std.specs.Prelude.{◌≡◌, ℕ, ◌+◌, ◌*◌, ◌%◌, ◌^◌, ◌≤◌, [], Err, IsTrue, OnOk, OnErr, length};
 ghost use Rattle.paged_mem.specs.Memory.{IsFree, maps, with_bytes, without, zeros};
-ghost use Rattle.paged_mem.specs.Ram.{count_of, Stores, Writes};
+ghost use Rattle.paged_mem.specs.Ram.{count_of, Stores, StoresNear, Writes};
 ghost use Rattle.paged_mem.specs.Entries.{ArePages, AreRowsOf};
 ghost use Rattle.paged_mem.specs.Held.{ArePages-prop, AreRowsOf-prop};
 ghost use Rattle.paged_mem.specs.Paged.{pages_touched, TouchesUnheld};
 ghost use Rattle.std.specs.FinMap as map;
 
-use crate::access::{load_at, mapped_at, page_at, read_at, run_at, store_at, write_at};
+use crate::access::{
+    load_at, load_near, mapped_at, page_at, read_at, run_at, store_at, store_near, write_at,
+};
 use crate::entries::{Entry, count_held};
 use crate::mapping::{map_entries, unmap_entries};
 use crate::ram::{PageView, Ram, StoreRefusal, Width};
@@ -92,6 +94,19 @@ impl Ram for PagedRam {
             width,
             value,
         )
+    }
+
+    #[inline(always)]
+    fn load_near(&self, at: u64, width: Width) -> Option<u64> {
+        load_near(&self.pages, &self.entries, &self.rows, at, width)
+    }
+
+    #[inline(always)]
+    fn store_near(&mut self, at: u64, width: Width, value: u64) -> bool
+        ensures stores { StoresNear self.old.bytes at (count_of width) value result self.new.bytes }
+        ensures held { self.new.held ≡ self.old.held }
+    {
+        store_near(&self.pages, &mut self.entries, &self.rows, at, width, value)
     }
 
     fn mapped(&self, at: u64, count: u64) -> bool {

@@ -1,7 +1,7 @@
-ghost use Rattle.std.specs.Prelude.{◌≡◌, ℕ, ◌+◌, ◌*◌, ◌%◌, ◌^◌, ◌<◌, ◌≤◌, length, IsTrue, unwrap_or, IfSome, OnOk, OnErr};
+ghost use Rattle.std.specs.Prelude.{◌≡◌, ℕ, ◌+◌, ◌*◌, ◌%◌, ◌^◌, ◌<◌, ◌≤◌, length, IsTrue, unwrap_or, IfSome, OnOk, OnErr, Some};
 ghost use Rattle.std.specs.FinMap as map;
 ghost use Rattle.paged_mem.specs.Memory.{Memory, IsWhole, IsFree, bytes_at, maps, reads, with_bytes, without, zeros};
-ghost use Rattle.paged_mem.specs.Ram.{count_of, Stores, Writes, RunsFrom, shown};
+ghost use Rattle.paged_mem.specs.Ram.{count_of, Stores, StoresNear, Writes, RunsFrom, shown};
 
 use ddc_base::OutOfMemory;
 use std::alloc::Global;
@@ -65,6 +65,15 @@ pub trait Ram: Sized + Drop {
     /// Stores the low bytes of a number, little-endian; a refusal leaves the memory as it was.
     fn store(&mut self, at: u64, width: Width, value: u64) -> Result<(), StoreRefusal>
         ensures { Stores (bytes self.old) at (count_of width) value result (bytes self.new) };
+
+    /// The number at an address where it is found without a search; `None` says nothing.
+    fn load_near(&self, at: u64, width: Width) -> Option<u64>
+        ensures value { IfSome result (λ value. reads (bytes self.now) at (count_of width) ≡ Some value) }
+        ensures fits { IfSome result (λ value. value < 2 ^ (8 * count_of width)) };
+
+    /// Stores as `store` does, and answers `true`, where that takes neither a search nor memory of the host; else nothing is stored.
+    fn store_near(&mut self, at: u64, width: Width, value: u64) -> bool
+        ensures { StoresNear (bytes self.old) at (count_of width) value result (bytes self.new) };
 
     /// Whether all `count` bytes from an address are mapped; no bytes are.
     fn mapped(&self, at: u64, count: u64) -> bool

@@ -133,13 +133,15 @@ impl<R: Ram> Hart<R> {
         ensures mapping { (address : ℕ)
             → contains_key self.new.memory address ≡ contains_key self.old.memory address }
     {
-        for done in 0..most {
+        let mut left = most;
+        while left != 0 {
             match self.step() {
                 StepEnd::Done => {}
-                StepEnd::Call => return (StepEnd::Call, done),
-                StepEnd::Trap(cause) => return (StepEnd::Trap(cause), done),
-                StepEnd::OutOfMemory => return (StepEnd::OutOfMemory, done),
+                StepEnd::Call => return (StepEnd::Call, most - left),
+                StepEnd::Trap(cause) => return (StepEnd::Trap(cause), most - left),
+                StepEnd::OutOfMemory => return (StepEnd::OutOfMemory, most - left),
             }
+            left -= 1;
         }
         (StepEnd::Done, most)
     }
@@ -150,10 +152,24 @@ impl<R: Ram> Hart<R> {
     fn advance(&mut self) -> StepEnd
         ensures { Steps self.old result self.new }
     {
-        let Some(word) = self.ram.load(self.pc, Width::W4) else {
+        match self.ram.load_near(self.pc, Width::W4) {
+            Some(word) => self.obey(word as u32),
+            None => self.advance_anywhere(),
+        }
+    }
+
+    /// A step from a pc that is not found at once.
+    #[cold]
+    #[inline(never)]
+    #[tactic(auto, unfolding(crate::specs::Hart::act, crate::specs::Hart::effect_at))]
+    fn advance_anywhere(&mut self) -> StepEnd
+        ensures { Steps self.old result self.new }
+    {
+        let Some(fetched) = self.ram.load(self.pc, Width::W4) else {
             return StepEnd::Trap(Cause::FetchUnmapped(self.pc));
         };
-        self.obey(word as u32)
+        let word = fetched as u32;
+        self.obey(word)
     }
 
     /// Carries out a word.
@@ -258,6 +274,22 @@ impl<R: Ram> Hart<R> {
         requires { rd < 32 }
         ensures { Ends (carried self.old rd (Effect.Load width at)) None self.old result self.new }
     {
+        match self.ram.load_near(at, width) {
+            Some(value) => {
+                self.set_reg(rd, value);
+                self.pass()
+            }
+            None => self.load_anywhere(rd, width, at),
+        }
+    }
+
+    /// The same from an address that is not found at once.
+    #[cold]
+    #[inline(never)]
+    fn load_anywhere(&mut self, rd: u8, width: Width, at: u64) -> StepEnd
+        requires { rd < 32 }
+        ensures { Ends (carried self.old rd (Effect.Load width at)) None self.old result self.new }
+    {
         let Some(value) = self.ram.load(at, width) else {
             return StepEnd::Trap(Cause::LoadUnmapped(at));
         };
@@ -268,6 +300,22 @@ impl<R: Ram> Hart<R> {
     /// Carries out a load that sign-extends.
     #[inline(always)]
     fn load_signed(&mut self, rd: u8, width: Width, at: u64) -> StepEnd
+        requires { rd < 32 }
+        ensures { Ends (carried self.old rd (Effect.LoadSigned width at)) None self.old result self.new }
+    {
+        match self.ram.load_near(at, width) {
+            Some(value) => {
+                self.set_reg(rd, widened(width, value));
+                self.pass()
+            }
+            None => self.load_signed_anywhere(rd, width, at),
+        }
+    }
+
+    /// The same from an address that is not found at once.
+    #[cold]
+    #[inline(never)]
+    fn load_signed_anywhere(&mut self, rd: u8, width: Width, at: u64) -> StepEnd
         requires { rd < 32 }
         ensures { Ends (carried self.old rd (Effect.LoadSigned width at)) None self.old result self.new }
     {
@@ -282,6 +330,20 @@ impl<R: Ram> Hart<R> {
     #[inline(always)]
     #[tactic(auto, using(crate::proofs::StoredBytes::stored))]
     fn store(&mut self, width: Width, at: u64, value: u64) -> StepEnd
+        ensures { Ends (carried self.old 0 (Effect.Store width at value))
+            (Some (Effect.Store width at value)) self.old result self.new }
+    {
+        if self.ram.store_near(at, width, value) {
+            return self.pass();
+        }
+        self.store_anywhere(width, at, value)
+    }
+
+    /// The same to an address that is not found at once, or on a page that holds no bytes yet.
+    #[cold]
+    #[inline(never)]
+    #[tactic(auto, using(crate::proofs::StoredBytes::stored))]
+    fn store_anywhere(&mut self, width: Width, at: u64, value: u64) -> StepEnd
         ensures { Ends (carried self.old 0 (Effect.Store width at value))
             (Some (Effect.Store width at value)) self.old result self.new }
     {

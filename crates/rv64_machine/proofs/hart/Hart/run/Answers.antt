@@ -1,12 +1,15 @@
-use Rattle.std.proofs.Common.{refl, ◌∙◌}
+use Rattle.std.proofs.Common.{refl, ap, ◌∙◌, ◌-◌, arith}
+use Rattle.rv64_machine.specs.Hart.{after}
 use Rattle.rv64_machine.proofs.Acts.{after-none, after-on}
 use Rattle.rv64_machine.proofs.hart.Hart.run.Goals as goal
 
-pub loop-done-init : goal.loop-done-init
-loop-done-init g c = (after-none _, λ address. refl)
+pub loop-left-init : goal.loop-left-init
+loop-left-init g c = (omega arith, ap (after c.args.self.now) (omega arith) ∙ after-none _, λ address. refl)
 
-pub loop-done-preserved : goal.loop-done-preserved
-loop-done-preserved g c = (
-  after-on c.args.self.now c.loop-done.self c.step.new.self c.loop-done.done c.loop-done.invariant.0 c.in-Done.ensures.act,
-  λ address. c.in-Done.ensures.mapping address ∙ c.loop-done.invariant.1 address,
+pub loop-left-preserved : goal.loop-left-preserved
+loop-left-preserved g c = (
+  omega (arith, c.loop-left.invariant.0),
+  ap (after c.args.self.now) (omega (arith, c.loop-left.invariant.0, c.loop-left-test.true))
+      ∙ after-on c.args.self.now c.loop-left.self c.step.new.self (c.args.most - c.loop-left.left) c.loop-left.invariant.1 c.in-Done.ensures.act,
+  λ address. c.in-Done.ensures.mapping address ∙ c.loop-left.invariant.2 address,
 )
