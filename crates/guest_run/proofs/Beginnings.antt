@@ -14,7 +14,7 @@ use Rattle.paged_mem.proofs.Numbers.{length-bytes_of}
 use Rattle.linux_calls.specs.declared.Heap.{Heap}
 use Rattle.linux_calls.specs.HeapOf.{IsHeapOf, is_beside_heap}
 use Rattle.linux_calls.specs.HeapOf as heap
-use Rattle.linux_calls.proofs.Heaps.{same_after_write}
+use Rattle.paged_mem.proofs.Wholes.{same_after_write}
 use Rattle.elf_load.specs.declared.Segment.{Segment}
 use Rattle.elf_load.specs.declared.Image.{Image}
 use Rattle.elf_load.specs.Segments.{first_page, page_end, paged_size, IsPlaced}

@@ -8,8 +8,6 @@ pub mod Stepping
 pub mod Texts
 pub mod Validity
 pub mod Programs
-pub mod Acts
 pub mod StartLaw
 pub mod Boxes
-pub mod Numbers
 pub mod Stretching

@@ -19,7 +19,7 @@ use Rattle.elf_load.specs.declared.refusal.ElfRefusal.{ElfRefusal}
 use Rattle.elf_load.proofs.Images.{image-sound}
 use Rattle.elf_load.specs.Image.{image_of, IsLoadable}
 use Rattle.elf_load.specs.Segments.{first_page, holds_address, paged_size, IsPlaced}
-use Rattle.linux_calls.proofs.Wholes.{whole-mapped, whole-written}
+use Rattle.paged_mem.proofs.Wholes.{whole-mapped, whole-written}
 use Rattle.guest_run.specs.Stack.{ended, gap, joined, stack_bytes, stack_end, stack_pointer, stack_size, start_size, words}
 use Rattle.guest_run.specs.Placed.{segment_bytes, with_segment, with_segments, with_stack}
 use Rattle.guest_run.specs.Setting.{Setting, files_size, IsBox}

@@ -5,7 +5,7 @@ use Rattle.std.specs.FinMap.{contains_key}
 use Rattle.std.proofs.lemmas.Bool.Decides.{nat_tests}
 use Rattle.paged_mem.specs.Memory.{Memory}
 use Rattle.paged_mem.proofs.Maps.{each_by_maps, maps_by_each}
-use Rattle.rv64_machine.specs.Hart.{Act, HartState, IsHart, act}
+use Rattle.rv64_machine.specs.Hart.{Act, IsHart, act}
 use Rattle.rv64_machine.specs.Hart as hart
 use Rattle.linux_calls.specs.declared.Heap.{Heap}
 use Rattle.linux_calls.specs.HeapOf.{IsHeapOf, is_beside_heap, page_up}
@@ -23,8 +23,8 @@ use Rattle.rv64_machine.proofs.ActLemmas.{act-mapping}
 use Rattle.std.proofs.lemmas.Option.{same_Some}
 use Rattle.linux_calls.proofs.Keeping.{call_keeps, OutcomeKeeps}
 use Rattle.guest_run.proofs.Running.{before}
-use Rattle.guest_run.proofs.Acts.{act-hart, answered-hart}
-use Rattle.guest_run.proofs.Numbers.{act-numbers, answered-numbers}
+use Rattle.rv64_machine.proofs.Keeping.{act-hart, answered-hart}
+use Rattle.rv64_machine.proofs.Numbers.{act-numbers, answered-numbers}
 
 -- heaps at one place with one limit have the same pages beside them
 same_beside : (one other : Heap) (q : ℕ) → other.first ≡ one.first → other.limit ≡ one.limit → is_beside_heap other q ≡ is_beside_heap one q

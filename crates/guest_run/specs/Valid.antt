@@ -1,9 +1,9 @@
 -- The states that a start and steps can reach: what stands in memory besides the segments, and how much of it.
 -- docs/reference/running.md says the same for people.
-use Rattle.std.specs.Prelude.{◌≡◌, ℕ, zero, suc, ◌-◌, ◌*◌, ◌^◌, ◌≤◌, true, ◌&&◌, List, [], ◌∷◌, count_by, ◌<◌, All}
+use Rattle.std.specs.Prelude.{◌≡◌, ℕ, zero, suc, ◌-◌, ◌*◌, ◌^◌, ◌≤◌, true, ◌&&◌, List, [], ◌∷◌, count_by}
 use Rattle.std.specs.FinMap.{contains_key}
 use Rattle.paged_mem.specs.Memory.{Memory, maps}
-use Rattle.rv64_machine.specs.Hart.{HartState, IsHart}
+use Rattle.rv64_machine.specs.Hart.{HasNumbers, IsHart}
 use Rattle.mem_files.specs.Sound.{IsSound}
 use Rattle.linux_calls.specs.declared.Heap.{Heap}
 use Rattle.linux_calls.specs.HeapOf.{IsHeapOf, is_beside_heap}
@@ -19,11 +19,6 @@ pages_from number (suc count) = number ∷ pages_from (suc number) count
 unfoldable pub pages_beside : Memory → Heap → ℕ
 pages_beside memory heap =
     count_by (λ page. contains_key memory (4096 * page) && is_beside_heap heap (4096 * page)) (pages_from 0 (2 ^ 26))
-
--- registers and pc are numbers of 64 bits
-pub record HasNumbers (hart : HartState) : Type 0 where
-  pub registers : All (λ value. value < 2 ^ 64) hart.registers
-  pub pc : hart.pc < 2 ^ 64
 
 -- memory and heap fit together, the stack is mapped, and segments and stack have at most 65,536 and 2,048 pages, 67,584 together
 pub record Fits (memory : Memory) (heap : Heap) : Type 0 where

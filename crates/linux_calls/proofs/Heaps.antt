@@ -1,5 +1,5 @@
 -- The heap in its memory: what a new break asks of the memory, and that the heap's condition stays.
-use Rattle.std.proofs.Common.{◌≡◌, ℕ, ◌+◌, ◌-◌, ◌<◌, ◌≤◌, Bool, true, false, cond, Option, None, Some, IsSome, is_some, List, length, refl, sym, ap, subst, ◌∙◌, arith, ◌⊎◌, inl, inr}
+use Rattle.std.proofs.Common.{◌≡◌, ℕ, ◌+◌, ◌-◌, ◌<◌, ◌≤◌, Bool, true, false, cond, Option, None, Some, IsSome, is_some, List, refl, sym, ap, subst, ◌∙◌, arith, ◌⊎◌, inl, inr}
 use Rattle.std.specs.Prelude.{⊤}
 use Rattle.std.specs.Ordering.{nat_cmp}
 use Rattle.std.specs.FinMap.{get, empty, get-empty}
@@ -11,10 +11,11 @@ use Rattle.std.specs.Prelude.{nat_lt}
 use Rattle.std.proofs.lemmas.Bool.{cases_lt}
 use borrow.Author.Tests.{ltb-true, ltb-false}
 use Rattle.paged_mem.specs.Memory.{Memory, IsFree, maps, with_bytes, without, zeros}
-use Rattle.paged_mem.specs.Held.{get-with_bytes, get-with_bytes_below, get-with_bytes_above}
+use Rattle.paged_mem.specs.Held.{get-with_bytes_below, get-with_bytes_above}
 use Rattle.paged_mem.proofs.Maps.{get-without, get-without_other, maps_by_each, each_by_maps}
 use Rattle.paged_mem.proofs.Mapped.{length-zeros}
 use Rattle.paged_mem.proofs.MemoryLaws.{get-zeros}
+use Rattle.paged_mem.proofs.Wholes.{same_after_write}
 use Rattle.linux_calls.specs.declared.Heap.{Heap}
 use Rattle.linux_calls.specs.HeapOf.{IsHeapOf, page_up, resized}
 
@@ -33,15 +34,6 @@ IsHeapOf-same m n heap same is = record {
     gone : (o : Option ℕ) → is_some o ≡ false → o ≡ None
     gone None e = refl
     gone (Some byte) e = cc
-
--- bytes written where bytes are keep what is mapped
-pub same_after_write : (m : Memory) (at : ℕ) (bytes : List ℕ) → maps m at (length bytes) ≡ true → (q : ℕ) → is_some (get (with_bytes m at bytes) q) ≡ is_some (get m q)
-same_after_write m at bytes there q = by_order (cases_lt q at) (cases_lt q (at + length bytes))
-  where
-    by_order : (q < at) ⊎ (at ≤ q) → (q < at + length bytes) ⊎ (at + length bytes ≤ q) → is_some (get (with_bytes m at bytes) q) ≡ is_some (get m q)
-    by_order (inl below) o = ap is_some (get-with_bytes_below m at bytes q below)
-    by_order (inr from) (inr above) = ap is_some (get-with_bytes_above m at bytes q above)
-    by_order (inr from) (inl to) = ap is_some (get-with_bytes m at bytes q from to) ∙ sym (each_by_maps m at (length bytes) there q from to)
 
 module _ (m : Memory) (heap : Heap) (is : IsHeapOf m heap) (to : ℕ) (from_first : heap.first ≤ to) (to_limit : to ≤ heap.first + heap.limit) where
   pub free_above : page_up heap.now < page_up to → IsFree m (page_up heap.now) (page_up to - page_up heap.now)

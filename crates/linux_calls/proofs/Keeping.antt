@@ -16,7 +16,8 @@ use Rattle.linux_calls.specs.Calls.{Outcome, State, back, read_at, moved_break, 
 use Rattle.linux_calls.specs.Calls as call
 use Rattle.linux_calls.specs.Paths.{low}
 use Rattle.linux_calls.specs.Linux.{sys_unlinkat, sys_faccessat, sys_fchmodat, sys_openat, sys_close, sys_lseek, sys_read, sys_write, sys_exit, sys_exit_group, sys_brk}
-use Rattle.linux_calls.proofs.Heaps.{IsHeapOf-same, kept_resized, same_after_write}
+use Rattle.paged_mem.proofs.Wholes.{same_after_write}
+use Rattle.linux_calls.proofs.Heaps.{IsHeapOf-same, kept_resized}
 
 -- what a call leaves: the heap's place and limit, its pages, and what is mapped beside it
 pub record Keeps (old new : State) : Type 0 where

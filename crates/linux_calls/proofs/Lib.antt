@@ -3,7 +3,6 @@ pub mod ErrorLaw
 pub mod Heaps
 pub mod Texts
 pub mod Writing
-pub mod Wholes
 pub mod SoundLaw
 pub mod Keeping
 pub mod StateLaw

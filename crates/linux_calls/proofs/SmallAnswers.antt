@@ -1,6 +1,6 @@
 -- What a guest gets from a call is a number of 64 bits.
-use Rattle.std.proofs.Common.{◌≡◌, ℕ, zero, suc, ◌+◌, ◌-◌, ◌%◌, ◌^◌, ◌<◌, ◌≤◌, ◌==◌, ◌&&◌, Bool, true, false, cond, not, Option, None, Some, Result, Ok, Err, List, [], length, get_or, take, drop, ℤ, pos, negsuc, ◌+ℤ◌, option_and_then, if◌then◌else◌, refl, sym, ap, ◌∙◌, subst, arith}
-use Rattle.std.specs.Prelude.{⊤, bit_and, nat_le, nat_lt, slice_index}
+use Rattle.std.proofs.Common.{◌≡◌, ℕ, zero, suc, ◌+◌, ◌^◌, ◌<◌, ◌==◌, ◌&&◌, Bool, true, false, cond, not, Option, None, Some, Result, Ok, Err, List, [], length, take, drop, ℤ, pos, negsuc, ◌+ℤ◌, option_and_then, refl, ap, arith}
+use Rattle.std.specs.Prelude.{bit_and, nat_le, nat_lt, slice_index}
 use Rattle.std.specs.Int.{cast_signed, w64}
 use Rattle.std.specs.FinMap.{contains_key, get, len}
 use Rattle.std.proofs.lemmas.Bool.Decides.{nat_tests}
@@ -17,11 +17,10 @@ use Rattle.mem_files.specs.Sound.{IsSound}
 use Rattle.mem_files.proofs.KeepingCalls.{content_small}
 use Rattle.mem_files.proofs.Maps.{lowest_unused-le-len}
 use Rattle.mem_files.proofs.Rules.{kept_of}
-use Rattle.linux_calls.specs.declared.Heap.{Heap}
 use Rattle.linux_calls.specs.Linux.{sys_unlinkat, sys_faccessat, sys_fchmodat, sys_openat, sys_close, sys_lseek, sys_read, sys_write, sys_exit, sys_exit_group, sys_brk}
 use Rattle.linux_calls.specs.Paths.{in_directory, low, name_at, named}
 use Rattle.linux_calls.specs.HeapOf.{IsHeapOf, is_outside}
-use Rattle.linux_calls.specs.Calls.{State, Outcome, goes, exits, is_unknown, answer_of, answering, back, accessed, mode_changed, unlinked, opened_in, opened_as, read_at, written_from, written_at, moved_break, syscall}
+use Rattle.linux_calls.specs.Calls.{State, Outcome, is_unknown, answer_of, answering, back, accessed, mode_changed, unlinked, opened_in, opened_as, read_at, written_from, written_at, moved_break, syscall}
 use Rattle.linux_calls.specs.Rules.{IsState, LeavesNumber}
 use Rattle.linux_calls.proofs.Keeping.{inside}
 

@@ -20,7 +20,7 @@ use Rattle.linux_calls.specs.Paths.{and_then, in_directory, is_absolute, low, na
 use Rattle.linux_calls.specs.Calls.{State, Outcome, is_unknown, back, answering, unlinked, opened_in, opened_as, read_at, written_from, written_at, moved_break, syscall}
 use Rattle.linux_calls.specs.Rules.{LeavesSound}
 use Rattle.linux_calls.proofs.Texts.{text_at-is, name_of_text}
-use Rattle.linux_calls.proofs.Wholes.{bytes_at-bytes}
+use Rattle.paged_mem.proofs.Wholes.{bytes_at-bytes}
 
 -- a path names what files hold
 not_empty-is : (text name : List ℕ) → not_empty text ≡ Ok name → (text ≡ name) × (length text ≢ 0)

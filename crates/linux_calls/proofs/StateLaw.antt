@@ -20,7 +20,7 @@ use Rattle.linux_calls.specs.Paths.{low}
 use Rattle.linux_calls.specs.HeapOf.{IsHeapOf, is_outside, page_up, resized}
 use Rattle.linux_calls.specs.Calls.{State, Outcome, goes, exits, is_unknown, back, read_at, written_from, written_at, moved_break, syscall}
 use Rattle.linux_calls.specs.Rules.{IsState, LeavesSound, LeavesState}
-use Rattle.linux_calls.proofs.Wholes.{whole-mapped, whole-without, whole-written}
+use Rattle.paged_mem.proofs.Wholes.{whole-mapped, whole-without, whole-written}
 use Rattle.linux_calls.proofs.SoundLaw.{syscall-sound}
 use Rattle.linux_calls.proofs.Keeping.{OutcomeKeeps, call_keeps, inside}
 

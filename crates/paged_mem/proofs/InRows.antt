@@ -1,13 +1,13 @@
 -- Rows of pages: that two ends make one, and where an address in one stands.
 use Rattle.std.proofs.Common.{◌≡◌, ℕ, ◌+◌, ◌-◌, ◌*◌, ◌/◌, ◌%◌, ◌^◌, ◌<◌, Some, List, length, get_or, ◌∙◌, arith}
-use Rattle.paged_mem.specs.Flat.{place, Rises, IsLow}
+use Rattle.paged_mem.specs.Flat.{place, Rises, AreLow}
 use Rattle.paged_mem.specs.Held.{place-some}
 use Rattle.paged_mem.specs.Entries.{IsRowOf}
 use Rattle.paged_mem.specs.declared.rows.Row.{Row}
 use Rattle.paged_mem.proofs.Places.{place-at}
 use Rattle.paged_mem.proofs.Spans.{between}
 
-pub row_between : (pages : List ℕ) → Rises pages → IsLow pages → (index more number base size : ℕ) → index + more < length pages
+pub row_between : (pages : List ℕ) → Rises pages → AreLow pages → (index more number base size : ℕ) → index + more < length pages
     → get_or pages index 0 ≡ number → get_or pages (index + more) 0 ≡ number + more → base ≡ 4096 * number → size ≡ 4096 * (more + 1)
     → IsRowOf pages (record { base = base; size = size; index = index })
 row_between pages rising low index more number base size within first last is_base is_size = record {

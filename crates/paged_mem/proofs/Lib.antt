@@ -13,3 +13,4 @@ pub mod Flats
 pub mod InRows
 pub mod Accessed
 pub mod Opened
+pub mod Wholes

@@ -6,11 +6,11 @@ use Rattle.std.proofs.lemmas.Grind.{same_number_lists}
 use Rattle.std.proofs.lemmas.List.{get_or-take, get_or-drop, take-append-drop, drop-drop, length-replicate, get_or_append_left, get_or-append-add, get_or-replicate, get_or_past}
 use Rattle.std.proofs.lemmas.List.FromFn.{length-range_with_len, get_or-range_with_len}
 use Rattle.paged_mem.specs.Memory.{IsFree, maps, bytes_at, with_bytes, without, zeros}
-use Rattle.paged_mem.specs.Flat.{memory_of, place, Rises, IsLow, IsRank, IsSound}
+use Rattle.paged_mem.specs.Flat.{memory_of, place, Rises, AreLow, IsRank, AreFlatPages}
 use Rattle.paged_mem.specs.Held.{place-some, contains-memory_of}
 use Rattle.paged_mem.proofs.Maps.{get_in_bytes_at}
 use Rattle.paged_mem.proofs.Places.{place-at, in_a_row}
-use Rattle.paged_mem.proofs.Rooms.{Rises-append, IsLow-append, Rises-range, IsLow-range, Part, part_of}
+use Rattle.paged_mem.proofs.Rooms.{Rises-append, AreLow-append, Rises-range, AreLow-range, Part, part_of}
 use Rattle.paged_mem.proofs.Rooms.Part.{in_front, in_back}
 use Rattle.paged_mem.proofs.Mapped.{memory_of-mapped, memory_of-unmapped}
 
@@ -24,13 +24,13 @@ Rises-drop pages at rising i j below in_range =
     let long = length-drop at pages in
     omega (arith, get_or-drop at pages i 0, get_or-drop at pages j 0, rising (at + i) (at + j) (omega arith) (omega arith))
 
-IsLow-take : (pages : List ℕ) (at : ℕ) → at ≤ length pages → IsLow pages → IsLow (take at pages)
-IsLow-take pages at within low i in_range =
+AreLow-take : (pages : List ℕ) (at : ℕ) → at ≤ length pages → AreLow pages → AreLow (take at pages)
+AreLow-take pages at within low i in_range =
     let long = length-take at pages in
     omega (arith, get_or-take at pages i 0 (omega arith), low i (omega arith))
 
-IsLow-drop : (pages : List ℕ) (at : ℕ) → IsLow pages → IsLow (drop at pages)
-IsLow-drop pages at low i in_range =
+AreLow-drop : (pages : List ℕ) (at : ℕ) → AreLow pages → AreLow (drop at pages)
+AreLow-drop pages at low i in_range =
     let long = length-drop at pages in
     omega (arith, get_or-drop at pages i 0, low (at + i) (omega arith))
 
@@ -64,7 +64,7 @@ small_drop : (n : ℕ) (xs : List ℕ) → IsSmall xs → IsSmall (drop n xs)
 small_drop n xs small i = omega (arith, get_or-drop n xs i 0, small (n + i))
 
 -- pages of zeros at their rank
-module _ (pages bytes : List ℕ) (sound : IsSound pages bytes) (number count at : ℕ) (rank : IsRank pages number at) where
+module _ (pages bytes : List ℕ) (sound : AreFlatPages pages bytes) (number count at : ℕ) (rank : IsRank pages number at) where
   abbrev pub mapped_pages : List ℕ
   mapped_pages = take at pages ++ (range_with_len number count ++ drop at pages)
 
@@ -106,8 +106,8 @@ module _ (pages bytes : List ℕ) (sound : IsSound pages bytes) (number count at
         let long = length-take at pages in
         omega (arith, is, get_or-take at pages i 0 (omega arith), rank.below i (omega arith), get_or-drop at pages k 0, past (at + k) (omega arith) (omega (arith, length-drop at pages)))
 
-    pub IsSound-mapped : IsSound mapped_pages mapped_bytes
-    IsSound-mapped =
+    pub AreFlatPages-mapped : AreFlatPages mapped_pages mapped_bytes
+    AreFlatPages-mapped =
         let short = length-range_with_len number count in
         let front_long = length-take at pages in
         let back_long = length-drop at pages in
@@ -116,15 +116,15 @@ module _ (pages bytes : List ℕ) (sound : IsSound pages bytes) (number count at
               (Rises-append (range_with_len number count) (drop at pages) (Rises-range number count) (Rises-drop pages at sound.rising)
               (λ i j a b. omega (arith, get_or-range_with_len number count i 0 (omega arith), get_or-drop at pages j 0, past (at + j) (omega arith) (omega arith))))
               (λ i j a b. beyond i j a (part_of (range_with_len number count) (drop at pages) j b));
-          low = IsLow-append (take at pages) (range_with_len number count ++ drop at pages) (IsLow-take pages at rank.within sound.low)
-              (IsLow-append (range_with_len number count) (drop at pages) (IsLow-range number count low) (IsLow-drop pages at sound.low));
+          low = AreLow-append (take at pages) (range_with_len number count ++ drop at pages) (AreLow-take pages at rank.within sound.low)
+              (AreLow-append (range_with_len number count) (drop at pages) (AreLow-range number count low) (AreLow-drop pages at sound.low));
           full = omega (arith, front_full, back_full, length-append (take at pages) (range_with_len number count ++ drop at pages), length-append (range_with_len number count) (drop at pages), length-append (take (4096 * at) bytes) (replicate (4096 * count) 0 ++ drop (4096 * at) bytes), length-append (replicate (4096 * count) 0) (drop (4096 * at) bytes), length-replicate {A = ℕ} (4096 * count) 0);
           small = small_append (take (4096 * at) bytes) (replicate (4096 * count) 0 ++ drop (4096 * at) bytes) (small_take (4096 * at) bytes sound.small)
               (small_append (replicate (4096 * count) 0) (drop (4096 * at) bytes) (small_zeros (4096 * count)) (small_drop (4096 * at) bytes sound.small));
         }
 
 -- pages that are there, in a row from a number on, stand from its rank on
-module _ (pages bytes : List ℕ) (sound : IsSound pages bytes) (number count at : ℕ) (rank : IsRank pages number at) (there : maps (memory_of pages bytes) (4096 * number) (4096 * count) ≡ true) where
+module _ (pages bytes : List ℕ) (sound : AreFlatPages pages bytes) (number count at : ℕ) (rank : IsRank pages number at) (there : maps (memory_of pages bytes) (4096 * number) (4096 * count) ≡ true) where
   present : (k : ℕ) → k < count → IsSome (place pages (number + k))
   present k below = found (bytes_at (memory_of pages bytes) (4096 * number) (4096 * count)) refl there
     where
@@ -195,19 +195,19 @@ module _ (pages bytes : List ℕ) (sound : IsSound pages bytes) (number count at
       (subst Rises (sym split_pages) sound.rising)
       ∙ ap (λ m. without m (4096 * number) (4096 * count)) (ap (λ p. memory_of p (take (4096 * at) bytes ++ (removed_bytes ++ drop (4096 * at + 4096 * count) bytes))) split_pages ∙ ap (memory_of pages) split_bytes)
 
-  pub IsSound-removed : IsSound left_pages left_bytes
-  IsSound-removed = record {
+  pub AreFlatPages-removed : AreFlatPages left_pages left_bytes
+  AreFlatPages-removed = record {
     rising = Rises-append (take at pages) (drop (at + count) pages) (Rises-take pages at rank.within sound.rising) (Rises-drop pages (at + count) sound.rising)
         (λ i j a b.
         let long = length-take at pages in
         omega (arith, get_or-take at pages i 0 (omega arith), get_or-drop (at + count) pages j 0, sound.rising i (at + count + j) (omega arith) (omega (arith, length-drop (at + count) pages))));
-    low = IsLow-append (take at pages) (drop (at + count) pages) (IsLow-take pages at rank.within sound.low) (IsLow-drop pages (at + count) sound.low);
+    low = AreLow-append (take at pages) (drop (at + count) pages) (AreLow-take pages at rank.within sound.low) (AreLow-drop pages (at + count) sound.low);
     full = omega (arith, length-append (take at pages) (drop (at + count) pages), length-append (take (4096 * at) bytes) (drop (4096 * at + 4096 * count) bytes), length-take at pages, length-drop (at + count) pages, length-take (4096 * at) bytes, length-drop (4096 * at + 4096 * count) bytes, sound.full, removed_within);
     small = small_append (take (4096 * at) bytes) (drop (4096 * at + 4096 * count) bytes) (small_take (4096 * at) bytes sound.small) (small_drop (4096 * at + 4096 * count) bytes sound.small);
   }
 
 -- the same from the address of the first page
-module _ (pages bytes shown : List ℕ) (sound : IsSound pages bytes) (first count at : ℕ) (aligned : first % 4096 ≡ 0) (same : shown ≡ pages) (rank : IsRank shown (first / 4096) at) where
+module _ (pages bytes shown : List ℕ) (sound : AreFlatPages pages bytes) (first count at : ℕ) (aligned : first % 4096 ≡ 0) (same : shown ≡ pages) (rank : IsRank shown (first / 4096) at) where
   begins : 4096 * (first / 4096) ≡ first
   begins = omega arith
 
@@ -218,10 +218,10 @@ module _ (pages bytes shown : List ℕ) (sound : IsSound pages bytes) (first cou
     free_too : IsFree (memory_of pages bytes) (4096 * (first / 4096)) (4096 * count)
     free_too = subst (λ n. IsFree (memory_of pages bytes) n (4096 * count)) (sym begins) free
 
-    pub sound_after_map : (new_pages new_bytes : List ℕ) → new_pages ≡ take at pages ++ (range_with_len (first / 4096) count ++ drop at pages) → new_bytes ≡ take (4096 * at) bytes ++ (replicate (4096 * count) 0 ++ drop (4096 * at) bytes) → IsSound new_pages new_bytes
+    pub sound_after_map : (new_pages new_bytes : List ℕ) → new_pages ≡ take at pages ++ (range_with_len (first / 4096) count ++ drop at pages) → new_bytes ≡ take (4096 * at) bytes ++ (replicate (4096 * count) 0 ++ drop (4096 * at) bytes) → AreFlatPages new_pages new_bytes
     sound_after_map new_pages new_bytes e f =
-        subst (λ xs. IsSound xs new_bytes) (sym e) (subst (λ xs. IsSound (take at pages ++ (range_with_len (first / 4096) count ++ drop at pages)) xs) (sym f)
-        (IsSound-mapped pages bytes sound (first / 4096) count at ranked (omega arith) free_too))
+        subst (λ xs. AreFlatPages xs new_bytes) (sym e) (subst (λ xs. AreFlatPages (take at pages ++ (range_with_len (first / 4096) count ++ drop at pages)) xs) (sym f)
+        (AreFlatPages-mapped pages bytes sound (first / 4096) count at ranked (omega arith) free_too))
 
     pub memory_after_map : (new_pages new_bytes : List ℕ) → new_pages ≡ take at pages ++ (range_with_len (first / 4096) count ++ drop at pages) → new_bytes ≡ take (4096 * at) bytes ++ (replicate (4096 * count) 0 ++ drop (4096 * at) bytes) → memory_of new_pages new_bytes ≡ with_bytes (memory_of pages bytes) first (zeros (4096 * count))
     memory_after_map new_pages new_bytes e f =
@@ -236,10 +236,10 @@ module _ (pages bytes shown : List ℕ) (sound : IsSound pages bytes) (first cou
     pub within_before_unmap : at + count ≤ length pages
     within_before_unmap = removed_within pages bytes sound (first / 4096) count at ranked there_too
 
-    pub sound_after_unmap : (new_pages new_bytes : List ℕ) → new_pages ≡ take at pages ++ drop (at + count) pages → new_bytes ≡ take (4096 * at) bytes ++ drop (4096 * at + 4096 * count) bytes → IsSound new_pages new_bytes
+    pub sound_after_unmap : (new_pages new_bytes : List ℕ) → new_pages ≡ take at pages ++ drop (at + count) pages → new_bytes ≡ take (4096 * at) bytes ++ drop (4096 * at + 4096 * count) bytes → AreFlatPages new_pages new_bytes
     sound_after_unmap new_pages new_bytes e f =
-        subst (λ xs. IsSound xs new_bytes) (sym e) (subst (λ xs. IsSound (take at pages ++ drop (at + count) pages) xs) (sym f)
-        (IsSound-removed pages bytes sound (first / 4096) count at ranked there_too))
+        subst (λ xs. AreFlatPages xs new_bytes) (sym e) (subst (λ xs. AreFlatPages (take at pages ++ drop (at + count) pages) xs) (sym f)
+        (AreFlatPages-removed pages bytes sound (first / 4096) count at ranked there_too))
 
     pub memory_after_unmap : (new_pages new_bytes : List ℕ) → new_pages ≡ take at pages ++ drop (at + count) pages → new_bytes ≡ take (4096 * at) bytes ++ drop (4096 * at + 4096 * count) bytes → memory_of new_pages new_bytes ≡ without (memory_of pages bytes) first (4096 * count)
     memory_after_unmap new_pages new_bytes e f =

@@ -2,7 +2,7 @@
 use Rattle.std.proofs.Common.{◌≡◌, ◌≢◌, ℕ, zero, suc, ◌+◌, ◌-◌, ◌^◌, ◌<◌, ◌≤◌, Option, None, Some, IsSome, add-zero, List, [], ◌∷◌, length, get_or, refl, sym, ap, ◌∙◌, arith, ◌⊎◌, inl, inr, Bool, true, false, ◌&&◌, ◌==◌, nat_lt}
 use Rattle.std.specs.Option.{option_map}
 use Rattle.std.proofs.lemmas.Bool.{cases_eq, cases_order, and_parts, and_from, ltb-true, lt-ltb, eqb-true, eq-eqb, false≢true}
-use Rattle.paged_mem.specs.Flat.{place, Rises, IsLow, IsRank}
+use Rattle.paged_mem.specs.Flat.{place, Rises, AreLow, IsRank}
 use Rattle.paged_mem.specs.Held.{place_here, place_later, place-some}
 
 -- the page with a number stands at one place, and where no page has it there is none
@@ -65,7 +65,7 @@ rising_by pages rising i (suc more) within =
     omega (arith, rising_by pages rising i more (omega arith), rising (i + more) (i + suc more) (omega arith) within)
 
 -- there are at most 2 ^ 26 pages
-pub few_pages : (pages : List ℕ) → Rises pages → IsLow pages → length pages ≤ 2 ^ 26
+pub few_pages : (pages : List ℕ) → Rises pages → AreLow pages → length pages ≤ 2 ^ 26
 few_pages pages rising low = few (cases_eq (length pages) 0)
   where
     few : (length pages ≡ 0) ⊎ (length pages ≢ 0) → length pages ≤ 2 ^ 26

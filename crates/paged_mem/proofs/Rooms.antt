@@ -7,7 +7,7 @@ use Rattle.std.proofs.lemmas.Bool.{cases_eq, cases_lt}
 use Rattle.std.proofs.lemmas.Option.{none-some}
 use Rattle.std.proofs.lemmas.List.{set_at, get_or_append_left, get_or-append-add, take-append-drop, take_at, drop_at}
 use Rattle.std.proofs.lemmas.List.FromFn.{length-range_with_len, get_or-range_with_len}
-use Rattle.paged_mem.specs.Flat.{memory_of, place, Rises, IsLow}
+use Rattle.paged_mem.specs.Flat.{memory_of, place, Rises, AreLow}
 use Rattle.paged_mem.specs.Held.{place_here, place_later, place-some, get-memory_of}
 use Rattle.paged_mem.proofs.Places.{place-at, place-none}
 
@@ -145,15 +145,15 @@ Rises-append front back first second across i j below within = by_parts (part_of
     by_parts (in_back i' e a is) (in_front b js) = absurd (omega arith)
     by_parts (in_back i' e a is) (in_back j' e' b js) = omega (arith, second i' j' (omega arith) b)
 
-pub IsLow-append : (front back : List ℕ) → IsLow front → IsLow back → IsLow (front ++ back)
-IsLow-append front back first second i within = by_part (part_of front back i within)
+pub AreLow-append : (front back : List ℕ) → AreLow front → AreLow back → AreLow (front ++ back)
+AreLow-append front back first second i within = by_part (part_of front back i within)
   where
     by_part : Part front back i → get_or (front ++ back) i 0 < 2 ^ 26
     by_part (in_front a is) = omega (arith, first i a)
     by_part (in_back j e a is) = omega (arith, second j a)
 
-pub IsLow-range : (number count : ℕ) → number + count ≤ 2 ^ 26 → IsLow (range_with_len number count)
-IsLow-range number count low i within =
+pub AreLow-range : (number count : ℕ) → number + count ≤ 2 ^ 26 → AreLow (range_with_len number count)
+AreLow-range number count low i within =
     omega (arith, get_or-range_with_len number count i 0 (omega (arith, length-range_with_len number count)), length-range_with_len number count)
 
 -- a gap that is closed again leaves the list

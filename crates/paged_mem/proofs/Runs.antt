@@ -3,12 +3,12 @@ use Rattle.std.proofs.Common.{◌≡◌, ℕ, ◌+◌, ◌-◌, ◌*◌, ◌/◌
 use Rattle.std.specs.Option.{option_map}
 use Rattle.std.specs.FinMap.{get}
 use Rattle.paged_mem.specs.Ram.{IsRun}
-use Rattle.paged_mem.specs.Flat.{memory_of, place, slot, IsSound, IsRank, IsRowAt}
+use Rattle.paged_mem.specs.Flat.{memory_of, place, slot, AreFlatPages, IsRank, IsRowAt}
 use Rattle.paged_mem.specs.Held.{get-memory_of}
 use Rattle.paged_mem.proofs.Places.{place-at, place-none, place-rank, never_falls}
 use Rattle.paged_mem.proofs.Views.{maps-span}
 
-module _ (pages bytes : List ℕ) (sound : IsSound pages bytes) where
+module _ (pages bytes : List ℕ) (sound : AreFlatPages pages bytes) where
   pub get_unplaced : (q : ℕ) → place pages (q / 4096) ≡ None → get (memory_of pages bytes) q ≡ None
   get_unplaced q none = get-memory_of pages bytes q sound.full ∙ ap (λ o. option_map (λ s. get_or bytes s 0) (option_map (λ i. 4096 * i + q % 4096) o)) none
 

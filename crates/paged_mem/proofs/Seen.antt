@@ -2,11 +2,11 @@
 use Rattle.std.proofs.Common.{◌≡◌, ℕ, Option, None, Some, is_some, unwrap_or, List, length, take, drop, sym, ap, subst, ◌∙◌, arith}
 use Rattle.std.specs.Option.{option_map}
 use Rattle.paged_mem.specs.Memory.{Memory, maps, bytes_at, reads, number_of, with_bytes}
-use Rattle.paged_mem.specs.Flat.{memory_of, IsSound, Spans, overwritten, number_at}
+use Rattle.paged_mem.specs.Flat.{memory_of, AreFlatPages, Spans, overwritten, number_at}
 use Rattle.paged_mem.proofs.Views.{maps-span, bytes_at-span, bytes_at-no_span, memory_of-overwritten}
 use Rattle.paged_mem.proofs.Numbers.{number_of-take}
 
-module _ (pages bytes shown : List ℕ) (m : Memory) (sound : IsSound pages bytes) (same : shown ≡ pages) (is : memory_of pages bytes ≡ m) (at count : ℕ) where
+module _ (pages bytes shown : List ℕ) (m : Memory) (sound : AreFlatPages pages bytes) (same : shown ≡ pages) (is : memory_of pages bytes ≡ m) (at count : ℕ) where
   spans : (o : Option ℕ) → Spans shown at count o → Spans pages at count o
   spans o span = subst (λ xs. Spans xs at count o) same span
 
@@ -31,7 +31,7 @@ module _ (pages bytes shown : List ℕ) (m : Memory) (sound : IsSound pages byte
   pub moved : (start : ℕ) (out new : List ℕ) → Spans shown at count (Some start) → new ≡ take count (drop start bytes) → new ≡ unwrap_or (bytes_at m at count) out
   moved start out new span e = e ∙ sym (ap (λ o. unwrap_or o out) (bytes_seen start span))
 
-pub written : (pages bytes shown : List ℕ) (m : Memory) → IsSound pages bytes → shown ≡ pages → memory_of pages bytes ≡ m → (at start : ℕ) (source new : List ℕ) → Spans shown at (length source) (Some start) → new ≡ overwritten bytes start source → memory_of pages new ≡ with_bytes m at source
+pub written : (pages bytes shown : List ℕ) (m : Memory) → AreFlatPages pages bytes → shown ≡ pages → memory_of pages bytes ≡ m → (at start : ℕ) (source new : List ℕ) → Spans shown at (length source) (Some start) → new ≡ overwritten bytes start source → memory_of pages new ≡ with_bytes m at source
 written pages bytes shown m sound same is at start source new span e =
     ap (memory_of pages) e
     ∙ memory_of-overwritten pages bytes sound.full at start source (subst (λ xs. Spans xs at (length source) (Some start)) same span)

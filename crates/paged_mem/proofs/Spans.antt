@@ -2,12 +2,12 @@
 use Rattle.std.proofs.Common.{◌≡◌, ◌≢◌, ℕ, zero, suc, ◌+◌, ◌-◌, ◌*◌, ◌/◌, ◌%◌, ◌^◌, ◌<◌, ◌≤◌, Option, None, Some, IsSome, is_some, subst, List, length, get_or, refl, ap, ◌∙◌, arith, ◌⊎◌, inl, inr}
 use Rattle.std.specs.Option.{option_map}
 use Rattle.std.proofs.lemmas.Bool.{cases_eq}
-use Rattle.paged_mem.specs.Flat.{place, slot, Rises, IsLow, Spans}
+use Rattle.paged_mem.specs.Flat.{place, slot, Rises, AreLow, Spans}
 use Rattle.paged_mem.specs.Held.{place-some}
 use Rattle.paged_mem.proofs.Places.{place-at, place-none, rising_by, in_a_row}
 
 -- no address at or past 2 ^ 38 is on a page
-pub slot_past : (pages : List ℕ) → IsLow pages → (at : ℕ) → 2 ^ 38 ≤ at → slot pages at ≡ None
+pub slot_past : (pages : List ℕ) → AreLow pages → (at : ℕ) → 2 ^ 38 ≤ at → slot pages at ≡ None
 slot_past pages low at past =
     ap (option_map (λ i. 4096 * i + at % 4096)) (place-none pages (at / 4096) (λ k within e. omega (arith, low k within)))
 

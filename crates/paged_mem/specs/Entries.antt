@@ -2,7 +2,7 @@
 use Rattle.std.specs.Prelude.{◌≡◌, ℕ, ◌+◌, ◌*◌, ◌/◌, ◌%◌, ◌^◌, ◌<◌, ◌≤◌, Option, None, Some, List, [], ◌∷◌, ◌++◌, length, slice_index, slice_index_or}
 use Rattle.std.specs.Global.{Box}
 use Rattle.paged_mem.specs.Memory.{zeros}
-use Rattle.paged_mem.specs.Flat.{IsSound}
+use Rattle.paged_mem.specs.Flat.{AreFlatPages}
 use Rattle.paged_mem.specs.declared.rows.Row.{Row}
 use Rattle.paged_mem.specs.declared.rows.Rows.{Rows}
 
@@ -32,7 +32,7 @@ held_pages _ _ = []
 
 -- page numbers and entries that are those of a memory
 pub record ArePages (pages : List ℕ) (entries : List Entry) : Type 0 where
-  pub sound : IsSound pages (flat entries)
+  pub sound : AreFlatPages pages (flat entries)
   pub long : length entries ≡ length pages
   pub full : AreFull entries
 

@@ -24,13 +24,13 @@ abbrev pub Rises : List ℕ → Type 0
 Rises pages = (i j : ℕ) → i < j → j < length pages → slice_index pages i < slice_index pages j
 
 -- each number is below 2 ^ 26
-abbrev pub IsLow : List ℕ → Type 0
-IsLow pages = (i : ℕ) → i < length pages → slice_index pages i < 2 ^ 26
+abbrev pub AreLow : List ℕ → Type 0
+AreLow pages = (i : ℕ) → i < length pages → slice_index pages i < 2 ^ 26
 
 -- page numbers rise and are below 2 ^ 26, and each page has 4,096 bytes
-pub record IsSound (pages bytes : List ℕ) : Type 0 where
+pub record AreFlatPages (pages bytes : List ℕ) : Type 0 where
   pub rising : Rises pages
-  pub low : IsLow pages
+  pub low : AreLow pages
   pub full : length bytes ≡ 4096 * length pages
   pub small : (i : ℕ) → slice_index bytes i < 256
 

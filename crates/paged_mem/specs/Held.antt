@@ -15,7 +15,7 @@ use Rattle.std.proofs.lemmas.Option.{none-some, same_Some}
 use mathlib.Core.HLevel.{Σ_prop_path}
 use base.Stored.{coded_via}
 use Rattle.paged_mem.specs.Memory.{Memory, IsWhole, with_bytes}
-use Rattle.paged_mem.specs.Flat.{memory_of, place, slot, IsSound}
+use Rattle.paged_mem.specs.Flat.{memory_of, place, slot, AreFlatPages}
 use Rattle.paged_mem.specs.Entries.{Entry, ArePages, AreRowsOf}
 use Rattle.paged_mem.specs.declared.rows.Rows.{Rows}
 
@@ -112,7 +112,7 @@ is_some-map f (Some x) = refl
 pub contains-memory_of : (pages bytes : List ℕ) → length bytes ≡ 4096 * length pages → (at : ℕ) → contains_key (memory_of pages bytes) at ≡ is_some (place pages (at / 4096))
 contains-memory_of pages bytes full at = ap is_some (get-memory_of pages bytes at full) ∙ is_some-map _ (slot pages at) ∙ is_some-map _ (place pages (at / 4096))
 
-pub IsWhole-memory_of : (pages bytes : List ℕ) → IsSound pages bytes → IsWhole (memory_of pages bytes)
+pub IsWhole-memory_of : (pages bytes : List ℕ) → AreFlatPages pages bytes → IsWhole (memory_of pages bytes)
 IsWhole-memory_of pages bytes sound = record {
   small = λ at byte e.
       let s = some_slot bytes (slot pages at) byte (sym (get-memory_of pages bytes at sound.full) ∙ e) in
@@ -133,8 +133,8 @@ pub record Held : Type 0 where
 IsWhole-prop : (m : Memory) → IsProp (IsWhole m)
 IsWhole-prop m = hlevel props
 
-pub IsSound-prop : (pages bytes : List ℕ) → IsProp (IsSound pages bytes)
-IsSound-prop pages bytes = hlevel props
+pub AreFlatPages-prop : (pages bytes : List ℕ) → IsProp (AreFlatPages pages bytes)
+AreFlatPages-prop pages bytes = hlevel props
 
 pub same_held : (a b : Held) → a.bytes ≡ b.bytes → a ≡ b
 same_held a b e =

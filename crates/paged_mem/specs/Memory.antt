@@ -9,6 +9,10 @@ use Rattle.std.specs.FinMap.{FinMap, get, contains_key, insert, retain_keys}
 abbrev pub Memory : Type 0
 Memory = FinMap nat_cmp ℕ
 
+-- the size of a page in bytes (docs/reference/memory.md)
+abbrev pub page_size : ℕ
+page_size = 4096
+
 -- mapped addresses come in whole pages of 4,096 bytes below 2 ^ 38, and each holds a byte
 pub record IsWhole (m : Memory) : Type 0 where
   pub small : (at byte : ℕ) → get m at ≡ Some byte → byte < 256

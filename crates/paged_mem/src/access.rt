@@ -10,6 +10,7 @@ use crate::entries::{Entry, number_in, put_into, read, take_memory, write};
 use crate::pages::{find, row_from, span};
 use crate::ram::{PageView, StoreRefusal, Width};
 use crate::rows::Rows;
+use crate::{PAGE, PAGE_LEN};
 use std::alloc::Global;
 
 /// The byte at an index of these pages.
@@ -19,7 +20,7 @@ fn byte_at(entries: &[Entry], start: usize) -> u64
     ensures value { result ≡ slice_index (flat entries.now) start }
     ensures fits { result < 256 }
 {
-    number_in(&entries[start / 4096], start % 4096, Width::W1)
+    number_in(&entries[start / PAGE_LEN], start % PAGE_LEN, Width::W1)
 }
 
 fn two_across(entries: &[Entry], start: usize) -> u64
@@ -50,9 +51,9 @@ fn number_from(entries: &[Entry], start: usize, width: Width) -> u64
     ensures value { result ≡ number_at (flat entries.now) start (count_of width) }
     ensures fits { result < 2 ^ (8 * count_of width) }
 {
-    let low = start % 4096;
-    if low + width.count() as usize <= 4096 {
-        return number_in(&entries[start / 4096], low, width);
+    let low = start % PAGE_LEN;
+    if low + width.count() as usize <= PAGE_LEN {
+        return number_in(&entries[start / PAGE_LEN], low, width);
     }
     match width {
         Width::W1 => byte_at(entries, start),
@@ -92,8 +93,8 @@ pub fn load_near(
     ensures value { IfSome result (λ value. reads (memory_of _pages.now (flat entries.now)) at (count_of width) ≡ Some value) }
     ensures fits { IfSome result (λ value. value < 2 ^ (8 * count_of width)) }
 {
-    let low = (at % 4096) as usize;
-    if low + width.count() as usize <= 4096 {
+    let low = (at % PAGE) as usize;
+    if low + width.count() as usize <= PAGE_LEN {
         if let Some(index) = rows.find(at) {
             return Some(number_in(&entries[index], low, width));
         }
@@ -155,7 +156,7 @@ pub fn write_at(
         return Err(StoreRefusal::Unmapped);
     };
     let end = start + source.len();
-    match take_memory(alloc, entries, start / 4096, (end - 1) / 4096 + 1) {
+    match take_memory(alloc, entries, start / PAGE_LEN, (end - 1) / PAGE_LEN + 1) {
         Ok(()) => {
             write(entries, start, source);
             Ok(())
@@ -181,10 +182,10 @@ pub fn store_near(
         (memory_of _pages.now (flat entries.new)) }
     ensures held { held_pages _pages.now entries.new ≡ held_pages _pages.now entries.old }
 {
-    let low = (at % 4096) as usize;
+    let low = (at % PAGE) as usize;
     let count = width.count() as usize;
     let bytes = value.to_le_bytes();
-    if low + count <= 4096 {
+    if low + count <= PAGE_LEN {
         if let Some(index) = rows.find(at) {
             if entries[index].is_some() {
                 put_into(&mut entries[index], low, &bytes[..count]);
@@ -236,7 +237,7 @@ pub fn page_at<'a>(pages: &[u64], entries: &'a [Entry], first: u64) -> PageView<
     requires aligned { first % 4096 ≡ 0 }
     ensures { shown result ≡ bytes_at (memory_of pages.now (flat entries.now)) first 4096 }
 {
-    match find(pages, first / 4096) {
+    match find(pages, first / PAGE) {
         None => PageView::Unmapped,
         Some(index) => match &entries[index] {
             None => PageView::Zero,
@@ -258,8 +259,8 @@ pub fn run_at(pages: &[u64], entries: &[Entry], at: u64) -> Option<(u64, u64)>
     requires { ArePages pages.now entries.now }
     ensures { RunsFrom (memory_of pages.now (flat entries.now)) at result }
 {
-    match row_from(pages, at / 4096) {
+    match row_from(pages, at / PAGE) {
         None => None,
-        Some((first, count)) => Some((4096 * first, count)),
+        Some((first, count)) => Some((PAGE * first, count)),
     }
 }

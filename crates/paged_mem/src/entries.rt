@@ -4,6 +4,7 @@ ghost use Rattle.paged_mem.specs.Entries.{AreFull, content, flat, held_pages};
 ghost use Rattle.paged_mem.specs.Flat.{number_at, overwritten};
 ghost use Rattle.paged_mem.specs.Ram.{count_of};
 
+use crate::PAGE_LEN;
 use crate::pages::{fill, number};
 use crate::ram::Width;
 use ddc_base::OutOfMemory;
@@ -11,7 +12,7 @@ use std::alloc::Global;
 use std::cmp;
 
 /// A mapped page's 4,096 bytes, or nothing where all of them are zero since the page was mapped.
-pub type Entry = Option<Box<[u8; 4096]>>;
+pub type Entry = Option<Box<[u8; PAGE_LEN]>>;
 
 /// The little-endian number of an access that lies within a page.
 pub fn number_in(entry: &Entry, low: usize, width: Width) -> u64
@@ -66,7 +67,7 @@ fn piece(at: usize, left: usize) -> usize
     ensures within { at % 4096 + result ≤ 4096 }
     ensures some { 0 < left → 0 < result }
 {
-    cmp::min(4096 - at % 4096, left)
+    cmp::min(PAGE_LEN - at % PAGE_LEN, left)
 }
 
 /// Fills `out` with the bytes of these pages from an index on.
@@ -80,7 +81,11 @@ pub fn read(entries: &[Entry], start: usize, out: &mut [u8])
     while done < out.len() {
         let at = start + done;
         let count = piece(at, out.len() - done);
-        fill_from(&entries[at / 4096], at % 4096, &mut out[done..done + count]);
+        fill_from(
+            &entries[at / PAGE_LEN],
+            at % PAGE_LEN,
+            &mut out[done..done + count],
+        );
         done += count;
     }
 }
@@ -101,8 +106,8 @@ pub fn write(entries: &mut [Entry], start: usize, source: &[u8])
         let at = start + done;
         let count = piece(at, source.len() - done);
         put_into(
-            &mut entries[at / 4096],
-            at % 4096,
+            &mut entries[at / PAGE_LEN],
+            at % PAGE_LEN,
             &source[done..done + count],
         );
         done += count;
@@ -120,7 +125,7 @@ fn hold(alloc: Global, entry: &mut Entry) -> Result<(), OutOfMemory>
     if entry.is_some() {
         return Ok(());
     }
-    match Box::new(alloc, [0; 4096]) {
+    match Box::new(alloc, [0; PAGE_LEN]) {
         Ok(page) => {
             *entry = Some(page);
             Ok(())

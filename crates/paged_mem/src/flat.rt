@@ -1,11 +1,12 @@
 ghost use Rattle.std.specs.Prelude.{◌≡◌, ◌≢◌, ◌*◌, Err};
 ghost use Rattle.paged_mem.specs.Ram.{count_of, Stores, Writes};
-ghost use Rattle.paged_mem.specs.Flat.{IsSound};
-ghost use Rattle.paged_mem.specs.Held.{IsSound-prop};
+ghost use Rattle.paged_mem.specs.Flat.{AreFlatPages};
+ghost use Rattle.paged_mem.specs.Held.{AreFlatPages-prop};
 
 use crate::mapping::{map_pages, unmap_pages};
 use crate::pages::{fill, number, put, put_number, row_from, span};
 use crate::ram::{PageView, Ram, StoreRefusal, Width};
+use crate::{PAGE, PAGE_LEN};
 use ddc_base::OutOfMemory;
 use std::alloc::Global;
 use std::marker::Model;
@@ -18,7 +19,7 @@ use std::marker::Model;
 pub struct FlatRam {
     pages: Vec<u64>,
     bytes: Vec<u8>,
-    ghost sound: { IsSound pages.items bytes.items } by { IsSound-prop pages.items bytes.items },
+    ghost sound: { AreFlatPages pages.items bytes.items } by { AreFlatPages-prop pages.items bytes.items },
 }
 
 impl Model for FlatRam {
@@ -109,16 +110,16 @@ impl Ram for FlatRam {
     }
 
     fn run_from(&self, at: u64) -> Option<(u64, u64)> {
-        match row_from(&self.pages, at / 4096) {
+        match row_from(&self.pages, at / PAGE) {
             None => None,
-            Some((first, count)) => Some((4096 * first, count)),
+            Some((first, count)) => Some((PAGE * first, count)),
         }
     }
 
     fn page(&self, first: u64) -> PageView<'_> {
-        match span(&self.pages, first, 4096) {
+        match span(&self.pages, first, PAGE) {
             None => PageView::Unmapped,
-            Some(start) => PageView::Full(&self.bytes[start..start + 4096]),
+            Some(start) => PageView::Full(&self.bytes[start..start + PAGE_LEN]),
         }
     }
 

@@ -2,7 +2,14 @@
 //! nothing.
 ghost use Rattle.std.specs.Prelude.{◌≡◌, ℕ, ◌+◌, ◌*◌, ◌/◌, ◌%◌, ◌^◌, ◌<◌, ◌≤◌, ◌⊎◌, true, false, Some, List, length};
 ghost use Rattle.std.specs.FinMap as map;
-ghost use Rattle.paged_mem.specs.Memory.{Memory, IsWhole, IsFree, maps, reads, writes, with_bytes, without, zeros};
+ghost use Rattle.paged_mem.specs.Memory.{Memory, IsWhole, IsFree, maps, page_size, reads, writes, with_bytes, without, zeros};
+
+use crate::PAGE;
+
+/// The size of a page in the code is the one that is written.
+pub fn page_is_the_one_written()
+    ensures { PAGE ≡ page_size }
+{}
 
 /// A store changes the bytes of its access alone.
 pub fn store_changes_its_bytes_alone()

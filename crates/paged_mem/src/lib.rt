@@ -17,3 +17,8 @@ mod rows;
 pub use flat::FlatRam;
 pub use paged::PagedRam;
 pub use ram::{PageView, Ram, StoreRefusal, Width};
+
+/// The size of a page in bytes.
+pub const PAGE: u64 = 4_096;
+
+const PAGE_LEN: usize = PAGE as usize;

@@ -1,11 +1,12 @@
 ghost use Rattle.std.specs.Prelude.{◌≡◌, ℕ, ◌+◌, ◌*◌, ◌%◌, ◌^◌, ◌<◌, ◌≤◌, IsTrue, OnOk, OnErr, length};
 ghost use Rattle.paged_mem.specs.Memory.{IsFree, maps, with_bytes, without, zeros};
 ghost use Rattle.paged_mem.specs.Entries.{ArePages, flat, held_pages};
-ghost use Rattle.paged_mem.specs.Flat.{IsSound, memory_of};
+ghost use Rattle.paged_mem.specs.Flat.{AreFlatPages, memory_of};
 
 use crate::entries::Entry;
 use crate::gaps::{close_gap, insert_numbers, open_entries, open_gap};
 use crate::pages::rank;
+use crate::{PAGE, PAGE_LEN};
 use ddc_base::OutOfMemory;
 
 /// Puts `count` pages of zeros where none is, from the page at `first` on.
@@ -15,21 +16,21 @@ pub fn map_pages(
     first: u64,
     count: usize,
 ) -> Result<(), OutOfMemory>
-    requires sound { IsSound pages.old.items bytes.old.items }
+    requires sound { AreFlatPages pages.old.items bytes.old.items }
     requires aligned { first % 4096 ≡ 0 }
     requires low { first + 4096 * count ≤ 2 ^ 38 }
     requires free { IsFree (memory_of pages.old.items bytes.old.items) first (4096 * count) }
-    ensures sound { IsSound pages.new.items bytes.new.items }
+    ensures sound { AreFlatPages pages.new.items bytes.new.items }
     ensures ok { OnOk result (memory_of pages.new.items bytes.new.items
         ≡ with_bytes (memory_of pages.old.items bytes.old.items) first (zeros (4096 * count))) }
     ensures err { OnErr result (memory_of pages.new.items bytes.new.items ≡ memory_of pages.old.items bytes.old.items) }
 {
-    let at = rank(pages, first / 4096);
-    open_gap(bytes, 4096 * at, 4096 * count, 0)?;
-    match insert_numbers(pages, at, first / 4096, count) {
+    let at = rank(pages, first / PAGE);
+    open_gap(bytes, PAGE_LEN * at, PAGE_LEN * count, 0)?;
+    match insert_numbers(pages, at, first / PAGE, count) {
         Ok(()) => Ok(()),
         Err(_) => {
-            close_gap(bytes, 4096 * at, 4096 * count);
+            close_gap(bytes, PAGE_LEN * at, PAGE_LEN * count);
             Err(OutOfMemory)
         }
     }
@@ -37,16 +38,16 @@ pub fn map_pages(
 
 /// Takes away `count` mapped pages from the page at `first` on.
 pub fn unmap_pages(pages: &mut Vec<u64>, bytes: &mut Vec<u8>, first: u64, count: usize)
-    requires sound { IsSound pages.old.items bytes.old.items }
+    requires sound { AreFlatPages pages.old.items bytes.old.items }
     requires aligned { first % 4096 ≡ 0 }
     requires present { IsTrue (maps (memory_of pages.old.items bytes.old.items) first (4096 * count)) }
-    ensures sound { IsSound pages.new.items bytes.new.items }
+    ensures sound { AreFlatPages pages.new.items bytes.new.items }
     ensures unmapped { memory_of pages.new.items bytes.new.items
         ≡ without (memory_of pages.old.items bytes.old.items) first (4096 * count) }
 {
-    let at = rank(pages, first / 4096);
+    let at = rank(pages, first / PAGE);
     close_gap(pages, at, count);
-    close_gap(bytes, 4096 * at, 4096 * count);
+    close_gap(bytes, PAGE_LEN * at, PAGE_LEN * count);
 }
 
 /// Puts `count` pages that hold no bytes where none is, from the page at `first` on.
@@ -66,9 +67,9 @@ pub fn map_entries(
         ≡ with_bytes (memory_of pages.old.items (flat entries.old.items)) first (zeros (4096 * count))) }
     ensures err { OnErr result (memory_of pages.new.items (flat entries.new.items) ≡ memory_of pages.old.items (flat entries.old.items)) }
 {
-    let at = rank(pages, first / 4096);
+    let at = rank(pages, first / PAGE);
     open_entries(entries, at, count)?;
-    match insert_numbers(pages, at, first / 4096, count) {
+    match insert_numbers(pages, at, first / PAGE, count) {
         Ok(()) => Ok(()),
         Err(_) => {
             close_gap(entries, at, count);
@@ -87,7 +88,7 @@ pub fn unmap_entries(pages: &mut Vec<u64>, entries: &mut Vec<Entry>, first: u64,
     ensures unmapped { memory_of pages.new.items (flat entries.new.items)
         ≡ without (memory_of pages.old.items (flat entries.old.items)) first (4096 * count) }
 {
-    let at = rank(pages, first / 4096);
+    let at = rank(pages, first / PAGE);
     close_gap(pages, at, count);
     close_gap(entries, at, count);
 }

@@ -1,10 +1,11 @@
 ghost use Rattle.std.specs.Prelude.{◌≡◌, ℕ, ◌+◌, ◌*◌, ◌^◌, ◌<◌, ◌≤◌, ◌==◌, ◌&&◌, nat_lt, length, slice_index, take, drop};
 ghost use Rattle.std.specs.Vec.{vec_len};
-ghost use Rattle.paged_mem.specs.Flat.{Rises, IsLow, IsRank, IsRow, Spans, place, number_at, overwritten};
+ghost use Rattle.paged_mem.specs.Flat.{Rises, AreLow, IsRank, IsRow, Spans, place, number_at, overwritten};
 ghost use Rattle.paged_mem.specs.Memory.{bytes_of};
 ghost use Rattle.paged_mem.specs.Ram.{count_of};
 
 use crate::ram::Width;
+use crate::{PAGE, PAGE_LEN};
 
 /// How many pages have a number below this one.
 pub fn rank(pages: &[u64], number: u64) -> usize
@@ -52,7 +53,7 @@ fn is_at(pages: &[u64], index: usize, number: u64) -> bool
 /// Where the bytes of `count` addresses from `at` on begin, if all of them are on these pages.
 pub fn span(pages: &[u64], at: u64, count: u64) -> Option<usize>
     requires rising { Rises pages.now }
-    requires low { IsLow pages.now }
+    requires low { AreLow pages.now }
     requires few { 4096 * length pages.now < 2 ^ 64 }
     ensures { Spans pages.now at count result }
 {
@@ -62,12 +63,12 @@ pub fn span(pages: &[u64], at: u64, count: u64) -> Option<usize>
     let Some(last) = at.checked_add(count - 1) else {
         return None;
     };
-    let Some(page) = find(pages, at / 4096) else {
+    let Some(page) = find(pages, at / PAGE) else {
         return None;
     };
-    let more = last / 4096 - at / 4096;
-    if more < (pages.len() - page) as u64 && pages[page + more as usize] == last / 4096 {
-        Some(4096 * page + (at % 4096) as usize)
+    let more = last / PAGE - at / PAGE;
+    if more < (pages.len() - page) as u64 && pages[page + more as usize] == last / PAGE {
+        Some(PAGE_LEN * page + (at % PAGE) as usize)
     } else {
         None
     }
@@ -144,7 +145,7 @@ pub fn number(bytes: &[u8], start: usize, width: Width) -> u64
 /// The first page with this number or a later one, and how many pages there are in a row from it on.
 pub fn row_from(pages: &[u64], number: u64) -> Option<(u64, u64)>
     requires rising { Rises pages.now }
-    requires low { IsLow pages.now }
+    requires low { AreLow pages.now }
     ensures { IsRow pages.now number result }
 {
     let start = rank(pages, number);

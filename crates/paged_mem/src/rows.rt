@@ -1,7 +1,9 @@
 //! Rows of pages, in which an address is found without a search.
 ghost use Rattle.std.specs.Prelude.{◌≡◌, ℕ, ◌+◌, ◌/◌, ◌^◌, ◌<◌, IfSome, List, Some};
 ghost use Rattle.paged_mem.specs.Entries.{AreRowsOf, IsRowOf};
-ghost use Rattle.paged_mem.specs.Flat.{IsLow, Rises, place};
+ghost use Rattle.paged_mem.specs.Flat.{AreLow, Rises, place};
+
+use crate::PAGE;
 
 /// Pages with numbers in a row: the address of the first one, how many bytes all of them have, and where the first one stands among the
 /// mapped pages.
@@ -33,7 +35,7 @@ pub fn find_in(row: Row, at: u64) -> Option<usize>
 {
     let ahead = at.wrapping_sub(row.base);
     if ahead < row.size {
-        Some(row.index + (ahead / 4096) as usize)
+        Some(row.index + (ahead / PAGE) as usize)
     } else {
         None
     }
@@ -42,7 +44,7 @@ pub fn find_in(row: Row, at: u64) -> Option<usize>
 /// The pages in a row from the first one on.
 pub fn first_row(pages: &[u64]) -> Row
     requires rising { Rises pages.now }
-    requires low { IsLow pages.now }
+    requires low { AreLow pages.now }
     ensures { IsRowOf pages.now result }
 {
     if pages.is_empty() {
@@ -60,8 +62,8 @@ pub fn first_row(pages: &[u64]) -> Row
         }
     }
     Row {
-        base: 4096 * first,
-        size: 4096 * (known as u64 + 1),
+        base: PAGE * first,
+        size: PAGE * (known as u64 + 1),
         index: 0,
     }
 }
@@ -69,7 +71,7 @@ pub fn first_row(pages: &[u64]) -> Row
 /// The pages in a row up to the last one.
 pub fn last_row(pages: &[u64]) -> Row
     requires rising { Rises pages.now }
-    requires low { IsLow pages.now }
+    requires low { AreLow pages.now }
     ensures { IsRowOf pages.now result }
 {
     if pages.is_empty() {
@@ -87,8 +89,8 @@ pub fn last_row(pages: &[u64]) -> Row
         }
     }
     Row {
-        base: 4096 * pages[known],
-        size: 4096 * (last - known + 1) as u64,
+        base: PAGE * pages[known],
+        size: PAGE * (last - known + 1) as u64,
         index: known,
     }
 }
@@ -114,7 +116,7 @@ impl Rows {
     /// The rows of these pages.
     pub fn of(pages: &[u64]) -> Rows
         requires rising { Rises pages.now }
-        requires low { IsLow pages.now }
+        requires low { AreLow pages.now }
         ensures { AreRowsOf pages.now result }
     {
         Rows {

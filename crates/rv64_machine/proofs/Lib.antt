@@ -1,3 +1,5 @@
 pub mod ActLemmas
 pub mod StoredBytes
 pub mod Acts
+pub mod Keeping
+pub mod Numbers

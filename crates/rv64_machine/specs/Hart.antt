@@ -1,5 +1,5 @@
 -- A hart and one act of it (docs/reference/machine.md).
-use Rattle.std.specs.Prelude.{◌≡◌, ℕ, zero, suc, ◌*◌, ◌%◌, ◌<◌, ◌==◌, Bool, true, false, if◌then◌else◌, IsTrue, length, List, slice_index, slice_set, Option, None, Some, option_map, option_and_then, refl}
+use Rattle.std.specs.Prelude.{◌≡◌, ℕ, zero, suc, ◌*◌, ◌%◌, ◌^◌, ◌<◌, ◌==◌, Bool, true, false, if◌then◌else◌, IsTrue, length, All, List, slice_index, slice_set, Option, None, Some, option_map, option_and_then, refl}
 use Rattle.std.specs.Coded.{Coded, code_by, coded×, coded_ℕ, coded_list}
 use Rattle.std.specs.FinMap as map
 use Rattle.paged_mem.specs.Memory.{IsWhole, Memory, maps, reads, writes}
@@ -21,12 +21,17 @@ pub record HartState : Type 0 where
   pub pc : ℕ
   pub memory : Memory
 
--- the states that a hart can be in: 32 registers of which x0 is 0, and a pc at a multiple of 4
+-- the states that a hart can be in: 32 registers of which x0 is 0, a pc at a multiple of 4, and whole pages of bytes
 pub record IsHart (hart : HartState) : Type 0 where
   pub count : length hart.registers ≡ 32
   pub zero : slice_index hart.registers 0 ≡ 0
   pub aligned : hart.pc % 4 ≡ 0
   pub whole : IsWhole hart.memory
+
+-- registers and pc are numbers of 64 bits
+pub record HasNumbers (hart : HartState) : Type 0 where
+  pub registers : All (λ value. value < 2 ^ 64) hart.registers
+  pub pc : hart.pc < 2 ^ 64
 
 -- a state is stored as its three parts
 abbrev pub code : Coded HartState

@@ -14,7 +14,7 @@ use paged_mem::Width;
 use rv64_table::Op;
 
 /// What an instruction does to its hart.
-#[derive(Clone, Copy)]
+#[derive(Clone, Copy, Debug, PartialEq, Eq)]
 pub enum Effect {
     /// rd takes the value.
     Put(u64),
@@ -27,7 +27,7 @@ pub enum Effect {
     /// rd takes the number at the address, sign-extended.
     LoadSigned(Width, u64),
     /// The low bytes of the value go to the address.
-    Store(Width, u64, u64),
+    Store { width: Width, at: u64, value: u64 },
     /// Nothing.
     Next,
     /// The system is called.
@@ -61,15 +61,23 @@ pub fn effect_of(op: Op, a: u64, b: u64, imm: i64, pc: u64) -> Effect
         Op::Lbu => Effect::Load(Width::W1, sum(a, i)),
         Op::Lhu => Effect::Load(Width::W2, sum(a, i)),
         Op::Lwu => Effect::Load(Width::W4, sum(a, i)),
-        Op::Sb => Effect::Store(Width::W1, sum(a, i), b),
-        Op::Sh => Effect::Store(Width::W2, sum(a, i), b),
-        Op::Sw => Effect::Store(Width::W4, sum(a, i), b),
-        Op::Sd => Effect::Store(Width::W8, sum(a, i), b),
+        Op::Sb => store(Width::W1, sum(a, i), b),
+        Op::Sh => store(Width::W2, sum(a, i), b),
+        Op::Sw => store(Width::W4, sum(a, i), b),
+        Op::Sd => store(Width::W8, sum(a, i), b),
         Op::Fence => Effect::Next,
         Op::Ecall => Effect::Call,
         Op::Ebreak => Effect::Break,
         _ => Effect::Put(value_of(op, a, b, i)),
     }
+}
+
+/// The effect of a store.
+#[inline(always)]
+fn store(width: Width, at: u64, value: u64) -> Effect
+    ensures { result ≡ Effect.Store width at value }
+{
+    Effect::Store { width, at, value }
 }
 
 /// What a row that computes from rs1 and rs2 or the immediate puts into rd, a line for each such row; 0 for the others.

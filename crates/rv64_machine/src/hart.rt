@@ -1,4 +1,4 @@
-ghost use Rattle.std.specs.Prelude.{◌≡◌, ℕ, ◌+◌, ◌*◌, ◌%◌, ◌^◌, ◌<◌, Some, option_map, replicate, slice_index};
+ghost use Rattle.std.specs.Prelude.{◌≡◌, ℕ, ◌+◌, ◌*◌, ◌%◌, ◌^◌, ◌<◌, Some, option_map, replicate, slice_index, if◌then◌else◌};
 ghost use Rattle.rv64_decode.specs.Decode.{decoded};
 ghost use Rattle.rv64_table.specs.Table.{row_for};
 ghost use Rattle.paged_mem.specs.Ram.{count_of};
@@ -228,9 +228,9 @@ impl<R: Ram> Hart<R> {
             }
             Effect::Jump(target) => self.jump(rd, target),
             Effect::Branch(taken, target) => self.branch(taken, target),
-            Effect::Load(width, at) => self.load(rd, width, at),
-            Effect::LoadSigned(width, at) => self.load_signed(rd, width, at),
-            Effect::Store(width, at, value) => self.store(width, at, value),
+            Effect::Load(width, at) => self.load(rd, width, at, false),
+            Effect::LoadSigned(width, at) => self.load(rd, width, at, true),
+            Effect::Store { width, at, value } => self.store(width, at, value),
             Effect::Next => self.pass(),
             Effect::Call => StepEnd::Call,
             Effect::Break => StepEnd::Trap(Cause::Break),
@@ -268,61 +268,39 @@ impl<R: Ram> Hart<R> {
         StepEnd::Done
     }
 
-    /// Carries out a load that zero-extends.
+    /// Carries out a load, which sign-extends where `is_signed` holds and zero-extends elsewhere.
     #[inline(always)]
-    fn load(&mut self, rd: u8, width: Width, at: u64) -> StepEnd
+    fn load(&mut self, rd: u8, width: Width, at: u64, is_signed: bool) -> StepEnd
         requires { rd < 32 }
-        ensures { Ends (carried self.old rd (Effect.Load width at)) None self.old result self.new }
+        ensures { Ends (carried self.old rd (if is_signed then Effect.LoadSigned width at else Effect.Load width at))
+            None self.old result self.new }
     {
         match self.ram.load_near(at, width) {
-            Some(value) => {
-                self.set_reg(rd, value);
+            Some(read) => {
+                self.set_reg(rd, if is_signed { widened(width, read) } else { read });
                 self.pass()
             }
-            None => self.load_anywhere(rd, width, at),
+            None => self.load_anywhere(rd, width, at, is_signed),
         }
     }
 
     /// The same from an address that is not found at once.
     #[cold]
     #[inline(never)]
-    fn load_anywhere(&mut self, rd: u8, width: Width, at: u64) -> StepEnd
+    fn load_anywhere(&mut self, rd: u8, width: Width, at: u64, is_signed: bool) -> StepEnd
         requires { rd < 32 }
-        ensures { Ends (carried self.old rd (Effect.Load width at)) None self.old result self.new }
+        ensures { Ends (carried self.old rd (if is_signed then Effect.LoadSigned width at else Effect.Load width at))
+            None self.old result self.new }
     {
-        let Some(value) = self.ram.load(at, width) else {
+        let Some(read) = self.ram.load(at, width) else {
             return StepEnd::Trap(Cause::LoadUnmapped(at));
+        };
+        let value = if is_signed {
+            widened(width, read)
+        } else {
+            read
         };
         self.set_reg(rd, value);
-        self.pass()
-    }
-
-    /// Carries out a load that sign-extends.
-    #[inline(always)]
-    fn load_signed(&mut self, rd: u8, width: Width, at: u64) -> StepEnd
-        requires { rd < 32 }
-        ensures { Ends (carried self.old rd (Effect.LoadSigned width at)) None self.old result self.new }
-    {
-        match self.ram.load_near(at, width) {
-            Some(value) => {
-                self.set_reg(rd, widened(width, value));
-                self.pass()
-            }
-            None => self.load_signed_anywhere(rd, width, at),
-        }
-    }
-
-    /// The same from an address that is not found at once.
-    #[cold]
-    #[inline(never)]
-    fn load_signed_anywhere(&mut self, rd: u8, width: Width, at: u64) -> StepEnd
-        requires { rd < 32 }
-        ensures { Ends (carried self.old rd (Effect.LoadSigned width at)) None self.old result self.new }
-    {
-        let Some(value) = self.ram.load(at, width) else {
-            return StepEnd::Trap(Cause::LoadUnmapped(at));
-        };
-        self.set_reg(rd, widened(width, value));
         self.pass()
     }
 

@@ -3,7 +3,7 @@ ghost use Rattle.paged_mem.specs.Memory.{reads};
 ghost use Rattle.paged_mem.specs.Ram.{count_of};
 ghost use Rattle.paged_mem.specs.declared.ram.Width.{Width};
 ghost use Rattle.rv64_decode.specs.Decode.{decoded};
-ghost use Rattle.rv64_machine.specs.Hart.{act, effect_at, Goes, HartState, is_store, runs, Steps};
+ghost use Rattle.rv64_machine.specs.Hart.{act, effect_at, following, Goes, HartState, HasNumbers, is_store, IsHart, runs, Steps, with_register};
 ghost use Rattle.rv64_machine.specs.declared.effect.Effect.TheVariants.{Store};
 ghost use Rattle.std.specs.FinMap.{contains_key, get};
 ghost use Rattle.std.specs.Prelude.{◌≡◌, ◌≢◌, ℕ, ◌+◌, ◌*◌, ◌%◌, ◌^◌, ◌<◌, ◌≤◌, ◌⊎◌, false, Some};
@@ -56,4 +56,19 @@ pub fn a_stored_word_is_fetched()
     ensures { (hart next : HartState) (value : ℕ)
         → act hart ≡ Goes next → effect_at hart ≡ Some (Store Width.W4 next.pc value)
         → act next ≡ runs next (value % 2 ^ 32) (decoded (value % 2 ^ 32)) }
+{}
+
+/// An act of a hart that goes on leaves a hart: 32 registers of which x0 is 0, a pc at a multiple of 4, and memory of whole
+/// pages of bytes; and where registers and pc were numbers of 64 bits, they are.
+pub fn acts_keep_the_rules()
+    ensures rules { (hart next : HartState) → IsHart hart → act hart ≡ Goes next → IsHart next }
+    ensures numbers { (hart next : HartState) → IsHart hart → HasNumbers hart → act hart ≡ Goes next → HasNumbers next }
+{}
+
+/// The answer to a call does too.
+pub fn answers_keep_the_rules()
+    ensures rules { (hart : HartState) (value : ℕ) → IsHart hart
+        → IsHart (record (with_register hart 10 value) { pc = following hart }) }
+    ensures numbers { (hart : HartState) (value : ℕ) → value < 2 ^ 64 → HasNumbers hart
+        → HasNumbers (record (with_register hart 10 value) { pc = following hart }) }
 {}

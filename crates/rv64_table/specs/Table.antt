@@ -2,8 +2,6 @@
 -- The source: RISC-V Unprivileged ISA, "RV32/64G Instruction Set Listings", the tables RV32I, RV64I, RV32M and RV64M.
 -- docs/reference/instructions.md says the same for readers.
 use Rattle.std.specs.Prelude.{ℕ, ◌+◌, ◌*◌, ◌^◌, ◌≡◌, Bool, ◌==◌, IsTrue, List, [], ◌∷◌, Option, Some, find, slice_get, bit_and}
-use denote.Enum.Declared.{tag_of}
-use Rattle.rv64_table.specs.contracts.Op.{the_type}
 use Rattle.rv64_table.specs.declared.Row.{Row}
 use Rattle.rv64_table.specs.declared.Form.{Form}
 use Rattle.rv64_table.specs.declared.Form.TheVariants.{R, I, H, K, S, B, U, J, E}
@@ -109,9 +107,73 @@ fits r word = bit_and word r.mask == r.want
 abbrev pub row_for : ℕ → Option Row
 row_for word = find (λ r. fits r word) table
 
--- the number of an operation, as the cast `op as u32` gives it
+-- the number of an operation: where its row stands in the table, and what the cast `op as usize` gives
 abbrev pub number : Op → ℕ
-number op = tag_of the_type op
+number Lui = 0
+number Auipc = 1
+number Jal = 2
+number Jalr = 3
+number Beq = 4
+number Bne = 5
+number Blt = 6
+number Bge = 7
+number Bltu = 8
+number Bgeu = 9
+number Lb = 10
+number Lh = 11
+number Lw = 12
+number Ld = 13
+number Lbu = 14
+number Lhu = 15
+number Lwu = 16
+number Sb = 17
+number Sh = 18
+number Sw = 19
+number Sd = 20
+number Addi = 21
+number Slti = 22
+number Sltiu = 23
+number Xori = 24
+number Ori = 25
+number Andi = 26
+number Slli = 27
+number Srli = 28
+number Srai = 29
+number Add = 30
+number Sub = 31
+number Sll = 32
+number Slt = 33
+number Sltu = 34
+number Xor = 35
+number Srl = 36
+number Sra = 37
+number Or = 38
+number And = 39
+number Fence = 40
+number Ecall = 41
+number Ebreak = 42
+number Addiw = 43
+number Slliw = 44
+number Srliw = 45
+number Sraiw = 46
+number Addw = 47
+number Subw = 48
+number Sllw = 49
+number Srlw = 50
+number Sraw = 51
+number Mul = 52
+number Mulh = 53
+number Mulhsu = 54
+number Mulhu = 55
+number Div = 56
+number Divu = 57
+number Rem = 58
+number Remu = 59
+number Mulw = 60
+number Divw = 61
+number Divuw = 62
+number Remw = 63
+number Remuw = 64
 
 -- the row of an operation
 abbrev pub row_with : Op → Option Row

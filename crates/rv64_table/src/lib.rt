@@ -113,7 +113,7 @@ macro_rules! forms {
 
 impl Op {
     ghost use Rattle.std.specs.Prelude.{Some, option_map};
-    ghost use Rattle.rv64_table.specs.Table.{row_with};
+    ghost use Rattle.rv64_table.specs.Table.{number, row_with};
 
     /// The form of this operation's row. A match, so that a decoder that has just found the operation need not look.
     #[tactic(auto, unfolding(crate::specs::Table::table))]
@@ -134,13 +134,20 @@ impl Op {
         }
     }
 
+    /// The number of this operation: where its row stands in the table, from 0 on.
+    pub fn number(self) -> usize
+        ensures { result ≡ number self }
+    {
+        self as usize
+    }
+
     /// The row of this operation.
     pub fn row(self) -> Row
         ensures table { row_with self ≡ Some result }
         ensures op { result.op ≡ self }
     {
         let rows = listed();
-        rows[self as usize]
+        rows[self.number()]
     }
 }
 

@@ -1,7 +1,8 @@
 use Rattle.std.proofs.Common.{sym, subst}
 use Rattle.paged_mem.specs.Memory.{with_bytes}
 use Rattle.linux_calls.specs.HeapOf.{IsHeapOf}
-use Rattle.linux_calls.proofs.Heaps.{IsHeapOf-same, same_after_write}
+use Rattle.paged_mem.proofs.Wholes.{same_after_write}
+use Rattle.linux_calls.proofs.Heaps.{IsHeapOf-same}
 use Rattle.linux_calls.proofs.transfer.read.Goals as goal
 
 pub returns-in-Ok-write_from-clause-kept : goal.returns-in-Ok-write_from-clause-kept

@@ -1,6 +1,6 @@
 use Rattle.std.proofs.Common.{◌≡◌, ◌+◌, ◌*◌, ◌≤◌, ◌++◌, length, take, drop, replicate, ℕ, sym, ap, subst, ◌∙◌, arith}
 use Rattle.std.proofs.lemmas.List.{length-replicate}
-use Rattle.paged_mem.specs.Flat.{memory_of, IsSound}
+use Rattle.paged_mem.specs.Flat.{memory_of, AreFlatPages}
 use Rattle.paged_mem.proofs.Rooms.{gap_closed}
 use Rattle.paged_mem.proofs.Moves.{sound_after_map, memory_after_map}
 use Rattle.paged_mem.proofs.mapping.map_pages.Goals as goal
@@ -17,8 +17,8 @@ bytes_back c =
 
 pub returns-in-Err-clause-sound : goal.returns-in-Err-clause-sound
 returns-in-Err-clause-sound c =
-    subst (λ pages. IsSound pages c.close_gap.new.list.items) (sym c.in-Err.ensures.err)
-    (subst (λ bytes. IsSound c.args.pages.now.items bytes) (sym (bytes_back c)) c.requires.sound)
+    subst (λ pages. AreFlatPages pages c.close_gap.new.list.items) (sym c.in-Err.ensures.err)
+    (subst (λ bytes. AreFlatPages c.args.pages.now.items bytes) (sym (bytes_back c)) c.requires.sound)
 
 pub returns-in-Err-clause-err : goal.returns-in-Err-clause-err
 returns-in-Err-clause-err c =

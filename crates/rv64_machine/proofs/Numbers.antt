@@ -1,5 +1,5 @@
--- An act that goes on leaves numbers below 2 ^ 64 in the registers and the pc.
-use Rattle.std.proofs.Common.{◌≡◌, ℕ, zero, suc, ◌+◌, ◌-◌, ◌*◌, ◌/◌, ◌%◌, ◌^◌, ◌<◌, ◌≤◌, ◌==◌, Bool, true, false, cond, ℤ, pos, negsuc, Option, Some, None, List, [], ◌∷◌, length, get_or, All, refl, sym, ap, ◌∙◌, subst, arith, inl, inr}
+-- An act that goes on, and the answer to a call, leave numbers below 2 ^ 64 in the registers and the pc.
+use Rattle.std.proofs.Common.{◌≡◌, ℕ, zero, suc, ◌+◌, ◌-◌, ◌*◌, ◌/◌, ◌%◌, ◌^◌, ◌<◌, ◌≤◌, ◌==◌, Bool, true, false, cond, ℤ, pos, negsuc, Option, Some, None, List, [], ◌∷◌, length, get_or, All, refl, ap, subst, arith, inl, inr}
 use Rattle.std.specs.Prelude.{◌*ℤ◌, bit_and, slice_index, slice_set}
 use Rattle.std.specs.Option.{option_map}
 use Rattle.std.proofs.lemmas.Bool.{cases_lt}
@@ -19,12 +19,9 @@ use Rattle.rv64_machine.specs.Meaning.{meaning}
 use Rattle.rv64_machine.specs.declared.effect.Effect.{Effect}
 use Rattle.rv64_machine.specs.declared.effect.Effect.TheVariants.{Put, Jump, Branch, Load, LoadSigned, Store, Next, Call, Break}
 use Rattle.rv64_machine.specs.declared.answer.Cause.TheVariants.{FetchMisaligned, StoreUnmapped}
-use Rattle.rv64_machine.specs.Hart.{Act, Goes, Traps, HartState, act, arrives, carried, effect_of, fetched, following, loads, passes, runs, with_register}
+use Rattle.rv64_machine.specs.Hart.{Goes, Traps, HartState, HasNumbers, act, arrives, carried, effect_of, fetched, following, loads, passes, runs, with_register}
 use Rattle.rv64_decode.specs.Decode.{decoded}
-use Rattle.mem_files.specs.Sound.{AreBytes}
-use Rattle.linux_calls.proofs.Wholes.{bytes_at-bytes}
-use Rattle.guest_run.specs.Run.{answered}
-use Rattle.guest_run.specs.Valid.{HasNumbers}
+use Rattle.paged_mem.proofs.Wholes.{bytes_at-bytes}
 
 mod-small : (n : ℕ) → n % 2 ^ 64 < 2 ^ 64
 mod-small n = omega arith
@@ -156,7 +153,7 @@ register-small registers number are = elim (cases_lt number (length registers)) 
     past_end (x ∷ xs) (suc n) h = past_end xs n (omega arith)
 
 -- what a load reads
-number_of-small : (bytes : List ℕ) → AreBytes bytes → number_of bytes + 1 ≤ 256 ^ length bytes
+number_of-small : (bytes : List ℕ) → All (λ byte. byte < 256) bytes → number_of bytes + 1 ≤ 256 ^ length bytes
 unfolding number_of
 number_of-small [] are = omega arith
 number_of-small (byte ∷ bytes) are =
@@ -250,5 +247,5 @@ act-numbers hart next whole is goes = by_word (reads hart.memory hart.pc 4) goes
     by_word (Some word) e = by_inst word (decoded word) e
 
 -- the hart after a call
-pub answered-numbers : (hart : HartState) (value : ℕ) → value < 2 ^ 64 → HasNumbers hart → HasNumbers (answered hart value)
+pub answered-numbers : (hart : HartState) (value : ℕ) → value < 2 ^ 64 → HasNumbers hart → HasNumbers (record (with_register hart 10 value) { pc = following hart })
 answered-numbers hart value small is = let kept = register-numbers hart 10 value small is in record { registers = kept.registers; pc = mod-small (hart.pc + 4) }

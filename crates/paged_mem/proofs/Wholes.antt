@@ -1,14 +1,24 @@
 -- A memory stays one of whole pages of bytes where bytes are written over bytes, and where whole pages come or go.
-use Rattle.std.proofs.Common.{◌≡◌, ℕ, ◌+◌, ◌-◌, ◌/◌, ◌%◌, ◌^◌, ◌<◌, ◌≤◌, true, None, Some, is_some, List, length, get_or, refl, sym, ap, ◌∙◌, arith, ◌⊎◌, inl, inr}
+use Rattle.std.proofs.Common.{◌≡◌, ℕ, ◌+◌, ◌-◌, ◌/◌, ◌%◌, ◌^◌, ◌<◌, ◌≤◌, true, None, Some, is_some, List, length, get_or, All, refl, sym, ap, ◌∙◌, arith, ◌⊎◌, inl, inr}
 use Rattle.std.specs.FinMap.{get}
 use Rattle.std.proofs.lemmas.Bool.{cases_lt}
 use Rattle.std.proofs.lemmas.List.Elements.{All-get_or, All-from_get_or}
 use Rattle.std.proofs.lemmas.Option.{none-some, same_Some}
 use Rattle.paged_mem.specs.Memory.{Memory, IsWhole, bytes_at, maps, with_bytes, without}
 use Rattle.paged_mem.specs.Held.{get-with_bytes, get-with_bytes_below, get-with_bytes_above}
-use Rattle.paged_mem.proofs.Maps.{get-without, get-without_other, get_in_bytes_at, length_of_bytes_at}
-use Rattle.mem_files.specs.Sound.{AreBytes}
-use Rattle.linux_calls.proofs.Heaps.{same_after_write}
+use Rattle.paged_mem.proofs.Maps.{each_by_maps, get-without, get-without_other, get_in_bytes_at, length_of_bytes_at}
+
+abbrev AreBytes : List ℕ → Type 0
+AreBytes bytes = All (λ byte. byte < 256) bytes
+
+-- bytes written where bytes are keep what is mapped
+pub same_after_write : (m : Memory) (at : ℕ) (bytes : List ℕ) → maps m at (length bytes) ≡ true → (q : ℕ) → is_some (get (with_bytes m at bytes) q) ≡ is_some (get m q)
+same_after_write m at bytes there q = by_order (cases_lt q at) (cases_lt q (at + length bytes))
+  where
+    by_order : (q < at) ⊎ (at ≤ q) → (q < at + length bytes) ⊎ (at + length bytes ≤ q) → is_some (get (with_bytes m at bytes) q) ≡ is_some (get m q)
+    by_order (inl below) o = ap is_some (get-with_bytes_below m at bytes q below)
+    by_order (inr from) (inr above) = ap is_some (get-with_bytes_above m at bytes q above)
+    by_order (inr from) (inl to) = ap is_some (get-with_bytes m at bytes q from to) ∙ sym (each_by_maps m at (length bytes) there q from to)
 
 -- bytes that are read are bytes
 pub bytes_at-bytes : (m : Memory) (at count : ℕ) (bytes : List ℕ) → IsWhole m → bytes_at m at count ≡ Some bytes → AreBytes bytes

@@ -1,4 +1,4 @@
--- An act that goes on keeps the rules of a hart.
+-- An act that goes on, and the answer to a call, keep the rules of a hart.
 use Rattle.std.proofs.Common.{◌≡◌, ◌≢◌, ℕ, ◌%◌, ◌*◌, ◌<◌, ◌==◌, Bool, true, false, cond, Option, Some, None, refl, ap, ◌∙◌, subst, arith}
 use Rattle.std.specs.Prelude.{slice_set}
 use Rattle.std.specs.Option.{option_map}
@@ -16,8 +16,7 @@ use Rattle.rv64_machine.specs.declared.effect.Effect.TheVariants.{Put, Jump, Bra
 use Rattle.rv64_machine.specs.declared.answer.Cause.TheVariants.{FetchMisaligned, StoreUnmapped}
 use Rattle.rv64_machine.specs.Hart.{Goes, Traps, HartState, IsHart, act, arrives, carried, following, loads, passes, with_register}
 use Rattle.rv64_machine.proofs.ActLemmas.{act-goes}
-use Rattle.linux_calls.proofs.Wholes.{whole-written}
-use Rattle.guest_run.specs.Run.{answered}
+use Rattle.paged_mem.proofs.Wholes.{whole-written}
 
 same_state : (one other : HartState) → Goes one ≡ Goes other → one ≡ other
 same_state one other e = cc
@@ -89,7 +88,7 @@ pub act-hart : (hart next : HartState) → IsHart hart → act hart ≡ Goes nex
 act-hart hart next is goes = let (rd, effect, there, carries) = act-goes hart next goes in carried-hart hart next rd effect is carries
 
 -- the hart after a call
-pub answered-hart : (hart : HartState) (value : ℕ) → IsHart hart → IsHart (answered hart value)
+pub answered-hart : (hart : HartState) (value : ℕ) → IsHart hart → IsHart (record (with_register hart 10 value) { pc = following hart })
 answered-hart hart value is =
     let even = is.aligned in
     let kept = register-hart hart 10 value is in
