@@ -277,7 +277,14 @@ impl<R: Ram> Hart<R> {
     {
         match self.ram.load_near(at, width) {
             Some(read) => {
-                self.set_reg(rd, if is_signed { widened(width, read) } else { read });
+                self.set_reg(
+                    rd,
+                    if is_signed {
+                        widened(width, read)
+                    } else {
+                        read
+                    },
+                );
                 self.pass()
             }
             None => self.load_anywhere(rd, width, at, is_signed),

@@ -14,5 +14,5 @@ offset_bounds-entries-index c =
 pub returns-in-Some-clause-value : goal.returns-in-Some-clause-value
 returns-in-Some-clause-value c =
     sym (read_near c.args._pages.now c.args.entries.now c.requires.pages c.args.at c.in-Some.index (count_of c.args.width) c.number_in.result c.index-entries-index.result
-    (count_some c.args.width) (omega (arith, c.count.ensures, c.if-low-count-le4096.true)) (c.in-Some.ensures c.args._pages.now c.requires.pages.sound.rising c.requires.rows)
+    (count_some c.args.width) (omega (arith, c.count.ensures, c.if-low-count-le-PAGE_LEN.true)) (c.in-Some.ensures c.args._pages.now c.requires.pages.sound.rising c.requires.rows)
     c.index-entries-index.is c.number_in.ensures.value)

@@ -34,7 +34,7 @@ returns-then-is_some-clause-pages c =
     let bytes = bytes_of (count_of c.args.width) c.args.value in
     let long = length-bytes_of (count_of c.args.width) c.args.value in
     are_near c.args._pages.now c.args.entries.now c.requires.pages c.args.at c.in-Some.index bytes c.put_into.new.entry c.index-entries-index-then-is_some.result
-    (omega (arith, long, count_some c.args.width)) (omega (arith, long, c.count-count.ensures, c.if-low-count-le4096.true))
+    (omega (arith, long, count_some c.args.width)) (omega (arith, long, c.count-count.ensures, c.if-low-count-le-PAGE_LEN.true))
     (c.in-Some.ensures c.args._pages.now c.requires.pages.sound.rising c.requires.rows)
     (c.put_into.ensures.content ∙ ap (overwritten _ _) (low_bytes c.args.width c.args.value _ _ c.count-count.ensures c.to_le_bytes-bytes.ensures))
     c.put_into.ensures.full (small-bytes_of (count_of c.args.width) c.args.value)
@@ -44,7 +44,7 @@ returns-then-is_some-clause-stores c =
     let bytes = bytes_of (count_of c.args.width) c.args.value in
     let long = length-bytes_of (count_of c.args.width) c.args.value in
     memory_near c.args._pages.now c.args.entries.now c.requires.pages c.args.at c.in-Some.index bytes c.put_into.new.entry c.index-entries-index-then-is_some.result
-    (omega (arith, long, count_some c.args.width)) (omega (arith, long, c.count-count.ensures, c.if-low-count-le4096.true))
+    (omega (arith, long, count_some c.args.width)) (omega (arith, long, c.count-count.ensures, c.if-low-count-le-PAGE_LEN.true))
     (c.in-Some.ensures c.args._pages.now c.requires.pages.sound.rising c.requires.rows)
     (c.put_into.ensures.content ∙ ap (overwritten _ _) (low_bytes c.args.width c.args.value _ _ c.count-count.ensures c.to_le_bytes-bytes.ensures))
 
