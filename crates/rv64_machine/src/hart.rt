@@ -1,7 +1,8 @@
-ghost use Rattle.std.specs.Prelude.{◌≡◌, ℕ, ◌+◌, ◌*◌, ◌%◌, ◌^◌, ◌<◌, Some, option_map, replicate, slice_index, if◌then◌else◌};
+ghost use Rattle.std.specs.Prelude.{◌≡◌, ℕ, ◌+◌, ◌-◌, ◌*◌, ◌%◌, ◌^◌, ◌<◌, ◌≤◌, IfSome, Some, option_map, replicate, slice_index, if◌then◌else◌};
 ghost use Rattle.rv64_decode.specs.Decode.{decoded};
 ghost use Rattle.rv64_table.specs.Table.{row_for};
-ghost use Rattle.paged_mem.specs.Ram.{count_of};
+ghost use Rattle.paged_mem.specs.Memory.{reads};
+ghost use Rattle.paged_mem.specs.Ram.{count_of, Stores};
 ghost use Rattle.rv64_machine.specs.Arithmetic.{sign_extended};
 ghost use Rattle.rv64_machine.specs.Hart.{carried, effect_of, Ends, following, HartState, IsHart, runs, Runs, Steps, with_register};
 ghost use Rattle.std.specs.FinMap.{contains_key};
@@ -76,9 +77,8 @@ impl<R: Ram> Hart<R> {
         requires { number < 32 }
         ensures { self.new ≡ with_register self.old number value }
     {
-        if number != 0 {
-            self.registers[usize::from(number)] = value;
-        }
+        self.registers[usize::from(number)] = value;
+        self.registers[0] = 0;
     }
 
     /// The address of the next instruction, a multiple of 4.
@@ -133,17 +133,31 @@ impl<R: Ram> Hart<R> {
         ensures mapping { (address : ℕ)
             → contains_key self.new.memory address ≡ contains_key self.old.memory address }
     {
+        let (end, left) = self.run_down(most);
+        (end, most - left)
+    }
+
+    /// Steps until one does not go on, at most `most` of them: how the last one ended, and how many of them were left before it.
+    ///
+    /// A function of its own that counts down, so that its loop needs one register for the count.
+    #[inline(never)]
+    fn run_down(&mut self, most: u64) -> (StepEnd, u64)
+        ensures left { result.1 ≤ most }
+        ensures acts { Runs self.old most (most - result.1) result.0 self.new }
+        ensures mapping { (address : ℕ)
+            → contains_key self.new.memory address ≡ contains_key self.old.memory address }
+    {
         let mut left = most;
         while left != 0 {
             match self.step() {
                 StepEnd::Done => {}
-                StepEnd::Call => return (StepEnd::Call, most - left),
-                StepEnd::Trap(cause) => return (StepEnd::Trap(cause), most - left),
-                StepEnd::OutOfMemory => return (StepEnd::OutOfMemory, most - left),
+                StepEnd::Call => return (StepEnd::Call, left),
+                StepEnd::Trap(cause) => return (StepEnd::Trap(cause), left),
+                StepEnd::OutOfMemory => return (StepEnd::OutOfMemory, left),
             }
             left -= 1;
         }
-        (StepEnd::Done, most)
+        (StepEnd::Done, 0)
     }
 
     /// A step as its act says it.
@@ -152,24 +166,42 @@ impl<R: Ram> Hart<R> {
     fn advance(&mut self) -> StepEnd
         ensures { Steps self.old result self.new }
     {
-        match self.ram.load_near(self.pc, Width::W4) {
-            Some(word) => self.obey(word as u32),
-            None => self.advance_anywhere(),
-        }
+        let word = match self.ram.load_near(self.aligned_pc(), Width::W4) {
+            Some(word) => word,
+            None => match self.load_anywhere(self.pc, Width::W4) {
+                Some(word) => word,
+                None => return StepEnd::Trap(Cause::FetchUnmapped(self.pc)),
+            },
+        };
+        self.obey(word as u32)
     }
 
-    /// A step from a pc that is not found at once.
+    /// The pc, in a form from which the compiler knows that the four bytes lie on one page.
+    #[inline(always)]
+    fn aligned_pc(&self) -> u64
+        ensures { result ≡ self.now.pc }
+    {
+        4 * (self.pc / 4)
+    }
+
+    /// What the memory answers to a load, kept out of the loop for addresses that are not found at once.
     #[cold]
     #[inline(never)]
-    #[tactic(auto, unfolding(crate::specs::Hart::act, crate::specs::Hart::effect_at))]
-    fn advance_anywhere(&mut self) -> StepEnd
-        ensures { Steps self.old result self.new }
+    fn load_anywhere(&self, at: u64, width: Width) -> Option<u64>
+        ensures value { result ≡ reads self.now.memory at (count_of width) }
+        ensures fits { IfSome result (λ value. value < 2 ^ (8 * count_of width)) }
     {
-        let Some(fetched) = self.ram.load(self.pc, Width::W4) else {
-            return StepEnd::Trap(Cause::FetchUnmapped(self.pc));
-        };
-        let word = fetched as u32;
-        self.obey(word)
+        self.ram.load(at, width)
+    }
+
+    /// The same to a store.
+    #[cold]
+    #[inline(never)]
+    fn store_anywhere(&mut self, at: u64, width: Width, value: u64) -> Result<(), StoreRefusal>
+        ensures stores { Stores self.old.memory at (count_of width) value result self.new.memory }
+        ensures rest { self.new ≡ record self.old { memory = self.new.memory } }
+    {
+        self.ram.store(at, width, value)
     }
 
     /// Carries out a word.
@@ -275,32 +307,12 @@ impl<R: Ram> Hart<R> {
         ensures { Ends (carried self.old rd (if is_signed then Effect.LoadSigned width at else Effect.Load width at))
             None self.old result self.new }
     {
-        match self.ram.load_near(at, width) {
-            Some(read) => {
-                self.set_reg(
-                    rd,
-                    if is_signed {
-                        widened(width, read)
-                    } else {
-                        read
-                    },
-                );
-                self.pass()
-            }
-            None => self.load_anywhere(rd, width, at, is_signed),
-        }
-    }
-
-    /// The same from an address that is not found at once.
-    #[cold]
-    #[inline(never)]
-    fn load_anywhere(&mut self, rd: u8, width: Width, at: u64, is_signed: bool) -> StepEnd
-        requires { rd < 32 }
-        ensures { Ends (carried self.old rd (if is_signed then Effect.LoadSigned width at else Effect.Load width at))
-            None self.old result self.new }
-    {
-        let Some(read) = self.ram.load(at, width) else {
-            return StepEnd::Trap(Cause::LoadUnmapped(at));
+        let read = match self.ram.load_near(at, width) {
+            Some(value) => value,
+            None => match self.load_anywhere(at, width) {
+                Some(value) => value,
+                None => return StepEnd::Trap(Cause::LoadUnmapped(at)),
+            },
         };
         let value = if is_signed {
             widened(width, read)
@@ -321,18 +333,7 @@ impl<R: Ram> Hart<R> {
         if self.ram.store_near(at, width, value) {
             return self.pass();
         }
-        self.store_anywhere(width, at, value)
-    }
-
-    /// The same to an address that is not found at once, or on a page that holds no bytes yet.
-    #[cold]
-    #[inline(never)]
-    #[tactic(auto, using(crate::proofs::StoredBytes::stored))]
-    fn store_anywhere(&mut self, width: Width, at: u64, value: u64) -> StepEnd
-        ensures { Ends (carried self.old 0 (Effect.Store width at value))
-            (Some (Effect.Store width at value)) self.old result self.new }
-    {
-        match self.ram.store(at, width, value) {
+        match self.store_anywhere(at, width, value) {
             Ok(()) => self.pass(),
             Err(StoreRefusal::Unmapped) => StepEnd::Trap(Cause::StoreUnmapped(at)),
             Err(StoreRefusal::OutOfMemory) => StepEnd::OutOfMemory,

@@ -1,7 +1,7 @@
 use Rattle.std.proofs.Common.{◌≡◌, ℕ, ◌-◌, ◌≤◌, Some}
 use Rattle.std.specs.FinMap.{contains_key}
 use Rattle.rv64_machine.specs.Hart.{after}
-use Rattle.rv64_machine.proofs.hart.Hart.run.Given as goal
+use Rattle.rv64_machine.proofs.hart.Hart.run_down.Given as goal
 
 abbrev pub invariant-loop-left : goal.invariant-loop-left
 invariant-loop-left g l =

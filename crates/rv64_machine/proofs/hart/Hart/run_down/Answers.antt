@@ -1,7 +1,7 @@
 use Rattle.std.proofs.Common.{refl, ap, ◌∙◌, ◌-◌, arith}
 use Rattle.rv64_machine.specs.Hart.{after}
 use Rattle.rv64_machine.proofs.Acts.{after-none, after-on}
-use Rattle.rv64_machine.proofs.hart.Hart.run.Goals as goal
+use Rattle.rv64_machine.proofs.hart.Hart.run_down.Goals as goal
 
 pub loop-left-init : goal.loop-left-init
 loop-left-init g c = (omega arith, ap (after c.args.self.now) (omega arith) ∙ after-none _, λ address. refl)
