@@ -1,5 +1,5 @@
--- How a `FlatRam` keeps its memory: page numbers that rise, and the bytes of all those pages, in that order, in one list.
--- No promise rests on its being read.
+-- How a `FlatRam` keeps its memory; no promise rests on its being read. Page numbers rise, and the bytes of all those pages
+-- stand in that order in one list.
 use Rattle.std.specs.Prelude.{◌≡◌, ◌≢◌, ℕ, zero, suc, ◌+◌, ◌*◌, ◌/◌, ◌%◌, ◌^◌, ◌<◌, ◌≤◌, Option, None, Some, if◌then◌else◌, ◌==◌, List, [], ◌∷◌, ◌++◌, length, take, drop, slice_index}
 use Rattle.std.specs.Option.{option_map}
 use Rattle.std.specs.FinMap.{empty}
