@@ -1,4 +1,5 @@
 //! hex2 sources and what Debian's hex2 makes of them, as tests/languages/make-cases prints it.
+use crate::zeros;
 use ddc_base::Bytes;
 use hex_link::{Language, value};
 use std::alloc::Global;
@@ -62,9 +63,7 @@ static ROWS: [Row; 38] = [
 fn source_of(alloc: Global, row: &Row) -> Result<Bytes, Fail> {
     let mut source = Bytes::new(alloc);
     source.extend(row.1.as_bytes())?;
-    for _ in 0..row.2 {
-        source.extend(b" 00")?;
-    }
+    source.extend(zeros(alloc, row.2)?.as_bytes())?;
     source.extend(row.3.as_bytes())?;
     Ok(source)
 }

@@ -10,8 +10,8 @@ use crate::entries::{Entry, number_in, put_into, read, take_memory, write};
 use crate::pages::{find, row_from, span};
 use crate::ram::{PageView, StoreRefusal, Width};
 use crate::rows::Rows;
-use std::alloc::Global;
 use crate::{PAGE, PAGE_LEN};
+use std::alloc::Global;
 
 /// The byte at an index of these pages.
 fn byte_at(entries: &[Entry], start: usize) -> u64

@@ -13,9 +13,12 @@ serve-requires-clause-heap_of g c = IsHeapOf-same c.args.hart.now.memory _ c.arg
 
 pub returns-in-Done-clause-steps : goal.returns-in-Done-clause-steps
 returns-in-Done-clause-steps g c =
-    let acts = subst (λ (e : StepEnd). machine.Runs c.args.hart.now c.args.most c.run-end.result.1 e c.run-end.new.self) c.in-Done.is c.run-end.ensures.acts in
-    (c.run-end.result.1, omega (arith, acts.0, c.requires.some), omega (arith, acts.0),
-    after-acts (guest_state c.args.hart.now c.args.files.now c.args.heap.now c.args.steps.now) c.run-end.new.self c.run-end.result.1 acts.1)
+    let acts = subst (λ (e : StepEnd). machine.Runs c.args.hart.now c.args.most c.run-end.result.1 e c.run-end.new.self) c.in-Done.is c.run-end.ensures.acts in (
+      c.run-end.result.1,
+      omega (arith, acts.0, c.requires.some),
+      omega (arith, acts.0),
+      after-acts (guest_state c.args.hart.now c.args.files.now c.args.heap.now c.args.steps.now) c.run-end.new.self c.run-end.result.1 acts.1,
+    )
 
 pub returns-in-Done-clause-kept : goal.returns-in-Done-clause-kept
 returns-in-Done-clause-kept g c = IsHeapOf-same c.args.hart.now.memory _ c.args.heap.now c.run-end.ensures.mapping c.requires.heap_of
@@ -30,10 +33,13 @@ returns-in-Call-clause-steps g c =
 pub returns-in-Trap-clause-steps : goal.returns-in-Trap-clause-steps
 returns-in-Trap-clause-steps g c =
     let acts = subst (λ (e : StepEnd). machine.Runs c.args.hart.now c.args.most c.run-end.result.1 e c.run-end.new.self) c.in-Trap.is c.run-end.ensures.acts in
-    let last : GuestState = guest_state c.run-end.new.self c.args.files.now c.args.heap.now (c.args.steps.now + c.run-end.result.1) in
-    (c.run-end.result.1, last, acts.0,
-    after-acts (guest_state c.args.hart.now c.args.files.now c.args.heap.now c.args.steps.now) c.run-end.new.self c.run-end.result.1 acts.1,
-    (next-traps last c.in-Trap.cause acts.2.0, refl))
+    let last : GuestState = guest_state c.run-end.new.self c.args.files.now c.args.heap.now (c.args.steps.now + c.run-end.result.1) in (
+      c.run-end.result.1,
+      last,
+      acts.0,
+      after-acts (guest_state c.args.hart.now c.args.files.now c.args.heap.now c.args.steps.now) c.run-end.new.self c.run-end.result.1 acts.1,
+      (next-traps last c.in-Trap.cause acts.2.0, refl),
+    )
 
 pub returns-in-Trap-clause-kept : goal.returns-in-Trap-clause-kept
 returns-in-Trap-clause-kept g c = IsHeapOf-same c.args.hart.now.memory _ c.args.heap.now c.run-end.ensures.mapping c.requires.heap_of
@@ -41,10 +47,13 @@ returns-in-Trap-clause-kept g c = IsHeapOf-same c.args.hart.now.memory _ c.args.
 pub returns-in-OutOfMemory-clause-steps : goal.returns-in-OutOfMemory-clause-steps
 returns-in-OutOfMemory-clause-steps g c =
     let acts = subst (λ (e : StepEnd). machine.Runs c.args.hart.now c.args.most c.run-end.result.1 e c.run-end.new.self) c.in-OutOfMemory.is c.run-end.ensures.acts in
-    let last : GuestState = guest_state c.run-end.new.self c.args.files.now c.args.heap.now (c.args.steps.now + c.run-end.result.1) in
-    (c.run-end.result.1, last, acts.0,
-    after-acts (guest_state c.args.hart.now c.args.files.now c.args.heap.now c.args.steps.now) c.run-end.new.self c.run-end.result.1 acts.1,
-    (next-store last acts.2.0, inl acts.2.1, refl))
+    let last : GuestState = guest_state c.run-end.new.self c.args.files.now c.args.heap.now (c.args.steps.now + c.run-end.result.1) in (
+      c.run-end.result.1,
+      last,
+      acts.0,
+      after-acts (guest_state c.args.hart.now c.args.files.now c.args.heap.now c.args.steps.now) c.run-end.new.self c.run-end.result.1 acts.1,
+      (next-store last acts.2.0, inl acts.2.1, refl),
+    )
 
 pub returns-in-OutOfMemory-clause-kept : goal.returns-in-OutOfMemory-clause-kept
 returns-in-OutOfMemory-clause-kept g c = IsHeapOf-same c.args.hart.now.memory _ c.args.heap.now c.run-end.ensures.mapping c.requires.heap_of
