@@ -163,22 +163,6 @@ mod machine {
         far::<N>(others, at)
     }
 
-    #[cold]
-    #[inline(never)]
-    fn anywhere_store<const N: usize>(low_base: u64, low: &mut [u8], stack_base: u64, stack: &mut [u8], others: &mut [Run], at: u64, value: [u8; N]) -> Option<()> {
-        let from = at.wrapping_sub(low_base) as usize;
-        if let Some(part) = low.get_mut(from..).and_then(|rest| rest.first_chunk_mut::<N>()) {
-            *part = value;
-            return Some(());
-        }
-        let from = at.wrapping_sub(stack_base) as usize;
-        if let Some(part) = stack.get_mut(from..).and_then(|rest| rest.first_chunk_mut::<N>()) {
-            *part = value;
-            return Some(());
-        }
-        far_store::<N>(others, at, value)
-    }
-
     impl View<'_> {
         #[inline(always)]
         fn get<const N: usize>(&self, at: u64) -> Option<[u8; N]> {
