@@ -9,7 +9,7 @@ use Rattle.linux_calls.specs.declared.CallEnd.{CallEnd}
 use Rattle.linux_calls.specs.declared.CallEnd.TheVariants.{Back, Exit, Unknown}
 use Rattle.linux_calls.specs.declared.CallEnd.TheVariants as end
 use Rattle.linux_calls.specs.Answer.{IsAnswer}
-use Rattle.linux_calls.specs.Calls.{Outcome, State, answer_of, state, syscall}
+use Rattle.linux_calls.specs.Calls.{CallOutcome, State, answer_of, state, syscall}
 use Rattle.linux_calls.specs.Calls as call
 use Rattle.guest_run.specs.State.{GuestState, guest_state}
 use Rattle.guest_run.specs.Run.{Exited, Trapped, UnknownCall, Next, Goes, Ends, after_act, after_call, answered, call_arguments, call_number, CallTakesMemory, goes, next, outcome_of}
@@ -41,7 +41,7 @@ at_guest guest left answer number arguments memory same-number same-arguments sa
     subst P same is
 
 -- what the guest's step comes to, by the call's answer
-pub goes_back : (guest : GuestState) (meant : Outcome) (number value : ℕ) (old left : State) → IsAnswer number old left meant (Back value)
+pub goes_back : (guest : GuestState) (meant : CallOutcome) (number value : ℕ) (old left : State) → IsAnswer number old left meant (Back value)
     → after_call guest meant ≡ Goes (record {
       hart = answered (record guest.hart { memory = left.memory }) value;
       world = left.files;
@@ -58,19 +58,19 @@ goes_back guest (call.goes answer to) number value old left is =
 goes_back guest (call.exits status) number value old left is = absurd is
 goes_back guest (call.is_unknown n) number value old left is = absurd is
 
-pub exits_with : (guest : GuestState) (meant : Outcome) (number code : ℕ) (old left : State) → IsAnswer number old left meant (Exit code)
+pub exits_with : (guest : GuestState) (meant : CallOutcome) (number code : ℕ) (old left : State) → IsAnswer number old left meant (Exit code)
     → (after_call guest meant ≡ Ends (Exited code)) × (left ≡ old)
 exits_with guest (call.goes answer to) number code old left is = absurd is
 exits_with guest (call.exits status) number code old left is = (ap (λ s. Ends (Exited s)) (sym is.0), is.1)
 exits_with guest (call.is_unknown n) number code old left is = absurd is
 
-pub unknown_is : (guest : GuestState) (meant : Outcome) (number n : ℕ) (old left : State) → IsAnswer number old left meant (Unknown n)
+pub unknown_is : (guest : GuestState) (meant : CallOutcome) (number n : ℕ) (old left : State) → IsAnswer number old left meant (Unknown n)
     → (after_call guest meant ≡ Ends (UnknownCall n)) × (left ≡ old)
 unknown_is guest (call.goes answer to) number n old left is = absurd is
 unknown_is guest (call.exits status) number n old left is = absurd is
 unknown_is guest (call.is_unknown m) number n old left is = (ap (λ s. Ends (UnknownCall s)) (sym is.0), is.1)
 
-pub wants_memory : (guest : GuestState) (meant : Outcome) (left : State)
+pub wants_memory : (guest : GuestState) (meant : CallOutcome) (left : State)
     → IsAnswer (call_number guest) (state guest.hart.memory guest.world guest.heap) left meant end.OutOfMemory
     → IsTrue (goes (after_call guest meant)) × CallTakesMemory guest meant × (left ≡ state guest.hart.memory guest.world guest.heap)
 wants_memory guest (call.goes answer to) left is = (refl, is.0, is.1)
@@ -98,7 +98,7 @@ count_of : Next → ℕ → ℕ
 count_of (Goes guest) other = guest.steps
 count_of (Ends end) other = other
 
-counted_call : (guest : GuestState) (meant : Outcome) (to : GuestState) → after_call guest meant ≡ Goes to → to.steps ≡ guest.steps + 1
+counted_call : (guest : GuestState) (meant : CallOutcome) (to : GuestState) → after_call guest meant ≡ Goes to → to.steps ≡ guest.steps + 1
 unfolding count_of
 counted_call guest (call.goes answer left) to is = sym (ap (λ n. count_of n 0) is)
 counted_call guest (call.exits status) to is = cc

@@ -7,7 +7,7 @@ use Rattle.rv64_machine.proofs.Acts as acts
 use Rattle.guest_run.specs.declared.run.RunEnd.{RunEnd}
 use Rattle.guest_run.specs.Run.{after, Runs, Steps}
 use Rattle.guest_run.specs.State.{GuestState, guest_state}
-use Rattle.guest_run.specs.Stretch.{Stretches}
+use Rattle.guest_run.specs.Inside.Stretch.{Stretches}
 use Rattle.guest_run.proofs.RunLaws.{after-sum}
 use Rattle.guest_run.proofs.Running.{after-counted, after-none, after-on, ended, spent}
 use Rattle.guest_run.proofs.Stepping.{next-goes}

@@ -3,13 +3,13 @@ use Rattle.std.proofs.Common.{◌≡◌, ℕ, zero, suc, ◌+◌, ◌-◌, ◌*�
 use Rattle.std.specs.Prelude.{count_by, nat_le, nat_lt}
 use Rattle.std.specs.FinMap.{contains_key}
 use Rattle.std.proofs.lemmas.Bool.Decides.{nat_tests}
-use Rattle.paged_mem.specs.Memory.{Memory}
+use Rattle.paged_mem.specs.Memory.{Memory, page_up}
 use Rattle.paged_mem.proofs.Maps.{each_by_maps, maps_by_each}
 use Rattle.rv64_machine.specs.Hart.{Act, IsHart, act}
 use Rattle.rv64_machine.specs.Hart as hart
 use Rattle.linux_calls.specs.declared.Heap.{Heap}
-use Rattle.linux_calls.specs.HeapOf.{IsHeapOf, is_beside_heap, page_up}
-use Rattle.linux_calls.specs.Calls.{Outcome, State, answer_of, state}
+use Rattle.linux_calls.specs.HeapOf.{IsHeapOf, is_beside_heap}
+use Rattle.linux_calls.specs.Calls.{CallOutcome, State, answer_of, state}
 use Rattle.linux_calls.specs.Rules.{IsState, LeavesNumber, LeavesState}
 use Rattle.linux_calls.specs.Calls as call
 use Rattle.linux_calls.proofs.Heaps.{IsHeapOf-same}
@@ -73,7 +73,7 @@ abbrev ValidIn : Next → Type 0
 ValidIn (Goes guest) = IsValid guest
 ValidIn (Ends end) = Unit {0}
 
-valid_after_call : (guest : GuestState) (meant : Outcome) → IsValid guest → LeavesState meant → LeavesNumber meant
+valid_after_call : (guest : GuestState) (meant : CallOutcome) → IsValid guest → LeavesState meant → LeavesNumber meant
     → OutcomeKeeps (state guest.hart.memory guest.world guest.heap) meant → ValidIn (after_call guest meant)
 valid_after_call guest (call.goes answer left) valid leaves number keeps =
     let hart = valid.hart in

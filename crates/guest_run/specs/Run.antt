@@ -5,7 +5,7 @@ use Rattle.std.specs.Option.{option_or}
 use Rattle.rv64_machine.specs.declared.answer.Cause.{Cause}
 use Rattle.rv64_machine.specs.Hart.{Act, HartState, act, effect_at, following, goes_on, is_store, with_register}
 use Rattle.rv64_machine.specs.Hart as hart
-use Rattle.linux_calls.specs.Calls.{Outcome, answer_of, state, syscall}
+use Rattle.linux_calls.specs.Calls.{CallOutcome, answer_of, state, syscall}
 use Rattle.linux_calls.specs.Calls as call
 use Rattle.linux_calls.specs.Answer as taking
 use Rattle.guest_run.specs.declared.run.RunEnd.{RunEnd}
@@ -33,7 +33,7 @@ call_arguments guest =
     ∷ slice_index guest.hart.registers 13 ∷ slice_index guest.hart.registers 14 ∷ slice_index guest.hart.registers 15 ∷ []
 
 -- what the call that the guest makes comes to
-abbrev pub outcome_of : GuestState → Outcome
+abbrev pub outcome_of : GuestState → CallOutcome
 outcome_of guest = syscall (call_number guest) (call_arguments guest) (state guest.hart.memory guest.world guest.heap)
 
 -- the hart after a call: x10 has the value, and the next instruction follows
@@ -41,7 +41,7 @@ abbrev pub answered : HartState → ℕ → HartState
 answered hart value = record (with_register hart 10 value) { pc = following hart }
 
 -- the step of a call that comes to this
-abbrev pub after_call : GuestState → Outcome → Next
+abbrev pub after_call : GuestState → CallOutcome → Next
 after_call guest (call.goes answer left) = Goes (record {
   hart = answered (record guest.hart { memory = left.memory }) (answer_of answer);
   world = left.files;
@@ -88,7 +88,7 @@ first_end guest zero = None
 first_end guest (suc most) = option_or (first_end guest most) (end_at guest (suc most))
 
 -- the call comes to this, and takes memory of the host
-abbrev pub CallTakesMemory : GuestState → Outcome → Type 0
+abbrev pub CallTakesMemory : GuestState → CallOutcome → Type 0
 CallTakesMemory guest (call.goes answer left) =
     taking.TakesMemory (call_number guest) (state guest.hart.memory guest.world guest.heap) answer left
 CallTakesMemory guest (call.exits status) = ⊥

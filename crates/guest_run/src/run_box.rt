@@ -1,5 +1,5 @@
 ghost use Rattle.guest_run.specs.Setting.{IsBox, IsBoxFile, IsText, PlacesIn};
-ghost use Rattle.mem_files.specs.Names.{is_name, stripped};
+ghost use Rattle.mem_files.specs.Names.{is_file_name, stripped};
 ghost use Rattle.std.specs.FinMap as map;
 ghost use Rattle.std.specs.Prelude.{◌≡◌, ◌^◌, ◌≤◌, [], ◌∷◌, ◌++◌, All, OnErr, OnOk};
 
@@ -136,7 +136,7 @@ fn place_in(files: &mut GivenFiles, name: &[u8], content: &[u8]) -> Result<(), P
 
 /// Whether this is a guest file name: 1 to 255 bytes without a zero byte.
 fn is_file_name(name: &[u8]) -> bool
-    ensures { result ≡ is_name name.now }
+    ensures { result ≡ is_file_name name.now }
 {
     !name.is_empty() && name.len() <= MAX_NAME && !name.contains(&0)
 }

@@ -20,18 +20,18 @@ use Rattle.mem_files.proofs.Rules.{kept_of}
 use Rattle.linux_calls.specs.Linux.{sys_unlinkat, sys_faccessat, sys_fchmodat, sys_openat, sys_close, sys_lseek, sys_read, sys_write, sys_exit, sys_exit_group, sys_brk}
 use Rattle.linux_calls.specs.Paths.{in_directory, low, name_at, named}
 use Rattle.linux_calls.specs.HeapOf.{IsHeapOf, is_outside}
-use Rattle.linux_calls.specs.Calls.{State, Outcome, is_unknown, answer_of, answering, back, accessed, mode_changed, unlinked, opened_in, opened_as, read_at, written_from, written_at, moved_break, syscall}
+use Rattle.linux_calls.specs.Calls.{State, CallOutcome, is_unknown, answer_of, answering, back, accessed, mode_changed, unlinked, opened_in, opened_as, read_at, written_from, written_at, moved_break, syscall}
 use Rattle.linux_calls.specs.Rules.{IsState, LeavesNumber}
 use Rattle.linux_calls.proofs.Keeping.{inside}
 
 -- as a record: what it speaks of is found from the goal
-record Small (outcome : Outcome) : Type 0 where
+record Small (outcome : CallOutcome) : Type 0 where
   is : LeavesNumber outcome
 
 record Value (r : Result ℕ ℕ) : Type 0 where
   is : answer_of r < 2 ^ 64
 
-chosen : (b : Bool) (x y : Outcome) → Small x → Small y → Small (cond b x y)
+chosen : (b : Bool) (x y : CallOutcome) → Small x → Small y → Small (cond b x y)
 chosen true x y p q = p
 chosen false x y p q = q
 
