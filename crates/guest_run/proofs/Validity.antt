@@ -18,7 +18,7 @@ use Rattle.linux_calls.proofs.SmallAnswers.{syscall-small}
 use Rattle.guest_run.specs.Stack.{stack_end, stack_size}
 use Rattle.guest_run.specs.State.{GuestState}
 use Rattle.guest_run.specs.Valid.{Fits, IsValid, pages_beside, pages_from}
-use Rattle.guest_run.specs.Run.{Next, Goes, Ends, after, after_act, after_call, next, outcome_of, call_number, call_arguments}
+use Rattle.guest_run.specs.Run.{Next, Goes, Ends, after, step_of_act, step_of_call, next, outcome_of, call_number, call_arguments}
 use Rattle.rv64_machine.proofs.ActLemmas.{act-mapping}
 use Rattle.std.proofs.lemmas.Option.{same_Some}
 use Rattle.linux_calls.proofs.Keeping.{call_keeps, OutcomeKeeps}
@@ -74,7 +74,7 @@ ValidIn (Goes guest) = IsValid guest
 ValidIn (Ends end) = Unit {0}
 
 valid_after_call : (guest : GuestState) (meant : CallOutcome) → IsValid guest → LeavesState meant → LeavesNumber meant
-    → OutcomeKeeps (state guest.hart.memory guest.world guest.heap) meant → ValidIn (after_call guest meant)
+    → OutcomeKeeps (state guest.hart.memory guest.world guest.heap) meant → ValidIn (step_of_call guest meant)
 valid_after_call guest (call.goes answer left) valid leaves number keeps =
     let hart = valid.hart in
     let moved : IsHart (record guest.hart { memory = left.memory }) =
@@ -88,7 +88,7 @@ valid_after_call guest (call.goes answer left) valid leaves number keeps =
 valid_after_call guest (call.exits status) valid leaves number keeps = tt
 valid_after_call guest (call.is_unknown n) valid leaves number keeps = tt
 
-valid_after : (guest : GuestState) (an_act : Act) → act guest.hart ≡ an_act → IsValid guest → ValidIn (after_act guest an_act)
+valid_after : (guest : GuestState) (an_act : Act) → act guest.hart ≡ an_act → IsValid guest → ValidIn (step_of_act guest an_act)
 valid_after guest (hart.Goes to) is valid = record {
   hart = act-hart guest.hart to valid.hart is;
   numbers = act-numbers guest.hart to valid.hart.whole valid.numbers is;

@@ -1,5 +1,5 @@
 //! The stack of a program that starts.
-ghost use Rattle.guest_run.specs.Stack.{addresses, cost, gap, joined, stack_bytes, stack_pointer, start_size, texts_at, words};
+ghost use Rattle.guest_run.specs.Stack.{addresses, cost, gap, ended_texts, stack_bytes, stack_pointer, start_size, texts_at, words};
 ghost use Rattle.paged_mem.specs.Memory.{bytes_of, zeros};
 ghost use Rattle.std.specs.List.{flat_map};
 ghost use Rattle.std.specs.Prelude.{◌≡◌, ◌+◌, ◌*◌, ◌^◌, ◌<◌, ◌≤◌, ◌++◌, length, sum_by, nat_le, ◌-◌, IfOk, OnOk, SomeIff};
@@ -69,8 +69,8 @@ pub(crate) fn stack_of(alloc: Global, args: &[Bytes], env: &[Bytes]) -> Result<S
 
 /// The bytes of the texts, each with its zero byte.
 fn joined_size(texts: &[Bytes]) -> u64
-    requires { length (joined texts.now) < 2 ^ 64 }
-    ensures { result ≡ length (joined texts.now) }
+    requires { length (ended_texts texts.now) < 2 ^ 64 }
+    ensures { result ≡ length (ended_texts texts.now) }
 {
     let mut size = 0;
     for text in texts {
@@ -89,7 +89,7 @@ fn put_word(bytes: &mut Vec<u8>, word: u64) -> Result<(), OutOfMemory>
 
 /// Appends the addresses of texts in a row from `at` on.
 fn put_addresses(bytes: &mut Vec<u8>, at: u64, texts: &[Bytes]) -> Result<(), OutOfMemory>
-    requires { at + length (joined texts.now) < 2 ^ 64 }
+    requires { at + length (ended_texts texts.now) < 2 ^ 64 }
     ensures { OnOk result (bytes.new.items ≡ bytes.old.items ++ flat_map (bytes_of 8) (addresses at texts.now)) }
 {
     let mut next = at;
@@ -113,7 +113,7 @@ fn put_zeros(bytes: &mut Vec<u8>, count: u64) -> Result<(), OutOfMemory>
 
 /// Appends the texts, each with its zero byte.
 fn put_texts(bytes: &mut Vec<u8>, texts: &[Bytes]) -> Result<(), OutOfMemory>
-    ensures { OnOk result (bytes.new.items ≡ bytes.old.items ++ joined texts.now) }
+    ensures { OnOk result (bytes.new.items ≡ bytes.old.items ++ ended_texts texts.now) }
 {
     for text in texts {
         bytes.extend_from_slice(text.as_slice())?;
