@@ -178,8 +178,8 @@ every number a s is =
     (chosen (number == sys_lseek) _ _ (back-small s _ (sought-small s.files (low (arg 0)) (cast_signed w64 (arg 1)) (low (arg 2))))
     (chosen (number == sys_read) _ _ (read-small s (low (arg 0)) (arg 1) (arg 2) (ready s.files (low (arg 0)) (arg 2)) refl is.files)
     (chosen (number == sys_write) _ _ (write-small s (low (arg 0)) (arg 1) (arg 2) (write_place s.files (get s.files.slots (low (arg 0)))) is.memory)
-    (chosen (number == sys_exit) _ _ (record { is = tt })
-    (chosen (number == sys_exit_group) _ _ (record { is = tt })
+    (chosen (number == sys_exit) _ _ (record { is = omega arith })
+    (chosen (number == sys_exit_group) _ _ (record { is = omega arith })
     (chosen (number == sys_brk) (moved_break s (arg 0)) (is_unknown number) (break-small s (arg 0) is.heap) (record { is = tt })))))))))))
 
 pub syscall-small : (number : ℕ) (a : List ℕ) (s : State) → IsState s → LeavesNumber (syscall number a s)

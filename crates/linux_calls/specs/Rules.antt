@@ -23,10 +23,10 @@ pub record IsState (s : State) : Type 0 where
   pub files : IsSound s.files
   pub heap : IsHeapOf s.memory s.heap
 
--- what the guest gets is a number of 64 bits
+-- what the guest gets is a number of 64 bits, and the status that it exits with one of 8
 abbrev pub LeavesNumber : CallOutcome → Type 0
 LeavesNumber (goes answer next) = answer_of answer < 2 ^ 64
-LeavesNumber (exits status) = ⊤
+LeavesNumber (exits status) = status < 256
 LeavesNumber (is_unknown n) = ⊤
 
 -- the state after an outcome is in order
