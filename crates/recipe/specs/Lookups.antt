@@ -9,7 +9,14 @@ use Rattle.recipe.specs.declared.parts.Source.{Source}
 use Rattle.recipe.specs.declared.parts.SourceLanguage.{SourceLanguage}
 use Rattle.recipe.specs.declared.parts.SourceLanguage.TheVariants.{Defined, Other}
 use Rattle.recipe.specs.declared.parts.Stage.{Stage}
-use Rattle.recipe.specs.Said.{Said}
+use Rattle.recipe.specs.declared.contents.Said.{Said}
+
+-- the index of the input, and of the stage, of a name
+abbrev pub input_at : List Input → List ℕ → Option ℕ
+input_at inputs name = position (λ input. bytes_eq input.name name) inputs
+
+abbrev pub stage_at : List Stage → List ℕ → Option ℕ
+stage_at stages name = position (λ stage. bytes_eq stage.name name) stages
 
 -- the source of a name
 abbrev pub source_named : List Source → List ℕ → Option Source
@@ -22,9 +29,7 @@ or_else None other = other
 
 -- the input of a name, or else the stage that makes what has this name
 unfoldable pub content_of : List Input → List Stage → List ℕ → Option Content
-content_of inputs stages name =
-    or_else (option_map content.Input (position (λ input. bytes_eq input.name name) inputs))
-      (option_map content.Stage (position (λ stage. bytes_eq stage.name name) stages))
+content_of inputs stages name = or_else (option_map content.Input (input_at inputs name)) (option_map content.Stage (stage_at stages name))
 
 -- whether a checked artefact in this language is the value of its source: in hex0, hex1 and hex2
 abbrev pub is_hex : SourceLanguage → Bool

@@ -14,8 +14,8 @@ use Rattle.recipe.specs.declared.parts.Source.{Source}
 use Rattle.recipe.specs.declared.parts.SourceLanguage.{SourceLanguage}
 use Rattle.recipe.specs.declared.parts.SourceLanguage.TheVariants.{Defined, Other}
 use Rattle.recipe.specs.declared.parts.Stage.{Stage}
-use Rattle.recipe.specs.Lookups.{source_named, content_of, content_source}
-use Rattle.recipe.specs.Said.{Said}
+use Rattle.recipe.specs.Lookups.{input_at, stage_at, source_named, content_of, content_source}
+use Rattle.recipe.specs.declared.contents.Said.{Said}
 use Rattle.recipe.specs.Tables.{input_place, source_place, stage_place, compare_place}
 
 -- whether a name stands for one of these inputs or for what one of these stages makes
@@ -48,7 +48,7 @@ checks_source said earlier place (Some source) = do
   refused_unless (NotMadeYet place key.Check) (list_all (is_content said.inputs earlier) source.files)
   refused_unless (BadName place key.Check) (is_defined source.lang)
 
-abbrev pub check_refers : Said → List Stage → Place → Option (List ℕ) → Result (Unit {0}) RecipeRefusal
+unfoldable pub check_refers : Said → List Stage → Place → Option (List ℕ) → Result (Unit {0}) RecipeRefusal
 check_refers said earlier place None = Ok tt
 check_refers said earlier place (Some name) = checks_source said earlier place (source_named said.sources name)
 
@@ -65,8 +65,8 @@ stage_refers said number stage = stage_refers_after said (take (number - 1) said
 
 unfoldable pub compare_refers : Said → Result (Unit {0}) RecipeRefusal
 compare_refers said = do
-  refused_unless (NotMadeYet compare_place key.Stage) (is_some (content_of [] said.stages said.compare.stage))
-  refused_unless (NotMadeYet compare_place key.Binary) (is_some (content_of said.inputs [] said.compare.binary))
+  refused_unless (NotMadeYet compare_place key.Stage) (is_some (stage_at said.stages said.compare.stage))
+  refused_unless (NotMadeYet compare_place key.Binary) (is_some (input_at said.inputs said.compare.binary))
 
 -- ---- the programs of the unchecked stages
 

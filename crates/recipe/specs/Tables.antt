@@ -133,14 +133,14 @@ entry_text place key entry_key entry = or_refused (Missing place key) (option_an
 
 -- the file that an entry says, after those before it
 unfoldable pub next_file : Place → Key → List StageFile → Data → Result StageFile RecipeRefusal
-next_file place key files value = do
-  entry ← a_table place key value
-  path_text ← entry_text place key key.Path entry
-  from_text ← entry_text place key key.From entry
+next_file place listed files value = do
+  entry ← a_table place listed value
+  path_text ← entry_text place listed key.Path entry
+  from_text ← entry_text place listed key.From entry
   closed place (key.Path ∷ key.From ∷ []) entry
-  from ← or_refused (BadName place key) (name_of from_text)
-  path ← or_refused (BadPath place key) (guest_path path_text)
-  refused_unless (DoubleName place key) (not (is_file_path files path))
+  from ← or_refused (BadName place listed) (name_of from_text)
+  path ← or_refused (BadPath place listed) (guest_path path_text)
+  refused_unless (DoubleName place listed) (not (is_file_path files path))
   Ok (record { path = path; from = from })
 
 unfoldable pub some_files : Place → Key → Data → Result (List StageFile) RecipeRefusal
