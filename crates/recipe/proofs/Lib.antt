@@ -1,1 +1,2 @@
+pub mod FirstWalk
 pub mod Keeps
