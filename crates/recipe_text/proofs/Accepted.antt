@@ -17,6 +17,12 @@ pub bind_ok : {A B : Type 0} (r : Result A RecipeRefusal) (f : A → Result B Re
 bind_ok (Ok x) f y e = (x, refl, e)
 bind_ok (Err d) f y e = absurd cc
 
+-- the same, handed on
+pub bound : {A B : Type 0} (Q : Type 0) (r : Result A RecipeRefusal) (f : A → Result B RecipeRefusal) (y : B)
+    → (r >>= f) ≡ Ok y → ((x : A) → r ≡ Ok x → f x ≡ Ok y → Q) → Q
+bound Q (Ok x) f y e then = then x refl e
+bound Q (Err d) f y e then = absurd cc
+
 abbrev fine : {A : Type 0} → A → Result A RecipeRefusal
 fine x = Ok x
 
@@ -49,7 +55,7 @@ required_ok read place key table x e =
     let a = bind_ok (or_refused (Missing place key) (get_member (key_word key) table)) (read place key) x e in
     (a.0, a.2)
 
-abbrev Read : {A : Type 0} → (Place → Key → Data → Result A RecipeRefusal) → Place → Key → A → Type 0
+abbrev pub Read : {A : Type 0} → (Place → Key → Data → Result A RecipeRefusal) → Place → Key → A → Type 0
 Read read place key x = (value : Data) × (read place key value ≡ Ok x)
 
 there_ok : {A : Type 0} (read : Place → Key → Data → Result A RecipeRefusal) (place : Place) (key : Key) (found : Option Data) (o : Option A)
@@ -66,7 +72,7 @@ optional_ok read place key table o e = there_ok read place key (get_member (key_
 
 -- ---- names, paths, words, numbers
 
-chosen : {A : Type 0} (test : Bool) (x y : A) → cond test (Some x) None ≡ Some y → (test ≡ true) × (x ≡ y)
+pub chosen : {A : Type 0} (test : Bool) (x y : A) → cond test (Some x) None ≡ Some y → (test ≡ true) × (x ≡ y)
 chosen true x y e = (refl, cc)
 chosen false x y e = absurd cc
 
@@ -139,16 +145,16 @@ At {A} P xs = (i : ℕ) (x : A) → slice_get xs i ≡ Some x → P x
 abbrev some : {A : Type 0} → A → Option A
 some x = Some x
 
-some_same : {A : Type 0} (x y : A) → some x ≡ some y → x ≡ y
+pub some_same : {A : Type 0} (x y : A) → some x ≡ some y → x ≡ y
 some_same x y e = cc
 
-push_at : {A : Type 0} (P : A → Type 0) (xs : List A) (y : A) → At P xs → P y → At P (xs ++ y ∷ [])
+pub push_at : {A : Type 0} (P : A → Type 0) (xs : List A) (y : A) → At P xs → P y → At P (xs ++ y ∷ [])
 push_at P [] y all one zero x e = subst P (some_same y x e) one
 push_at P [] y all one (suc i) x e = absurd cc
 push_at P (z ∷ zs) y all one zero x e = all 0 x e
 push_at P (z ∷ zs) y all one (suc i) x e = push_at P zs y (λ j w is. all (suc j) w is) one i x e
 
-none_at : {A : Type 0} (P : A → Type 0) → At P []
+pub none_at : {A : Type 0} (P : A → Type 0) → At P []
 none_at P i x e = absurd cc
 
 -- a fact of each element, whatever stood before it
@@ -161,7 +167,7 @@ pub record Few (least most n : ℕ) : Type 0 where
   pub some : least ≤ n
   pub few : n ≤ most
 
-array_ok : (least most : ℕ) (place : Place) (key : Key) (value : Data) (values : List Data) → an_array least most place key value ≡ Ok values → Few least most (length values)
+pub array_ok : (least most : ℕ) (place : Place) (key : Key) (value : Data) (values : List Data) → an_array least most place key value ≡ Ok values → Few least most (length values)
 unfolding an_array
 array_ok least most place key value values e =
     let a = bind_ok (or_refused (Missing place key) (option_map values_of (as_array value)))
