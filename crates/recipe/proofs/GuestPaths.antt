@@ -1,12 +1,12 @@
 -- A path without leading `./` is a name as a program's files hold it.
-use Rattle.std.proofs.Common.{◌≡◌, ℕ, Bool, true, false, List, [], ◌∷◌, ◌++◌, length, Option, Some, None, refl, sym, ap, subst, ◌∙◌, arith, cond}
-use Rattle.std.specs.Prelude.{◌&&◌, ◌||◌, ◌==◌, not, nat_le, IsTrue, option_map, bytes_eq, codes}
+use Rattle.std.proofs.Common.{◌≡◌, ℕ, Bool, true, false, List, [], ◌∷◌, length, Option, Some, None, refl, subst, arith, cond}
+use Rattle.std.specs.Prelude.{◌&&◌, ◌==◌, not, nat_le, option_map, bytes_eq, codes}
 use Rattle.std.specs.List.{list_all, list_any}
 use Rattle.std.proofs.lemmas.Bool.Decides.{nat_tests}
 use Rattle.mem_files.specs.Names as files
 use Rattle.mem_files.proofs.KeepingCalls.{stripped-is}
-use Rattle.recipe_text.specs.Reading.{is_path, is_path_byte, path_of}
-use Rattle.recipe_text.proofs.Accepted.{both_true, path_of_ok, chosen}
+use Rattle.recipe_text.specs.Reading.{is_path, is_path_byte}
+use Rattle.recipe_text.proofs.Accepted.{both_true, path_of_ok}
 use Rattle.recipe.specs.declared.parts.Output.{Output}
 use Rattle.recipe.specs.declared.parts.Output.TheVariants.{Stream, File}
 use Rattle.recipe.specs.Tables.{guest_path, output_of}

@@ -1,18 +1,17 @@
 -- What both walks accept is a recipe.
-use Rattle.std.proofs.Common.{◌≡◌, ℕ, ◌+◌, ◌≤◌, List, [], ◌∷◌, ◌++◌, length, take, Option, Some, None, Result, Ok, subst, arith}
+use Rattle.std.proofs.Common.{◌≡◌, ℕ, ◌+◌, ◌≤◌, List, [], ◌∷◌, length, take, Option, Some, None, Ok, subst, arith}
 use Rattle.std.specs.Prelude.{IfSome, bytes_eq, slice_get, unwrap_or}
 use Rattle.std.specs.List.{IsDistinct}
 use Rattle.sha2.specs.Sha256.{sha256}
 use Rattle.toml.specs.Data.{Members}
 use Rattle.recipe_text.specs.declared.keys.Key.TheVariants as key
-use Rattle.recipe_text.specs.declared.keys.Place.{Place}
 use Rattle.recipe_text.specs.Reading.{a_list, a_number, a_table, closed, document_of, gathered, optional, required}
-use Rattle.recipe_text.proofs.Accepted.{bound, ok_same, required_ok, optional_ok, list_ok, gathered_each, gathered_keeps, gathered_length, passes_at, unless_ok, Few, At, Read}
+use Rattle.recipe_text.proofs.Accepted.{bound, ok_same, required_ok, optional_ok, list_ok, gathered_each, gathered_keeps, gathered_length, passes_at, unless_ok, Few, Read}
 use Rattle.recipe.specs.declared.contents.Said.{Said}
 use Rattle.recipe.specs.declared.parts.Input.{Input}
 use Rattle.recipe.specs.declared.parts.Source.{Source}
 use Rattle.recipe.specs.declared.parts.Stage.{Stage}
-use Rattle.recipe.specs.Kept.{IsRecipe, IsInput, IsSource, IsStage}
+use Rattle.recipe.specs.Kept.{IsRecipe, IsStage}
 use Rattle.recipe.specs.Reading.{first_walk}
 use Rattle.recipe.specs.SecondWalk.{second_walk}
 use Rattle.recipe.specs.Tables.{top_place, input_place, source_place, stage_place, Top, top_table, next_input, next_source, next_stage, compare_table}

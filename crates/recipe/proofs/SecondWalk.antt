@@ -1,25 +1,22 @@
 -- What the second walk tells of each table.
-use Rattle.std.proofs.Common.{◌≡◌, ℕ, zero, suc, ◌+◌, ◌-◌, Bool, true, false, List, [], ◌∷◌, take, Option, Some, None, Result, Ok, Err, refl, sym, ap, subst, ◌∙◌, arith}
-use Rattle.std.specs.Prelude.{◌&&◌, is_some, IsSome, IfSome, slice_get, option_and_then}
+use Rattle.std.proofs.Common.{◌≡◌, ℕ, zero, suc, ◌+◌, ◌-◌, Bool, true, List, [], ◌∷◌, take, Option, Some, None, Ok, refl, sym, ap, subst, ◌∙◌, arith}
+use Rattle.std.specs.Prelude.{is_some, IsSome, slice_get, option_and_then}
 use Rattle.std.specs.List.{list_all}
 use Rattle.recipe_text.specs.declared.keys.Key.{Key}
 use Rattle.recipe_text.specs.declared.keys.Key.TheVariants as key
 use Rattle.recipe_text.specs.declared.keys.Place.{Place}
-use Rattle.recipe_text.specs.declared.refusal.RecipeRefusal.{RecipeRefusal}
-use Rattle.recipe_text.specs.declared.refusal.RecipeRefusal.TheVariants.{Missing, BadName, NotMadeYet}
-use Rattle.recipe_text.specs.Reading.{◌>>=◌, ◌>>◌, refused_unless, each_passes}
+use Rattle.recipe_text.specs.declared.refusal.RecipeRefusal.TheVariants.{BadName, NotMadeYet}
+use Rattle.recipe_text.specs.Reading.{refused_unless, each_passes}
 use Rattle.recipe_text.proofs.Accepted.{bound, unless_ok, both_true, passes_at, some_same}
 use Rattle.recipe.specs.declared.contents.Said.{Said}
 use Rattle.recipe.specs.declared.parts.Content.{Content}
 use Rattle.recipe.specs.declared.parts.Content.TheVariants as content
-use Rattle.recipe.specs.declared.parts.Input.{Input}
 use Rattle.recipe.specs.declared.parts.Source.{Source}
 use Rattle.recipe.specs.declared.parts.Stage.{Stage}
-use Rattle.recipe.specs.declared.parts.StageFile.{StageFile}
 use Rattle.recipe.specs.Kept.{Each, NamesSource, IsMade, Checks, IsCheck}
 use Rattle.recipe.specs.Lookups.{source_named, content_of, content_source, source_of, stage_at, input_at}
 use Rattle.recipe.specs.SecondWalk.{is_content, refers_to_source, input_refers, source_refers, is_defined, checks_source, check_refers, stage_refers_after, stage_refers, compare_refers, has_source, is_argued, program_has_source, second_walk}
-use Rattle.recipe.specs.Tables.{source_place, stage_place, compare_place}
+use Rattle.recipe.specs.Tables.{stage_place, compare_place}
 use Rattle.recipe.proofs.MoreStages.{content_more}
 
 -- a test of each element, at an index

@@ -8,6 +8,7 @@ mod comparison;
 mod contents;
 mod front;
 mod inputs;
+pub mod laws;
 mod lookups;
 mod names;
 mod parts;
