@@ -77,7 +77,13 @@ fn has_zero(text: &[u8]) -> bool
 
 /// A number from `least` to `most`.
 #[tactic(auto, unfolding(crate::specs::Reading::a_number))]
-pub fn number(least: u64, most: u64, place: Place, key: Key, value: &Value) -> Result<u64, RecipeRefusal>
+pub fn number(
+    least: u64,
+    most: u64,
+    place: Place,
+    key: Key,
+    value: &Value,
+) -> Result<u64, RecipeRefusal>
     ensures { Gives (λ number. number) result (a_number least most place key (view value.now)) }
 {
     match value.as_integer() {
