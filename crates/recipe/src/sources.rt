@@ -12,7 +12,7 @@ use recipe_text::{Key, Place, RecipeRefusal, closed, names, optional_number, req
 use std::alloc::Global;
 use toml::{Table, Value};
 
-/// The base of a source that names none: 0x600000, where stage0-posix links its programs.
+/// The base of a source that names none: 0x600000.
 const DEFAULT_BASE: u64 = 6_291_456;
 
 /// The sources that the tables say.
