@@ -1,0 +1,4 @@
+pub mod Passing
+pub mod Definings
+pub mod Takings
+pub mod Expandings

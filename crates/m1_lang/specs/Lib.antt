@@ -1,0 +1,4 @@
+pub mod Definitions
+pub mod Expansion
+pub mod Refusals
+pub mod Representation
