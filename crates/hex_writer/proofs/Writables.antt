@@ -24,7 +24,7 @@ IsGood (Field mask) = mask < 2 ^ 32
 IsGood (Reference kind name) = IsName name
 IsGood (Alone it) = IsWritable it
 
-abbrev pub AreGood : Reading Fault → Type 0
+abbrev pub AreGood : {F : Type 0} → Reading F → Type 0
 AreGood (Then at token later) = IsGood token × AreGood later
 AreGood _ = Unit {0}
 
@@ -91,27 +91,14 @@ all-append : (xs ys : List Item) → AreWritable xs → AreWritable ys → AreWr
 all-append [] ys first second = second
 all-append (x ∷ xs) ys first second = (first.0, all-append xs ys first.1 second)
 
-goes-on : (step : Step) (rest : Option Open → Formed Fault) → StepFits step → ((next : Option Open) → OpenFits next → AreWritable (rest next).items)
+goes-on : {F : Type 0} (step : Step) (rest : Option Open → Formed F) → StepFits step → ((next : Option Open) → OpenFits next → AreWritable (rest next).items)
     → AreWritable (behind_step step rest).items
 goes-on (Ok step) rest fits later = all-append step.0 (rest step.1).items fits.0 (later step.1 fits.1)
 goes-on (Err why) rest fits later = tt
 
 -- the items of good tokens have lines
-pub formed-writable : (word : Option Open) (reading : Reading Fault) → OpenFits word → AreGood reading → AreWritable (formed word reading).items
+pub formed-writable : {F : Type 0} (word : Option Open) (reading : Reading F) → OpenFits word → AreGood reading → AreWritable (formed word reading).items
 formed-writable word Ends fits good = tt
 formed-writable word (Faulty why at) fits good = tt
 formed-writable word (Then at token later) fits good =
     goes-on (taken word at token) (λ next. formed next later) (step-fits word at token fits good.0) (λ next next_fits. formed-writable next later next_fits good.1)
-
--- a word that runs to a blank has none
-no-blank : (p : ℕ → Bool) (left : List ℕ) → list_any p (take (position_or_len p left) left) ≡ false
-no-blank p [] = refl
-no-blank p (byte ∷ left) = by (p byte) refl (no-blank p left)
-  where
-    by : (test : Bool) → p byte ≡ test → list_any p (take (position_or_len p left) left) ≡ false → list_any p (take (position_or_len p (byte ∷ left)) (byte ∷ left)) ≡ false
-    by true is rest = rw is refl
-    by false is rest =
-        let one : 1 + position_or_len p left ≡ suc (position_or_len p left) = omega arith in
-        let open_is : take (position_or_len p (byte ∷ left)) (byte ∷ left) ≡ byte ∷ take (position_or_len p left) left =
-            rw is (ap (λ (n : ℕ). take n (byte ∷ left)) one) in
-        ap (list_any p) open_is ∙ ap (λ (b : Bool). b || list_any p (take (position_or_len p left) left)) is ∙ rest
