@@ -2,3 +2,4 @@ pub mod Passing
 pub mod Definings
 pub mod Takings
 pub mod Expandings
+pub mod Goods

@@ -5,8 +5,10 @@
 
 mod definitions;
 mod expansion;
+pub mod laws;
 mod refusal;
 mod taking;
 
 pub use expansion::expand;
+pub use hex_writer::write_items;
 pub use refusal::M1Refusal;
