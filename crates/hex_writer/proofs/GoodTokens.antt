@@ -1,20 +1,18 @@
 -- The tokens of hex2 are good: their numbers fit, and their names are names.
-use Rattle.std.proofs.Common.{◌≡◌, ℕ, zero, suc, ◌+◌, ◌-◌, ◌*◌, ◌<◌, ◌≤◌, ◌==◌, nat_lt, nat_eq, Bool, true, false, cond, not, ◌&&◌, ◌||◌, List, [], ◌∷◌, length, take, drop, refl, sym, ap, ◌∙◌, arith, Option, Some, None, Result, Ok, Err}
+use Rattle.std.proofs.Common.{◌≡◌, ℕ, zero, suc, ◌+◌, ◌<◌, ◌≤◌, ◌==◌, nat_lt, Bool, true, false, cond, not, ◌&&◌, ◌||◌, List, [], ◌∷◌, length, take, drop, refl, ap, ◌∙◌, arith, Option, Some, None, Result, Ok, Err}
 use Rattle.std.proofs.lemmas.Bool.Decides.{nat_tests}
 use Rattle.std.specs.List.{list_any, position_or_len}
-use Rattle.std.specs.Prelude.{slice_index, ◌^◌}
-use Rattle.std.specs.Int.{w32, from_le_bytes}
+use Rattle.std.specs.Prelude.{slice_index}
 use Rattle.hex.specs.Hex.{hex_digit_value, is_hex_digit}
-use Rattle.hex_items.specs.declared.item.Kind.{Kind}
 use Rattle.hex_items.specs.declared.item.Kind.TheVariants.{I, B, J, U}
 use Rattle.hex_items.specs.declared.item.Item.TheVariants as item
 use Rattle.hex_items.specs.declared.token.Dialect.TheVariants.{Hex2}
 use Rattle.hex_items.specs.declared.token.Fault.{Fault}
 use Rattle.hex_items.specs.declared.token.Fault.TheVariants.{BadField}
 use Rattle.hex_items.specs.declared.token.Token.{Token}
-use Rattle.hex_items.specs.declared.token.Token.TheVariants.{Byte, Field, Reference, Alone}
-use Rattle.hex_items.specs.Tokens.{byte_at, byte_of, ends_name, field_at, field_of, gap_length, low_digit, name_length, named_by, pad_at, pair_at, pair_with, rel_at, second_name, token_at}
-use Rattle.hex_writer.specs.Writable.{IsName, IsWritable}
+use Rattle.hex_items.specs.declared.token.Token.TheVariants.{Reference, Alone}
+use Rattle.hex_items.specs.Tokens.{byte_at, byte_of, ends_name, field_at, field_of, gap_length, low_digit, name_length, named_by, pair_at, pair_with, rel_at, second_name, token_at}
+use Rattle.hex_writer.specs.Writable.{IsName}
 use Rattle.hex_writer.proofs.Writables.{IsGood}
 
 -- ---- bytes
@@ -91,7 +89,7 @@ no-blank p (byte ∷ left) = by (p byte) refl (no-blank p left)
     by false is rest =
         let one : 1 + position_or_len p left ≡ suc (position_or_len p left) = omega arith in
         let open_is : take (position_or_len p (byte ∷ left)) (byte ∷ left) ≡ byte ∷ take (position_or_len p left) left =
-            rw is (ap (λ (n : ℕ). take n (byte ∷ left)) one) in
+        rw is (ap (λ (n : ℕ). take n (byte ∷ left)) one) in
         ap (list_any p) open_is ∙ ap (λ (b : Bool). b || list_any p (take (position_or_len p left) left)) is ∙ rest
 
 size-within : (p : ℕ → Bool) (left : List ℕ) → position_or_len p left ≤ length left

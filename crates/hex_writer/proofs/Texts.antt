@@ -1,8 +1,8 @@
 -- What is written is read again.
-use Rattle.std.proofs.Common.{◌≡◌, sym, ℕ, ◌≤◌, List, [], ◌∷◌, ◌++◌, length, refl, ap, ◌∙◌, arith, None, Result, Ok}
+use Rattle.std.proofs.Common.{◌≡◌, sym, ℕ, ◌≤◌, List, [], ◌∷◌, length, refl, ap, ◌∙◌, None, Ok}
 use Rattle.hex_items.specs.declared.item.Item.{Item}
 use Rattle.hex_items.specs.declared.token.Dialect.TheVariants.{Hex2}
-use Rattle.hex_items.specs.Reading.{formed, Formed, items_of, reading, Whole, with_front}
+use Rattle.hex_items.specs.Reading.{formed, items_of, reading, Whole, with_front}
 use Rattle.hex_items.proofs.Readings.{items_of-judged, judged-end}
 use Rattle.std.proofs.lemmas.List.{append-nil}
 use Rattle.hex_writer.specs.Writable.{AreWritable}

@@ -1,19 +1,14 @@
 -- Tokens with good names and small numbers give items that have lines.
-use Rattle.std.proofs.Common.{◌≡◌, ℕ, ◌+◌, ◌*◌, ◌/◌, ◌%◌, ◌<◌, ◌≤◌, ◌^◌, Bool, false, true, List, [], ◌∷◌, ◌++◌, length, map, take, refl, sym, ap, subst, ◌∙◌, arith, Option, Some, None, Result, Ok, Err, cond, not, suc, ◌||◌}
-use Rattle.std.specs.Prelude.{bit_xor}
-use Rattle.std.specs.Int.{w32, from_le_bytes, to_le_bytes}
-use Rattle.std.specs.List.{AllByRecursion, list_any, position_or_len}
+use Rattle.std.proofs.Common.{ℕ, ◌<◌, ◌^◌, List, [], ◌∷◌, ◌++◌, arith, Option, Some, None, Ok, Err}
+use Rattle.std.specs.Int.{w32, from_le_bytes}
 use Rattle.std.proofs.lemmas.Nat.{xor_of_32}
 use Rattle.hex_items.specs.declared.item.Kind.{Kind}
 use Rattle.hex_items.specs.declared.item.Item.{Item}
-use Rattle.hex_items.specs.declared.item.Item.TheVariants as item
 use Rattle.hex_items.specs.declared.token.Token.{Token}
 use Rattle.hex_items.specs.declared.token.Token.TheVariants.{Byte, Field, Reference, Alone}
 use Rattle.hex_items.specs.declared.words.Open.{Open}
 use Rattle.hex_items.specs.declared.words.Begun.{Begun}
 use Rattle.hex_items.specs.declared.words.Begun.TheVariants.{Nothing, One, Two, Three}
-use Rattle.hex_items.specs.declared.words.Halt.{Halt}
-use Rattle.hex_items.specs.declared.token.Fault.{Fault}
 use Rattle.hex_items.specs.Words.{byte_in, field_in, reference_in, Step, taken, word_items}
 use Rattle.hex_items.specs.Reading.{Ends, Faulty, formed, Formed, behind_step, Reading, Then}
 use Rattle.hex_writer.specs.Writable.{AreWritable, IsName, IsWritable}

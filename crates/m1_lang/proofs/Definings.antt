@@ -1,12 +1,12 @@
 -- What one definition does to the table.
-use Rattle.std.proofs.Common.{◌≡◌, ℕ, Bool, true, false, cond, not, List, [], ◌∷◌, ◌++◌, refl, sym, ap, ◌∙◌, Option, Some, None, is_some, Result, Ok, Err}
+use Rattle.std.proofs.Common.{◌≡◌, ℕ, Bool, true, cond, not, List, [], ◌∷◌, ◌++◌, sym, ap, ◌∙◌, Option, Some, None, is_some, Result, Ok, Err}
 use Rattle.indexmap.specs.IndexMap.{get, IndexMap, insert_entry}
 use Rattle.indexmap.proofs.CallerLemmas.{insert_entry-new}
 use Rattle.m1_words.specs.Words.{Found, open_quote, Word, Words, word_list, words_of}
 use Rattle.m1_words.specs.Representation.Next.{words_at}
 use Rattle.m1_lang.specs.declared.refusal.M1Refusal.{M1Refusal}
 use Rattle.m1_lang.specs.declared.refusal.M1Refusal.TheVariants as refusal
-use Rattle.m1_lang.specs.Definitions.{and_then, Defined, defined_with, definitions, definitions_in, is_value, parts, same_text, unless_open, value_in}
+use Rattle.m1_lang.specs.Definitions.{and_then, Defined, definitions, definitions_in, is_value, parts, same_text, unless_open, value_in}
 use Rattle.m1_lang.specs.Representation.Passes.{behind_define, DefinesOne, first_refusal, open_at, parts_at, Tabulates}
 
 -- behind a good value the name decides
@@ -32,8 +32,8 @@ pub defines-new : {S : Type 0} (old new : IndexMap (List ℕ) (List ℕ) S) (sou
     × (open_at source at ≡ open_at source after)
 defines-new old new source start at next after name value first second good none entries = (
   two-words old.entries source start at next after name value first second
-  ∙ behind-good old.entries start name value (word_list (words_at source after)) None good none
-  ∙ ap (λ (d : Defined). definitions d (parts_at source after)) (sym (entries ∙ insert_entry-new same_text old name.text value.text none)),
+      ∙ behind-good old.entries start name value (word_list (words_at source after)) None good none
+      ∙ ap (λ (d : Defined). definitions d (parts_at source after)) (sym (entries ∙ insert_entry-new same_text old name.text value.text none)),
   ap open_quote first ∙ ap open_quote second,
 )
 

@@ -1,5 +1,5 @@
 -- One word of a source on, and the whole.
-use Rattle.std.proofs.Common.{◌≡◌, ◌≤◌, ◌<◌, ℕ, nat_lt, true, false, List, [], ◌∷◌, length, refl, ap, sym, subst, ◌∙◌, arith, Option, None, Some, Result, Ok, Err}
+use Rattle.std.proofs.Common.{◌≡◌, ◌≤◌, ◌<◌, ℕ, nat_lt, true, false, List, [], length, ap, sym, subst, ◌∙◌, arith, Option, None, Result, Ok, Err}
 use Rattle.std.proofs.lemmas.Bool.{cond-true, cond-false}
 use Rattle.std.proofs.lemmas.Bool.Decides.{nat_tests}
 use Rattle.indexmap.specs.IndexMap.{get, IndexMap}
@@ -7,12 +7,12 @@ use Rattle.hex_items.specs.declared.item.Item.{Item}
 use Rattle.hex_items.specs.declared.words.Open.{Open}
 use Rattle.hex_items.specs.Reading.{Ends, formed, Formed, Reading, with_front, word_end}
 use Rattle.m1_words.specs.declared.meaning.WordFault.{WordFault}
-use Rattle.m1_words.specs.Words.{Found, Over, Word, word_list, Words, words_of}
+use Rattle.m1_words.specs.Words.{Found, Word, word_list, Words, words_of}
 use Rattle.m1_words.specs.Forms.{tokens_of}
 use Rattle.m1_words.specs.Representation.Next.{words_at}
 use Rattle.m1_lang.specs.declared.refusal.M1Refusal.{M1Refusal}
 use Rattle.m1_lang.specs.declared.refusal.M1Refusal.TheVariants as refusal
-use Rattle.m1_lang.specs.Definitions.{Defined, definitions_in, is_define, parts, plain_words, same_text, value_in}
+use Rattle.m1_lang.specs.Definitions.{definitions_in, is_define, parts, plain_words, same_text}
 use Rattle.m1_lang.specs.Expansion.{counted, Expands, expansion_by, expansion_of, then_read, unless_refused, words_reading}
 use Rattle.m1_lang.specs.Representation.Passes.{plain_behind, parts_at, reading_at, Tabulates, TakesWord}
 use Rattle.m1_lang.proofs.Passing.{define-plain, parts-plain, words-end}

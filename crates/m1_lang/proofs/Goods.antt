@@ -1,8 +1,7 @@
 -- The words of an M1 source of bytes give good tokens, so that its items have lines.
-use Rattle.std.proofs.Common.{◌≡◌, ℕ, zero, suc, ◌+◌, ◌-◌, ◌*◌, ◌/◌, ◌%◌, ◌<◌, ◌≤◌, ◌==◌, nat_lt, Bool, true, false, cond, not, List, [], ◌∷◌, ◌++◌, length, take, drop, map, replicate, refl, sym, ap, subst, ◌∙◌, arith, Option, Some, None, Result, Ok, Err}
-use Rattle.std.proofs.lemmas.Bool.{cond-false}
+use Rattle.std.proofs.Common.{◌≡◌, ℕ, zero, suc, ◌+◌, ◌-◌, ◌%◌, ◌<◌, ◌≤◌, ◌==◌, nat_lt, Bool, true, false, cond, List, [], ◌∷◌, ◌++◌, length, take, map, replicate, refl, ap, subst, arith, Option, Some, None, Result, Ok, Err}
 use Rattle.std.proofs.lemmas.Bool.Decides.{nat_tests}
-use Rattle.std.specs.Prelude.{ℤ, pos, negsuc, neg_ℤ, ◌+ℤ◌, ◌^◌, slice_index}
+use Rattle.std.specs.Prelude.{ℤ, pos, negsuc, neg_ℤ, ◌+ℤ◌}
 use Rattle.std.specs.Int.{w32, to_le_bytes}
 use Rattle.std.specs.List.{AllByRecursion}
 use Rattle.hex.specs.Hex.{hex_digit_value}
@@ -12,7 +11,7 @@ use Rattle.hex_items.specs.declared.token.Fault.{Fault}
 use Rattle.hex_items.specs.declared.token.Token.{Token}
 use Rattle.hex_items.specs.declared.token.Token.TheVariants.{Byte, Field}
 use Rattle.hex_items.specs.Tokens.{byte_of, gap_length, opens_gap, token_at}
-use Rattle.hex_items.specs.Reading.{Ending, Ends, Faulted, Faulty, formed, Formed, Halted, items_of, Reading, Then, Whole}
+use Rattle.hex_items.specs.Reading.{Ending, Faulted, formed, Formed, Halted, items_of, Reading, Whole}
 use Rattle.hex_writer.specs.Writable.{AreWritable}
 use Rattle.hex_writer.specs.Writing.{written}
 use Rattle.hex_writer.proofs.GoodTokens.{byte-below, digit-below, IsBelow, IsGoodFound, token-good}
@@ -23,11 +22,11 @@ use Rattle.m1_words.specs.declared.meaning.WordFault.TheVariants.{UnknownWord}
 use Rattle.m1_words.specs.Digits.{cons_byte, digit_bytes}
 use Rattle.m1_words.specs.Numbers.{number}
 use Rattle.m1_words.specs.Forms.{begins_with, between, byte_tokens, defined_tokens, Form, form_or, form_tokens, i_field, in_range, is_within, number_behind, number_tokens, numbered_or, numbered_tokens, one_token, padded, quoted_tokens, s_field, takes_number, token_over, Tokens, tokens_of, upper_field, value_tokens, whole_token, wrapped}
-use Rattle.m1_words.specs.Words.{Found, Over, Unclosed, Word, word_list, word_more, Words, words_from, words_of}
+use Rattle.m1_words.specs.Words.{Found, Unclosed, Word, word_list, word_more, Words, words_from, words_of}
 use Rattle.m1_lang.specs.declared.refusal.M1Refusal.{M1Refusal}
 use Rattle.m1_lang.specs.declared.refusal.M1Refusal.TheVariants.{TooLong}
 use Rattle.m1_lang.specs.Laws.{AreBytes}
-use Rattle.m1_lang.specs.Definitions.{Defined, Defines, Cut, definitions_in, is_define, Part, parts, Plain, plain_words, value_in}
+use Rattle.m1_lang.specs.Definitions.{Defined, Defines, Cut, definitions_in, is_define, parts, Plain, plain_words, value_in}
 use Rattle.m1_lang.specs.Expansion.{at_once, counted, expansion_by, expansion_of, then_read, unless_refused, words_reading}
 
 abbrev AreGoodTokens : List Token → Type 0
@@ -261,9 +260,10 @@ items-fit : (defined : Result Defined M1Refusal) (words : List Word) (items : Li
     → AreWritable items × (length items ≤ 33554432)
 items-fit (Err why) words items are is = absurd (cc)
 items-fit (Ok defined) words items are is =
-    let found = counted-ok (formed None (words_reading (value_in defined) words)) items is in
-    (subst AreWritable found.0 (formed-writable None (words_reading (value_in defined) words) tt (reading-good (value_in defined) words are)),
-     omega (arith, found.1, ap length found.0))
+    let found = counted-ok (formed None (words_reading (value_in defined) words)) items is in (
+      subst AreWritable found.0 (formed-writable None (words_reading (value_in defined) words) tt (reading-good (value_in defined) words are)),
+      omega (arith, found.1, ap length found.0),
+    )
 
 -- what a source of bytes expands to, if it is written, is read again
 pub written-again : (source : List ℕ) (items : List Item) → AreBytes source → expansion_of source ≡ Ok items → length (written items) ≤ 67108864
@@ -276,5 +276,5 @@ written-again source items are is short = by (nat_lt 67108864 (length source)) i
     by true same = absurd (cc)
     by false same =
         let fit = items-fit (definitions_in (words_of source)) (plain_words (parts (word_list (words_of source)))) items
-            (plain-bytes (word_list (words_of source)) (words-bytes 0 0 source are)) same in
+        (plain-bytes (word_list (words_of source)) (words-bytes 0 0 source are)) same in
         items_of-written items fit.0 fit.1 short

@@ -1,5 +1,5 @@
 -- What taking one token after the other comes to.
-use Rattle.std.proofs.Common.{◌≡◌, ℕ, suc, ◌-◌, replicate, ◌+◌, ◌<◌, ◌≤◌, Bool, true, false, nat_lt, List, [], ◌∷◌, ◌++◌, length, map, refl, sym, ap, ◌∙◌, arith, Option, Result, Ok, Err, length-append}
+use Rattle.std.proofs.Common.{◌≡◌, ℕ, suc, ◌-◌, replicate, ◌+◌, ◌<◌, ◌≤◌, true, false, nat_lt, List, [], ◌∷◌, ◌++◌, length, map, refl, sym, ap, ◌∙◌, arith, Option, Result, Ok, Err, length-append}
 use Rattle.std.proofs.lemmas.Bool.{cond-true, cond-false}
 use Rattle.std.proofs.lemmas.Bool.Decides.{nat_tests}
 use Rattle.std.proofs.lemmas.List.{append-nil}
@@ -14,7 +14,6 @@ use Rattle.hex_items.specs.Reading.{Ending, formed, Formed, Halted, Reading, The
 use Rattle.hex_items.specs.Words.{Step, taken, Takes}
 use Rattle.hex_items.proofs.Readings.{formed-halt, formed-token, takes-ok, with_front-twice}
 use Rattle.m1_words.specs.declared.meaning.WordFault.{WordFault}
-use Rattle.m1_lang.specs.declared.refusal.M1Refusal.{M1Refusal}
 use Rattle.m1_lang.specs.declared.refusal.M1Refusal.TheVariants.{TooLong}
 use Rattle.m1_lang.specs.Expansion.{at_once, counted, place_refusal, unless_refused}
 use Rattle.m1_lang.specs.Representation.Passes.{TakesAll}

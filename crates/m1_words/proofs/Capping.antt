@@ -8,7 +8,7 @@ use Rattle.m1_words.specs.declared.meaning.Meaning.{Meaning}
 use Rattle.m1_words.specs.declared.meaning.WordFault.{WordFault}
 use Rattle.m1_words.specs.Representation.Meanings.{FitsNumber, Gives}
 use Rattle.m1_words.specs.Forms.{Tokens, i_field, in_range, is_within, number_behind, number_tokens, s_field, upper_field, wrapped}
-use Rattle.std.proofs.Common.{Bool, true, false, cond, ◌==◌, map, Result, Ok, Err, zero, ◌≡◌, ℕ, suc, ◌+◌, ◌*◌, ◌-◌, ◌<◌, ◌≤◌, List, [], ◌∷◌, Option, Some, None, refl, sym, ap, subst, ◌∙◌, arith, get_or, drop, min, ◌⊎◌, inl, inr}
+use Rattle.std.proofs.Common.{Bool, true, false, cond, ◌==◌, map, Result, Ok, Err, zero, ◌≡◌, ℕ, suc, ◌+◌, ◌*◌, ◌-◌, ◌<◌, ◌≤◌, List, [], ◌∷◌, Option, Some, None, refl, sym, ap, subst, ◌∙◌, arith, drop, ◌⊎◌, inl, inr}
 use Rattle.std.proofs.lemmas.Bool.{cases_lt}
 use Rattle.std.proofs.Math.Nat.{add-mul}
 use Rattle.hex.specs.Hex.{hex_digit_value}
@@ -45,7 +45,7 @@ digit-more base value digit next byte left low is next_is =
     let twice : capped (base * value + digit) ≡ capped next = omega arith in
     ap (λ (o : Option ℕ). capped_value (behind_digit o (λ (d : ℕ). more_digits base (base * value + d) left))) (sym is)
     ∙ subst (λ (b : ℕ). capped_value (more_digits b (base * value + digit) left) ≡ capped_value (more_digits b next left)) k_is
-        (capped-more (base - 1) (base * value + digit) next left twice)
+    (capped-more (base - 1) (base * value + digit) next left twice)
 
 -- ---- a number that is capped is out of every range, as the number itself is
 

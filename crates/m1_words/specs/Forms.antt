@@ -1,7 +1,7 @@
 -- The forms of an M1 word, and the tokens that it gives. Public source: the language M1 of stage0-posix and mescc-tools, whose exact rules
 -- here are this project's profile; the fields are those of the RISC-V Unprivileged ISA, "Immediate Encoding Variants".
 -- docs/reference/m1.md says the same for people.
-use Rattle.std.specs.Prelude.{ℕ, ◌+◌, ◌-◌, ◌*◌, ◌/◌, ◌%◌, ◌==◌, Bool, false, not, ◌&&◌, ◌||◌, if◌then◌else◌, List, [], ◌∷◌, ◌++◌, length, take, map, replicate, Option, Some, None, is_some, Result, Ok, Err, ℤ, pos, neg_ℤ, ◌+ℤ◌, int_le, int_lt, unsigned_abs}
+use Rattle.std.specs.Prelude.{ℕ, ◌+◌, ◌-◌, ◌*◌, ◌/◌, ◌%◌, ◌==◌, Bool, false, ◌&&◌, ◌||◌, if◌then◌else◌, List, [], ◌∷◌, ◌++◌, length, take, map, replicate, Option, Some, None, Result, Ok, Err, ℤ, pos, neg_ℤ, ◌+ℤ◌, int_le, int_lt, unsigned_abs}
 use Rattle.std.specs.Int.{w32, to_le_bytes, int_rem_euclid}
 use Rattle.hex_items.specs.declared.token.Dialect.TheVariants.{Hex2}
 use Rattle.hex_items.specs.declared.token.Fault.{Fault}

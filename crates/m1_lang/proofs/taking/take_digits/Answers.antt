@@ -1,4 +1,4 @@
-use Rattle.std.proofs.Common.{◌≡◌, ◌≤◌, ◌∙◌, ap, arith, drop, length, List, ℕ, map}
+use Rattle.std.proofs.Common.{◌≤◌, ◌∙◌, ap, arith, drop, length, List, ℕ, map}
 use Rattle.std.proofs.lemmas.List.{length-drop}
 use Rattle.hex_items.specs.declared.token.Token.TheVariants.{Byte}
 use Rattle.hex_items.specs.Reading.{formed, with_front}
