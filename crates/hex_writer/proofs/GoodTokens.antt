@@ -12,7 +12,7 @@ use Rattle.hex_items.specs.declared.token.Fault.TheVariants.{BadField}
 use Rattle.hex_items.specs.declared.token.Token.{Token}
 use Rattle.hex_items.specs.declared.token.Token.TheVariants.{Reference, Alone}
 use Rattle.hex_items.specs.Tokens.{byte_at, byte_of, ends_name, field_at, field_of, gap_length, low_digit, name_length, named_by, pair_at, pair_with, rel_at, second_name, token_at}
-use Rattle.hex_writer.specs.Writable.{IsName}
+use Rattle.hex_writer.specs.Writable.{IsHexName}
 use Rattle.hex_writer.proofs.Writables.{IsGood}
 
 -- ---- bytes
@@ -105,17 +105,17 @@ front-some size [] some within = absurd (grind (arith, nat_tests))
 front-some zero (byte ∷ left) some within = absurd (cc)
 front-some (suc size) (byte ∷ left) some within = omega arith
 
-front-name : (size : ℕ) (left : List ℕ) → size ≡ position_or_len ends_name left → (size == 0) ≡ false → IsName (take size left)
+front-name : (size : ℕ) (left : List ℕ) → size ≡ position_or_len ends_name left → (size == 0) ≡ false → IsHexName (take size left)
 front-name size left is some = record {
   some = front-some size left some (omega (arith, is, size-within ends_name left));
   whole = ap (λ (n : ℕ). list_any ends_name (take n left)) is ∙ no-blank ends_name left;
 }
 
-name-good : (left : List ℕ) → (name_length Hex2 left == 0) ≡ false → IsName (take (name_length Hex2 left) left)
+name-good : (left : List ℕ) → (name_length Hex2 left == 0) ≡ false → IsHexName (take (name_length Hex2 left) left)
 unfolding name_length
 name-good left some = front-name (position_or_len ends_name left) left refl some
 
-named-good : (make : List ℕ → Token) (left : List ℕ) → ((name : List ℕ) → IsName name → IsGood (make name)) → IsGoodFound (named_by make (name_length Hex2 left) left)
+named-good : (make : List ℕ → Token) (left : List ℕ) → ((name : List ℕ) → IsHexName name → IsGood (make name)) → IsGoodFound (named_by make (name_length Hex2 left) left)
 named-good make left good = by (name_length Hex2 left == 0) refl
   where
     by : (none : Bool) → (name_length Hex2 left == 0) ≡ none → IsGoodFound (cond none (Err BadField) (Ok (make (take (name_length Hex2 left) left), name_length Hex2 left)))

@@ -23,7 +23,7 @@ use Rattle.hex_items.proofs.Readings.{gap_length-some, reading-token}
 use Rattle.std.specs.Prelude.{◌^◌}
 use Rattle.std.specs.Int.{w32, from_le_bytes, to_le_bytes}
 use Rattle.std.proofs.lemmas.Nat.{from_le_bytes-to_le_bytes_4}
-use Rattle.hex_writer.specs.Writable.{IsName, IsWritable}
+use Rattle.hex_writer.specs.Writable.{IsHexName, IsWritable}
 use Rattle.hex_writer.specs.Writing.{item_line, kind_sign}
 
 -- ---- blanks between tokens
@@ -108,14 +108,14 @@ name_length-is (first ∷ name) left byte whole ends =
     rw head (ap (λ (n : ℕ). 1 + n) (name_length-is name left byte parts.1 ends) ∙ more)
 
 -- behind a sign a whole name
-pub named-is : (make : List ℕ → Token) (name left : List ℕ) (byte : ℕ) → IsName name → ends_name byte ≡ true
+pub named-is : (make : List ℕ → Token) (name left : List ℕ) (byte : ℕ) → IsHexName name → ends_name byte ≡ true
     → named_by make (name_length Hex2 (name ++ byte ∷ left)) (name ++ byte ∷ left) ≡ Ok (make name, length name)
 named-is make name left byte is ends =
     let size = name_length-is name left byte is.whole ends in
     let some : length name == 0 ≡ false = grind (arith, nat_tests, is.some) in
     rw size (rw some (rw (take-append_seam name (byte ∷ left)) refl))
 
-pub reads-named : (at first : ℕ) (make : List ℕ → Token) (name left : List ℕ) (byte : ℕ) → IsName name → ends_name byte ≡ true → opens_gap first ≡ false
+pub reads-named : (at first : ℕ) (make : List ℕ → Token) (name left : List ℕ) (byte : ℕ) → IsHexName name → ends_name byte ≡ true → opens_gap first ≡ false
     → token_at Hex2 first (name ++ byte ∷ left) ≡ named_by make (name_length Hex2 (name ++ byte ∷ left)) (name ++ byte ∷ left)
     → reading Hex2 at 0 (first ∷ (name ++ byte ∷ left)) ≡ Then at (make name) (reading Hex2 (at + 1 + length name) 0 (byte ∷ left))
 reads-named at first make name left byte is ends code token =
@@ -142,7 +142,7 @@ unfolding token_at
 pad-token left = refl
 
 -- `%` and a name that no `>` follows, and one that it follows
-rel-token : (name left : List ℕ) → IsName name → token_at Hex2 37 (name ++ 10 ∷ left) ≡ Ok (Alone (item.Rel name), length name)
+rel-token : (name left : List ℕ) → IsHexName name → token_at Hex2 37 (name ++ 10 ∷ left) ≡ Ok (Alone (item.Rel name), length name)
 unfolding token_at
 rel-token name left is =
     let size = name_length-is name left 10 is.whole refl in
@@ -152,7 +152,7 @@ rel-token name left is =
 drop-past : (xs ys : List ℕ) (y : ℕ) → drop (length xs + 1) (xs ++ y ∷ ys) ≡ ys
 drop-past xs ys y = sym (drop-drop 1 (length xs) (xs ++ y ∷ ys)) ∙ ap (λ (l : List ℕ). drop 1 l) (drop-append_seam xs (y ∷ ys))
 
-gap-token : (name other left : List ℕ) → IsName name → IsName other
+gap-token : (name other left : List ℕ) → IsHexName name → IsHexName other
     → token_at Hex2 37 (name ++ 62 ∷ (other ++ 10 ∷ left)) ≡ Ok (Alone (item.Gap name other), length name + 1 + length other)
 unfolding token_at
 gap-token name other left is also =
@@ -185,7 +185,7 @@ line-byte byte small at rest = (
       ∙ ap (λ (r : Reading Fault). with_front (item.Byte byte ∷ []) (formed None r)) (line_feed (at + 2) rest),
 )
 
-pub line-label : (name : List ℕ) → IsName name → ReadsLine (item.Label name)
+pub line-label : (name : List ℕ) → IsHexName name → ReadsLine (item.Label name)
 line-label name is at rest = (
   at + 1 + length name + 1,
   ap (λ (l : List ℕ). formed None (reading Hex2 at 0 (58 ∷ l))) (append_assoc name (10 ∷ []) rest)
@@ -193,7 +193,7 @@ line-label name is at rest = (
       ∙ ap (λ (r : Reading Fault). with_front (item.Label name ∷ []) (formed None r)) (line_feed (at + 1 + length name) rest),
 )
 
-pub line-abs : (name : List ℕ) → IsName name → ReadsLine (item.Abs name)
+pub line-abs : (name : List ℕ) → IsHexName name → ReadsLine (item.Abs name)
 line-abs name is at rest = (
   at + 1 + length name + 1,
   ap (λ (l : List ℕ). formed None (reading Hex2 at 0 (38 ∷ l))) (append_assoc name (10 ∷ []) rest)
@@ -208,7 +208,7 @@ line-pad at rest = (
       ∙ ap (λ (r : Reading Fault). with_front (item.Pad ∷ []) (formed None r)) (line_feed (at + 1 + 0) rest),
 )
 
-pub line-rel : (name : List ℕ) → IsName name → ReadsLine (item.Rel name)
+pub line-rel : (name : List ℕ) → IsHexName name → ReadsLine (item.Rel name)
 line-rel name is at rest = (
   at + 1 + length name + 1,
   ap (λ (l : List ℕ). formed None (reading Hex2 at 0 (37 ∷ l))) (append_assoc name (10 ∷ []) rest)
@@ -221,7 +221,7 @@ gap-left : (name other rest : List ℕ) → (name ++ 62 ∷ (other ++ 10 ∷ [])
 gap-left name other rest =
     append_assoc name (62 ∷ (other ++ 10 ∷ [])) rest ∙ ap (λ (l : List ℕ). name ++ 62 ∷ l) (append_assoc other (10 ∷ []) rest)
 
-pub line-gap : (name other : List ℕ) → IsName name → IsName other → ReadsLine (item.Gap name other)
+pub line-gap : (name other : List ℕ) → IsHexName name → IsHexName other → ReadsLine (item.Gap name other)
 line-gap name other is also at rest =
     let past : drop (length name + 1 + length other) (name ++ 62 ∷ (other ++ 10 ∷ rest)) ≡ 10 ∷ rest =
     sym (drop-drop (length other) (length name + 1) (name ++ 62 ∷ (other ++ 10 ∷ rest)))
@@ -258,7 +258,7 @@ unfolding encode_with
 word-bytes value at rest =
     four-bytes (value % 256) (value / 256 % 256) (value / 65536 % 256) (value / 16777216 % 256) at (10 ∷ rest) (omega arith) (omega arith) (omega arith) (omega arith)
 
-pub line-word : (value : ℕ) (kind : Kind) (name : List ℕ) → value < 2 ^ 32 → IsName name → ReadsLine (item.Word value kind name)
+pub line-word : (value : ℕ) (kind : Kind) (name : List ℕ) → value < 2 ^ 32 → IsHexName name → ReadsLine (item.Word value kind name)
 line-word value kind name small is at rest =
     let E = encode_upper (to_le_bytes w32 value) in
     let place : ℕ = at + 1 + length name + 1 in

@@ -11,12 +11,12 @@ use Rattle.hex_items.specs.declared.words.Begun.{Begun}
 use Rattle.hex_items.specs.declared.words.Begun.TheVariants.{Nothing, One, Two, Three}
 use Rattle.hex_items.specs.Words.{byte_in, field_in, reference_in, Step, taken, word_items}
 use Rattle.hex_items.specs.Reading.{Ends, Faulty, formed, Formed, behind_step, Reading, Then}
-use Rattle.hex_writer.specs.Writable.{AreWritable, IsName, IsWritable}
+use Rattle.hex_writer.specs.Writable.{AreWritable, IsHexName, IsWritable}
 
 abbrev pub IsGood : Token → Type 0
 IsGood (Byte byte) = byte < 256
 IsGood (Field mask) = mask < 2 ^ 32
-IsGood (Reference kind name) = IsName name
+IsGood (Reference kind name) = IsHexName name
 IsGood (Alone it) = IsWritable it
 
 abbrev pub AreGood : {F : Type 0} → Reading F → Type 0
@@ -31,7 +31,7 @@ BytesFit (Three a b c) = (a < 256) × (b < 256) × (c < 256)
 
 abbrev pub NameFits : Option (Kind × List ℕ) → Type 0
 NameFits None = Unit {0}
-NameFits (Some reference) = IsName reference.1
+NameFits (Some reference) = IsHexName reference.1
 
 pub record WordFits (word : Open) : Type 0 where
   pub mask : word.mask < 2 ^ 32
@@ -64,7 +64,7 @@ field-fits word (One a) mask fits small bytes = tt
 field-fits word (Two a b) mask fits small bytes = tt
 field-fits word (Three a b c) mask fits small bytes = tt
 
-reference-fits : (word : Open) (reference : Option (Kind × List ℕ)) (begun : Begun) (at : ℕ) (kind : Kind) (name : List ℕ) → WordFits word → IsName name
+reference-fits : (word : Open) (reference : Option (Kind × List ℕ)) (begun : Begun) (at : ℕ) (kind : Kind) (name : List ℕ) → WordFits word → IsHexName name
     → StepFits (reference_in word reference begun at kind name)
 reference-fits word (Some other) begun at kind name fits is = tt
 reference-fits word None Nothing at kind name fits is = (tt, record { mask = fits.mask; bytes = fits.bytes; name = is })

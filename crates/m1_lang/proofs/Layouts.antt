@@ -5,7 +5,7 @@ use Rattle.std.specs.List.{position_or_len}
 use Rattle.std.proofs.Math.Seq.{drop-append_seam, take-append_seam}
 use Rattle.hex_langs.specs.Hex0.{begins_comment}
 use Rattle.hex_items.specs.Tokens.{gap_length, is_blank, opens_gap}
-use Rattle.m1_words.specs.Words.{closed_at, Found, is_quote, open_quote, Word, word_list, word_more, Words, words_from, words_of}
+use Rattle.m1_words.specs.Words.{until_closed, Found, is_quote, open_quote, Word, word_list, word_more, Words, words_from, words_of}
 use Rattle.m1_words.proofs.Splits.{passed, split-inside}
 use Rattle.m1_lang.specs.Laws.{AreBlanks, IsLayout, IsOneWord, laid_out, Layout, texts_in}
 
@@ -54,14 +54,14 @@ none-then p (x ∷ xs) ys y none is = by (p x) (none-then p xs ys y) none
     by true later same = same
     by false later same = omega (arith, later (omega (arith, same)) is)
 
-closed-some : (size more : ℕ) (left : List ℕ) → closed_at size left ≡ Some more → (size < length left) × (more ≡ size + 1)
+closed-some : (size more : ℕ) (left : List ℕ) → until_closed size left ≡ Some more → (size < length left) × (more ≡ size + 1)
 closed-some size more left is = by (nat_lt size (length left)) refl is
   where
     by : (within : Bool) → nat_lt size (length left) ≡ within → cond within (Some (size + 1)) None ≡ Some more → (size < length left) × (more ≡ size + 1)
     by true tested same = (grind (arith, nat_tests), cc)
     by false tested same = absurd (cc)
 
-closed-at : (size : ℕ) (left : List ℕ) → size < length left → closed_at size left ≡ Some (size + 1)
+closed-at : (size : ℕ) (left : List ℕ) → size < length left → until_closed size left ≡ Some (size + 1)
 closed-at size left within = let test : nat_lt size (length left) ≡ true = grind (arith, nat_tests) in ap (λ (b : Bool). cond b (Some (size + 1)) None) test
 
 -- a word ends before the blank behind it
@@ -70,12 +70,12 @@ more-same : (byte : ℕ) (more left : List ℕ) (blank : ℕ) → is_blank blank
 unfolding word_more
 more-same byte more left blank is one = by (is_quote byte) one
   where
-    quoted : closed_at (position_or_len (λ b. b == byte) more) more ≡ Some (length more)
-        → closed_at (position_or_len (λ b. b == byte) (more ++ blank ∷ left)) (more ++ blank ∷ left) ≡ Some (length more)
+    quoted : until_closed (position_or_len (λ b. b == byte) more) more ≡ Some (length more)
+        → until_closed (position_or_len (λ b. b == byte) (more ++ blank ∷ left)) (more ++ blank ∷ left) ≡ Some (length more)
     quoted same =
         let found = closed-some (position_or_len (λ b. b == byte) more) (length more) more same in
         let place = found-more (λ b. b == byte) more (blank ∷ left) found.0 in
-        ap (λ (n : ℕ). closed_at n (more ++ blank ∷ left)) place
+        ap (λ (n : ℕ). until_closed n (more ++ blank ∷ left)) place
         ∙ closed-at (position_or_len (λ b. b == byte) more) (more ++ blank ∷ left) (omega (arith, found.0, length-more))
         ∙ ap Some (sym found.1)
       where
@@ -85,8 +85,8 @@ more-same byte more left blank is one = by (is_quote byte) one
     plain : Some (position_or_len is_blank more) ≡ Some (length more) → Some (position_or_len is_blank (more ++ blank ∷ left)) ≡ Some (length more)
     plain same = let none : position_or_len is_blank more ≡ length more = cc in ap Some (none-then is_blank more left blank none is)
 
-    by : (quote : Bool) → cond quote (closed_at (position_or_len (λ b. b == byte) more) more) (Some (position_or_len is_blank more)) ≡ Some (length more)
-        → cond quote (closed_at (position_or_len (λ b. b == byte) (more ++ blank ∷ left)) (more ++ blank ∷ left)) (Some (position_or_len is_blank (more ++ blank ∷ left)))
+    by : (quote : Bool) → cond quote (until_closed (position_or_len (λ b. b == byte) more) more) (Some (position_or_len is_blank more)) ≡ Some (length more)
+        → cond quote (until_closed (position_or_len (λ b. b == byte) (more ++ blank ∷ left)) (more ++ blank ∷ left)) (Some (position_or_len is_blank (more ++ blank ∷ left)))
         ≡ Some (length more)
     by true same = quoted same
     by false same = plain same

@@ -4,7 +4,7 @@ use Rattle.std.proofs.Common.{true≢false}
 use Rattle.std.proofs.lemmas.Slice.Eq.{bytes_eq-Decides}
 use Rattle.m1_words.specs.Words.{Word}
 use Rattle.m1_lang.specs.declared.refusal.M1Refusal.TheVariants as refusal
-use Rattle.m1_lang.specs.Definitions.{and_then, Cut, Defined, Defines, definitions, is_value, Part, Plain, plain_words, same_text, value_in}
+use Rattle.m1_lang.specs.Definitions.{with_defined, Cut, Defined, Defines, definitions, is_value, Part, Plain, plain_words, same_text, value_in}
 use Rattle.m1_lang.proofs.Unplaced.{expansion_by_values, expansion_with, ok, parts_expansion}
 
 -- ---- look-ups
@@ -94,7 +94,7 @@ ok-with : (seen : Defined) (at : ℕ) (name value : List ℕ) (ps : List Part)
 ok-with seen at name value ps = by (is_value value) (is_some (value_in seen name))
   where
     by : (good again : Bool)
-        → ok (and_then (cond (not good) (Err (refusal.BadDefine at)) (cond again (Err (refusal.DoubleDefine at)) (Ok (seen ++ (name, value) ∷ [])))) (λ more. definitions more ps))
+        → ok (with_defined (cond (not good) (Err (refusal.BadDefine at)) (cond again (Err (refusal.DoubleDefine at)) (Ok (seen ++ (name, value) ∷ [])))) (λ more. definitions more ps))
         ≡ cond (not good) None (cond again None (ok (definitions (seen ++ (name, value) ∷ []) ps)))
     by false again = refl
     by true true = refl

@@ -17,9 +17,9 @@ use Rattle.m1_words.specs.Forms.{Tokens, tokens_of}
 use Rattle.m1_words.specs.Words.{Word, word_list, words_of}
 use Rattle.m1_lang.specs.declared.refusal.M1Refusal.{M1Refusal}
 use Rattle.m1_lang.specs.declared.refusal.M1Refusal.TheVariants as refusal
-use Rattle.m1_lang.specs.Definitions.{and_then, Cut, Defined, defined_with, Defines, definitions, is_define, is_value, Part, parts, Plain, plain_words, unless_open, value_in}
-use Rattle.m1_lang.specs.Expansion.{at_once, counted, expansion_by, expansion_of, then_read, unless_refused, words_reading}
-use Rattle.m1_lang.specs.Laws.{IsWhole, parts_in, texts_in, unplaced}
+use Rattle.m1_lang.specs.Definitions.{with_defined, Cut, Defined, defined_with, Defines, definitions, is_define, is_value, Part, parts, Plain, plain_words, unless_open, value_in}
+use Rattle.m1_lang.specs.Expansion.{at_once, counted_items, expansion_by, expansion_of, then_read, unless_refused, words_reading}
+use Rattle.m1_lang.specs.Laws.{IsCutIntoWords, parts_in, texts_in, unplaced}
 
 -- ---- one token
 
@@ -136,12 +136,12 @@ ok (Ok a) = Some a
 ok (Err why) = None
 
 with-none : (seen : Defined) (at : ℕ) (name value : List ℕ) (ps qs : List Part) → ((more : Defined) → ok (definitions more ps) ≡ ok (definitions more qs))
-    → ok (and_then (defined_with seen 0 name value) (λ more. definitions more ps)) ≡ ok (and_then (defined_with seen at name value) (λ more. definitions more qs))
+    → ok (with_defined (defined_with seen 0 name value) (λ more. definitions more ps)) ≡ ok (with_defined (defined_with seen at name value) (λ more. definitions more qs))
 with-none seen at name value ps qs later = by (is_value value) (is_some (value_in seen name))
   where
     by : (good again : Bool)
-        → ok (and_then (cond (not good) (Err (refusal.BadDefine 0)) (cond again (Err (refusal.DoubleDefine 0)) (Ok (seen ++ (name, value) ∷ [])))) (λ more. definitions more ps))
-        ≡ ok (and_then (cond (not good) (Err (refusal.BadDefine at)) (cond again (Err (refusal.DoubleDefine at)) (Ok (seen ++ (name, value) ∷ [])))) (λ more. definitions more qs))
+        → ok (with_defined (cond (not good) (Err (refusal.BadDefine 0)) (cond again (Err (refusal.DoubleDefine 0)) (Ok (seen ++ (name, value) ∷ [])))) (λ more. definitions more ps))
+        ≡ ok (with_defined (cond (not good) (Err (refusal.BadDefine at)) (cond again (Err (refusal.DoubleDefine at)) (Ok (seen ++ (name, value) ∷ [])))) (λ more. definitions more qs))
     by false again = refl
     by true true = refl
     by true false = later (seen ++ (name, value) ∷ [])
@@ -165,7 +165,7 @@ abbrev pub expansion_with : Option Defined → List Word → Option (List Item)
 expansion_with None words = None
 expansion_with (Some defined) words = expansion_by_values (value_in defined) words
 
-counted-whole : (items : List Item) (end : Ending WordFault) → ok (counted (record { items = items; end = end })) ≡ whole_items items (is_whole end)
+counted-whole : (items : List Item) (end : Ending WordFault) → ok (counted_items (record { items = items; end = end })) ≡ whole_items items (is_whole end)
 counted-whole items end = by (nat_lt 33554432 (length items)) end
   where
     by : (many : Bool) (end : Ending WordFault) → ok (cond many (Err refusal.TooLong) (unless_refused items end)) ≡ cond many None (cond (is_whole end) (Some items) None)
@@ -188,7 +188,7 @@ by-none (Ok defined) words =
 abbrev pub parts_expansion : List Part → Option (List Item)
 parts_expansion ps = expansion_with (ok (definitions [] ps)) (plain_words ps)
 
-pub expansion-none : (source : List ℕ) → IsWhole source → ok (expansion_of source) ≡ parts_expansion (parts_in source)
+pub expansion-none : (source : List ℕ) → IsCutIntoWords source → ok (expansion_of source) ≡ parts_expansion (parts_in source)
 unfolding expansion_of
 expansion-none source whole =
     let ps = parts (word_list (words_of source)) in
@@ -204,7 +204,7 @@ ok-is : {A : Type 0} (result : Result A M1Refusal) (a : A) → ok result ≡ Som
 ok-is (Ok b) a is = cc
 ok-is (Err why) a is = absurd (cc)
 
-pub gives-too : (one other : List ℕ) (items : List Item) → IsWhole one → IsWhole other → parts_expansion (parts_in one) ≡ parts_expansion (parts_in other)
+pub gives-too : (one other : List ℕ) (items : List Item) → IsCutIntoWords one → IsCutIntoWords other → parts_expansion (parts_in one) ≡ parts_expansion (parts_in other)
     → expansion_of one ≡ Ok items → expansion_of other ≡ Ok items
 gives-too one other items here there same is =
     ok-is (expansion_of other) items (expansion-none other there ∙ sym same ∙ sym (expansion-none one here) ∙ ap ok is)

@@ -6,11 +6,11 @@ use Rattle.m1_words.specs.Words.{open_quote, Word, word_list, word_more, words_o
 use Rattle.m1_lang.specs.Definitions.{Cut, Defines, Part, parts, Plain}
 
 -- each is a byte
-abbrev pub AreBytes : List ℕ → Type 0
-AreBytes bytes = AllByRecursion (λ byte. byte < 256) bytes
+abbrev pub IsOfBytes : List ℕ → Type 0
+IsOfBytes bytes = AllByRecursion (λ byte. byte < 256) bytes
 
 -- the source is no longer than a source may be, and every quote in it is closed
-pub record IsWhole (source : List ℕ) : Type 0 where
+pub record IsCutIntoWords (source : List ℕ) : Type 0 where
   pub short : length source ≤ 67108864
   pub closed : open_quote (words_of source) ≡ None
 

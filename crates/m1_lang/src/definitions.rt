@@ -2,12 +2,12 @@
 ghost use Rattle.std.specs.Prelude.{◌≡◌, ◌≤◌, length};
 ghost use Rattle.m1_words.specs.Words.{words_of};
 ghost use Rattle.m1_lang.specs.Definitions.{definitions_in, is_define, is_value};
-ghost use Rattle.m1_lang.specs.Representation.Passes.{first_refusal, open_at, DefinesOne, Tabulates};
+ghost use Rattle.m1_lang.specs.Representation.Passes.{quote_or, open_at, DefinesOne, Tabulates};
 
 use crate::refusal::M1Refusal;
 use hex_items::Name;
 use indexmap::IndexMap;
-use m1_words::{Next, next_word, value_of};
+use m1_words::{Ahead, next_word, value_meaning};
 use std::alloc::Global;
 
 pub(crate) fn is_define(text: &[u8]) -> bool
@@ -19,7 +19,7 @@ pub(crate) fn is_define(text: &[u8]) -> bool
 fn is_value(text: &[u8]) -> bool
     ensures { result ≡ is_value text.now }
 {
-    match value_of(text) {
+    match value_meaning(text) {
         Some(_) => true,
         None => false,
     }
@@ -33,9 +33,9 @@ fn open_quote(source: &[u8], from: usize) -> Option<usize>
     let mut at = from;
     while at < source.len() {
         match next_word(source, at) {
-            Next::End => return None,
-            Next::Open(place) => return Some(place),
-            Next::Word(_, _, after) => at = after,
+            Ahead::End => return None,
+            Ahead::Open(place) => return Some(place),
+            Ahead::Word(_, _, after) => at = after,
         }
     }
     None
@@ -52,8 +52,8 @@ fn define<'s>(
     ensures { DefinesOne result start source.now at table.old table.new }
 {
     match next_word(source, at) {
-        Next::Word(_, name, behind) => match next_word(source, behind) {
-            Next::Word(_, value, after) => {
+        Ahead::Word(_, name, behind) => match next_word(source, behind) {
+            Ahead::Word(_, value, after) => {
                 if !is_value(value) {
                     return Err(M1Refusal::BadDefine(start as u64));
                 }
@@ -72,7 +72,7 @@ fn define<'s>(
 /// The refusal of a definition, unless a quote is open behind it.
 fn unless_open(source: &[u8], at: usize, refusal: M1Refusal) -> M1Refusal
     requires { at ≤ length source.now }
-    ensures { result ≡ first_refusal (open_at source.now at) refusal }
+    ensures { result ≡ quote_or (open_at source.now at) refusal }
 {
     match open_quote(source, at) {
         Some(place) => M1Refusal::OpenString(place as u64),
@@ -91,9 +91,9 @@ pub(crate) fn definitions_of<'s>(
     let mut at = 0;
     while at < source.len() {
         match next_word(source, at) {
-            Next::End => return Ok(table),
-            Next::Open(place) => return Err(M1Refusal::OpenString(place as u64)),
-            Next::Word(start, text, after) => {
+            Ahead::End => return Ok(table),
+            Ahead::Open(place) => return Err(M1Refusal::OpenString(place as u64)),
+            Ahead::Word(start, text, after) => {
                 if is_define(text) {
                     match define(&mut table, source, start, after) {
                         Err(why) => return Err(unless_open(source, after, why)),

@@ -4,13 +4,13 @@ ghost use Rattle.std.specs.Option.{option_map};
 ghost use Rattle.indexmap.specs.IndexMap.{get};
 ghost use Rattle.hex_items.specs.declared.token.Token.TheVariants.{Byte};
 ghost use Rattle.m1_words.specs.Forms.{padded, tokens_of};
-ghost use Rattle.m1_words.specs.Representation.Meanings.{Gives, front_bytes, meaning_tokens};
+ghost use Rattle.m1_words.specs.Representation.Meanings.{MeansResult, front_bytes, meaning_tokens};
 ghost use Rattle.m1_lang.specs.Definitions.{same_text};
-ghost use Rattle.m1_lang.specs.Representation.Passes.{TakesAll};
+ghost use Rattle.m1_lang.specs.Representation.Passes.{TakesTokens};
 
 use hex_items::{Halt, Items, Name, Open, byte_of, take, take_byte};
 use indexmap::IndexMap;
-use m1_words::{Meaning, WordFault, meaning_of, value_of};
+use m1_words::{Meaning, WordFault, meaning_of, value_meaning};
 
 /// Takes bytes.
 fn take_bytes<'s>(
@@ -19,7 +19,7 @@ fn take_bytes<'s>(
     bytes: &[u8],
 ) -> Result<Option<Open<'s>>, Halt>
     requires { length items.old ≤ 33554432 }
-    ensures takes { (at : ℕ) → TakesAll result word.entry at (map Byte bytes.now) items.old items.new }
+    ensures takes { (at : ℕ) → TakesTokens result word.entry at (map Byte bytes.now) items.old items.new }
     ensures few { length items.new ≤ 33554432 }
 {
     for byte in bytes {
@@ -38,7 +38,7 @@ fn take_digits<'s>(
     digits: &[u8],
 ) -> Result<Option<Open<'s>>, Halt>
     requires { length items.old ≤ 33554432 }
-    ensures takes { (at : ℕ) → TakesAll result word.entry at (map Byte (front_bytes digits.now)) items.old items.new }
+    ensures takes { (at : ℕ) → TakesTokens result word.entry at (map Byte (front_bytes digits.now)) items.old items.new }
     ensures few { length items.new ≤ 33554432 }
 {
     let mut at = 0;
@@ -64,7 +64,7 @@ fn take_text<'s>(
     text: &[u8],
 ) -> Result<Option<Open<'s>>, Halt>
     requires { length items.old ≤ 33554432 }
-    ensures takes { (at : ℕ) → TakesAll result word.entry at (map Byte (padded text.now)) items.old items.new }
+    ensures takes { (at : ℕ) → TakesTokens result word.entry at (map Byte (padded text.now)) items.old items.new }
     ensures few { length items.new ≤ 33554432 }
 {
     match take_bytes(items, word, text) {
@@ -80,7 +80,7 @@ fn take_zeros<'s>(
     count: usize,
 ) -> Result<Option<Open<'s>>, Halt>
     requires { length items.old ≤ 33554432 }
-    ensures takes { (at : ℕ) → TakesAll result word.entry at (map Byte (replicate count 0)) items.old items.new }
+    ensures takes { (at : ℕ) → TakesTokens result word.entry at (map Byte (replicate count 0)) items.old items.new }
     ensures few { length items.new ≤ 33554432 }
 {
     for i in 0..count {
@@ -100,7 +100,7 @@ pub(crate) fn take_meaning<'s>(
     meaning: Meaning<'s>,
 ) -> Result<Option<Open<'s>>, Halt>
     requires { length items.old ≤ 33554432 }
-    ensures takes { TakesAll result word.entry at (meaning_tokens meaning.entry) items.old items.new }
+    ensures takes { TakesTokens result word.entry at (meaning_tokens meaning.entry) items.old items.new }
     ensures few { length items.new ≤ 33554432 }
 {
     match meaning {
@@ -126,11 +126,11 @@ pub(crate) fn meaning_by<'s>(
     table: &IndexMap<Name<'s>, Name<'s>>,
     text: &'s [u8],
 ) -> Result<Meaning<'s>, WordFault>
-    ensures { Gives result (tokens_of (λ name. get same_text table.now name) text.now) }
+    ensures { MeansResult result (tokens_of (λ name. get same_text table.now name) text.now) }
 {
     match value_in(table, text) {
         None => meaning_of(text),
-        Some(value) => match value_of(value) {
+        Some(value) => match value_meaning(value) {
             Some(meaning) => Ok(meaning),
             None => meaning_of(text),
         },

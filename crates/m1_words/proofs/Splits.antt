@@ -5,7 +5,7 @@ use Rattle.hex_items.specs.Tokens.{gap_from, gap_length, is_blank, opens_gap}
 use Rattle.hex_langs.specs.Hex0.{begins_comment}
 use Rattle.hex_items.proofs.Readings.{front_is, gap_length-some}
 use Rattle.m1_words.specs.Words.{Found, Unclosed, word_more, words_from}
-use Rattle.m1_words.specs.Representation.Next.{words_at}
+use Rattle.m1_words.specs.Representation.Ahead.{words_at}
 
 pub split-inside : (at inside : ℕ) (left : List ℕ) → words_from at inside left ≡ words_from (at + inside) 0 (drop inside left)
 unfolding words_from

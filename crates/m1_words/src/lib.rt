@@ -7,5 +7,5 @@ mod meaning;
 mod numbers;
 mod splitting;
 
-pub use meaning::{Meaning, WordFault, meaning_of, value_of};
-pub use splitting::{Next, next_word};
+pub use meaning::{Meaning, WordFault, meaning_of, value_meaning};
+pub use splitting::{Ahead, next_word};
