@@ -1,0 +1,13 @@
+pub mod Cuts
+pub mod Hexes
+pub mod Spelled
+pub mod Plain
+pub mod FieldTexts
+pub mod LineTexts
+pub mod Turns
+pub mod Takes
+pub mod Runs
+pub mod Keeps
+pub mod Faults
+pub mod Results
+pub mod Written

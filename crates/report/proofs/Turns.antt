@@ -1,0 +1,57 @@
+-- One line more.
+use Rattle.std.proofs.Common.{◌≡◌, ℕ, zero, suc, ◌+◌, ◌==◌, Bool, true, false, List, [], length, Option, Some, None, refl, sym, ap, ◌∙◌, arith}
+use Rattle.report.specs.declared.line.Line.{Line}
+use Rattle.report.specs.declared.state.State.{State}
+use Rattle.report.specs.declared.state.State.TheVariants.{Start, Ended}
+use Rattle.report.specs.declared.types.Report.{Report}
+use Rattle.report.specs.Inside.Cuts.{◌>>=◌, cut_at}
+use Rattle.report.specs.Inside.States.{step}
+use Rattle.report.specs.Inside.Reading.{next_line, one_more, after, Stands, Stops}
+
+pub stands_first : (bytes : List ℕ) → Stands bytes 0 Start bytes
+unfolding after
+stands_first bytes = record { there = refl }
+
+pub after_more : (n : ℕ) (bytes : List ℕ) → after (n + 1) bytes ≡ after n bytes >>= one_more
+unfolding after
+after_more n bytes =
+    let up : n + 1 ≡ suc n = omega arith in
+    ap (λ (k : ℕ). after k bytes) up
+
+pub stands_more : (bytes : List ℕ) (n : ℕ) (state : State) (rest : List ℕ) (line : Line) (left : List ℕ) (next : State)
+    → Stands bytes n state rest → Some (line, left) ≡ next_line rest → step state line ≡ Some next → Stands bytes (n + 1) next left
+unfolding one_more
+stands_more bytes n state rest line left next stands read stepped =
+    let one : one_more (state, rest) ≡ Some (next, left) = rw (← read, stepped) refl in
+    record { there = after_more n bytes ∙ ap (λ (x : Option (State × List ℕ)). x >>= one_more) stands.there ∙ one }
+
+-- bytes of which some are left are not none
+some_left : (rest : List ℕ) (empty : Bool) → empty ≡ (length rest == 0) → empty ≡ false → rest ≡ [] → ⊥
+some_left rest empty is not_empty none =
+    let e : empty ≡ true = is ∙ ap (λ (r : List ℕ). length r == 0) none in
+    absurd cc
+
+pub stops_at_line : (bytes : List ℕ) (n : ℕ) (state : State) (rest : List ℕ) (empty : Bool)
+    → empty ≡ (length rest == 0) → empty ≡ false → Stands bytes n state rest → None ≡ next_line rest → Stops bytes (n + 1)
+unfolding one_more
+stops_at_line bytes n state rest empty is not_empty stands read = record {
+  before = n; is = refl; state = state; rest = rest; there = stands.there; none = rw (← read) refl;
+  unended = λ report ended none. some_left rest empty is not_empty none;
+}
+
+pub stops_at_step : (bytes : List ℕ) (n : ℕ) (state : State) (rest : List ℕ) (empty : Bool) (line : Line) (left : List ℕ)
+    → empty ≡ (length rest == 0) → empty ≡ false → Stands bytes n state rest → Some (line, left) ≡ next_line rest → step state line ≡ None → Stops bytes (n + 1)
+unfolding one_more
+stops_at_step bytes n state rest empty line left is not_empty stands read stepped = record {
+  before = n; is = refl; state = state; rest = rest; there = stands.there; none = rw (← read, stepped) refl;
+  unended = λ report ended none. some_left rest empty is not_empty none;
+}
+
+pub no_more : (state : State) → one_more (state, []) ≡ None
+unfolding one_more next_line cut_at
+no_more state = refl
+
+pub stops_at_end : (bytes : List ℕ) (n : ℕ) (state : State) → Stands bytes n state [] → ((report : Report) → state ≡ Ended report → ⊥) → Stops bytes (n + 1)
+stops_at_end bytes n state stands unended = record {
+  before = n; is = refl; state = state; rest = []; there = stands.there; none = no_more state; unended = λ report ended none. unended report ended;
+}
