@@ -42,14 +42,16 @@ fn read_lines(alloc: Global, bytes: &[u8]) -> Result<(State, u64), ReportRefusal
     let mut rest = bytes;
     let mut number = 0;
     while !rest.is_empty() {
-        let Some((line, after)) = next_line(alloc, rest)? else {
-            return Err(ReportRefusal::Form(number + 1));
-        };
-        if !state.take(alloc, line)? {
-            return Err(ReportRefusal::Form(number + 1));
+        match next_line(alloc, rest)? {
+            Some((line, after)) => {
+                if !state.take(alloc, line)? {
+                    return Err(ReportRefusal::Form(number + 1));
+                }
+                rest = after;
+                number += 1;
+            }
+            None => return Err(ReportRefusal::Form(number + 1)),
         }
-        rest = after;
-        number += 1;
     }
     Ok((state, number + 1))
 }
