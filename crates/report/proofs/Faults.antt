@@ -1,7 +1,6 @@
 -- A report's first lines are taken, and what is taken begins a report.
-use Rattle.std.proofs.Common.{◌≡◌, ℕ, zero, suc, ◌+◌, ◌-◌, ◌<◌, ◌≤◌, List, [], ◌∷◌, ◌++◌, length, take, drop, map, Option, Some, None, refl, sym, ap, subst, ◌∙◌, append_assoc, arith, length-append, inl, inr}
+use Rattle.std.proofs.Common.{◌≡◌, ℕ, zero, suc, ◌+◌, ◌-◌, ◌≤◌, List, [], ◌∷◌, ◌++◌, length, take, drop, Option, Some, None, refl, sym, ap, subst, ◌∙◌, append_assoc, arith, length-append, inl, inr}
 use Rattle.std.specs.Prelude.{All}
-use Rattle.std.specs.List.{flat_map}
 use Rattle.std.proofs.lemmas.Bool.{cases_lt}
 use Rattle.std.proofs.lemmas.List.{append-nil, take-append-drop, take_at, length-take}
 use Rattle.std.proofs.lemmas.List.Elements.{All-head, All-tail, All-take}
@@ -94,8 +93,8 @@ taken (suc n) bytes x e =
     subst (λ (y : State × List ℕ). Taken (suc n) bytes y.0 y.1) is (record {
       good = step_keeps a.0.0 b.0.0 d.0 before.good line.0 d.1;
       text = before.text ∙ ap (λ (t : List ℕ). lines_text (so_far a.0.0) ++ t) line.1
-        ∙ sym (append_assoc (lines_text (so_far a.0.0)) (line_text (words b.0.0)) b.0.1)
-        ∙ ap (λ (t : List ℕ). t ++ b.0.1) (sym (lines_text-push (so_far a.0.0) b.0.0) ∙ ap lines_text (sym grown));
+          ∙ sym (append_assoc (lines_text (so_far a.0.0)) (line_text (words b.0.0)) b.0.1)
+          ∙ ap (λ (t : List ℕ). t ++ b.0.1) (sym (lines_text-push (so_far a.0.0) b.0.0) ∙ ap lines_text (sym grown));
       long = omega (arith, ap length grown, length-append (so_far a.0.0) (b.0.0 ∷ []), before.long);
     })
 
@@ -106,7 +105,9 @@ begins n bytes x e =
     let f = finished x.0 t.good in
     let front : take n (report_lines f.report) ≡ so_far x.0 = ap (take n) f.lines ∙ take_at (so_far x.0) f.more n t.long in
     record {
-      report = f.report; is = f.is; rest = x.1;
+      report = f.report;
+      is = f.is;
+      rest = x.1;
       within = omega (arith, ap length f.lines, length-append (so_far x.0) f.more, t.long);
       text = t.text ∙ ap (λ (ls : List Line). lines_text ls ++ x.1) (sym front);
     }
@@ -127,15 +128,15 @@ pub first_fault : (number : ℕ) (bytes : List ℕ) → Stops bytes number → I
 unfolding after
 first_fault number bytes stops = record {
   not_here = λ here.
-    (let up : number ≡ suc stops.before = omega (arith, stops.is) in
-    let some = begun number bytes here in
-    let none : after number bytes ≡ None = ap (λ (m : ℕ). after m bytes) up ∙ ap (λ (o : Option (State × List ℕ)). o >>= one_more) stops.there ∙ stops.none in
-    let both : None ≡ Some some.0 = sym none ∙ some.1 in
-    absurd cc);
+      (let up : number ≡ suc stops.before = omega (arith, stops.is) in
+      let some = begun number bytes here in
+      let none : after number bytes ≡ None = ap (λ (m : ℕ). after m bytes) up ∙ ap (λ (o : Option (State × List ℕ)). o >>= one_more) stops.there ∙ stops.none in
+      let both : None ≡ Some some.0 = sym none ∙ some.1 in
+      absurd cc);
   before = λ m less.
-    (let gap : (stops.before - m) + m ≡ stops.before = omega (arith, stops.is) in
-    let some = earlier m (stops.before - m) bytes (stops.state, stops.rest) (ap (λ (k : ℕ). after k bytes) gap ∙ stops.there) in
-    begins m bytes some.0 some.1);
+      (let gap : (stops.before - m) + m ≡ stops.before = omega (arith, stops.is) in
+      let some = earlier m (stops.before - m) bytes (stops.state, stops.rest) (ap (λ (k : ℕ). after k bytes) gap ∙ stops.there) in
+      begins m bytes some.0 some.1);
 }
 
 -- ---- a whole report

@@ -1,22 +1,18 @@
 -- Each field's text is read as that field, and what is read is the field's text.
-use Rattle.std.proofs.Common.{◌≡◌, ℕ, ◌+◌, ◌*◌, ◌/◌, ◌%◌, ◌<◌, ◌≤◌, ◌^◌, ◌==◌, Bool, true, false, cond, ltb, List, [], ◌∷◌, ◌++◌, length, codes, decimal, Option, Some, None, Result, Ok, Err, refl, sym, ap, subst, ◌∙◌, arith, inl, inr, ◌⊎◌}
+use Rattle.std.proofs.Common.{◌≡◌, ℕ, ◌*◌, ◌<◌, ◌≤◌, ◌^◌, Bool, true, false, cond, ltb, List, ◌∷◌, ◌++◌, length, codes, decimal, Option, Some, None, refl, sym, ap, subst, ◌∙◌, arith, inl, inr, ◌⊎◌}
 use Rattle.std.specs.Prelude.{nat_le, nat_lt, ◌&&◌, ◌||◌}
 use Rattle.std.specs.Str.{bytes_eq}
 use Rattle.std.specs.Str.Parse.{digits_value}
-use Rattle.std.specs.Result.{result_ok}
 use Rattle.std.proofs.lemmas.Bool.{and_parts}
 use Rattle.std.proofs.lemmas.Bool.Decides.{Decides-ltb, nat_tests}
 use Rattle.std.proofs.lemmas.Slice.Eq.{bytes_eq-Decides}
-use Rattle.hex.specs.Hex.{encode_lower, decode_of, decode_sized, decode_pairs, lower_digits}
+use Rattle.hex.specs.Hex.{encode_lower, lower_digits}
 use Rattle.hex.proofs.HexLemmas.{length-encode_with}
-use Rattle.ddc_base.specs.Decimals.{IsDecimal, as_decimal}
-use Rattle.ddc_base.specs.HexTexts.{IsHexOf}
+use Rattle.ddc_base.specs.Decimals.{as_decimal}
 use Rattle.ddc_base.specs.Names.{IsName, is_name, name_of}
-use Rattle.ddc_base.specs.Inside.HexTests.{is_lower_hex}
 use Rattle.ddc_base.specs.declared.digests.Digest.{Digest}
 use Rattle.ddc_base.proofs.Decimals.{as_decimal-is}
 use Rattle.languages.specs.Words.{language_named, language_word}
-use Rattle.languages.specs.declared.Language.{Language}
 use Rattle.languages.proofs.Named.{named-word, word-named}
 use Rattle.report.specs.declared.types.Mark.{Mark}
 use Rattle.report.specs.declared.types.Compared.{Compared}
@@ -27,7 +23,7 @@ use Rattle.report.specs.Inside.LinesRead.{binary_of}
 use Rattle.report.specs.Reports.{AreBytes, IsCount, IsDigest, IsMark, IsDifference, IsCompared}
 use Rattle.report.proofs.Cuts.{Without, Without-append, cut_at-joined, cut_at-takes, bind_some, if_some, same_some}
 use Rattle.report.proofs.Hexes.{hex_of-is, hex_of-takes, digest_again, digest_takes}
-use Rattle.report.proofs.Plain.{Plain, no_blank, no_feed, decimal_plain, name_plain, hex_plain, language_plain}
+use Rattle.report.proofs.Plain.{no_blank, no_feed, decimal_plain, name_plain, hex_plain, language_plain}
 use Rattle.report.proofs.Spelled.{Spells, IsWord, two_spell}
 
 -- ---- numbers, names and languages
@@ -202,8 +198,12 @@ difference_again : (o a b : ℕ) → IsDifference o a b → difference_of (decim
 unfolding difference_of
 difference_again o a b is =
     let small : o < 2 ^ 64 = omega (arith, is.within_ours, is.small_ours) in
-    rw (cut_at-joined 32 (decimal o) (decimal a ++ 32 ∷ decimal b) (number_word.no_blank o small), number.again o small,
-      lengths.again (a, b) (is.small_ours, is.small_theirs), difference_passes o a b is) refl
+    rw (
+      cut_at-joined 32 (decimal o) (decimal a ++ 32 ∷ decimal b) (number_word.no_blank o small),
+      number.again o small,
+      lengths.again (a, b) (is.small_ours, is.small_theirs),
+      difference_passes o a b is,
+    ) refl
 
 difference_takes : (text : List ℕ) (found : Compared) → difference_of text ≡ Some found → IsCompared found × (codes "differs" ++ 32 ∷ text ≡ compared_text found)
 unfolding difference_of
@@ -216,8 +216,10 @@ difference_takes text found e =
     let o = number.takes x.0.0 y.0 y.1 in
     let two = lengths.takes x.0.1 z.0 z.1 in
     let P = λ (c : Compared). IsCompared c × (codes "differs" ++ 32 ∷ text ≡ compared_text c) in
-    subst P (same_some (Differs y.0 z.0.0 z.0.1) found q.1) (difference_holds y.0 z.0.0 z.0.1 q.0 two.0.0 two.0.1,
-      ap (λ (t : List ℕ). codes "differs" ++ 32 ∷ t) (cut_at-takes 32 text x.0.0 x.0.1 x.1 ∙ ap (λ (t : List ℕ). t ++ 32 ∷ x.0.1) o.1 ∙ ap (λ (t : List ℕ). decimal y.0 ++ 32 ∷ t) two.1))
+    subst P (same_some (Differs y.0 z.0.0 z.0.1) found q.1) (
+      difference_holds y.0 z.0.0 z.0.1 q.0 two.0.0 two.0.1,
+      ap (λ (t : List ℕ). codes "differs" ++ 32 ∷ t) (cut_at-takes 32 text x.0.0 x.0.1 x.1 ∙ ap (λ (t : List ℕ). t ++ 32 ∷ x.0.1) o.1 ∙ ap (λ (t : List ℕ). decimal y.0 ++ 32 ∷ t) two.1),
+    )
 
 compared_again : (found : Compared) → IsCompared found → compared_of (compared_text found) ≡ Some found
 unfolding compared_of

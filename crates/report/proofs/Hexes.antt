@@ -1,20 +1,17 @@
 -- Hexadecimal words read.
-use Rattle.std.proofs.Common.{◌≡◌, ℕ, zero, suc, ◌+◌, ◌*◌, ◌/◌, ◌%◌, ◌<◌, ◌≤◌, ◌==◌, Bool, true, false, cond, get_or, List, [], ◌∷◌, length, Option, Some, None, Result, Ok, Err, refl, sym, ap, subst, ◌∙◌, arith}
-use Rattle.std.specs.Prelude.{All, nat_le, ◌&&◌}
+use Rattle.std.proofs.Common.{◌≡◌, ℕ, zero, suc, ◌*◌, ◌<◌, List, [], ◌∷◌, length, Option, Some, None, Result, Ok, Err, refl, sym, ap, subst, ◌∙◌, arith}
 use Rattle.std.specs.Result.{result_ok}
-use Rattle.std.proofs.lemmas.Bool.{and_parts}
-use Rattle.std.proofs.lemmas.Bool.Decides.{nat_tests}
 use Rattle.std.proofs.lemmas.List.Elements.{All-head, All-tail}
-use Rattle.hex.specs.Hex.{IsBytes, decode_of, decode_sized, decode_pairs, encode_lower, lower_digits}
+use Rattle.hex.specs.Hex.{IsBytes, decode_of, decode_sized, encode_lower, lower_digits}
 use Rattle.hex.specs.declared.error.FromHexError.{FromHexError}
 use Rattle.hex.proofs.HexLemmas.{length-encode_with, decode_of-encode_lower, decode_sized-encode_lower, decode_sized-ok, decode_sized-twice}
 use Rattle.ddc_base.specs.HexTexts.{IsHexOf}
 use Rattle.ddc_base.specs.Inside.HexTests.{is_lower_hex}
 use Rattle.ddc_base.specs.declared.digests.Digest.{Digest}
-use Rattle.ddc_base.proofs.HexTexts.{passes, decoded, spells}
+use Rattle.ddc_base.proofs.HexTexts.{passes, decoded}
 use Rattle.report.specs.Inside.Cuts.{◌>>=◌}
-use Rattle.report.specs.Inside.Fields.{hex_of, file_name_of, digest_of}
-use Rattle.report.specs.Reports.{AreBytes, IsCount, IsDigest}
+use Rattle.report.specs.Inside.Fields.{hex_of, digest_of}
+use Rattle.report.specs.Reports.{AreBytes, IsDigest}
 use Rattle.report.proofs.Cuts.{bind_some, if_some, same_some}
 
 from_all : (bytes : List ℕ) → AreBytes bytes → IsBytes bytes

@@ -1,7 +1,7 @@
 -- What each state keeps of the rules of a report, and how it goes on to one.
-use Rattle.std.proofs.Common.{◌≡◌, ℕ, zero, suc, ◌+◌, ◌-◌, ◌<◌, ◌≤◌, ◌^◌, Bool, true, false, cond, ltb, lit<, List, [], ◌∷◌, ◌++◌, length, map, Option, Some, None, refl, sym, ap, subst, ◌∙◌, append_assoc, arith, length-append}
+use Rattle.std.proofs.Common.{◌≡◌, ℕ, suc, ◌+◌, ◌-◌, ◌<◌, ◌≤◌, ◌^◌, Bool, true, cond, ltb, lit<, List, [], ◌∷◌, ◌++◌, length, map, Option, Some, None, refl, sym, ap, subst, ◌∙◌, append_assoc, arith, length-append}
 use Rattle.std.specs.Prelude.{◌&&◌, slice_get, All}
-use Rattle.std.specs.List.{flat_map, list_all}
+use Rattle.std.specs.List.{flat_map}
 use Rattle.std.specs.Ordering.{nat_cmp, is_lt}
 use Rattle.std.specs.Cmp.Lexicographic.{slice_cmp}
 use Rattle.std.proofs.lemmas.Bool.{and_parts}
@@ -25,7 +25,7 @@ use Rattle.report.specs.declared.state.Opened.{Opened}
 use Rattle.report.specs.declared.state.State.{State}
 use Rattle.report.specs.declared.state.State.TheVariants.{Start, Titled, Inputs, Named, Heard, Leaving, Closing, Stages, Compared, Ended}
 use Rattle.report.specs.Inside.States.{step, follows, is_after, closed, with_stage}
-use Rattle.report.specs.Reports.{stage_lines, front_lines, report_lines, ascend, IsCount, IsDigest, IsMark, IsInput, IsLeft, IsStage, IsCompare, IsReport}
+use Rattle.report.specs.Reports.{stage_lines, report_lines, ascend, IsCount, IsDigest, IsMark, IsInput, IsLeft, IsStage, IsCompare, IsReport}
 use Rattle.report.proofs.Cuts.{if_some, same_some}
 use Rattle.report.proofs.LineTexts.{IsLine}
 use Rattle.report.proofs.Takes.{so_far, step_takes}
@@ -85,12 +85,16 @@ grown : {X : Type 0} (xs : List X) (x : X) → length (xs ++ x ∷ []) ≡ lengt
 grown xs x = length-append xs (x ∷ [])
 
 with_room : (front : Front) (stage : StageLine) → HasRoom front → IsStage stage → Good (Stages (with_stage front stage))
-with_room front stage has is =
-    (record {
-      recipe = has.fits.recipe; inputs = has.fits.inputs; each_input = has.fits.each_input;
-      stages = omega (arith, has.room, grown front.stages stage);
-      each_stage = All-push IsStage front.stages stage has.fits.each_stage is;
-    }, omega (arith, grown front.stages stage))
+with_room front stage has is = (
+  record {
+    recipe = has.fits.recipe;
+    inputs = has.fits.inputs;
+    each_input = has.fits.each_input;
+    stages = omega (arith, has.room, grown front.stages stage);
+    each_stage = All-push IsStage front.stages stage has.fits.each_stage is;
+  },
+  omega (arith, grown front.stages stage),
+)
 
 pub step_keeps : (s : State) (l : Line) (t : State) → Good s → IsLine l → step s l ≡ Some t → Good t
 unfolding step
@@ -115,7 +119,10 @@ step_keeps (Leaving front stage) (Left file) t good is e =
     let p = if_some (ltb (length stage.left) 4096) (cond (follows stage.left file.name) (Some (Leaving front next)) None) t e in
     let q = if_some (follows stage.left file.name) (Some (Leaving front next)) t p.1 in
     let fits : IsOpened next = record {
-      name = good.1.name; steps = good.1.steps; stream1 = good.1.stream1; stream2 = good.1.stream2;
+      name = good.1.name;
+      steps = good.1.steps;
+      stream1 = good.1.stream1;
+      stream2 = good.1.stream2;
       count = omega (arith, is_below _ _ p.0, grown stage.left file);
       each_left = All-push IsLeft stage.left file good.1.each_left is;
       ascending = ascend_push stage.left file good.1.ascending q.0;
@@ -124,8 +131,14 @@ step_keeps (Leaving front stage) (Left file) t good is e =
 step_keeps (Leaving front stage) (Made mark) t good is e = subst Good (same_some (Closing front stage mark) t e) (good.0, good.1, is)
 step_keeps (Closing front stage made) (Checked checked) t good is e =
     let fits : IsStage (closed stage made checked) = record {
-      name = good.1.name; steps = good.1.steps; stream1 = good.1.stream1; stream2 = good.1.stream2;
-      count = good.1.count; each_left = good.1.each_left; ascending = good.1.ascending; made = good.2;
+      name = good.1.name;
+      steps = good.1.steps;
+      stream1 = good.1.stream1;
+      stream2 = good.1.stream2;
+      count = good.1.count;
+      each_left = good.1.each_left;
+      ascending = good.1.ascending;
+      made = good.2;
     } in
     subst Good (same_some (Stages (with_stage front (closed stage made checked))) t e) (with_room front (closed stage made checked) good.0 fits)
 step_keeps (Stages front) (Stage name steps) t good is e =
@@ -151,7 +164,9 @@ by : (s : State) (l : Line) (t : State) → IsLine l → step s l ≡ Some t →
 by s l t fits stepped good later =
     let f = later (step_keeps s l t good fits stepped) in
     record {
-      report = f.report; is = f.is; more = l ∷ f.more;
+      report = f.report;
+      is = f.is;
+      more = l ∷ f.more;
       lines = f.lines ∙ ap (λ (ls : List Line). ls ++ f.more) (step_takes s l t stepped) ∙ append_assoc (so_far s) (l ∷ []) f.more;
     }
 

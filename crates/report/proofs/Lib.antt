@@ -10,4 +10,5 @@ pub mod Runs
 pub mod Keeps
 pub mod Faults
 pub mod Results
+pub mod Lengths
 pub mod Written

@@ -1,30 +1,25 @@
 -- A line's text is read as that line, and what reads as a line is its text.
-use Rattle.std.proofs.Common.{◌≡◌, ℕ, ◌<◌, ◌^◌, Bool, true, false, cond, List, [], ◌∷◌, ◌++◌, codes, decimal, Option, Some, None, refl, sym, ap, subst, ◌∙◌, append_assoc}
-use Rattle.std.specs.List.{join_with_byte}
+use Rattle.std.proofs.Common.{◌≡◌, ℕ, ◌<◌, ◌^◌, cond, List, [], ◌∷◌, ◌++◌, codes, decimal, Some, None, refl, sym, ap, subst, ◌∙◌, append_assoc}
 use Rattle.std.specs.Str.{bytes_eq}
 use Rattle.hex.specs.Hex.{encode_lower}
-use Rattle.ddc_base.specs.Decimals.{as_decimal}
 use Rattle.ddc_base.specs.Lines.{line as line_text}
-use Rattle.ddc_base.specs.Names.{IsName, name_of}
+use Rattle.ddc_base.specs.Names.{IsName}
 use Rattle.languages.specs.Words.{language_named, language_word}
-use Rattle.languages.specs.declared.Language.{Language}
 use Rattle.report.specs.declared.line.Line.{Line}
 use Rattle.report.specs.declared.line.Line.TheVariants.{Header, Recipe, Input, Stage, Stream1, Stream2, Left, Made, Checked, Compare, End}
 use Rattle.report.specs.declared.types.Mark.{Mark}
-use Rattle.report.specs.declared.types.InputLine.{InputLine}
-use Rattle.report.specs.declared.types.LeftLine.{LeftLine}
 use Rattle.report.specs.declared.types.Compared.{Compared}
 use Rattle.report.specs.declared.types.Compared.TheVariants.{Equal, Differs}
 use Rattle.report.specs.Inside.Cuts.{◌>>=◌, cut_at}
-use Rattle.report.specs.Inside.Fields.{file_name_of, digest_of, mark_of, compared_of}
-use Rattle.report.specs.Inside.LinesRead.{header_of, recipe_of, input_of, stage_of, stream_of, left_of, made_of, checked_of, binary_of, compare_of, line_of_kind, longer_line_of, line_of}
+use Rattle.report.specs.Inside.Fields.{digest_of, mark_of}
+use Rattle.report.specs.Inside.LinesRead.{header_of, recipe_of, input_of, stage_of, stream_of, left_of, made_of, checked_of, compare_of, line_of_kind, longer_line_of, line_of}
 use Rattle.report.specs.Inside.Reading.{next_line}
-use Rattle.report.specs.Lines.{words, compared_words, mark_words}
+use Rattle.report.specs.Lines.{words, compared_words}
 use Rattle.report.specs.Reports.{IsDigest, IsMark, IsInput, IsLeft, IsCompare}
 use Rattle.report.proofs.Cuts.{Without, Without-append, cut_at-joined, cut_at-takes, bind_some, same_some}
 use Rattle.report.proofs.Plain.{no_blank, no_feed}
-use Rattle.report.proofs.Spelled.{Spells, IsWord, two_again, two_takes}
-use Rattle.report.proofs.FieldTexts.{by_word, Any, IsFileName, number, number_word, name, name_word, language, file_name, file_name_word, digest, digest_text, mark, mark_text, binary, binary_text, compared_text}
+use Rattle.report.proofs.Spelled.{two_again, two_takes}
+use Rattle.report.proofs.FieldTexts.{by_word, number, name, name_word, language, file_name, file_name_word, digest, digest_text, mark, mark_text, binary, binary_text, compared_text}
 
 -- a line that is spelled one way
 abbrev pub IsLine : Line → Type 0
@@ -164,14 +159,14 @@ stream_takes fields l e =
     ap (λ (t : List ℕ). codes "stream" ++ 32 ∷ t) (joined ∙ ap (λ (t : List ℕ). t ++ 32 ∷ x.0.1) is ∙ ap (λ (t : List ℕ). word ++ 32 ∷ t) spelled) in
     by_word x.0.0 (codes "1") (read first x.0.1) _ l
     (λ is here. (
-      let y = bind_some (mark_of x.0.1) (λ m. Some (Stream1 m)) l here in
-      let m = mark.takes x.0.1 y.0 y.1 in
-      subst (Is (codes "stream" ++ 32 ∷ fields)) (same_some (Stream1 y.0) l y.2) (m.0, starts (codes "1") (mark_text y.0) is m.1)))
+    let y = bind_some (mark_of x.0.1) (λ m. Some (Stream1 m)) l here in
+    let m = mark.takes x.0.1 y.0 y.1 in
+    subst (Is (codes "stream" ++ 32 ∷ fields)) (same_some (Stream1 y.0) l y.2) (m.0, starts (codes "1") (mark_text y.0) is m.1)))
     (by_word x.0.0 (codes "2") (read second x.0.1) None l
     (λ is here. (
-      let y = bind_some (mark_of x.0.1) (λ m. Some (Stream2 m)) l here in
-      let m = mark.takes x.0.1 y.0 y.1 in
-      subst (Is (codes "stream" ++ 32 ∷ fields)) (same_some (Stream2 y.0) l y.2) (m.0, starts (codes "2") (mark_text y.0) is m.1)))
+    let y = bind_some (mark_of x.0.1) (λ m. Some (Stream2 m)) l here in
+    let m = mark.takes x.0.1 y.0 y.1 in
+    subst (Is (codes "stream" ++ 32 ∷ fields)) (same_some (Stream2 y.0) l y.2) (m.0, starts (codes "2") (mark_text y.0) is m.1)))
     (λ none. absurd cc)) x.2
 
 left_takes : (fields : List ℕ) (l : Line) → left_of fields ≡ Some l → Is (codes "left" ++ 32 ∷ fields) l
@@ -222,9 +217,9 @@ unfolding line_of longer_line_of
 line_takes text l e =
     by_word text (codes "end") (Some End) _ l (λ is here. subst (Is text) (same_some End l here) (tt, is)) (
     by_word text (codes "unchecked") (Some (Checked None)) _ l (λ is here. subst (Is text) (same_some (Checked None) l here) (tt, is)) (λ longer. (
-      let x = bind_some (cut_at 32 text) (λ cut. line_of_kind cut.0 cut.1) l longer in
-      let found = kind_takes x.0.0 x.0.1 l x.2 in
-      (found.0, cut_at-takes 32 text x.0.0 x.0.1 x.1 ∙ found.1)))) e
+    let x = bind_some (cut_at 32 text) (λ cut. line_of_kind cut.0 cut.1) l longer in
+    let found = kind_takes x.0.0 x.0.1 l x.2 in
+    (found.0, cut_at-takes 32 text x.0.0 x.0.1 x.1 ∙ found.1)))) e
 
 -- ---- lines with their LF
 

@@ -1,5 +1,5 @@
 -- What reading gives, in the words of the report's text.
-use Rattle.std.proofs.Common.{◌≡◌, ℕ, List, Result, Ok, Err, refl, sym, ap}
+use Rattle.std.proofs.Common.{◌≡◌, ℕ, List, Result, Ok, Err}
 use Rattle.std.specs.Prelude.{IfOk, IfErr}
 use Rattle.report.specs.declared.types.Report.{Report}
 use Rattle.report.specs.declared.refusal.ReportRefusal.{ReportRefusal}

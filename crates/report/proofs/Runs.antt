@@ -1,6 +1,6 @@
 -- The lines of a report, taken one after the other, lead to its end.
-use Rattle.std.proofs.Common.{◌≡◌, ℕ, zero, suc, ◌+◌, ◌-◌, ◌<◌, ◌≤◌, Bool, true, false, cond, ltb, List, [], ◌∷◌, ◌++◌, length, map, Option, Some, None, refl, sym, ap, subst, ◌∙◌, append_assoc, arith, length-append}
-use Rattle.std.specs.Prelude.{◌&&◌, slice_get, All}
+use Rattle.std.proofs.Common.{◌≡◌, ℕ, suc, ◌+◌, ◌-◌, ◌<◌, ◌≤◌, true, ltb, List, [], ◌∷◌, ◌++◌, length, map, Option, Some, None, refl, sym, ap, ◌∙◌, append_assoc, arith, length-append}
+use Rattle.std.specs.Prelude.{slice_get, All}
 use Rattle.std.specs.List.{flat_map}
 use Rattle.std.specs.Ordering.{nat_cmp, is_lt}
 use Rattle.std.specs.Cmp.Lexicographic.{slice_cmp}
@@ -10,7 +10,7 @@ use Rattle.std.proofs.lemmas.List.{append-nil}
 use Rattle.std.proofs.lemmas.List.Elements.{All-head, All-tail}
 use Rattle.ddc_base.specs.declared.digests.Digest.{Digest}
 use Rattle.report.specs.declared.line.Line.{Line}
-use Rattle.report.specs.declared.line.Line.TheVariants.{Header, Recipe, Input, Stage, Stream1, Stream2, Left, Made, Checked, Compare, End}
+use Rattle.report.specs.declared.line.Line.TheVariants.{Input, Stream1, Stream2, Left, Made, Checked, Compare, End}
 use Rattle.report.specs.declared.types.InputLine.{InputLine}
 use Rattle.report.specs.declared.types.LeftLine.{LeftLine}
 use Rattle.report.specs.declared.types.StageLine.{StageLine}
@@ -18,10 +18,10 @@ use Rattle.report.specs.declared.types.Report.{Report}
 use Rattle.report.specs.declared.state.Front.{Front}
 use Rattle.report.specs.declared.state.Opened.{Opened}
 use Rattle.report.specs.declared.state.State.{State}
-use Rattle.report.specs.declared.state.State.TheVariants.{Start, Titled, Inputs, Named, Heard, Leaving, Closing, Stages, Compared, Ended}
+use Rattle.report.specs.declared.state.State.TheVariants.{Start, Inputs, Named, Leaving, Stages, Ended}
 use Rattle.report.specs.Inside.Cuts.{◌>>=◌}
 use Rattle.report.specs.Inside.States.{step, follows, is_after, with_stage}
-use Rattle.report.specs.Reports.{stage_lines, front_lines, report_lines, ascend, IsStage, IsReport}
+use Rattle.report.specs.Reports.{stage_lines, report_lines, ascend, IsStage, IsReport}
 
 -- the state after the lines
 abbrev pub run : State → List Line → Option State
@@ -69,7 +69,7 @@ run_left front stage [] few ascending = ap (λ (left : List LeftLine). Some (Lea
 run_left front stage (file ∷ more) few ascending =
     rw (below (length stage.left) 4096 (omega arith), follows_last stage.left file more ascending)
     (run_left front (record stage { left = stage.left ++ file ∷ [] }) more (omega (arith, length-append stage.left (file ∷ []))) (rw (append_assoc stage.left (file ∷ []) more) ascending)
-      ∙ ap (λ (left : List LeftLine). Some (Leaving front (record stage { left = left }))) (append_assoc stage.left (file ∷ []) more))
+    ∙ ap (λ (left : List LeftLine). Some (Leaving front (record stage { left = left }))) (append_assoc stage.left (file ∷ []) more))
 
 -- a block after its first line
 run_block : (front : Front) (stage : StageLine) → IsStage stage

@@ -1,5 +1,5 @@
 -- Reading and writing are inverse: of a word, and of two texts with a blank between them.
-use Rattle.std.proofs.Common.{◌≡◌, ℕ, ◌+◌, ◌<◌, ◌^◌, ◌==◌, Bool, true, false, List, [], ◌∷◌, ◌++◌, Option, Some, None, refl, sym, ap, subst, ◌∙◌}
+use Rattle.std.proofs.Common.{◌≡◌, ℕ, List, ◌∷◌, ◌++◌, Option, Some, refl, ap, subst, ◌∙◌}
 use Rattle.report.specs.Inside.Cuts.{◌>>=◌, cut_at}
 use Rattle.report.proofs.Cuts.{Without, Without-append, cut_at-joined, cut_at-takes, bind_some, same_some}
 
@@ -38,7 +38,10 @@ two_takes {ta = ta} {ra = ra} {tb = tb} {rb = rb} first second make text c e =
     let a = first.takes x.0.0 y.0 y.1 in
     let b = second.takes x.0.1 z.0 z.1 in
     record {
-      first = y.0; second = z.0; is_first = a.0; is_second = b.0;
+      first = y.0;
+      second = z.0;
+      is_first = a.0;
+      is_second = b.0;
       spelled = cut_at-takes 32 text x.0.0 x.0.1 x.1 ∙ ap (λ (t : List ℕ). t ++ 32 ∷ x.0.1) a.1 ∙ ap (λ (t : List ℕ). ta y.0 ++ 32 ∷ t) b.1;
       is = same_some (make y.0 z.0) c z.2;
     }
@@ -53,10 +56,10 @@ pub two_spell : {A B C : Type 0} {IsA : A → Type 0} {ta : A → List ℕ} {ra 
 two_spell {ta = ta} {tb = tb} a word b Is make first second made first_is second_is joins splits = record {
   again = λ c is. (let parts = splits c is in two_again a word b make (first c) (second c) parts.0 parts.1 ∙ ap Some (made c));
   takes = λ text c e. (
-    let t = two_takes a b make text c e in
-    let P = λ (x : _). Is x × (text ≡ ta (first x) ++ 32 ∷ tb (second x)) in
-    subst P t.is (joins t.first t.second t.is_first t.is_second, rw (first_is t.first t.second, second_is t.first t.second) t.spelled));
+      let t = two_takes a b make text c e in
+      let P = λ (x : _). Is x × (text ≡ ta (first x) ++ 32 ∷ tb (second x)) in
+      subst P t.is (joins t.first t.second t.is_first t.is_second, rw (first_is t.first t.second, second_is t.first t.second) t.spelled));
   no_feed = λ c is. (
-    let parts = splits c is in
-    Without-append 10 (ta (first c)) (32 ∷ tb (second c)) (a.no_feed (first c) parts.0) (refl, b.no_feed (second c) parts.1));
+      let parts = splits c is in
+      Without-append 10 (ta (first c)) (32 ∷ tb (second c)) (a.no_feed (first c) parts.0) (refl, b.no_feed (second c) parts.1));
 }

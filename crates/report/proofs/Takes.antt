@@ -1,14 +1,12 @@
 -- Each line that a state takes stands at the end of its lines.
-use Rattle.std.proofs.Common.{◌≡◌, ℕ, ◌+◌, Bool, true, false, cond, ltb, List, [], ◌∷◌, ◌++◌, length, map, Option, Some, None, refl, sym, ap, ◌∙◌, append_assoc}
+use Rattle.std.proofs.Common.{◌≡◌, cond, ltb, List, [], ◌∷◌, ◌++◌, length, map, Some, None, refl, sym, ap, ◌∙◌, append_assoc}
 use Rattle.std.specs.List.{flat_map}
 use Rattle.std.proofs.lemmas.Grind.{flat_map-append}
 use Rattle.std.proofs.lemmas.List.{append-nil, map_push}
 use Rattle.report.specs.declared.line.Line.{Line}
 use Rattle.report.specs.declared.line.Line.TheVariants.{Header, Recipe, Input, Stage, Stream1, Stream2, Left, Made, Checked, Compare, End}
 use Rattle.report.specs.declared.types.InputLine.{InputLine}
-use Rattle.report.specs.declared.types.LeftLine.{LeftLine}
 use Rattle.report.specs.declared.types.StageLine.{StageLine}
-use Rattle.report.specs.declared.types.Report.{Report}
 use Rattle.report.specs.declared.state.Front.{Front}
 use Rattle.report.specs.declared.state.Opened.{Opened}
 use Rattle.report.specs.declared.state.State.{State}
@@ -77,7 +75,7 @@ step_takes (Closing front stage made) (Checked checked) t e =
     let block = closed stage made checked in
     grows t (Stages (with_stage front block)) (Checked checked) e (front_of front ++ (opened_lines stage ++ Made made ∷ []))
     (front_push front block ∙ ap (λ (ls : List Line). front_of front ++ ls) (sym (append_assoc (opened_lines stage) (Made made ∷ []) (Checked checked ∷ [])))
-      ∙ sym (append_assoc (front_of front) (opened_lines stage ++ Made made ∷ []) (Checked checked ∷ [])))
+    ∙ sym (append_assoc (front_of front) (opened_lines stage ++ Made made ∷ []) (Checked checked ∷ [])))
 step_takes (Stages front) (Stage name steps) t e =
     let p = if_some (ltb (length front.stages) 256) (Some (Named front name steps)) t e in
     grows t (Named front name steps) (Stage name steps) p.1 (front_of front) refl

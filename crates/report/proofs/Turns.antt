@@ -1,5 +1,5 @@
 -- One line more.
-use Rattle.std.proofs.Common.{◌≡◌, ℕ, zero, suc, ◌+◌, ◌==◌, Bool, true, false, List, [], length, Option, Some, None, refl, sym, ap, ◌∙◌, arith}
+use Rattle.std.proofs.Common.{◌≡◌, ℕ, suc, ◌+◌, ◌==◌, Bool, true, false, List, [], length, Option, Some, None, refl, ap, ◌∙◌, arith}
 use Rattle.report.specs.declared.line.Line.{Line}
 use Rattle.report.specs.declared.state.State.{State}
 use Rattle.report.specs.declared.state.State.TheVariants.{Start, Ended}
@@ -44,7 +44,12 @@ pub stops_at_line : (bytes : List ℕ) (n : ℕ) (state : State) (rest : List �
     → empty ≡ (length rest == 0) → empty ≡ false → Stands bytes n state rest → None ≡ next_line rest → Stops bytes (n + 1)
 unfolding one_more
 stops_at_line bytes n state rest empty is not_empty stands read = record {
-  before = n; is = refl; state = state; rest = rest; there = stands.there; none = rw (← read) refl;
+  before = n;
+  is = refl;
+  state = state;
+  rest = rest;
+  there = stands.there;
+  none = rw (← read) refl;
   unended = λ report ended none. some_left rest empty is not_empty none;
 }
 
@@ -53,7 +58,12 @@ pub stops_at_step : (bytes : List ℕ) (n : ℕ) (state : State) (rest : List �
     → Stops bytes (n + 1)
 unfolding one_more
 stops_at_step bytes n state rest empty line left next taken is not_empty stands read takes not_taken = record {
-  before = n; is = refl; state = state; rest = rest; there = stands.there; none = rw (← read, stopped state line next taken takes not_taken) refl;
+  before = n;
+  is = refl;
+  state = state;
+  rest = rest;
+  there = stands.there;
+  none = rw (← read, stopped state line next taken takes not_taken) refl;
   unended = λ report ended none. some_left rest empty is not_empty none;
 }
 
@@ -63,5 +73,11 @@ no_more state = refl
 
 pub stops_at_end : (bytes : List ℕ) (n : ℕ) (state : State) → Stands bytes n state [] → ((report : Report) → state ≡ Ended report → ⊥) → Stops bytes (n + 1)
 stops_at_end bytes n state stands unended = record {
-  before = n; is = refl; state = state; rest = []; there = stands.there; none = no_more state; unended = λ report ended none. unended report ended;
+  before = n;
+  is = refl;
+  state = state;
+  rest = [];
+  there = stands.there;
+  none = no_more state;
+  unended = λ report ended none. unended report ended;
 }

@@ -6,7 +6,9 @@ ghost use Rattle.report.specs.Inside.States.{Takes, follows};
 ghost use Rattle.report.specs.declared.line.Line.TheVariants as line;
 
 use crate::line::Line;
-use crate::types::{CompareLine, InputLine, InputLines, LeftLine, LeftLines, Mark, Report, StageLine, StageLines};
+use crate::types::{
+    CompareLine, InputLine, InputLines, LeftLine, LeftLines, Mark, Report, StageLine, StageLines,
+};
 use ddc_base::digests::Digest;
 use ddc_base::{ListOf, Name, OutOfMemory};
 use languages::Language;
@@ -193,7 +195,9 @@ impl State {
     {
         match self {
             State::Leaving(_, stage) => {
-                if stage.left.len() < MANY_LEFT && follows(stage.left.as_slice(), file.name.as_slice()) {
+                if stage.left.len() < MANY_LEFT
+                    && follows(stage.left.as_slice(), file.name.as_slice())
+                {
                     stage.left.push(file)?;
                     Ok(true)
                 } else {

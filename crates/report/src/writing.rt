@@ -13,11 +13,27 @@ use ddc_base::{Bytes, Name, OutOfMemory, put_decimal, put_hex};
 use languages::Language;
 use std::alloc::Global;
 
-/// The one text of a well-formed report.
+/// Room for the lines around the inputs and stages, for an input's line, for a stage's block without left files, and for a left file's line
+/// without its name. Lengths and steps have at most 20 digits.
+const FRONT_ROOM: usize = 256;
+
+const INPUT_ROOM: usize = 128;
+
+const STAGE_ROOM: usize = 384;
+
+const LEFT_ROOM: usize = 92;
+
+/// The one text of a well-formed report. It has fewer than 2^30 bytes.
 pub fn write(alloc: Global, report: &Report) -> Result<Bytes, OutOfMemory>
     requires { IsReport report.now }
     ensures value { IfOk result (λ text. text ≡ report_text report.now) }
     ensures short { IfOk result (λ text. length text < 1_073_741_824) }
+{
+    text_of(alloc, report)
+}
+
+fn text_of(alloc: Global, report: &Report) -> Result<Bytes, OutOfMemory>
+    ensures { IfOk result (λ text. text ≡ report_text report.now) }
 {
     let mut out = Bytes::with_capacity(alloc, room(report))?;
     put_front(&mut out, report)?;
@@ -27,16 +43,18 @@ pub fn write(alloc: Global, report: &Report) -> Result<Bytes, OutOfMemory>
     Ok(out)
 }
 
-/// At least the length of a report's text, and not much more.
+/// Enough for a report's text, so that it is not moved as it grows, and not much more.
 fn room(report: &Report) -> usize {
-    let mut room = 1024usize;
-    for input in report.inputs.as_slice() {
-        room = room.saturating_add(128);
-    }
+    let mut room = report
+        .inputs
+        .len()
+        .saturating_mul(INPUT_ROOM)
+        .saturating_add(FRONT_ROOM);
     for stage in report.stages.as_slice() {
-        room = room.saturating_add(512);
+        room = room.saturating_add(STAGE_ROOM);
         for file in stage.left.as_slice() {
-            room = room.saturating_add(96).saturating_add(file.name.len()).saturating_add(file.name.len());
+            let name = file.name.len().saturating_mul(2);
+            room = room.saturating_add(LEFT_ROOM).saturating_add(name);
         }
     }
     room

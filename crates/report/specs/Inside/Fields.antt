@@ -3,7 +3,6 @@ use Rattle.std.specs.Prelude.{ℕ, Bool, ◌&&◌, ◌||◌, nat_le, nat_lt, Lis
 use Rattle.std.specs.Result.{result_ok}
 use Rattle.hex.specs.Hex.{decode_of, decode_sized}
 use Rattle.ddc_base.specs.Decimals.{as_decimal}
-use Rattle.ddc_base.specs.Names.{name_of}
 use Rattle.ddc_base.specs.Inside.HexTests.{is_lower_hex}
 use Rattle.ddc_base.specs.declared.digests.Digest.{Digest}
 use Rattle.report.specs.declared.types.Mark.{Mark}
@@ -56,4 +55,4 @@ unfoldable pub compared_of : List ℕ → Option Compared
 compared_of text = do
   cut ← cut_at 32 text
   if bytes_eq cut.0 (codes "equal") then (as_decimal cut.1 >>= λ length. Some (Equal length))
-    else (if bytes_eq cut.0 (codes "differs") then difference_of cut.1 else None)
+      else (if bytes_eq cut.0 (codes "differs") then difference_of cut.1 else None)

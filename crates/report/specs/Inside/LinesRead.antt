@@ -5,9 +5,6 @@ use Rattle.ddc_base.specs.Names.{name_of}
 use Rattle.languages.specs.Words.{language_named}
 use Rattle.report.specs.declared.line.Line.{Line}
 use Rattle.report.specs.declared.line.Line.TheVariants.{Header, Recipe, Input, Stage, Stream1, Stream2, Left, Made, Checked, Compare, End}
-use Rattle.report.specs.declared.types.InputLine.{InputLine}
-use Rattle.report.specs.declared.types.LeftLine.{LeftLine}
-use Rattle.report.specs.declared.types.CompareLine.{CompareLine}
 use Rattle.report.specs.declared.types.Compared.{Compared}
 use Rattle.report.specs.Inside.Cuts.{◌>>=◌, cut_at}
 use Rattle.report.specs.Inside.Fields.{file_name_of, digest_of, mark_of, compared_of}
@@ -38,7 +35,7 @@ unfoldable pub stream_of : List ℕ → Option Line
 stream_of fields = do
   cut ← cut_at 32 fields
   if bytes_eq cut.0 (codes "1") then (mark_of cut.1 >>= λ mark. Some (Stream1 mark))
-    else (if bytes_eq cut.0 (codes "2") then (mark_of cut.1 >>= λ mark. Some (Stream2 mark)) else None)
+      else (if bytes_eq cut.0 (codes "2") then (mark_of cut.1 >>= λ mark. Some (Stream2 mark)) else None)
 
 unfoldable pub left_of : List ℕ → Option Line
 left_of fields = do

@@ -1,8 +1,7 @@
 -- No promise rests on this file being read: which line may follow which.
-use Rattle.std.specs.Prelude.{◌≡◌, ℕ, Bool, true, false, ◌-◌, nat_lt, List, [], ◌∷◌, ◌++◌, length, slice_get, Option, Some, None, Result, Ok, Err, if◌then◌else◌}
+use Rattle.std.specs.Prelude.{◌≡◌, ℕ, Bool, true, false, ◌-◌, nat_lt, List, [], ◌∷◌, ◌++◌, length, slice_get, Option, Some, None, if◌then◌else◌}
 use Rattle.std.specs.Ordering.{nat_cmp, is_lt}
 use Rattle.std.specs.Cmp.Lexicographic.{slice_cmp}
-use Rattle.ddc_base.specs.declared.byte_list.OutOfMemory.{OutOfMemory}
 use Rattle.languages.specs.declared.Language.{Language}
 use Rattle.report.specs.declared.line.Line.{Line}
 use Rattle.report.specs.declared.line.Line.TheVariants.{Header, Recipe, Input, Stage, Stream1, Stream2, Left, Made, Checked, Compare, End}
@@ -25,7 +24,13 @@ follows left name = is_after (slice_get left (length left - 1)) name
 -- a whole block
 abbrev pub closed : Opened → Mark → Option Language → StageLine
 closed stage made checked = record {
-  name = stage.name; steps = stage.steps; stream1 = stage.stream1; stream2 = stage.stream2; left = stage.left; made = made; checked = checked;
+  name = stage.name;
+  steps = stage.steps;
+  stream1 = stage.stream1;
+  stream2 = stage.stream2;
+  left = stage.left;
+  made = made;
+  checked = checked;
 }
 
 -- one more stage

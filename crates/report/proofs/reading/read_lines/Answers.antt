@@ -8,7 +8,7 @@ loop-rest-init c = record { stands = stands_first c.args.bytes.now; few = omega 
 pub loop-rest-preserved : goal.loop-rest-preserved
 loop-rest-preserved c = record {
   stands = stands_more c.args.bytes.now c.loop-rest.number c.loop-rest.state c.loop-rest.rest.now c.in-Some.line c.in-Some.after.now c.take.new.self
-    c.in_ok-take-in-Some.field-0 c.loop-rest.invariant.stands (rw c.in-Some.is at c.in_ok-line.ensures.value) c.in_ok-take-in-Some.ensures c.if-not-branch.false;
+      c.in_ok-take-in-Some.field-0 c.loop-rest.invariant.stands (rw c.in-Some.is at c.in_ok-line.ensures.value) c.in_ok-take-in-Some.ensures c.if-not-branch.false;
   few = let shorter = rw c.in-Some.is at c.in_ok-line.ensures.shorter in omega (arith, shorter, c.loop-rest.invariant.few);
 }
 
