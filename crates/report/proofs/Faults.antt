@@ -11,10 +11,10 @@ use Rattle.report.specs.declared.state.State.TheVariants.{Start, Ended}
 use Rattle.report.specs.declared.types.Report.{Report}
 use Rattle.report.specs.Inside.Cuts.{◌>>=◌}
 use Rattle.report.specs.Inside.States.{step}
-use Rattle.report.specs.Inside.Reading.{next_line, one_more, after, Stops}
+use Rattle.report.specs.Inside.Reading.{next_line, one_more, after}
 use Rattle.report.specs.Lines.{words, lines_text}
 use Rattle.report.specs.Reports.{report_lines, report_text, IsReport, Begins, IsFirstFault}
-use Rattle.report.proofs.Cuts.{bind_some}
+use Rattle.report.proofs.Cuts.{bind_some, same_some}
 use Rattle.report.proofs.LineTexts.{IsLine, next_again, next_takes}
 use Rattle.report.proofs.Turns.{no_more}
 use Rattle.report.proofs.Takes.{so_far, step_takes}
@@ -124,20 +124,44 @@ earlier n (suc k) bytes x e =
     let a = bind_some (after (k + n) bytes) one_more x (ap (λ (m : ℕ). after m bytes) (sym up) ∙ e) in
     earlier n k bytes a.0 a.1
 
-pub first_fault : (number : ℕ) (bytes : List ℕ) → Stops bytes number → IsFirstFault number bytes
+-- no report goes on with one line more
+pub record Last (bytes : List ℕ) (n : ℕ) (at : State × List ℕ) : Type 0 where
+  pub there : after n bytes ≡ Some at
+  pub none : one_more at ≡ None
+
+pub first_fault : (n : ℕ) (bytes : List ℕ) (at : State × List ℕ) → Last bytes n at → IsFirstFault (n + 1) bytes
 unfolding after
-first_fault number bytes stops = record {
+first_fault n bytes at last = record {
   not_here = λ here.
-      (let up : number ≡ suc stops.before = omega (arith, stops.is) in
-      let some = begun number bytes here in
-      let none : after number bytes ≡ None = ap (λ (m : ℕ). after m bytes) up ∙ ap (λ (o : Option (State × List ℕ)). o >>= one_more) stops.there ∙ stops.none in
+      (let up : n + 1 ≡ suc n = omega arith in
+      let some = begun (n + 1) bytes here in
+      let none : after (n + 1) bytes ≡ None = ap (λ (m : ℕ). after m bytes) up ∙ ap (λ (o : Option (State × List ℕ)). o >>= one_more) last.there ∙ last.none in
       let both : None ≡ Some some.0 = sym none ∙ some.1 in
       absurd cc);
   before = λ m less.
-      (let gap : (stops.before - m) + m ≡ stops.before = omega (arith, stops.is) in
-      let some = earlier m (stops.before - m) bytes (stops.state, stops.rest) (ap (λ (k : ℕ). after k bytes) gap ∙ stops.there) in
+      (let gap : (n - m) + m ≡ n = omega arith in
+      let some = earlier m (n - m) bytes at (ap (λ (k : ℕ). after k bytes) gap ∙ last.there) in
       begins m bytes some.0 some.1);
 }
+
+no_further : (n m : ℕ) (bytes : List ℕ) (x y : State × List ℕ) → Last bytes n x → after m bytes ≡ Some y → m ≤ n
+unfolding after
+no_further n m bytes x y last there =
+    elim (cases_lt n m) [
+      | inl more ↦
+          let gap : (m - suc n) + suc n ≡ m = omega arith in
+          let some = earlier (suc n) (m - suc n) bytes y (ap (λ (k : ℕ). after k bytes) gap ∙ there) in
+          let none : after (suc n) bytes ≡ None = ap (λ (o : Option (State × List ℕ)). o >>= one_more) last.there ∙ last.none in
+          let both : None ≡ Some some.0 = sym none ∙ some.1 in
+          absurd cc
+      | inr few ↦ few
+    ]
+
+-- lines that go on as far as they can end in one place
+pub one_last : (n m : ℕ) (bytes : List ℕ) (x y : State × List ℕ) → Last bytes n x → Last bytes m y → (n ≡ m) × (x ≡ y)
+one_last n m bytes x y first second =
+    let same : n ≡ m = omega (arith, no_further n m bytes x y first second.there, no_further m n bytes y x second first.there) in
+    (same, same_some x y (sym first.there ∙ ap (λ (k : ℕ). after k bytes) same ∙ second.there))
 
 -- ---- a whole report
 
@@ -146,64 +170,12 @@ whole n bytes report e =
     let t = taken n bytes (Ended report, []) e in
     (t.good, t.text ∙ append-nil (report_text report))
 
--- ---- a report's text is read as that report
-
 text_after : (report : Report) → IsReport report → after (length (report_lines report)) (report_text report) ≡ Some (Ended report, [])
 text_after report is =
     after_from (length (report_lines report)) (report_text report)
     ∙ ap (λ (b : List ℕ). from (length (report_lines report)) (Start, b)) (sym (append-nil (report_text report)))
     ∙ run_from (report_lines report) Start (Ended report) [] (lines_are report is) (run_report report is)
 
--- where nothing is left after n lines, there are no more than n
-at_most_lines : (n m : ℕ) (bytes : List ℕ) (s : State) (x : State × List ℕ) → after n bytes ≡ Some (s, []) → after m bytes ≡ Some x → m ≤ n
-unfolding after
-at_most_lines n m bytes s x e f =
-    elim (cases_lt n m) [
-      | inl more ↦
-          let gap : (m - suc n) + suc n ≡ m = omega arith in
-          let some = earlier (suc n) (m - suc n) bytes x (ap (λ (k : ℕ). after k bytes) gap ∙ f) in
-          let none : after (suc n) bytes ≡ None = ap (λ (o : Option (State × List ℕ)). o >>= one_more) e ∙ no_more s in
-          let both : None ≡ Some some.0 = sym none ∙ some.1 in
-          absurd cc
-      | inr few ↦ few
-    ]
-
-same_end : (x y : State × List ℕ) → Some x ≡ Some y → x ≡ y
-same_end x y e = cc
-
-same_report : (a b : Report) → Ended a ≡ Ended b → a ≡ b
-same_report a b e = cc
-
-pub only_ok : (n : ℕ) (bytes : List ℕ) (found report : Report) → IsReport report → bytes ≡ report_text report → after n bytes ≡ Some (Ended found, []) → found ≡ report
-only_ok n bytes found report is text e =
-    let m = length (report_lines report) in
-    let there : after m bytes ≡ Some (Ended report, []) = ap (after m) text ∙ text_after report is in
-    let up = at_most_lines n m bytes (Ended found) (Ended report, []) e there in
-    let down = at_most_lines m n bytes (Ended report) (Ended found, []) there e in
-    let same : n ≡ m = omega (arith, up, down) in
-    let both = same_end (Ended found, []) (Ended report, []) (sym e ∙ ap (λ (k : ℕ). after k bytes) same ∙ there) in
-    same_report found report (ap (λ (x : State × List ℕ). x.0) both)
-
-pub only_err : (number : ℕ) (bytes : List ℕ) (report : Report) → IsReport report → bytes ≡ report_text report → Stops bytes number → ⊥
-unfolding after
-only_err number bytes report is text stops =
-    let m = length (report_lines report) in
-    let n = stops.before in
-    let there : after m bytes ≡ Some (Ended report, []) = ap (after m) text ∙ text_after report is in
-    let none : after (suc n) bytes ≡ None = ap (λ (o : Option (State × List ℕ)). o >>= one_more) stops.there ∙ stops.none in
-    let down = at_most_lines m n bytes (Ended report) (stops.state, stops.rest) there stops.there in
-    elim (cases_lt n m) [
-      | inl more ↦
-          let gap : (m - suc n) + suc n ≡ m = omega arith in
-          let some = earlier (suc n) (m - suc n) bytes (Ended report, []) (ap (λ (k : ℕ). after k bytes) gap ∙ there) in
-          let both : None ≡ Some some.0 = sym none ∙ some.1 in
-          absurd cc
-      | inr few ↦
-          let same : n ≡ m = omega (arith, few, down) in
-          let both = same_end (stops.state, stops.rest) (Ended report, []) (sym stops.there ∙ ap (λ (k : ℕ). after k bytes) same ∙ there) in
-          stops.unended report (ap (λ (x : State × List ℕ). x.0) both) (ap (λ (x : State × List ℕ). x.1) both)
-    ]
-
--- two reports of one text are one
-pub one_report : (a b : Report) → IsReport a → IsReport b → report_text a ≡ report_text b → a ≡ b
-one_report a b is-a is-b same = only_ok (length (report_lines a)) (report_text a) a b is-b same (text_after a is-a)
+-- a report's text goes on to its end, and no further
+pub text_last : (bytes : List ℕ) (report : Report) → IsReport report → bytes ≡ report_text report → Last bytes (length (report_lines report)) (Ended report, [])
+text_last bytes report is text = record { there = ap (after (length (report_lines report))) text ∙ text_after report is; none = no_more (Ended report) }

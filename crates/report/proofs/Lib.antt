@@ -9,6 +9,6 @@ pub mod Takes
 pub mod Runs
 pub mod Keeps
 pub mod Faults
-pub mod Results
+pub mod Readings
 pub mod Lengths
 pub mod Written

@@ -2,8 +2,7 @@
 use Rattle.std.proofs.Common.{◌≡◌, ℕ, suc, ◌+◌, ◌==◌, Bool, true, false, List, [], length, Option, Some, None, refl, ap, ◌∙◌, arith}
 use Rattle.report.specs.declared.line.Line.{Line}
 use Rattle.report.specs.declared.state.State.{State}
-use Rattle.report.specs.declared.state.State.TheVariants.{Start, Ended}
-use Rattle.report.specs.declared.types.Report.{Report}
+use Rattle.report.specs.declared.state.State.TheVariants.{Start}
 use Rattle.report.specs.Inside.Cuts.{◌>>=◌, cut_at}
 use Rattle.report.specs.Inside.States.{step, Takes}
 use Rattle.report.specs.Inside.Reading.{next_line, one_more, after, Stands, Stops}
@@ -70,14 +69,3 @@ stops_at_step bytes n state rest empty line left next taken is not_empty stands 
 pub no_more : (state : State) → one_more (state, []) ≡ None
 unfolding one_more next_line cut_at
 no_more state = refl
-
-pub stops_at_end : (bytes : List ℕ) (n : ℕ) (state : State) → Stands bytes n state [] → ((report : Report) → state ≡ Ended report → ⊥) → Stops bytes (n + 1)
-stops_at_end bytes n state stands unended = record {
-  before = n;
-  is = refl;
-  state = state;
-  rest = [];
-  there = stands.there;
-  none = no_more state;
-  unended = λ report ended none. unended report ended;
-}

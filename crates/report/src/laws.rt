@@ -1,6 +1,7 @@
 //! Laws of a report's text.
-ghost use Rattle.std.specs.Prelude.{◌≡◌, ◌<◌, length, IfSome};
-ghost use Rattle.report.specs.Reports.{IsReport, report_text};
+ghost use Rattle.std.specs.Prelude.{◌≡◌, ◌<◌, ℕ, List, Ok, Err, length, IfSome};
+ghost use Rattle.report.specs.Reading.{report_of};
+ghost use Rattle.report.specs.Reports.{IsReport, IsFirstFault, report_text};
 ghost use Rattle.report.specs.declared.types.Report.{Report as ReportValue};
 
 use crate::reading::read;
@@ -16,6 +17,21 @@ pub fn one_text()
 /// The text of a well-formed report has fewer than 2^30 bytes.
 pub fn short_text()
     ensures { (report : ReportValue) → IsReport report → length (report_text report) < 1_073_741_824 }
+{}
+
+/// The text of a well-formed report reads as that report.
+pub fn read_text()
+    ensures { (bytes : List ℕ) (report : ReportValue) → IsReport report → bytes ≡ report_text report → report_of bytes ≡ Ok report }
+{}
+
+/// What reads as a report is well formed, and the text is its own.
+pub fn read_report()
+    ensures { (bytes : List ℕ) (report : ReportValue) → report_of bytes ≡ Ok report → IsReport report × (bytes ≡ report_text report) }
+{}
+
+/// Every other text reads as its first fault.
+pub fn read_fault()
+    ensures { (bytes : List ℕ) (number : ℕ) → report_of bytes ≡ Err number → IsFirstFault number bytes }
 {}
 
 /// What was written is read again: the same report, or memory was wanting.

@@ -1,11 +1,9 @@
 -- No promise rests on this file being read: a report read line by line.
-use Rattle.std.specs.Prelude.{◌≡◌, ℕ, zero, suc, ◌+◌, List, [], Option, Some, None, Result, Ok, Err}
+use Rattle.std.specs.Prelude.{◌≡◌, ℕ, zero, suc, ◌+◌, List, [], Option, Some, None}
 use Rattle.report.specs.declared.line.Line.{Line}
 use Rattle.report.specs.declared.state.State.{State}
 use Rattle.report.specs.declared.state.State.TheVariants.{Start, Ended}
 use Rattle.report.specs.declared.types.Report.{Report}
-use Rattle.report.specs.declared.refusal.ReportRefusal.{ReportRefusal}
-use Rattle.report.specs.declared.refusal.ReportRefusal.TheVariants.{Form, OutOfMemory}
 use Rattle.report.specs.Inside.Cuts.{◌>>=◌, cut_at}
 use Rattle.report.specs.Inside.LinesRead.{line_of}
 use Rattle.report.specs.Inside.States.{step}
@@ -42,17 +40,3 @@ pub record Stops (bytes : List ℕ) (number : ℕ) : Type 0 where
   pub there : after before bytes ≡ Some (state, rest)
   pub none : one_more (state, rest) ≡ None
   pub unended : (report : Report) → state ≡ Ended report → rest ≡ [] → ⊥
-
-abbrev pub IsRefused : List ℕ → ReportRefusal → Type 0
-IsRefused bytes (Form number) = Stops bytes number
-IsRefused bytes OutOfMemory = Unit {0}
-
--- what reading the bytes as lines gives: the state after all of them, and the number of the next
-abbrev pub ReadsLines : List ℕ → Result (State × ℕ) ReportRefusal → Type 0
-ReadsLines bytes (Ok found) = (n : ℕ) × (found.1 ≡ n + 1) × Stands bytes n found.0 []
-ReadsLines bytes (Err refusal) = IsRefused bytes refusal
-
--- what reading the bytes as a report gives
-abbrev pub ReadsReport : List ℕ → Result Report ReportRefusal → Type 0
-ReadsReport bytes (Ok report) = (n : ℕ) × Stands bytes n (Ended report) []
-ReadsReport bytes (Err refusal) = IsRefused bytes refusal
