@@ -113,8 +113,7 @@ fn values_are_compared(rt: HostRuntime) -> Result<(), Fail> {
 }
 
 /// A source of M1 whose items are a label and eight bytes.
-const WORKED: &[u8] =
-    b"DEFINE addi 13000000\nDEFINE rd_a0 .00050000\n:s rd_a0 !5 addi \"hi\"";
+const WORKED: &[u8] = b"DEFINE addi 13000000\nDEFINE rd_a0 .00050000\n:s rd_a0 !5 addi \"hi\"";
 
 #[test]
 fn sources_are_assembled(rt: HostRuntime) -> Result<(), Fail> {
@@ -123,11 +122,31 @@ fn sources_are_assembled(rt: HostRuntime) -> Result<(), Fail> {
     shelf.set("worked.m1", WORKED)?;
     shelf.set("range.m1", b"!2048")?;
     let table: [(&[&str], Status, &str); 5] = [
-        (&["asm", "m1", "0", "worked.m1", "text"], Status::Yes, "made 27\n"),
-        (&["asm", "hex2", "0", "text", "made"], Status::Yes, "made 8\n"),
-        (&["asm", "m1", "0", "range.m1", "text"], Status::CheckFailed, "refused 5 0\n"),
-        (&["asm", "m1", "x", "worked.m1", "text"], Status::Usage, "usage\n"),
-        (&["asm", "m2", "0", "worked.m1", "text"], Status::Usage, "usage\n"),
+        (
+            &["asm", "m1", "0", "worked.m1", "text"],
+            Status::Yes,
+            "made 27\n",
+        ),
+        (
+            &["asm", "hex2", "0", "text", "made"],
+            Status::Yes,
+            "made 8\n",
+        ),
+        (
+            &["asm", "m1", "0", "range.m1", "text"],
+            Status::CheckFailed,
+            "refused 5 0\n",
+        ),
+        (
+            &["asm", "m1", "x", "worked.m1", "text"],
+            Status::Usage,
+            "usage\n",
+        ),
+        (
+            &["asm", "m2", "0", "worked.m1", "text"],
+            Status::Usage,
+            "usage\n",
+        ),
     ];
     answers_on(&rt, alloc, &mut shelf, &table)?;
     let text = b":s\n13\n05\n50\n00\n68\n69\n00\n00\n";
