@@ -69,9 +69,19 @@ fn answers(
     table: &[(&[&str], Status, &str)],
 ) -> Result<(), OutOfMemory> {
     let mut shelf = worked_shelf(alloc)?;
+    answers_on(rt, alloc, &mut shelf, table)
+}
+
+/// The same on a shelf.
+fn answers_on(
+    rt: &impl Abort,
+    alloc: Global,
+    shelf: &mut MemShelf,
+    table: &[(&[&str], Status, &str)],
+) -> Result<(), OutOfMemory> {
     for (words, status, text) in table {
         let mut out = MemSink::new(alloc);
-        assert_eq!(rt; run(alloc, words, &mut shelf, &mut out), *status);
+        assert_eq!(rt; run(alloc, words, shelf, &mut out), *status);
         assert_eq!(rt; out.written(), text.as_bytes());
     }
     Ok(())
@@ -99,6 +109,50 @@ fn values_are_compared(rt: HostRuntime) -> Result<(), Fail> {
         ),
     ];
     answers(&rt, rt.alloc(), &table)?;
+    Ok(())
+}
+
+/// A source of M1 whose items are a label and eight bytes.
+const WORKED: &[u8] = b"DEFINE addi 13000000\nDEFINE rd_a0 .00050000\n:s rd_a0 !5 addi \"hi\"";
+
+#[test]
+fn sources_are_assembled(rt: HostRuntime) -> Result<(), Fail> {
+    let alloc = rt.alloc();
+    let mut shelf = worked_shelf(alloc)?;
+    shelf.set("worked.m1", WORKED)?;
+    shelf.set("range.m1", b"!2048")?;
+    let table: [(&[&str], Status, &str); 5] = [
+        (
+            &["asm", "m1", "0", "worked.m1", "text"],
+            Status::Yes,
+            "made 27\n",
+        ),
+        (
+            &["asm", "hex2", "0", "text", "made"],
+            Status::Yes,
+            "made 8\n",
+        ),
+        (
+            &["asm", "m1", "0", "range.m1", "text"],
+            Status::CheckFailed,
+            "refused 5 0\n",
+        ),
+        (
+            &["asm", "m1", "x", "worked.m1", "text"],
+            Status::Usage,
+            "usage\n",
+        ),
+        (
+            &["asm", "m2", "0", "worked.m1", "text"],
+            Status::Usage,
+            "usage\n",
+        ),
+    ];
+    answers_on(&rt, alloc, &mut shelf, &table)?;
+    let text = b":s\n13\n05\n50\n00\n68\n69\n00\n00\n";
+    assert_eq!(rt; shelf.get("text").unwrap_or(&[]), text.as_slice());
+    let made = [0x13, 5, 0x50, 0, 0x68, 0x69, 0, 0];
+    assert_eq!(rt; shelf.get("made").unwrap_or(&[]), made.as_slice());
     Ok(())
 }
 
