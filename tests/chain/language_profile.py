@@ -107,7 +107,7 @@ def items(language, source):
     words, at = Words(2, 3, 7), gap(source, 0)
     while at < len(source):
         sign = source[at:at + 1]
-        name = name_at(language, source, at + 1)
+        name = name_at(language, source, at + 1) if sign in b"!@$~:%&" else b""
         if sign in DIGITS:
             other = gap(source, at + 1)
             if other >= len(source) or source[other] not in DIGITS:
