@@ -4,13 +4,13 @@ import re
 
 BLANKS = [" ", "\n", "\t", "  ", " # a comment\n", " ; 00 :a\n"]
 SIGNS = "!@$~"
-NUMBERS = ["0", "1", "-1", "7", "2047", "-2048", "2048", "-2049", "0x7ff", "-0x800", "0x800", "0xABCdef", "65536", "-65536", "2147483647",
-           "-2147483648", "-2147483649", "4294967295", "4294967296", "0xFFFFFFFF", "0x100000000", "00012", "-0", "-0x0", "0x" + "0" * 20 + "5",
-           "1" * 30, "-" + "9" * 30, "0x1" + "0" * 16, "-0x1" + "0" * 15]
+NUMBERS = ["0", "1", "-1", "7", "2047", "-2048", "2048", "-2049", "0x7ff", "-0x800", "0x800", "0xABCdef", "65536", "-65536",
+           "2147483647", "-2147483648", "-2147483649", "4294967295", "4294967296", "0xFFFFFFFF", "0x100000000", "00012", "-0", "-0x0",
+           "0x" + "0" * 20 + "5", "1" * 30, "-" + "9" * 30, "0x1" + "0" * 16, "-0x1" + "0" * 15]
 # Words that are nearly something.
-NEARLY = ["0x", "-", "-0x", "0X5", "+1", "5x", "!", "@", "~", "%", "$", "&", ":", ">", "<<", "%a>", "%>a", "%a>b>c", "!a>b", ":a>b", ".0005",
-          ".0005000g", ".000500001", "0", "123", "xyz", "a", "DEFINE", "\"\"", "''", "'0'", "'0g'", "'00'", "\"a b\"", "'00'11", "11\"a\"",
-          "\"#\"#c", "%5>6", "$5", "&5", ":5", "?", "\xff", "\x00", "!-", "!0x", "%-1", "~-5", "!'00'"]
+NEARLY = ["0x", "-", "-0x", "0X5", "+1", "5x", "!", "@", "~", "%", "$", "&", ":", ">", "<<", "%a>", "%>a", "%a>b>c", "!a>b", ":a>b",
+          ".0005", ".0005000g", ".000500001", "0", "123", "xyz", "a", "DEFINE", "\"\"", "''", "'0'", "'0g'", "'00'", "\"a b\"",
+          "'00'11", "11\"a\"", "\"#\"#c", "%5>6", "$5", "&5", ":5", "?", "\xff", "\x00", "!-", "!0x", "%-1", "~-5", "!'00'"]
 
 
 def byte(chance):
@@ -78,8 +78,8 @@ def well_formed(chance, language):
 
 
 def any_tokens(chance, language):
-    pieces = [":a", ":b", "!a", "@b", "$a", "~b", "%a", "%a>b", "&b", "<", "00", "7f", "0", ".00100000", "13000000", "?", ">", ":", "#", "\n",
-              " ", "\r", "\t", ";", ".", "!", "%", "%a>", "\xe9"]
+    pieces = [":a", ":b", "!a", "@b", "$a", "~b", "%a", "%a>b", "&b", "<", "00", "7f", "0", ".00100000", "13000000", "?", ">", ":", "#",
+              "\n", " ", "\r", "\t", ";", ".", "!", "%", "%a>", "\xe9"]
     return "".join(chance.choice(pieces) + chance.choice(["", " "]) for _ in range(chance.randrange(1, 16)))
 
 
@@ -99,7 +99,8 @@ def far(chance, language):
 def m1_words(chance):
     """Words of M1 of every kind, some of them nearly words."""
     tokens = []
-    defined = ["d%d" % number for number in range(chance.randrange(5))] + chance.sample(["!5", "<", "00", "DEFINE", '"q"', "'12'", ":x"], 1)
+    defined = ["d%d" % number for number in range(chance.randrange(5))]
+    defined.append(chance.choice(["!5", "<", "00", "DEFINE", '"q"', "'12'", ":x"]))
     for name in defined:
         value = chance.choice([digits(chance, "M1", chance.randrange(1, 7)), field(chance)])
         if chance.random() < 0.03:
@@ -126,7 +127,8 @@ def m1_words(chance):
 
 
 def near_words(chance):
-    pieces = NEARLY + [chance.choice("!@~%$&:") + number for number in NUMBERS] + ["!a", "@b", "00", "13000000", "DEFINE a 00", "DEFINE b .00100000"]
+    pieces = NEARLY + [chance.choice("!@~%$&:") + number for number in NUMBERS]
+    pieces += ["!a", "@b", "00", "13000000", "DEFINE a 00", "DEFINE b .00100000"]
     return "".join(chance.choice(pieces) + chance.choice([" ", "\n", " ", ""]) for _ in range(chance.randrange(1, 10)))
 
 
