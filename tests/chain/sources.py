@@ -148,6 +148,27 @@ def for_debian(text):
     return "".join(defines) + changed
 
 
+def altered(chance, language):
+    """A well-formed source with an edit: a token gone, doubled or moved, a label once more, or another byte somewhere."""
+    tokens = re.findall(r"\S+\s*", well_formed(chance, language))
+    labels = [token for token in tokens if token.startswith(":")]
+    place = chance.randrange(len(tokens))
+    kind = chance.randrange(5)
+    if kind == 0:
+        del tokens[place]
+    elif kind == 1:
+        tokens.insert(place, chance.choice(tokens))
+    elif kind == 2:
+        tokens.insert(chance.randrange(len(tokens)), tokens.pop(place))
+    elif kind == 3 and labels:
+        tokens.insert(place, chance.choice(labels).strip() + " ")
+    text = "".join(tokens)
+    if kind == 4:
+        at = chance.randrange(len(text))
+        text = text[:at] + chance.choice("0aF?>:%!.#\n \"'") + text[at + 1:]
+    return text
+
+
 def drawn(chance, language):
     """A source, and whether it is well formed: then only a distance can be refused."""
     kind = chance.randrange(20)
@@ -156,6 +177,8 @@ def drawn(chance, language):
         return (for_debian(text) if language == "M1" and kind < 5 else text), True
     if kind == 9:
         return far(chance, language), True
-    if language == "M1" and kind < 18:
-        return (m1_words(chance) if kind < 15 else near_words(chance)), False
+    if kind < 13:
+        return altered(chance, language), False
+    if language == "M1" and kind < 19:
+        return (m1_words(chance) if kind < 17 else near_words(chance)), False
     return any_tokens(chance, language), False
