@@ -1,6 +1,6 @@
 """The languages hex1, hex2 and M1 as docs/reference/ has them, once more in Python, for the scripts of this folder.
 
-It is written from the pages and from nothing else: no table or text of it comes from ddc or from the programs of examples/chain.
+No table or text of it comes from ddc or from the programs of examples/chain.
 `items(language, source)` and `expand(source)` give the items of a source, `link(items, base)` the bytes of items, `write(items)` their
 text. Each raises `Refused(number, place)`, with the numbers of the language's page.
 """
