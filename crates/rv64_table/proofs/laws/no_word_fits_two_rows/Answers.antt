@@ -1,5 +1,0 @@
-use Rattle.rv64_table.proofs.Apart.{apart}
-use Rattle.rv64_table.proofs.laws.no_word_fits_two_rows.Goals as goal
-
-pub returns : goal.returns
-returns c = apart
