@@ -1,3 +1,4 @@
+use crate::put_text;
 use ddc_base::{Bytes, OutOfMemory, digest, put_hex};
 use languages::Language;
 use report::{Compared, Report, ReportRefusal, read, write};
@@ -34,11 +35,8 @@ end\n\
 /// How many lines it has.
 const LINES: u64 = 22;
 
-/// The SHA-256 digest of no bytes, for which `*` stands in the tables.
-const EMPTY: &str = "e3b0c44298fc1c149afbf4c8996fb92427ae41e4649b934ca495991b7852b855";
-
-/// Changes of the example: from this line on so many lines are replaced by a text, and the text that comes of it is no report from this
-/// line on, or is a report's where the number is 0. The numbers follow from the grammar of docs/reference/report.md.
+/// Changes of the example: from this line on so many lines are replaced by a text, in which `*` stands for the digest of no bytes. What comes
+/// of it is no report from this line on, or a report's text where the number is 0, as the grammar of docs/reference/report.md has it.
 static CHANGES: &[(u64, u64, &str, u64)] = &[
     // Each field, letter and blank of a line.
     (1, 1, "ddc-report 2\n", 1),
@@ -210,17 +208,6 @@ static LINE_FAULTS: [(u64, u64); 22] = [
     (23, 0),
 ];
 
-/// Adds a text with its digests written out.
-fn put_text(out: &mut Bytes, text: &str) -> Result<(), OutOfMemory> {
-    for byte in text.as_bytes() {
-        match byte {
-            b'*' => out.extend(EMPTY.as_bytes())?,
-            byte => out.push(*byte)?,
-        }
-    }
-    Ok(())
-}
-
 /// Adds the example's lines from one number to another.
 fn put_lines(out: &mut Bytes, first: u64, last: u64) -> Result<(), OutOfMemory> {
     let mut number = 0u64;
@@ -238,7 +225,7 @@ fn put_lines(out: &mut Bytes, first: u64, last: u64) -> Result<(), OutOfMemory> 
 fn changed(alloc: Global, first: u64, count: u64, text: &str) -> Result<Bytes, OutOfMemory> {
     let mut out = Bytes::new(alloc);
     put_lines(&mut out, 1, first.saturating_sub(1))?;
-    put_text(&mut out, text)?;
+    put_text(&mut out, text.as_bytes())?;
     put_lines(&mut out, first.saturating_add(count), LINES)?;
     Ok(out)
 }
@@ -343,23 +330,23 @@ fn sized(
     name: usize,
 ) -> Result<Bytes, OutOfMemory> {
     let mut text = Bytes::new(alloc);
-    put_text(&mut text, "ddc-report 1\nrecipe *\n")?;
+    put_text(&mut text, b"ddc-report 1\nrecipe *\n")?;
     for _ in 0..inputs {
-        put_text(&mut text, "input a 0 *\n")?;
+        put_text(&mut text, b"input a 0 *\n")?;
     }
     for _ in 0..stages {
-        put_text(&mut text, "stage s 1\nstream 1 0 *\nstream 2 0 *\n")?;
+        put_text(&mut text, b"stage s 1\nstream 1 0 *\nstream 2 0 *\n")?;
         for number in 0..left {
-            put_text(&mut text, "left ")?;
+            put_text(&mut text, b"left ")?;
             put_hex(&mut text, &number.to_be_bytes())?;
             for _ in 2..name {
-                put_text(&mut text, "00")?;
+                put_text(&mut text, b"00")?;
             }
-            put_text(&mut text, " 0 *\n")?;
+            put_text(&mut text, b" 0 *\n")?;
         }
-        put_text(&mut text, "made 0 *\nunchecked\n")?;
+        put_text(&mut text, b"made 0 *\nunchecked\n")?;
     }
-    put_text(&mut text, "compare s a equal 0\nend\n")?;
+    put_text(&mut text, b"compare s a equal 0\nend\n")?;
     Ok(text)
 }
 
