@@ -1,28 +1,19 @@
 //! The definitions of an M1 source.
 ghost use Rattle.std.specs.Prelude.{◌≡◌, ◌≤◌, length};
 ghost use Rattle.m1_words.specs.Words.{words_of};
-ghost use Rattle.m1_lang.specs.Definitions.{definitions_in, is_define, is_value};
+ghost use Rattle.m1_lang.specs.Definitions.{definitions_in, is_define};
 ghost use Rattle.m1_lang.specs.Representation.Passes.{quote_or, open_at, DefinesOne, Tabulates};
 
 use crate::refusal::M1Refusal;
 use hex_items::Name;
 use indexmap::IndexMap;
-use m1_words::{Ahead, next_word, value_meaning};
+use m1_words::{Ahead, Value, next_word};
 use std::alloc::Global;
 
 pub(crate) fn is_define(text: &[u8]) -> bool
     ensures { result ≡ is_define text.now }
 {
     text == b"DEFINE".as_slice()
-}
-
-fn is_value(text: &[u8]) -> bool
-    ensures { result ≡ is_value text.now }
-{
-    match value_meaning(text) {
-        Some(_) => true,
-        None => false,
-    }
 }
 
 /// Where a quote is open, from an offset on.
@@ -43,7 +34,7 @@ fn open_quote(source: &[u8], from: usize) -> Option<usize>
 
 /// One definition behind its `DEFINE`; the offset behind it.
 fn define<'s>(
-    table: &mut IndexMap<Name<'s>, Name<'s>>,
+    table: &mut IndexMap<Name<'s>, Value<'s>>,
     source: &'s [u8],
     start: usize,
     at: usize,
@@ -53,16 +44,14 @@ fn define<'s>(
 {
     match next_word(source, at) {
         Ahead::Word(_, name, behind) => match next_word(source, behind) {
-            Ahead::Word(_, value, after) => {
-                if !is_value(value) {
-                    return Err(M1Refusal::BadDefine(start as u64));
-                }
-                match table.insert(Name::new(name), Name::new(value)) {
+            Ahead::Word(_, value, after) => match Value::new(value) {
+                None => Err(M1Refusal::BadDefine(start as u64)),
+                Some(value) => match table.insert(Name::new(name), value) {
                     Err(_) => Err(M1Refusal::OutOfMemory),
                     Ok(Some(_)) => Err(M1Refusal::DoubleDefine(start as u64)),
                     Ok(None) => Ok(after),
-                }
-            }
+                },
+            },
             _ => Err(M1Refusal::BadDefine(start as u64)),
         },
         _ => Err(M1Refusal::BadDefine(start as u64)),
@@ -84,7 +73,7 @@ fn unless_open(source: &[u8], at: usize, refusal: M1Refusal) -> M1Refusal
 pub(crate) fn definitions_of<'s>(
     alloc: Global,
     source: &'s [u8],
-) -> Result<IndexMap<Name<'s>, Name<'s>>, M1Refusal>
+) -> Result<IndexMap<Name<'s>, Value<'s>>, M1Refusal>
     ensures { Tabulates result (definitions_in (words_of source.now)) }
 {
     let mut table = IndexMap::new(alloc);

@@ -12,7 +12,7 @@ use crate::refusal::M1Refusal;
 use crate::taking::{meaning_by, take_meaning};
 use hex_items::{Halt, Items, LONGEST_SOURCE, Name, Open};
 use indexmap::IndexMap;
-use m1_words::{Ahead, WordFault, next_word};
+use m1_words::{Ahead, Value, WordFault, next_word};
 use std::alloc::Global;
 
 /// The items that an M1 source of at most 67,108,864 bytes expands to, or its first refusal: a quote that isn't closed, then the
@@ -48,7 +48,7 @@ fn behind_definition(source: &[u8], at: usize) -> usize
 /// Takes a word at an offset.
 fn take_word<'s>(
     items: &mut Items<'s>,
-    table: &IndexMap<Name<'s>, Name<'s>>,
+    table: &IndexMap<Name<'s>, Value<'s>>,
     word: Option<Open<'s>>,
     at: usize,
     text: &'s [u8],
@@ -69,7 +69,7 @@ fn take_word<'s>(
 /// The items of the words that belong to no definition.
 fn items_by<'s>(
     alloc: Global,
-    table: &IndexMap<Name<'s>, Name<'s>>,
+    table: &IndexMap<Name<'s>, Value<'s>>,
     source: &'s [u8],
 ) -> Result<Items<'s>, M1Refusal>
     ensures { Expands (counted_items (formed None (reading_at (λ name. get same_text table.now name) source.now 0))) result }

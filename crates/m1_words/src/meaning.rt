@@ -77,7 +77,7 @@ fn whole_token<'s>(text: &'s [u8]) -> Option<Token<'s>>
 
 /// A value: digits alone, or `.` and 8 digits.
 #[tactic(auto, unfolding(crate::specs::Forms::value_tokens))]
-pub fn value_meaning<'s>(text: &'s [u8]) -> Option<Meaning<'s>>
+pub(crate) fn value_meaning<'s>(text: &'s [u8]) -> Option<Meaning<'s>>
     ensures { MeansTokens result (value_tokens text.now) }
 {
     match text.first() {

@@ -1,11 +1,11 @@
 -- What both walks accept is a recipe.
-use Rattle.std.proofs.Common.{◌≡◌, ℕ, ◌+◌, ◌≤◌, List, [], ◌∷◌, length, take, Option, Some, None, Ok, subst, arith}
+use Rattle.std.proofs.Common.{◌≡◌, ℕ, ◌+◌, ◌≤◌, List, [], ◌∷◌, length, take, Option, Some, None, Ok, refl, subst, arith}
 use Rattle.std.specs.Prelude.{IfSome, bytes_eq, slice_get, unwrap_or}
 use Rattle.std.specs.List.{IsDistinct}
 use Rattle.sha2.specs.Sha256.{sha256}
 use Rattle.toml.specs.Data.{Members}
 use Rattle.recipe_text.specs.declared.keys.Key.TheVariants as key
-use Rattle.recipe_text.specs.Reading.{a_list, a_number, a_table, closed, document_of, gathered, optional, required}
+use Rattle.recipe_text.specs.Reading.{a_list, a_number, a_table, no_other_key, document_of, gathered, optional, required}
 use Rattle.recipe_text.proofs.Accepted.{bound, ok_same, required_ok, optional_ok, list_ok, gathered_each, gathered_keeps, gathered_length, passes_at, unless_ok, Few, Read}
 use Rattle.recipe.specs.declared.contents.Said.{Said}
 use Rattle.recipe.specs.declared.parts.Input.{Input}
@@ -38,7 +38,7 @@ top_said table top e =
     bound _ (optional (a_list a_table 0 256) top_place key.Source table) _ top rest2 (λ sources sources_is rest3.
     bound _ (required (a_list a_table 1 256) top_place key.Stage table) _ top rest3 (λ stages stages_is rest4.
     bound _ (required a_table top_place key.Compare table) _ top rest4 (λ compare compare_is rest5.
-    bound _ (closed top_place (key.Format ∷ key.Input ∷ key.Source ∷ key.Stage ∷ key.Compare ∷ []) table) _ top rest5 (λ other closed_is rest6.
+    bound _ (no_other_key top_place (key.Format ∷ key.Input ∷ key.Source ∷ key.Stage ∷ key.Compare ∷ []) table) _ top rest5 (λ other closed_is rest6.
     let inputs_at = required_ok (a_list a_table 1 256) top_place key.Input table inputs inputs_is in
     let stages_at = required_ok (a_list a_table 1 256) top_place key.Stage table stages stages_is in
     subst TopSaid (ok_same (record { inputs = inputs; sources = unwrap_or sources []; stages = stages; compare = compare }) top rest6)
@@ -51,6 +51,7 @@ top_said table top e =
 -- ---- the first walk
 
 record FirstSaid (said : Said) : Type 0 where
+  digest : (bytes : List ℕ) × (said.digest.0 ≡ sha256 bytes)
   few_inputs : Few 1 256 (length said.inputs)
   few_sources : length said.sources ≤ 256
   few_stages : Few 1 256 (length said.stages)
@@ -90,6 +91,7 @@ walked_first bytes said e =
     (λ before table stage distinct is. stage_added inputs sources before stage distinct (stage_next inputs sources before table stage is).name.is_new) source_names stages_is in
     subst FirstSaid (ok_same (record { digest = record { 0 = sha256 bytes }; inputs = inputs; sources = sources; stages = stages; compare = compare }) said rest6)
     (record {
+      digest = (bytes, refl);
       few_inputs = record { some = omega (arith, top_said.inputs.some, inputs_long); few = omega (arith, top_said.inputs.few, inputs_long) };
       few_sources = omega (arith, top_said.sources, sources_long);
       few_stages = record { some = omega (arith, top_said.stages.some, stages_long); few = omega (arith, top_said.stages.few, stages_long) };
@@ -134,6 +136,7 @@ keeps bytes said is second =
     let first = walked_first bytes said is in
     let walk = walked said second in
     record {
+      digest = first.digest;
       some_inputs = first.few_inputs.some;
       few_inputs = first.few_inputs.few;
       few_sources = first.few_sources;

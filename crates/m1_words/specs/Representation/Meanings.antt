@@ -4,11 +4,11 @@ use Rattle.std.specs.Int.{w32, to_le_bytes}
 use Rattle.hex.specs.Hex.{hex_digit_value}
 use Rattle.hex_items.specs.Tokens.{byte_of}
 use Rattle.hex_items.specs.declared.token.Token.{Token}
-use Rattle.hex_items.specs.declared.token.Token.TheVariants.{Byte}
+use Rattle.hex_items.specs.declared.token.Token.TheVariants.{Byte, Field}
 use Rattle.m1_words.specs.declared.meaning.Meaning.{Meaning}
 use Rattle.m1_words.specs.declared.meaning.Meaning.TheVariants.{Digits, Text, Number, One}
 use Rattle.m1_words.specs.declared.meaning.WordFault.{WordFault}
-use Rattle.m1_words.specs.Forms.{FormTokens, Tokens, padded}
+use Rattle.m1_words.specs.Forms.{FormTokens, Tokens, padded, value_tokens}
 
 -- in front of bytes; where it is none, nothing follows
 abbrev pub before_bytes : Option ℕ → List ℕ → List ℕ
@@ -42,3 +42,8 @@ abbrev pub MeansForm : Option (Result Meaning WordFault) → FormTokens → Type
 MeansForm (Some (Ok meaning)) form = form ≡ Some (Ok (meaning_tokens meaning))
 MeansForm (Some (Err why)) form = form ≡ Some (Err why)
 MeansForm None form = form ≡ None
+
+-- a field that was read of a value, or none
+abbrev pub IsFieldOf : List ℕ → Option ℕ → Type 0
+IsFieldOf text (Some mask) = value_tokens text ≡ Some (Field mask ∷ [])
+IsFieldOf text None = Unit {0}
