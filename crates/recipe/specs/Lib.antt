@@ -1,3 +1,2 @@
-pub mod Recipe
 pub mod Lookups
 pub mod Kept

@@ -1,15 +1,11 @@
 //! Stand-in of the recipe: its types and look-ups, without the reader.
 #![tactic(auto)]
 
+mod accepted;
+mod contents;
 mod lookups;
 mod parts;
-mod path;
-mod recipe;
 
-pub use lookups::Content;
-pub use parts::{Compare, Input, Output, Source, SourceLanguage, Stage, StageFile};
-pub use path::Path;
-pub use recipe::Recipe;
-
-/// The inputs' contents, in the recipe's order.
-pub type Inputs = ddc_base::ListOf<ddc_base::Bytes>;
+pub use accepted::Recipe;
+pub use parts::{Compare, Content, Input, Inputs, Output, Source, SourceLanguage, Stage, StageFile};
+pub use recipe_text::Path;

@@ -1,21 +1,31 @@
--- Stand-in: what a report keeps.
-use Rattle.std.specs.Prelude.{◌≡◌, ◌<◌, ◌≤◌, ◌⊎◌, ◌^◌, ℕ, Bool, true, ◌&&◌, List, [], ◌∷◌, length, All}
+-- A report: which are well formed, their one text, and where a text is none. docs/reference/report.md says the same for people.
+use Rattle.std.specs.Prelude.{◌≡◌, ℕ, ◌<◌, ◌≤◌, ◌^◌, Bool, true, ◌&&◌, All, List, [], ◌∷◌, ◌++◌, length, take, map, Result, Ok, Err, ◌⊎◌, IsTrue}
+use Rattle.std.specs.List.{flat_map}
 use Rattle.std.specs.Ordering.{nat_cmp, is_lt}
 use Rattle.std.specs.Cmp.Lexicographic.{slice_cmp}
 use Rattle.ddc_base.specs.Names.{IsName}
 use Rattle.ddc_base.specs.declared.digests.Digest.{Digest}
-use Rattle.report.specs.declared.types.Report.{Report}
+use Rattle.report.specs.declared.types.Mark.{Mark}
 use Rattle.report.specs.declared.types.InputLine.{InputLine}
 use Rattle.report.specs.declared.types.LeftLine.{LeftLine}
 use Rattle.report.specs.declared.types.StageLine.{StageLine}
 use Rattle.report.specs.declared.types.CompareLine.{CompareLine}
-use Rattle.report.specs.declared.types.Mark.{Mark}
 use Rattle.report.specs.declared.types.Compared.{Compared}
 use Rattle.report.specs.declared.types.Compared.TheVariants.{Equal, Differs}
+use Rattle.report.specs.declared.types.Report.{Report}
+
+
+-- ---- the well-formed reports
+
+abbrev pub IsCount : ℕ → ℕ → ℕ → Type 0
+IsCount least most count = (least ≤ count) × (count ≤ most)
+
+abbrev pub AreBytes : List ℕ → Type 0
+AreBytes bytes = All (λ byte. byte < 256) bytes
 
 pub record IsDigest (digest : Digest) : Type 0 where
-  pub size : length digest.0 ≡ 32
-  pub bytes : All (λ byte. byte < 256) digest.0
+  pub count : length digest.0 ≡ 32
+  pub bytes : AreBytes digest.0
 
 pub record IsMark (mark : Mark) : Type 0 where
   pub length : mark.length < 2 ^ 64
@@ -26,43 +36,48 @@ pub record IsInput (input : InputLine) : Type 0 where
   pub mark : IsMark input.mark
 
 pub record IsLeft (file : LeftLine) : Type 0 where
-  pub some : 1 ≤ length file.name
-  pub few : length file.name ≤ 255
-  pub bytes : All (λ byte. byte < 256) file.name
+  pub count : IsCount 1 255 (length file.name)
+  pub bytes : AreBytes file.name
   pub mark : IsMark file.mark
 
--- each name comes before the next
+-- each file's name is before the next one's, by their bytes
 abbrev pub ascend : List LeftLine → Bool
-ascend (a ∷ (b ∷ rest)) = is_lt (slice_cmp nat_cmp a.name b.name) && ascend (b ∷ rest)
-ascend files = true
+ascend [] = true
+ascend (file ∷ []) = true
+ascend (file ∷ next ∷ files) = is_lt (slice_cmp nat_cmp file.name next.name) && ascend (next ∷ files)
 
 pub record IsStage (stage : StageLine) : Type 0 where
   pub name : IsName stage.name
   pub steps : stage.steps < 2 ^ 64
   pub stream1 : IsMark stage.stream1
   pub stream2 : IsMark stage.stream2
-  pub few : length stage.left ≤ 4096
+  pub count : length stage.left ≤ 4096
   pub each_left : All IsLeft stage.left
-  pub ascending : ascend stage.left ≡ true
+  pub ascending : IsTrue (ascend stage.left)
   pub made : IsMark stage.made
 
+-- the offset is at most both lengths, and below one of them
+pub record IsDifference (offset ours theirs : ℕ) : Type 0 where
+  pub within_ours : offset ≤ ours
+  pub within_theirs : offset ≤ theirs
+  pub inside_one : (offset < ours) ⊎ (offset < theirs)
+  pub small_ours : ours < 2 ^ 64
+  pub small_theirs : theirs < 2 ^ 64
+
 abbrev pub IsCompared : Compared → Type 0
-IsCompared (Equal n) = n < 2 ^ 64
-IsCompared (Differs o a b) = (o ≤ a) × (o ≤ b) × ((o < a) ⊎ (o < b)) × (a < 2 ^ 64) × (b < 2 ^ 64)
+IsCompared (Equal length) = length < 2 ^ 64
+IsCompared (Differs offset ours theirs) = IsDifference offset ours theirs
 
-pub record IsCompare (line : CompareLine) : Type 0 where
-  pub stage : IsName line.stage
-  pub binary : IsName line.binary
-  pub result : IsCompared line.result
-
-pub record IsCount (least most count : ℕ) : Type 0 where
-  pub some : least ≤ count
-  pub few : count ≤ most
+pub record IsCompare (compare : CompareLine) : Type 0 where
+  pub stage : IsName compare.stage
+  pub binary : IsName compare.binary
+  pub result : IsCompared compare.result
 
 pub record IsReport (report : Report) : Type 0 where
-  pub digest : IsDigest report.recipe
+  pub recipe : IsDigest report.recipe
   pub inputs : IsCount 1 256 (length report.inputs)
   pub each_input : All IsInput report.inputs
   pub stages : IsCount 1 256 (length report.stages)
   pub each_stage : All IsStage report.stages
   pub compare : IsCompare report.compare
+

@@ -1,0 +1,4 @@
+pub mod Arrays
+pub mod Members
+pub mod NoTexts
+pub mod Walks
