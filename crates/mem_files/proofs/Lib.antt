@@ -10,6 +10,7 @@ pub mod Keeping
 pub mod KeepingCalls
 pub mod Rules
 pub mod AnswersLemmas
+pub mod Leftovers
 pub mod Opening
 pub mod LawLemmas
 pub mod Tournament
