@@ -3,3 +3,8 @@ pub mod Slices
 pub mod Forwards
 pub mod Continues
 pub mod Enough
+pub mod Marks
+pub mod GivenBoxes
+pub mod Endings
+pub mod WellFormed
+pub mod Places
