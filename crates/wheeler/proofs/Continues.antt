@@ -154,7 +154,7 @@ first_may recipe all done stage stages left =
     let P : Stage → Type 0 = λ s. 1 ≤ s.steps in
     subst (All P) left (All-drop P (length done) recipe.stages all) 0 stage (omega arith)
 
-enter-place : (recipe : Said) → AllMayStep recipe → (inputs : List (List ℕ)) (done : List Finished) (stages : List Stage) → todo recipe done ≡ stages
+pub enter-place : (recipe : Said) → AllMayStep recipe → (inputs : List (List ℕ)) (done : List Finished) (stages : List Stage) → todo recipe done ≡ stages
     → IsPlace recipe (enter recipe inputs done stages)
 enter-place recipe all inputs done [] left = tt
 enter-place recipe all inputs done (stage ∷ stages) left = by_begin (start_stage recipe (contents inputs done) stage) refl where

@@ -8,3 +8,4 @@ pub mod GivenBoxes
 pub mod Endings
 pub mod WellFormed
 pub mod Places
+pub mod Closing

@@ -32,7 +32,7 @@ use Rattle.wheeler.specs.declared.answer.Fault.{Fault}
 use Rattle.wheeler.specs.declared.answer.Finished.{Finished}
 use Rattle.wheeler.specs.Contents.{Contents, box_of, content}
 use Rattle.wheeler.specs.Stages.{artefact_bytes, contents, ending, finished, start_stage}
-use Rattle.wheeler.specs.Positions.{Position, Standing, On, Over, at, beginning, closed, enter, entered, forward, moved, onward, step, todo, went}
+use Rattle.wheeler.specs.Positions.{Position, Standing, On, Over, at, beginning, closed, enter, entered, forward, forward_from, moved, onward, step, todo, went}
 use Rattle.wheeler.specs.Valid.{AreDone, AreFinished, IsAt, IsFinished, IsInputs, IsPosition, IsStanding}
 use Rattle.wheeler.proofs.Continues.{fresh, todo-next}
 use Rattle.wheeler.proofs.Endings.{Ended, ended, finished-is}
@@ -187,6 +187,10 @@ module _ (recipe : Said) (is : kept.IsRecipe recipe) (inputs : List (List ℕ)) 
     by_place : (o : Standing) → IsStanding recipe o → IsStanding recipe (onward o (step recipe inputs))
     by_place (Over answer) earlier = earlier
     by_place (On q) earlier = step-standing q earlier
+
+  pub from-standing : (from : Standing) → IsStanding recipe from → (count : ℕ) → IsStanding recipe (forward_from recipe inputs from count)
+  from-standing (Over answer) ok count = ok
+  from-standing (On p) ok count = forward-standing p ok count
 
   pub beginning-standing : IsStanding recipe (beginning recipe inputs)
   beginning-standing = enter-standing [] recipe.stages (record { each = tt; small = omega arith }) refl
