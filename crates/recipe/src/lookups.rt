@@ -1,5 +1,6 @@
 //! What the names of a recipe stand for.
-ghost use Rattle.std.specs.Prelude.{◌≡◌, option_and_then, option_map, slice_get};
+ghost use Rattle.std.specs.Prelude.{◌≡◌, ◌<◌, IfSome, length, option_and_then, option_map, slice_get};
+ghost use Rattle.recipe.specs.Inside.Indices.{IsIndex};
 ghost use Rattle.recipe.specs.Lookups.{content_of, content_source, hex_check, input_at, is_hex, source_named, stage_at, stage_source};
 
 use crate::accepted::Recipe;
@@ -10,14 +11,16 @@ use languages::Language;
 
 /// The index of the input of a name.
 pub(crate) fn input_at(inputs: &[Input], name: &Name) -> Option<usize>
-    ensures { result ≡ input_at inputs.now name.now }
+    ensures value { result ≡ input_at inputs.now name.now }
+    ensures index { IfSome result (λ index. index < length inputs.now) }
 {
     inputs.iter().position(|input| input.name == *name)
 }
 
 /// The index of the stage of a name.
 pub(crate) fn stage_at(stages: &[Stage], name: &Name) -> Option<usize>
-    ensures { result ≡ stage_at stages.now name.now }
+    ensures value { result ≡ stage_at stages.now name.now }
+    ensures index { IfSome result (λ index. index < length stages.now) }
 {
     stages.iter().position(|stage| stage.name == *name)
 }
@@ -32,7 +35,8 @@ pub(crate) fn source_named<'a>(sources: &'a [Source], name: &Name) -> Option<&'a
 /// The input of a name, or else the stage that makes what has this name.
 #[tactic(auto, unfolding(crate::specs::Lookups::content_of))]
 pub(crate) fn content_of(inputs: &[Input], stages: &[Stage], name: &Name) -> Option<Content>
-    ensures { result ≡ content_of inputs.now stages.now name.now }
+    ensures value { result ≡ content_of inputs.now stages.now name.now }
+    ensures index { IfSome result (IsIndex inputs.now stages.now) }
 {
     match input_at(inputs, name) {
         Some(index) => Some(Content::Input(index)),
@@ -117,14 +121,14 @@ fn is_hex(language: SourceLanguage) -> bool
 
 impl Recipe {
     /// What a name stands for.
-    pub fn find_content(&self, name: &Name) -> Option<Content>
+    pub fn content(&self, name: &Name) -> Option<Content>
         ensures { result ≡ content_of self.now.inputs self.now.stages name.now }
     {
         content_of(self.inputs().as_slice(), self.stages().as_slice(), name)
     }
 
     /// The source of a name.
-    pub fn find_source(&self, name: &Name) -> Option<&Source>
+    pub fn source(&self, name: &Name) -> Option<&Source>
         ensures { option_map (λ x. x.now) result ≡ source_named self.now.sources name.now }
     {
         source_named(self.sources().as_slice(), name)

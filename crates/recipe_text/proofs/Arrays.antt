@@ -1,5 +1,5 @@
 -- An array, and the values that it is seen as.
-use Rattle.std.proofs.Common.{◌≡◌, List, [], ◌∷◌, length, map, refl, ap}
+use Rattle.std.proofs.Common.{◌≡◌, List, [], ◌∷◌, map, refl, ap}
 use Rattle.std.proofs.lemmas.List.{length-map}
 use Rattle.toml.specs.View.{view, items_view}
 use Rattle.toml.specs.declared.value.Value.{Value}

@@ -1,3 +1,4 @@
+pub mod Accepted
 pub mod Arrays
 pub mod Members
 pub mod NoTexts

@@ -1,5 +1,5 @@
 -- The keys of a map, and the members that it is seen as.
-use Rattle.std.proofs.Common.{◌≡◌, Bool, List, [], ◌∷◌, String, Global, string_bytes, refl, ap}
+use Rattle.std.proofs.Common.{◌≡◌, List, [], ◌∷◌, String, Global, string_bytes, refl, ap}
 use Rattle.std.specs.Prelude.{◌&&◌}
 use Rattle.std.specs.List.{list_all}
 use Rattle.std.specs.Map.{keys_of}

@@ -15,6 +15,6 @@ pub use documents::document;
 pub use fields::{closed, find, optional_name, optional_number, required, required_name, required_number};
 pub use keys::{Key, Place, Table};
 pub use lists::{array, names, tables, words};
-pub use paths::Path;
+pub use paths::{Path, is_path};
 pub use refusal::RecipeRefusal;
 pub use values::{name, number, path, table, text, word};

@@ -4,7 +4,7 @@ use Rattle.std.proofs.lemmas.List.{length-drop}
 use Rattle.std.proofs.lemmas.List.Elements.{All-drop, All-head, All-tail, All-weaker}
 use Rattle.recipe.specs.declared.contents.Said.{Said}
 use Rattle.recipe.specs.declared.parts.Stage.{Stage}
-use Rattle.recipe.specs.Kept as kept
+use Rattle.wheeler.proofs.Rules as kept
 use Rattle.report.specs.Reports.{IsReport}
 use Rattle.report.specs.declared.types.Report.{Report}
 use Rattle.wheeler.specs.declared.answer.Answer.{Answer}

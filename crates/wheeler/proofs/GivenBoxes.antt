@@ -20,7 +20,7 @@ use Rattle.recipe.specs.declared.parts.Content.{Content}
 use Rattle.recipe.specs.declared.parts.Content.TheVariants.{Input, Stage as Artefact}
 use Rattle.recipe.specs.declared.parts.Stage.{Stage}
 use Rattle.recipe.specs.declared.parts.StageFile.{StageFile}
-use Rattle.recipe.specs.Kept as kept
+use Rattle.wheeler.proofs.Rules as kept
 use Rattle.recipe.specs.Lookups.{content_of}
 use Rattle.wheeler.specs.Contents.{Contents, box_of, bytes_at, bytes_named, content, with_file}
 

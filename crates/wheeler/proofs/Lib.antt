@@ -1,3 +1,5 @@
+pub mod Digests
+pub mod Rules
 pub mod Here
 pub mod Slices
 pub mod Forwards

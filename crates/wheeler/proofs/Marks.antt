@@ -1,38 +1,14 @@
 -- The marks of contents.
 use Rattle.std.proofs.Common.{◌≡◌, ℕ, zero, suc, ◌+◌, ◌<◌, ◌≤◌, ◌^◌, ◌%◌, ◌/◌, List, [], ◌∷◌, length, refl, sym, ap, ◌∙◌, arith, All, get_or}
-use Rattle.std.specs.Prelude.{slice_index}
-use Rattle.std.specs.Int.{w32, to_be_bytes}
-use Rattle.std.proofs.lemmas.List.Elements.{All-append, All-nil, All-cons}
-use Rattle.sha2.specs.Sha256.{sha256, digest_bytes}
-use Rattle.sha2.proofs.Facts256.{length-sha256}
 use Rattle.mem_files.specs.Outputs.{IsContent}
-use Rattle.mem_files.specs.Sound.{AreBytes}
 use Rattle.report.specs.declared.types.Mark.{Mark}
-use Rattle.report.specs.Reports.{IsDigest, IsMark}
+use Rattle.report.specs.Reports.{IsMark}
 use Rattle.wheeler.specs.Stages.{mark_of}
 use Rattle.wheeler.specs.Valid.{IsSmallMark}
-
-word-bytes : (n : ℕ) → AreBytes (to_be_bytes w32 n)
-word-bytes n =
-    All-cons (λ byte. byte < 256) (n / 16777216 % 256) (n / 65536 % 256 ∷ n / 256 % 256 ∷ n % 256 ∷ []) (omega arith)
-    (All-cons (λ byte. byte < 256) (n / 65536 % 256) (n / 256 % 256 ∷ n % 256 ∷ []) (omega arith)
-    (All-cons (λ byte. byte < 256) (n / 256 % 256) (n % 256 ∷ []) (omega arith)
-    (All-cons (λ byte. byte < 256) (n % 256) [] (omega arith) (All-nil (λ byte. byte < 256)))))
-
-all-words : (words : List ℕ) (count : ℕ) → AreBytes (digest_bytes words count)
-unfolding digest_bytes
-all-words words zero = All-nil (λ byte. byte < 256)
-all-words words (suc count) = All-append (λ byte. byte < 256) _ _ (all-words words count) (word-bytes (slice_index words count))
-
-sha256-bytes : (bytes : List ℕ) → AreBytes (sha256 bytes)
-unfolding sha256
-sha256-bytes bytes = all-words _ 8
-
-pub mark-digest : (bytes : List ℕ) → IsDigest ((mark_of bytes).digest)
-mark-digest bytes = record { count = length-sha256 bytes; bytes = sha256-bytes bytes }
+use Rattle.wheeler.proofs.Digests.{sha256-is}
 
 pub mark-small : (bytes : List ℕ) → IsContent bytes → IsSmallMark (mark_of bytes)
-mark-small bytes is = record { length = (let small = is.small in omega arith); digest = mark-digest bytes }
+mark-small bytes is = record { length = (let small = is.small in omega arith); digest = sha256-is bytes }
 
 pub small-mark : (mark : Mark) → IsSmallMark mark → IsMark mark
 small-mark mark is = record { length = (let small = is.length in omega arith); digest = is.digest }

@@ -26,7 +26,7 @@ use Rattle.guest_run.proofs.StartLaw.{starts-valid}
 use Rattle.guest_run.proofs.Validity.{after-valid}
 use Rattle.recipe.specs.declared.contents.Said.{Said}
 use Rattle.recipe.specs.declared.parts.Stage.{Stage}
-use Rattle.recipe.specs.Kept as kept
+use Rattle.wheeler.proofs.Rules as kept
 use Rattle.wheeler.specs.declared.answer.Answer.{Answer}
 use Rattle.wheeler.specs.declared.answer.Fault.{Fault}
 use Rattle.wheeler.specs.declared.answer.Finished.{Finished}

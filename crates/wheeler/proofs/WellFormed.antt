@@ -14,7 +14,7 @@ use Rattle.mem_files.specs.Outputs.{IsContent}
 use Rattle.recipe.specs.declared.contents.Said.{Said}
 use Rattle.recipe.specs.declared.parts.Input.{Input}
 use Rattle.recipe.specs.declared.parts.Stage.{Stage}
-use Rattle.recipe.specs.Kept as kept
+use Rattle.wheeler.proofs.Rules as kept
 use Rattle.report.specs.declared.types.LeftLine.{LeftLine}
 use Rattle.report.specs.Reports.{IsCompared, IsInput, IsLeft, IsReport, IsStage}
 use Rattle.wheeler.specs.declared.answer.Finished.{Finished}
@@ -125,7 +125,7 @@ report-is recipe is inputs given done are all left =
     let lines = all-inputs recipe.inputs inputs given.count is.inputs given.each in
     let blocks = all-stages recipe recipe.stages done (omega arith) is.stages are.each in
     record {
-      recipe = record { count = is.digest_length; bytes = is.digest_bytes };
+      recipe = is.digest;
       inputs = (omega (arith, lines.0, is.some_inputs), omega (arith, lines.0, is.few_inputs));
       each_input = lines.1;
       stages = (omega (arith, blocks.0, is.some_stages), omega (arith, blocks.0, is.few_stages));
