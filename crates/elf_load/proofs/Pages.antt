@@ -5,7 +5,8 @@ use Rattle.std.specs.List.{list_any}
 use Rattle.std.proofs.lemmas.Bool.Decides.{nat_tests}
 use Rattle.std.proofs.lemmas.List.Folds.{list_any_at}
 use Rattle.elf_load.specs.declared.Segment.{Segment}
-use Rattle.elf_load.specs.Segments.{page_up, first_page, page_end, end_of, is_out_of_range, share_page, any_share, IsLow}
+use Rattle.paged_mem.specs.Memory.{page_up}
+use Rattle.elf_load.specs.Segments.{first_page, page_end, segment_end, is_out_of_range, share_page, any_share, IsLow}
 
 pub page_up_low : (n : ℕ) → n ≤ 2 ^ 37 → page_up n ≤ 2 ^ 37
 page_up_low n h = omega arith
@@ -23,7 +24,7 @@ first_below_end segment = omega arith
 
 pub page_end_low : (segment : Segment) → IsLow segment → page_end segment ≤ 2 ^ 37
 unfolding page_end
-page_end_low segment low = page_up_low (end_of segment) low
+page_end_low segment low = page_up_low (segment_end segment) low
 
 -- the cases of a segment that is out of range
 pub out_by_size : (size : ℕ) (segment : Segment) → segment.in_memory < segment.in_file → is_out_of_range size segment ≡ true
@@ -34,17 +35,17 @@ pub out_by_file : (size : ℕ) (segment : Segment) → size < segment.offset + s
 unfolding is_out_of_range
 out_by_file size segment h = grind (arith, nat_tests)
 
-pub out_by_memory : (size : ℕ) (segment : Segment) → 2 ^ 37 < end_of segment → is_out_of_range size segment ≡ true
+pub out_by_memory : (size : ℕ) (segment : Segment) → 2 ^ 37 < segment_end segment → is_out_of_range size segment ≡ true
 unfolding is_out_of_range page_end
 out_by_memory size segment h =
-    let high : 2 ^ 37 < page_up (end_of segment) = page_up_high (end_of segment) h in
+    let high : 2 ^ 37 < page_up (segment_end segment) = page_up_high (segment_end segment) h in
     grind (arith, nat_tests)
 
 pub in_range : (size : ℕ) (segment : Segment) → segment.in_file ≤ segment.in_memory
-    → segment.offset + segment.in_file ≤ size → end_of segment ≤ 2 ^ 37 → is_out_of_range size segment ≡ false
+    → segment.offset + segment.in_file ≤ size → segment_end segment ≤ 2 ^ 37 → is_out_of_range size segment ≡ false
 unfolding is_out_of_range page_end
 in_range size segment in_file in_size low =
-    let fits : page_up (end_of segment) ≤ 2 ^ 37 = page_up_low (end_of segment) low in
+    let fits : page_up (segment_end segment) ≤ 2 ^ 37 = page_up_low (segment_end segment) low in
     grind (arith, nat_tests)
 
 -- what a segment in range is
@@ -63,7 +64,7 @@ range_of size segment h = record {
 
 pub low_of : (segment : Segment) → page_end segment ≤ 2 ^ 37 → IsLow segment
 unfolding page_end
-low_of segment h = let above = page_up_above (end_of segment) in omega arith
+low_of segment h = let above = page_up_above (segment_end segment) in omega arith
 
 -- where no element passes, each fails
 pub none_at : {X : Type 0} (p : X → Bool) (xs : List X) → list_any p xs ≡ false → All (λ x. p x ≡ false) xs

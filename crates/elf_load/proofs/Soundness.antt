@@ -11,7 +11,8 @@ use Rattle.elf_load.specs.declared.Segment.{Segment}
 use Rattle.elf_load.specs.declared.refusal.ElfRefusal.{ElfRefusal}
 use Rattle.elf_load.specs.declared.refusal.ElfRefusal.TheVariants.{NoLoad, TooMany}
 use Rattle.elf_load.specs.Fields.{e_entry, p_memsz}
-use Rattle.elf_load.specs.Segments.{page_up, first_page, page_end, end_of, is_out_of_range, is_load, paged_size, segment_at, share_page, any_share, holds_address, break_after, loads_among, segments_of, IsLow, AreApart}
+use Rattle.paged_mem.specs.Memory.{page_up}
+use Rattle.elf_load.specs.Segments.{first_page, page_end, segment_end, is_out_of_range, is_load, paged_size, segment_at, share_page, any_share, holds_address, break_after, loads_among, segments_of, IsLow, AreApart}
 use Rattle.elf_load.specs.Image.{first_refusal, table_rules, placing_rules, entry_rules, accepted_image, IsLoadable}
 use Rattle.elf_load.proofs.Pages.{all_low, none_at, range_of, page_up_low}
 
@@ -79,27 +80,27 @@ all_apart (segment ∷ rest) none (suc i) (suc j) d lt lt' =
 
 -- the greatest end so far and the ends of more segments
 abbrev ends_from : ℕ → List Segment → ℕ
-ends_from most segments = fold (λ high segment. max high (end_of segment)) most segments
+ends_from most segments = fold (λ high segment. max high (segment_end segment)) most segments
 
 above_start : (most : ℕ) (segments : List Segment) → most ≤ ends_from most segments
 above_start most [] = omega arith
 above_start most (segment ∷ rest) =
-    let here : most ≤ max most (end_of segment) = le-max_left most (end_of segment) in
-    let later : max most (end_of segment) ≤ ends_from (max most (end_of segment)) rest = above_start (max most (end_of segment)) rest in
+    let here : most ≤ max most (segment_end segment) = le-max_left most (segment_end segment) in
+    let later : max most (segment_end segment) ≤ ends_from (max most (segment_end segment)) rest = above_start (max most (segment_end segment)) rest in
     omega arith
 
-above_each : (most : ℕ) (segments : List Segment) → All (λ segment. end_of segment ≤ ends_from most segments) segments
+above_each : (most : ℕ) (segments : List Segment) → All (λ segment. segment_end segment ≤ ends_from most segments) segments
 above_each most [] k d lt = absurd (omega arith)
 above_each most (segment ∷ rest) k d lt =
-    let here : end_of segment ≤ max most (end_of segment) = le-max_right most (end_of segment) in
-    let later : max most (end_of segment) ≤ ends_from (max most (end_of segment)) rest = above_start (max most (end_of segment)) rest in
-    all_onto (λ one. end_of one ≤ ends_from most (segment ∷ rest)) segment rest (omega arith)
-    (above_each (max most (end_of segment)) rest) k d lt
+    let here : segment_end segment ≤ max most (segment_end segment) = le-max_right most (segment_end segment) in
+    let later : max most (segment_end segment) ≤ ends_from (max most (segment_end segment)) rest = above_start (max most (segment_end segment)) rest in
+    all_onto (λ one. segment_end one ≤ ends_from most (segment ∷ rest)) segment rest (omega arith)
+    (above_each (max most (segment_end segment)) rest) k d lt
 
 ends_low : (most : ℕ) (segments : List Segment) → most ≤ 2 ^ 37 → All IsLow segments → ends_from most segments ≤ 2 ^ 37
 ends_low most [] low all = low
 ends_low most (segment ∷ rest) low all =
-    ends_low (max most (end_of segment)) rest (max-le low (all 0 segment (omega arith))) (λ k d lt. all (suc k) d (omega arith))
+    ends_low (max most (segment_end segment)) rest (max-le low (all 0 segment (omega arith))) (λ k d lt. all (suc k) d (omega arith))
 
 page_up_grows : (m n : ℕ) → m ≤ n → page_up m ≤ page_up n
 page_up_grows m n le = omega arith
@@ -110,7 +111,7 @@ page_up_whole n = omega arith
 break_above : (segments : List Segment) → All (λ segment. page_end segment ≤ break_after segments) segments
 unfolding page_end
 break_above segments k d lt =
-    page_up_grows (end_of (get_or segments k d)) (ends_from 0 segments) (above_each 0 segments k d lt)
+    page_up_grows (segment_end (get_or segments k d)) (ends_from 0 segments) (above_each 0 segments k d lt)
 
 entry_aligned : (entry : ℕ) → (entry % 4 == 0) ≡ true → entry % 4 ≡ 0
 entry_aligned entry is = grind (arith, nat_tests)

@@ -3,16 +3,16 @@ use Rattle.std.specs.Prelude.{ℕ}
 use Rattle.elf_load.specs.declared.refusal.ElfRefusal.{ElfRefusal}
 use Rattle.elf_load.specs.declared.refusal.ElfRefusal.TheVariants.{Short, Magic, Class, Machine, Kind, HeaderRange, Interpreter, NoLoad, TooMany, SegmentRange, Overlap, EntryOutside}
 
-abbrev pub number_of : ElfRefusal → ℕ
-number_of Short = 1
-number_of Magic = 2
-number_of Class = 3
-number_of Machine = 4
-number_of Kind = 5
-number_of HeaderRange = 6
-number_of Interpreter = 7
-number_of NoLoad = 8
-number_of TooMany = 9
-number_of SegmentRange = 10
-number_of Overlap = 11
-number_of EntryOutside = 12
+abbrev pub rank : ElfRefusal → ℕ
+rank Short = 1
+rank Magic = 2
+rank Class = 3
+rank Machine = 4
+rank Kind = 5
+rank HeaderRange = 6
+rank Interpreter = 7
+rank NoLoad = 8
+rank TooMany = 9
+rank SegmentRange = 10
+rank Overlap = 11
+rank EntryOutside = 12

@@ -2,6 +2,7 @@
 -- docs/reference/loader.md says the same for people.
 use Rattle.std.specs.Prelude.{◌≤◌, ◌<◌, ℕ, ◌+◌, ◌-◌, ◌*◌, ◌/◌, ◌^◌, ◌==◌, Bool, false, ◌&&◌, ◌||◌, not, nat_lt, nat_le, List, [], ◌∷◌, ◌⊎◌, max, map}
 use Rattle.std.specs.List.{filter, fold, list_any}
+use Rattle.paged_mem.specs.Memory.{page_up}
 use Rattle.elf_load.specs.declared.Segment.{Segment}
 use Rattle.elf_load.specs.Fields.{headers, p_type, p_offset, p_vaddr, p_filesz, p_memsz}
 
@@ -30,23 +31,20 @@ loads_among file offsets = map (segment_at file) (filter (is_load file) offsets)
 abbrev pub segments_of : List ℕ → List Segment
 segments_of file = loads_among file (headers file)
 
--- the first multiple of 4,096 that is not below `n`, and the last that is not above it
-abbrev pub page_up : ℕ → ℕ
-page_up n = (n + 4095) / 4096 * 4096
-
+-- the last multiple of 4,096 that is not above `n`
 abbrev pub page_down : ℕ → ℕ
 page_down n = n / 4096 * 4096
 
 -- where a segment ends in memory
-abbrev pub end_of : Segment → ℕ
-end_of segment = segment.at + segment.in_memory
+abbrev pub segment_end : Segment → ℕ
+segment_end segment = segment.at + segment.in_memory
 
 -- the segment's pages: from the page of its first byte to the end of the page of its last
 unfoldable pub first_page : Segment → ℕ
 first_page segment = page_down segment.at
 
 unfoldable pub page_end : Segment → ℕ
-page_end segment = page_up (end_of segment)
+page_end segment = page_up (segment_end segment)
 
 -- the bytes of its pages
 abbrev pub paged_size : Segment → ℕ
@@ -70,15 +68,15 @@ any_share (segment ∷ rest) = list_any (share_page segment) rest || any_share r
 
 -- the address is one of the segment's bytes in memory
 abbrev pub holds_address : ℕ → Segment → Bool
-holds_address address segment = nat_le segment.at address && nat_lt address (end_of segment)
+holds_address address segment = nat_le segment.at address && nat_lt address (segment_end segment)
 
 -- where the last of the segments ends, whole pages: the first byte of the heap
 abbrev pub break_after : List Segment → ℕ
-break_after segments = page_up (fold (λ most segment. max most (end_of segment)) 0 segments)
+break_after segments = page_up (fold (λ most segment. max most (segment_end segment)) 0 segments)
 
 -- the segment ends at most at 2^37
 abbrev pub IsLow : Segment → Type 0
-IsLow segment = end_of segment ≤ 2 ^ 37
+IsLow segment = segment_end segment ≤ 2 ^ 37
 
 -- the segment's bytes stand in a file of `size` bytes, and its pages below 2^37
 pub record IsPlaced (size : ℕ) (segment : Segment) : Type 0 where

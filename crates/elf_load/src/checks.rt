@@ -2,18 +2,18 @@
 ghost use Rattle.elf_load.specs.Fields.{e_phoff, e_phnum};
 ghost use Rattle.elf_load.specs.Image.{first_refusal, header_rules, placing_rules, entry_rules};
 ghost use Rattle.elf_load.specs.Inside.Checks.{HoldsTable, Judges};
-ghost use Rattle.elf_load.specs.Segments.{is_out_of_range, paged_size, page_up, first_page, page_end, end_of, share_page, any_share, holds_address, break_after, IsLow};
+ghost use Rattle.paged_mem.specs.Memory.{page_up};
+ghost use Rattle.elf_load.specs.Segments.{is_out_of_range, paged_size, first_page, page_end, segment_end, share_page, any_share, holds_address, break_after, IsLow};
 ghost use Rattle.std.specs.List.{list_any};
 ghost use Rattle.std.specs.Prelude.{◌≡◌, ◌+◌, ◌*◌, ◌^◌, ◌<◌, ◌≤◌, length, nat_le, OnOk, All, sum_by};
 
 use super::{ElfRefusal, Segment, fields};
+use paged_mem::PAGE;
 
 /// Every segment's pages end here or below.
 const HIGHEST: u64 = 1 << 37;
 /// The pages of all segments take at most these bytes together.
 const MOST_TOGETHER: u64 = 268_435_456;
-
-const PAGE: u64 = 4_096;
 
 /// RISC-V and an executable file, by the ELF standard's numbers.
 const RISC_V: u16 = 243;

@@ -1,5 +1,5 @@
 ghost use Rattle.std.specs.Prelude.{◌≡◌};
-ghost use Rattle.elf_load.specs.Refusal.{number_of};
+ghost use Rattle.elf_load.specs.Refusal.{rank};
 
 /// Why a file is no program that can be loaded. The refusals are tried in this order, and the first
 /// that fits is the answer.
@@ -35,7 +35,7 @@ pub enum ElfRefusal {
 impl ElfRefusal {
     /// The refusal's number, 1 to 12.
     pub fn number(self) -> u8
-        ensures { result ≡ number_of self }
+        ensures { result ≡ rank self }
     {
         self as u8
     }

@@ -13,13 +13,13 @@ use Rattle.paged_mem.proofs.Maps.{each_by_maps, maps_by_each}
 use Rattle.paged_mem.proofs.Numbers.{length-bytes_of}
 use Rattle.linux_calls.specs.declared.Heap.{Heap}
 use Rattle.linux_calls.specs.HeapOf.{IsHeapOf, is_beside_heap}
-use Rattle.linux_calls.specs.HeapOf as heap
+use Rattle.paged_mem.specs.Memory.{page_up}
 use Rattle.paged_mem.proofs.Wholes.{same_after_write}
 use Rattle.elf_load.specs.declared.Segment.{Segment}
 use Rattle.elf_load.specs.declared.Image.{Image}
 use Rattle.elf_load.specs.Segments.{first_page, page_end, paged_size, IsPlaced}
 use Rattle.elf_load.specs.Image.{IsLoadable}
-use Rattle.guest_run.specs.Stack.{addresses, gap, joined, stack_bytes, stack_end, stack_pointer, stack_size, start_size, texts_at, word_count, words}
+use Rattle.guest_run.specs.Stack.{addresses, gap, ended_texts, stack_bytes, stack_end, stack_pointer, stack_size, start_size, texts_at, word_count, words}
 use Rattle.guest_run.specs.Placed.{with_segments, with_stack}
 use Rattle.guest_run.specs.Valid.{Fits, pages_beside, pages_from}
 use Rattle.elf_load.proofs.Pages.{none_at}
@@ -41,17 +41,17 @@ length-words8 (w ∷ ws) =
 length-words : (args env : List (List ℕ)) → length (words args env) ≡ word_count args env
 length-words args env =
     let a = length-addresses (texts_at args env) args in
-    let e = length-addresses (texts_at args env + length (joined args)) env in
-    let one = length-append (length args ∷ addresses (texts_at args env) args ++ 0 ∷ addresses (texts_at args env + length (joined args)) env) (0 ∷ 0 ∷ 0 ∷ []) in
-    let two = length-append (length args ∷ addresses (texts_at args env) args) (0 ∷ addresses (texts_at args env + length (joined args)) env) in
+    let e = length-addresses (texts_at args env + length (ended_texts args)) env in
+    let one = length-append (length args ∷ addresses (texts_at args env) args ++ 0 ∷ addresses (texts_at args env + length (ended_texts args)) env) (0 ∷ 0 ∷ 0 ∷ []) in
+    let two = length-append (length args ∷ addresses (texts_at args env) args) (0 ∷ addresses (texts_at args env + length (ended_texts args)) env) in
     omega (arith, a, e, one, two)
 
 pub stack_length : (args env : List (List ℕ)) → start_size args env ≤ 131072
     → stack_pointer args env + length (stack_bytes args env) ≡ stack_end
 unfolding stack_bytes
 stack_length args env fits =
-    let one = length-append (flat_map (bytes_of 8) (words args env) ++ zeros (gap args env) ++ joined args) (joined env) in
-    let two = length-append (flat_map (bytes_of 8) (words args env) ++ zeros (gap args env)) (joined args) in
+    let one = length-append (flat_map (bytes_of 8) (words args env) ++ zeros (gap args env) ++ ended_texts args) (ended_texts env) in
+    let two = length-append (flat_map (bytes_of 8) (words args env) ++ zeros (gap args env)) (ended_texts args) in
     let three = length-append (flat_map (bytes_of 8) (words args env)) (zeros (gap args env)) in
     let eight = length-words8 (words args env) in
     let count = length-words args env in
@@ -250,7 +250,7 @@ heap_starts program image at bytes limit sound small low =
       to = omega arith;
       low = omega arith;
       mapped = maps_by_each (with_stack (with_segments program image.segments.items) at bytes) image.first_break
-          (heap.page_up image.first_break - image.first_break) (λ q from to. absurd (omega arith));
+          (page_up image.first_break - image.first_break) (λ q from to. absurd (omega arith));
       free = λ q from to.
           below_stack (with_segments program image.segments.items) at bytes q low (omega arith)
           ∙ unmapped_beside program image.segments.items q sound.placed

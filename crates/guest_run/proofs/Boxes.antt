@@ -7,7 +7,7 @@ use Rattle.std.specs.FinMap as fin
 use Rattle.mem_files.specs.declared.slot.PlaceRefusal.{PlaceRefusal}
 use Rattle.mem_files.specs.declared.slot.PlaceRefusal.TheVariants.{BadName, Twice, Full, OutOfMemory}
 use Rattle.mem_files.specs.Limits.{most_content, most_names}
-use Rattle.mem_files.specs.Names.{bytes_cmp, is_name}
+use Rattle.mem_files.specs.Names.{bytes_cmp, is_file_name}
 use Rattle.mem_files.specs.Sound.{AreBytes}
 use Rattle.mem_files.proofs.Keeping.{neither}
 use borrow.Author.Tests.{leb-false}
@@ -36,7 +36,7 @@ with_files box files is each few = record { args = is.args; arg_bytes = is.arg_b
 -- a file more that no rule refuses
 few_more : (files : FileMap) (name content : List ℕ) → place_refusal files name content ≡ None → fin.len (fin.insert files name content) ≤ most_names
 few_more files name content fits =
-    by_tests (not (is_name name)) (fin.contains_key files name) (nat_lt most_content (length content) || nat_le most_names (fin.len files)) refl refl fits
+    by_tests (not (is_file_name name)) (fin.contains_key files name) (nat_lt most_content (length content) || nat_le most_names (fin.len files)) refl refl fits
   where
     by_tests : (bad twice full : Bool) → fin.contains_key files name ≡ twice → (nat_lt most_content (length content) || nat_le most_names (fin.len files)) ≡ full
         → cond bad (Some BadName) (cond twice (Some Twice) (cond full (Some Full) None)) ≡ None → fin.len (fin.insert files name content) ≤ most_names

@@ -12,7 +12,7 @@ use Rattle.std.specs.FinMap.Entries.{below_all, by_order, is_sorted-put}
 use Rattle.std.proofs.lemmas.Bool.Decides.{nat_tests}
 use Rattle.std.proofs.lemmas.List.Elements.{All-head, All-tail, All-weaker}
 use Rattle.std.proofs.lemmas.List.Sums.{sum_by-cons}
-use Rattle.mem_files.specs.Names.{begins_with_dot_slash, bytes_cmp, is_name, is_stripped_name, stripped}
+use Rattle.mem_files.specs.Names.{begins_with_dot_slash, bytes_cmp, is_file_name, is_stripped_name, stripped}
 use Rattle.mem_files.specs.World.{World, content_of, lowest_unused, total}
 use Rattle.mem_files.specs.Calls.{first_world, is_full, placed, placed_as, with_file}
 use Rattle.mem_files.specs.Limits.{most_content, most_names, most_total}
@@ -160,15 +160,15 @@ stays (a ∷ (b ∷ rest)) h = ap (λ t. cond t (stripped rest) (a ∷ (b ∷ re
 
 stripped_stays : (name : List ℕ) → IsTrue (is_stripped_name name) → stripped name ≡ name
 stripped_stays name is =
-    stays name (not_true (begins_with_dot_slash name) ((and_true (is_name name) (not (begins_with_dot_slash name)) is).1))
+    stays name (not_true (begins_with_dot_slash name) ((and_true (is_file_name name) (not (begins_with_dot_slash name)) is).1))
 
 -- a name that was stripped and is one
-pub good_name : (name : List ℕ) → is_name (stripped name) ≡ true → IsTrue (is_stripped_name (stripped name))
+pub good_name : (name : List ℕ) → is_file_name (stripped name) ≡ true → IsTrue (is_stripped_name (stripped name))
 good_name name is =
     ap (λ b. b && not (begins_with_dot_slash (stripped name))) is ∙ ap not (stripped-is name)
 
 -- the place of a file that no rule refuses
-placed_well : (world : World) (name content : List ℕ) → is_name name ≡ true → fin.contains_key world.names name ≡ false
+placed_well : (world : World) (name content : List ℕ) → is_file_name name ≡ true → fin.contains_key world.names name ≡ false
     → is_full world (length content) ≡ false → placed_as world name content ≡ (Ok tt, with_file world name content)
 placed_well world name content is absent room =
     λ i. cond (not (is i)) (Err BadName, world)
@@ -195,7 +195,7 @@ place_next world file files can =
     let room = can.room in
     let few = can.few in
     ap (λ name. placed_as world name file.1) (stripped_stays file.0 named)
-    ∙ placed_well world file.0 file.1 ((and_true (is_name file.0) (not (begins_with_dot_slash file.0)) named).0) (ap is_some fresh)
+    ∙ placed_well world file.0 file.1 ((and_true (is_file_name file.0) (not (begins_with_dot_slash file.0)) named).0) (ap is_some fresh)
     (not_full world (length file.1) small (omega (arith, more)) (omega arith))
 
 -- a name below all others is none of them

@@ -11,3 +11,4 @@ pub mod Programs
 pub mod StartLaw
 pub mod Boxes
 pub mod Stretching
+pub mod Endings

@@ -9,24 +9,24 @@ use Rattle.linux_calls.specs.declared.CallEnd.{CallEnd}
 use Rattle.linux_calls.specs.declared.CallEnd.TheVariants.{Back, Exit, Unknown}
 use Rattle.linux_calls.specs.declared.CallEnd.TheVariants as end
 use Rattle.linux_calls.specs.Answer.{IsAnswer}
-use Rattle.linux_calls.specs.Calls.{Outcome, State, answer_of, state, syscall}
+use Rattle.linux_calls.specs.Calls.{CallOutcome, State, answer_of, state, syscall}
 use Rattle.linux_calls.specs.Calls as call
 use Rattle.guest_run.specs.State.{GuestState, guest_state}
-use Rattle.guest_run.specs.Run.{Exited, Trapped, UnknownCall, Next, Goes, Ends, after_act, after_call, answered, call_arguments, call_number, CallTakesMemory, goes, next, outcome_of}
+use Rattle.guest_run.specs.Run.{Exited, Trapped, UnknownCall, Next, Goes, Ends, step_of_act, step_of_call, answered, call_arguments, call_number, CallTakesMemory, goes, next, outcome_of}
 
 -- the step, by the act
 pub next-goes : (guest : GuestState) (to : HartState) → act guest.hart ≡ hart.Goes to
     → next guest ≡ Goes (record guest { hart = to; steps = guest.steps + 1 })
 unfolding next
-next-goes guest to is = ap (after_act guest) is
+next-goes guest to is = ap (step_of_act guest) is
 
-pub next-calls : (guest : GuestState) → act guest.hart ≡ hart.Calls → next guest ≡ after_call guest (outcome_of guest)
+pub next-calls : (guest : GuestState) → act guest.hart ≡ hart.Calls → next guest ≡ step_of_call guest (outcome_of guest)
 unfolding next
-next-calls guest is = ap (after_act guest) is
+next-calls guest is = ap (step_of_act guest) is
 
 pub next-traps : (guest : GuestState) (cause : Cause) → act guest.hart ≡ hart.Traps cause → next guest ≡ Ends (Trapped cause)
 unfolding next
-next-traps guest cause is = ap (after_act guest) is
+next-traps guest cause is = ap (step_of_act guest) is
 
 -- a call's answer at the registers and the memory of the guest
 pub at_guest : (guest : GuestState) (left : State) (answer : CallEnd) (number : ℕ) (arguments : List ℕ) (memory : Memory)
@@ -41,8 +41,8 @@ at_guest guest left answer number arguments memory same-number same-arguments sa
     subst P same is
 
 -- what the guest's step comes to, by the call's answer
-pub goes_back : (guest : GuestState) (meant : Outcome) (number value : ℕ) (old left : State) → IsAnswer number old left meant (Back value)
-    → after_call guest meant ≡ Goes (record {
+pub goes_back : (guest : GuestState) (meant : CallOutcome) (number value : ℕ) (old left : State) → IsAnswer number old left meant (Back value)
+    → step_of_call guest meant ≡ Goes (record {
       hart = answered (record guest.hart { memory = left.memory }) value;
       world = left.files;
       heap = left.heap;
@@ -58,21 +58,21 @@ goes_back guest (call.goes answer to) number value old left is =
 goes_back guest (call.exits status) number value old left is = absurd is
 goes_back guest (call.is_unknown n) number value old left is = absurd is
 
-pub exits_with : (guest : GuestState) (meant : Outcome) (number code : ℕ) (old left : State) → IsAnswer number old left meant (Exit code)
-    → (after_call guest meant ≡ Ends (Exited code)) × (left ≡ old)
+pub exits_with : (guest : GuestState) (meant : CallOutcome) (number code : ℕ) (old left : State) → IsAnswer number old left meant (Exit code)
+    → (step_of_call guest meant ≡ Ends (Exited code)) × (left ≡ old)
 exits_with guest (call.goes answer to) number code old left is = absurd is
 exits_with guest (call.exits status) number code old left is = (ap (λ s. Ends (Exited s)) (sym is.0), is.1)
 exits_with guest (call.is_unknown n) number code old left is = absurd is
 
-pub unknown_is : (guest : GuestState) (meant : Outcome) (number n : ℕ) (old left : State) → IsAnswer number old left meant (Unknown n)
-    → (after_call guest meant ≡ Ends (UnknownCall n)) × (left ≡ old)
+pub unknown_is : (guest : GuestState) (meant : CallOutcome) (number n : ℕ) (old left : State) → IsAnswer number old left meant (Unknown n)
+    → (step_of_call guest meant ≡ Ends (UnknownCall n)) × (left ≡ old)
 unknown_is guest (call.goes answer to) number n old left is = absurd is
 unknown_is guest (call.exits status) number n old left is = absurd is
 unknown_is guest (call.is_unknown m) number n old left is = (ap (λ s. Ends (UnknownCall s)) (sym is.0), is.1)
 
-pub wants_memory : (guest : GuestState) (meant : Outcome) (left : State)
+pub wants_memory : (guest : GuestState) (meant : CallOutcome) (left : State)
     → IsAnswer (call_number guest) (state guest.hart.memory guest.world guest.heap) left meant end.OutOfMemory
-    → IsTrue (goes (after_call guest meant)) × CallTakesMemory guest meant × (left ≡ state guest.hart.memory guest.world guest.heap)
+    → IsTrue (goes (step_of_call guest meant)) × CallTakesMemory guest meant × (left ≡ state guest.hart.memory guest.world guest.heap)
 wants_memory guest (call.goes answer to) left is = (refl, is.0, is.1)
 wants_memory guest (call.exits status) left is = absurd is
 wants_memory guest (call.is_unknown n) left is = absurd is
@@ -84,7 +84,7 @@ left_as_was guest left same =
     ap (λ (s : State). guest_state (record guest.hart { memory = s.memory }) s.files s.heap guest.steps) same
 
 -- a store that would go on is a step that would
-goes_if : (guest : GuestState) (an_act : Act) → IsTrue (goes_on an_act) → IsTrue (goes (after_act guest an_act))
+goes_if : (guest : GuestState) (an_act : Act) → IsTrue (goes_on an_act) → IsTrue (goes (step_of_act guest an_act))
 goes_if guest (hart.Goes to) is = refl
 goes_if guest hart.Calls is = absurd (let no-way : false ≡ true = is in cc)
 goes_if guest (hart.Traps cause) is = absurd (let no-way : false ≡ true = is in cc)
@@ -98,13 +98,13 @@ count_of : Next → ℕ → ℕ
 count_of (Goes guest) other = guest.steps
 count_of (Ends end) other = other
 
-counted_call : (guest : GuestState) (meant : Outcome) (to : GuestState) → after_call guest meant ≡ Goes to → to.steps ≡ guest.steps + 1
+counted_call : (guest : GuestState) (meant : CallOutcome) (to : GuestState) → step_of_call guest meant ≡ Goes to → to.steps ≡ guest.steps + 1
 unfolding count_of
 counted_call guest (call.goes answer left) to is = sym (ap (λ n. count_of n 0) is)
 counted_call guest (call.exits status) to is = cc
 counted_call guest (call.is_unknown n) to is = cc
 
-counted_act : (guest : GuestState) (an_act : Act) (to : GuestState) → after_act guest an_act ≡ Goes to → to.steps ≡ guest.steps + 1
+counted_act : (guest : GuestState) (an_act : Act) (to : GuestState) → step_of_act guest an_act ≡ Goes to → to.steps ≡ guest.steps + 1
 unfolding count_of
 counted_act guest (hart.Goes next') to is = sym (ap (λ n. count_of n 0) is)
 counted_act guest hart.Calls to is = counted_call guest (outcome_of guest) to is

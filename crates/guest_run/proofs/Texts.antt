@@ -9,12 +9,12 @@ use Rattle.std.specs.List.{flat_map}
 use Rattle.std.proofs.lemmas.Grind.{flat_map-append}
 use Rattle.std.proofs.lemmas.List.Sums.{sum_by-cons}
 use Rattle.paged_mem.specs.Memory.{bytes_of, zeros}
-use Rattle.guest_run.specs.Stack.{addresses, cost, ended, gap, joined, stack_bytes, stack_end, start_size}
+use Rattle.guest_run.specs.Stack.{addresses, cost, ended, gap, ended_texts, stack_bytes, stack_end, start_size}
 
 -- the text at an index, and those after it
-pub joined-on : (texts : List (List ℕ)) (i : ℕ) (d : List ℕ) → i < length texts
-    → joined (drop i texts) ≡ (get_or texts i d ++ 0 ∷ []) ++ joined (drop (i + 1) texts)
-joined-on texts i d lt = rw (add-one, drop-cons texts i d lt) refl
+pub ended_texts-on : (texts : List (List ℕ)) (i : ℕ) (d : List ℕ) → i < length texts
+    → ended_texts (drop i texts) ≡ (get_or texts i d ++ 0 ∷ []) ++ ended_texts (drop (i + 1) texts)
+ended_texts-on texts i d lt = rw (add-one, drop-cons texts i d lt) refl
 
 pub addresses-on : (at : ℕ) (texts : List (List ℕ)) (i : ℕ) (d : List ℕ) → i < length texts
     → addresses at (drop i texts) ≡ at ∷ addresses (at + (length (get_or texts i d) + 1)) (drop (i + 1) texts)
@@ -28,20 +28,20 @@ pub costs-on : (texts : List (List ℕ)) (i : ℕ) (d : List ℕ) → i < length
 costs-on texts i d lt = rw (add-one, drop-cons texts i d lt) (sum_by-cons cost (get_or texts i d) (drop (suc i) texts))
 
 -- what texts cost is their bytes and a word for each
-pub costs-are : (texts : List (List ℕ)) → sum_by cost texts ≡ length (joined texts) + 8 * length texts
+pub costs-are : (texts : List (List ℕ)) → sum_by cost texts ≡ length (ended_texts texts) + 8 * length texts
 costs-are [] = refl
 costs-are (text ∷ texts) =
     let more = sum_by-cons cost text texts in
     let rest = costs-are texts in
-    let len = length-append (ended text) (joined texts) in
+    let len = length-append (ended text) (ended_texts texts) in
     let one = length-append text (0 ∷ []) in
     omega (arith, more, rest, len, one)
 
-pub joined-length_on : (texts : List (List ℕ)) (i : ℕ) (d : List ℕ) → i < length texts
-    → length (joined (drop i texts)) ≡ (length (get_or texts i d) + 1) + length (joined (drop (i + 1) texts))
-joined-length_on texts i d lt =
-    ap length (joined-on texts i d lt) ∙ length-append (ended (get_or texts i d)) (joined (drop (i + 1) texts))
-    ∙ ap (λ n. n + length (joined (drop (i + 1) texts))) (length-append (get_or texts i d) (0 ∷ []))
+pub ended_texts-length_on : (texts : List (List ℕ)) (i : ℕ) (d : List ℕ) → i < length texts
+    → length (ended_texts (drop i texts)) ≡ (length (get_or texts i d) + 1) + length (ended_texts (drop (i + 1) texts))
+ended_texts-length_on texts i d lt =
+    ap length (ended_texts-on texts i d lt) ∙ length-append (ended (get_or texts i d)) (ended_texts (drop (i + 1) texts))
+    ∙ ap (λ n. n + length (ended_texts (drop (i + 1) texts))) (length-append (get_or texts i d) (0 ∷ []))
 
 -- a search for the cost within a bound
 pub some_le : (o : Option ℕ) (a b v : ℕ) → SomeIff o (a ≤ b) v → is_some o ≡ nat_le a b
@@ -87,11 +87,11 @@ zero_words n = zeros-append 24 n
 
 -- what is appended in turn is the stack
 pub assembled : (args env : List (List ℕ)) (a e : ℕ) (p₀ p₁ p₂ p₃ p₄ p₅ p₆ p₇ : List ℕ)
-    → a ≡ length (joined args) → e ≡ length (joined env) → p₀ ≡ [] → p₁ ≡ p₀ ++ bytes_of 8 (length args)
+    → a ≡ length (ended_texts args) → e ≡ length (ended_texts env) → p₀ ≡ [] → p₁ ≡ p₀ ++ bytes_of 8 (length args)
     → p₂ ≡ p₁ ++ flat_map (bytes_of 8) (addresses (stack_end - a - e) args) → p₃ ≡ p₂ ++ bytes_of 8 0
     → p₄ ≡ p₃ ++ flat_map (bytes_of 8) (addresses (stack_end - a - e + a) env)
     → p₅ ≡ p₄ ++ zeros (24 + (stack_end - a - e - 8 * (5 + length args + length env) - (stack_end - a - e - 8 * (5 + length args + length env)) / 16 * 16))
-    → p₆ ≡ p₅ ++ joined args → p₇ ≡ p₆ ++ joined env → p₇ ≡ stack_bytes args env
+    → p₆ ≡ p₅ ++ ended_texts args → p₇ ≡ p₆ ++ ended_texts env → p₇ ≡ stack_bytes args env
 unfolding stack_bytes
 assembled args env a e p₀ p₁ p₂ p₃ p₄ p₅ p₆ p₇ a-is e-is is₀ is₁ is₂ is₃ is₄ is₅ is₆ is₇ =
     rw (is₇, is₆, is₅, is₄, is₃, is₂, is₁, is₀, a-is, e-is, zero_words (gap args env)) (simp (append_assoc, flat_map-append))

@@ -1,15 +1,15 @@
 -- Steps keep a state valid.
-use Rattle.std.proofs.Common.{◌≡◌, ℕ, zero, suc, ◌+◌, ◌-◌, ◌*◌, ◌^◌, ◌≤◌, Bool, true, false, ◌&&◌, ◌||◌, Some, refl, ap, ◌∙◌, subst, arith}
+use Rattle.std.proofs.Common.{◌≡◌, ◌<◌, ℕ, zero, suc, ◌+◌, ◌-◌, ◌*◌, ◌^◌, ◌≤◌, Bool, true, false, ◌&&◌, ◌||◌, Some, refl, ap, ◌∙◌, subst, arith}
 use Rattle.std.specs.Prelude.{count_by, nat_le, nat_lt}
 use Rattle.std.specs.FinMap.{contains_key}
 use Rattle.std.proofs.lemmas.Bool.Decides.{nat_tests}
-use Rattle.paged_mem.specs.Memory.{Memory}
+use Rattle.paged_mem.specs.Memory.{Memory, page_up}
 use Rattle.paged_mem.proofs.Maps.{each_by_maps, maps_by_each}
 use Rattle.rv64_machine.specs.Hart.{Act, IsHart, act}
 use Rattle.rv64_machine.specs.Hart as hart
 use Rattle.linux_calls.specs.declared.Heap.{Heap}
-use Rattle.linux_calls.specs.HeapOf.{IsHeapOf, is_beside_heap, page_up}
-use Rattle.linux_calls.specs.Calls.{Outcome, State, answer_of, state}
+use Rattle.linux_calls.specs.HeapOf.{IsHeapOf, is_beside_heap}
+use Rattle.linux_calls.specs.Calls.{CallOutcome, State, answer_of, state}
 use Rattle.linux_calls.specs.Rules.{IsState, LeavesNumber, LeavesState}
 use Rattle.linux_calls.specs.Calls as call
 use Rattle.linux_calls.proofs.Heaps.{IsHeapOf-same}
@@ -18,7 +18,7 @@ use Rattle.linux_calls.proofs.SmallAnswers.{syscall-small}
 use Rattle.guest_run.specs.Stack.{stack_end, stack_size}
 use Rattle.guest_run.specs.State.{GuestState}
 use Rattle.guest_run.specs.Valid.{Fits, IsValid, pages_beside, pages_from}
-use Rattle.guest_run.specs.Run.{Next, Goes, Ends, after, after_act, after_call, next, outcome_of, call_number, call_arguments}
+use Rattle.guest_run.specs.Run.{End, Exited, Trapped, UnknownCall, Next, Goes, Ends, after, step_of_act, step_of_call, next, outcome_of, call_number, call_arguments}
 use Rattle.rv64_machine.proofs.ActLemmas.{act-mapping}
 use Rattle.std.proofs.lemmas.Option.{same_Some}
 use Rattle.linux_calls.proofs.Keeping.{call_keeps, OutcomeKeeps}
@@ -68,13 +68,19 @@ fits_too m n one other fits first limit heap_of same = record {
   few = let pages = same_pages m n one other first limit same in let few = fits.few in omega arith;
 }
 
+-- a program exits with a status of 8 bits
+abbrev pub IsByteEnd : End → Type 0
+IsByteEnd (Exited status) = status < 256
+IsByteEnd (Trapped cause) = Unit {0}
+IsByteEnd (UnknownCall number) = Unit {0}
+
 -- the state in which a step goes on is valid
 abbrev ValidIn : Next → Type 0
 ValidIn (Goes guest) = IsValid guest
-ValidIn (Ends end) = Unit {0}
+ValidIn (Ends end) = IsByteEnd end
 
-valid_after_call : (guest : GuestState) (meant : Outcome) → IsValid guest → LeavesState meant → LeavesNumber meant
-    → OutcomeKeeps (state guest.hart.memory guest.world guest.heap) meant → ValidIn (after_call guest meant)
+valid_after_call : (guest : GuestState) (meant : CallOutcome) → IsValid guest → LeavesState meant → LeavesNumber meant
+    → OutcomeKeeps (state guest.hart.memory guest.world guest.heap) meant → ValidIn (step_of_call guest meant)
 valid_after_call guest (call.goes answer left) valid leaves number keeps =
     let hart = valid.hart in
     let moved : IsHart (record guest.hart { memory = left.memory }) =
@@ -85,10 +91,10 @@ valid_after_call guest (call.goes answer left) valid leaves number keeps =
       fits = fits_too guest.hart.memory left.memory guest.heap left.heap valid.fits keeps.first keeps.limit keeps.heap_of keeps.beside;
       files = leaves.files;
     }
-valid_after_call guest (call.exits status) valid leaves number keeps = tt
+valid_after_call guest (call.exits status) valid leaves number keeps = number
 valid_after_call guest (call.is_unknown n) valid leaves number keeps = tt
 
-valid_after : (guest : GuestState) (an_act : Act) → act guest.hart ≡ an_act → IsValid guest → ValidIn (after_act guest an_act)
+valid_after : (guest : GuestState) (an_act : Act) → act guest.hart ≡ an_act → IsValid guest → ValidIn (step_of_act guest an_act)
 valid_after guest (hart.Goes to) is valid = record {
   hart = act-hart guest.hart to valid.hart is;
   numbers = act-numbers guest.hart to valid.hart.whole valid.numbers is;
@@ -107,6 +113,10 @@ valid_after guest (hart.Traps cause) is valid = tt
 next-valid : (guest to : GuestState) → IsValid guest → next guest ≡ Goes to → IsValid to
 unfolding next
 next-valid guest to valid is = subst ValidIn is (valid_after guest (act guest.hart) refl valid)
+
+pub end-byte : (guest : GuestState) (end : End) → IsValid guest → next guest ≡ Ends end → IsByteEnd end
+unfolding next
+end-byte guest end valid is = subst ValidIn is (valid_after guest (act guest.hart) refl valid)
 
 pub after-valid : (guest to : GuestState) (count : ℕ) → IsValid guest → after guest count ≡ Some to → IsValid to
 unfolding after

@@ -1,2 +1,3 @@
 -- How the representation keeps a box: no promise rests on these files being read.
 pub mod Given
+pub mod Stretch

@@ -7,4 +7,3 @@ pub mod Setting
 pub mod Start
 pub mod Program
 pub mod Inside
-pub mod Stretch

@@ -5,7 +5,7 @@ use Rattle.std.specs.Option.{option_or}
 use Rattle.rv64_machine.specs.declared.answer.Cause.{Cause}
 use Rattle.rv64_machine.specs.Hart.{Act, HartState, act, effect_at, following, goes_on, is_store, with_register}
 use Rattle.rv64_machine.specs.Hart as hart
-use Rattle.linux_calls.specs.Calls.{Outcome, answer_of, state, syscall}
+use Rattle.linux_calls.specs.Calls.{CallOutcome, answer_of, state, syscall}
 use Rattle.linux_calls.specs.Calls as call
 use Rattle.linux_calls.specs.Answer as taking
 use Rattle.guest_run.specs.declared.run.RunEnd.{RunEnd}
@@ -33,7 +33,7 @@ call_arguments guest =
     ∷ slice_index guest.hart.registers 13 ∷ slice_index guest.hart.registers 14 ∷ slice_index guest.hart.registers 15 ∷ []
 
 -- what the call that the guest makes comes to
-abbrev pub outcome_of : GuestState → Outcome
+abbrev pub outcome_of : GuestState → CallOutcome
 outcome_of guest = syscall (call_number guest) (call_arguments guest) (state guest.hart.memory guest.world guest.heap)
 
 -- the hart after a call: x10 has the value, and the next instruction follows
@@ -41,25 +41,25 @@ abbrev pub answered : HartState → ℕ → HartState
 answered hart value = record (with_register hart 10 value) { pc = following hart }
 
 -- the step of a call that comes to this
-abbrev pub after_call : GuestState → Outcome → Next
-after_call guest (call.goes answer left) = Goes (record {
+abbrev pub step_of_call : GuestState → CallOutcome → Next
+step_of_call guest (call.goes answer left) = Goes (record {
   hart = answered (record guest.hart { memory = left.memory }) (answer_of answer);
   world = left.files;
   heap = left.heap;
   steps = guest.steps + 1;
 })
-after_call guest (call.exits status) = Ends (Exited status)
-after_call guest (call.is_unknown number) = Ends (UnknownCall number)
+step_of_call guest (call.exits status) = Ends (Exited status)
+step_of_call guest (call.is_unknown number) = Ends (UnknownCall number)
 
 -- the step of an act
-abbrev pub after_act : GuestState → Act → Next
-after_act guest (hart.Goes next) = Goes (record guest { hart = next; steps = guest.steps + 1 })
-after_act guest hart.Calls = after_call guest (outcome_of guest)
-after_act guest (hart.Traps cause) = Ends (Trapped cause)
+abbrev pub step_of_act : GuestState → Act → Next
+step_of_act guest (hart.Goes next) = Goes (record guest { hart = next; steps = guest.steps + 1 })
+step_of_act guest hart.Calls = step_of_call guest (outcome_of guest)
+step_of_act guest (hart.Traps cause) = Ends (Trapped cause)
 
 -- one step: an instruction, or a call together with all that the system does for it
 unfoldable pub next : GuestState → Next
-next guest = after_act guest (act guest.hart)
+next guest = step_of_act guest (act guest.hart)
 
 -- the state in which a step went on
 abbrev pub went_to : Next → Option GuestState
@@ -88,15 +88,15 @@ first_end guest zero = None
 first_end guest (suc most) = option_or (first_end guest most) (end_at guest (suc most))
 
 -- the call comes to this, and takes memory of the host
-abbrev pub CallTakesMemory : GuestState → Outcome → Type 0
+abbrev pub CallTakesMemory : GuestState → CallOutcome → Type 0
 CallTakesMemory guest (call.goes answer left) =
     taking.TakesMemory (call_number guest) (state guest.hart.memory guest.world guest.heap) answer left
 CallTakesMemory guest (call.exits status) = ⊥
 CallTakesMemory guest (call.is_unknown number) = ⊥
 
 -- the step takes memory of the host: it is a store, or a call that does
-abbrev pub TakesMemory : GuestState → Type 0
-TakesMemory guest =
+abbrev pub StepTakesMemory : GuestState → Type 0
+StepTakesMemory guest =
     IsTrue (is_store (effect_at guest.hart)) ⊎ ((act guest.hart ≡ hart.Calls) × CallTakesMemory guest (outcome_of guest))
 
 -- whether a step goes on
@@ -111,7 +111,7 @@ Steps old (Some (answer.Exited status)) new = (next old ≡ Ends (Exited status)
 Steps old (Some (answer.Trapped cause)) new = (next old ≡ Ends (Trapped cause)) × (new ≡ old)
 Steps old (Some (answer.UnknownCall number)) new = (next old ≡ Ends (UnknownCall number)) × (new ≡ old)
 Steps old (Some answer.Spent) new = ⊥
-Steps old (Some answer.OutOfMemory) new = IsTrue (goes (next old)) × TakesMemory old × (new ≡ old)
+Steps old (Some answer.OutOfMemory) new = IsTrue (goes (next old)) × StepTakesMemory old × (new ≡ old)
 
 -- how many steps lie between two states
 abbrev pub steps_between : GuestState → GuestState → ℕ
@@ -125,4 +125,4 @@ Runs old most (answer.Trapped cause) new = first_end old most ≡ Some (Trapped 
 Runs old most (answer.UnknownCall number) new = first_end old most ≡ Some (UnknownCall number, new)
 Runs old most answer.Spent new = (first_end old most ≡ None) × (after old most ≡ Some new)
 Runs old most answer.OutOfMemory new =
-    (steps_between old new < most) × (after old (steps_between old new) ≡ Some new) × IsTrue (goes (next new)) × TakesMemory new
+    (steps_between old new < most) × (after old (steps_between old new) ≡ Some new) × IsTrue (goes (next new)) × StepTakesMemory new

@@ -7,7 +7,7 @@ use Rattle.std.specs.Coded.{Coded, code_by, coded×, coded_ℕ, coded_list}
 use Rattle.mem_files.specs.declared.slot.PlaceRefusal.{PlaceRefusal}
 use Rattle.mem_files.specs.declared.slot.PlaceRefusal.TheVariants.{BadName, Twice, Full, OutOfMemory}
 use Rattle.mem_files.specs.Limits.{most_content, most_names}
-use Rattle.mem_files.specs.Names.{bytes_cmp, is_name, is_stripped_name}
+use Rattle.mem_files.specs.Names.{bytes_cmp, is_file_name, is_stripped_name}
 use Rattle.mem_files.specs.Sound.{AreBytes}
 
 -- files by name
@@ -65,7 +65,7 @@ pub record IsBox (setting : Setting) : Type 0 where
 -- why a file is not placed, under its name without the `./` that it begins with
 abbrev pub place_refusal : FileMap → List ℕ → List ℕ → Option PlaceRefusal
 place_refusal files name content =
-    if not (is_name name) then Some BadName
+    if not (is_file_name name) then Some BadName
     else (if map.contains_key files name then Some Twice
     else (if nat_lt most_content (length content) || nat_le most_names (map.len files) then Some Full
     else None))

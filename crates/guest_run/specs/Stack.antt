@@ -16,8 +16,8 @@ abbrev pub ended : List ℕ → List ℕ
 ended text = text ++ 0 ∷ []
 
 -- texts in a row, each with its zero byte
-abbrev pub joined : List (List ℕ) → List ℕ
-joined texts = flat_map ended texts
+abbrev pub ended_texts : List (List ℕ) → List ℕ
+ended_texts texts = flat_map ended texts
 
 -- where each text begins, of texts in a row from an address on
 abbrev pub addresses : ℕ → List (List ℕ) → List ℕ
@@ -30,17 +30,17 @@ word_count args env = 5 + length args + length env
 
 -- the bytes of the texts and of the words together
 abbrev pub start_size : List (List ℕ) → List (List ℕ) → ℕ
-start_size args env = length (joined args) + length (joined env) + 8 * word_count args env
+start_size args env = length (ended_texts args) + length (ended_texts env) + 8 * word_count args env
 
 -- where the first text begins: the texts end at the stack's end, arguments before environment
 abbrev pub texts_at : List (List ℕ) → List (List ℕ) → ℕ
-texts_at args env = stack_end - length (joined args) - length (joined env)
+texts_at args env = stack_end - length (ended_texts args) - length (ended_texts env)
 
 -- the words: how many arguments, their addresses, 0, the addresses of the environment, 0, and an empty auxiliary vector
 abbrev pub words : List (List ℕ) → List (List ℕ) → List ℕ
 words args env =
     length args ∷ addresses (texts_at args env) args
-    ++ 0 ∷ addresses (texts_at args env + length (joined args)) env
+    ++ 0 ∷ addresses (texts_at args env + length (ended_texts args)) env
     ++ 0 ∷ 0 ∷ 0 ∷ []
 
 -- where the words begin: a multiple of 16
@@ -53,7 +53,7 @@ gap args env = texts_at args env - 8 * word_count args env - stack_pointer args 
 
 -- the bytes from the stack pointer to the stack's end
 unfoldable pub stack_bytes : List (List ℕ) → List (List ℕ) → List ℕ
-stack_bytes args env = flat_map (bytes_of 8) (words args env) ++ zeros (gap args env) ++ joined args ++ joined env
+stack_bytes args env = flat_map (bytes_of 8) (words args env) ++ zeros (gap args env) ++ ended_texts args ++ ended_texts env
 
 -- what a text takes of these bytes: its own, its zero byte and its address
 abbrev pub cost : List ℕ → ℕ

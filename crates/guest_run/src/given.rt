@@ -7,21 +7,22 @@ ghost use Rattle.mem_files.specs.Names.{is_stripped_name};
 ghost use Rattle.std.specs.FinMap as map;
 ghost use Rattle.std.specs.Prelude.{◌≡◌, ◌<◌, ◌≤◌, false, length, All, IsTrue, Ok, IfOk, OnErr, OnOk};
 
-use ddc_base::{Bytes, OutOfMemory};
+use crate::lent::Lent;
+use ddc_base::OutOfMemory;
 use mem_files::{Files, PlaceRefusal};
 use std::alloc::Global;
 use std::collections::BTreeMap;
 use std::marker::Model;
 
-/// Files by name, in the order of the names' bytes.
-#[derive(Drop)]
-pub(crate) struct GivenFiles {
-    entries: BTreeMap<Vec<u8>, Bytes>,
+/// Files by name, in the order of the names' bytes. Their contents are lent.
+#[derive(Debug, Drop)]
+pub(crate) struct GivenFiles<'a> {
+    entries: BTreeMap<Vec<u8>, Lent<'a>>,
     size: u64,
     alloc: Global,
 }
 
-impl Model for GivenFiles {
+impl<'a> Model for GivenFiles<'a> {
     ghost use Rattle.std.specs.FinMap.{from_sorted};
     ghost use Rattle.mem_files.specs.Inside.Cells.{keyed};
     ghost use Rattle.guest_run.specs.Setting.{FileMap, file_map_code};
@@ -36,9 +37,9 @@ impl Model for GivenFiles {
     ghost invariant = { λ files. IsGiven (keyed (λ name. name.items) files.entries.entries) files.size };
 }
 
-impl GivenFiles {
+impl<'a> GivenFiles<'a> {
     /// No files. It takes no memory.
-    pub(crate) fn new(alloc: Global) -> GivenFiles
+    pub(crate) fn new(alloc: Global) -> GivenFiles<'a>
         ensures { result ≡ map.empty }
     {
         GivenFiles {
@@ -70,7 +71,7 @@ impl GivenFiles {
     }
 
     /// Adds a file; want of memory leaves the files as they were.
-    pub(crate) fn insert(&mut self, name: &[u8], content: &[u8]) -> Result<(), OutOfMemory>
+    pub(crate) fn insert(&mut self, name: &[u8], content: &'a [u8]) -> Result<(), OutOfMemory>
         requires absent { map.contains_key self.old name.now ≡ false }
         requires named { IsTrue (is_stripped_name name.now) }
         requires small { length content.now ≤ most_content }
@@ -80,8 +81,7 @@ impl GivenFiles {
         ensures each { OnOk result (All IsBoxFile (map.entries self.new)) }
     {
         let key = Vec::from_slice(self.alloc, name)?;
-        let held = Bytes::from_slice(self.alloc, content)?;
-        self.entries.insert(key, held)?;
+        self.entries.insert(key, Lent::new(content))?;
         self.size += content.len() as u64;
         Ok(())
     }

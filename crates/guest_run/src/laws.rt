@@ -5,11 +5,12 @@ ghost use Rattle.guest_run.specs.Setting.{IsBox, Setting};
 ghost use Rattle.guest_run.specs.Start.{start_of};
 ghost use Rattle.guest_run.specs.State.{GuestState};
 ghost use Rattle.guest_run.specs.Valid.{IsValid};
-ghost use Rattle.mem_files.specs.Sound.{AreBytes};
+ghost use Rattle.mem_files.specs.Outputs.{AreLeft, left};
+ghost use Rattle.mem_files.specs.Sound.{AreBytes, IsSound};
 ghost use Rattle.guest_run.specs.declared.run.RunEnd.{RunEnd};
 ghost use Rattle.guest_run.specs.declared.run.RunEnd.TheVariants.{Spent};
 ghost use Rattle.mem_files.specs.World.{World};
-ghost use Rattle.std.specs.Prelude.{◌≡◌, ◌≢◌, ℕ, ◌+◌, ◌≤◌, None, Some, Ok, List};
+ghost use Rattle.std.specs.Prelude.{◌≡◌, ◌≢◌, ℕ, ◌+◌, ◌<◌, ◌≤◌, None, Some, Ok, List};
 
 /// Steps can be taken in parts: what follows so many steps from the state after others follows their sum.
 pub fn steps_in_parts()
@@ -88,4 +89,27 @@ pub fn starts_are_valid()
 /// Steps keep a state valid.
 pub fn steps_keep_validity()
     ensures { (guest to : GuestState) (count : ℕ) → IsValid guest → after guest count ≡ Some to → IsValid to }
+{}
+
+/// An end comes at the step after those that were counted. A guest in a valid state is left in one, at an end and wherever a run of at
+/// most so many steps leaves it, and exits with a status of 8 bits.
+pub fn ends_leave_valid_states()
+    ensures counted { (guest last : GuestState) (number : ℕ) (end : End) → end_at guest number ≡ Some (end, last)
+        → guest.steps + number ≡ last.steps + 1 }
+    ensures valid { (guest last : GuestState) (number : ℕ) (end : End) → IsValid guest
+        → end_at guest number ≡ Some (end, last) → IsValid last }
+    ensures status { (guest last : GuestState) (number s : ℕ) → IsValid guest
+        → end_at guest number ≡ Some (Exited s, last) → s < 256 }
+    ensures run { (guest to : GuestState) (most : ℕ) (why : RunEnd) → IsValid guest → Runs guest most why to → IsValid to }
+{}
+
+/// What a run of a program with a valid box leaves keeps the rules of files, and what is left the limits; its step is counted from 1,
+/// and its status has 8 bits.
+pub fn runs_leave_sound_files()
+    ensures sound { (program : List ℕ) (setting : Setting) (n s : ℕ) (world : World) → AreBytes program → IsBox setting
+        → Run program setting n s world → IsSound world }
+    ensures left { (program : List ℕ) (setting : Setting) (n s : ℕ) (world : World) → AreBytes program → IsBox setting
+        → Run program setting n s world → AreLeft (left world) }
+    ensures numbers { (program : List ℕ) (setting : Setting) (n s : ℕ) (world : World) → AreBytes program → IsBox setting
+        → Run program setting n s world → (1 ≤ n) × (s < 256) }
 {}

@@ -6,6 +6,7 @@
 mod given;
 mod guest;
 pub mod laws;
+mod lent;
 mod placing;
 mod run;
 mod run_box;

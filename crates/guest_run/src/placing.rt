@@ -9,10 +9,8 @@ ghost use Rattle.std.specs.Prelude.{◌≡◌, ◌+◌, ◌-◌, ◌*◌, ◌^�
 use crate::stack;
 use ddc_base::OutOfMemory;
 use elf_load::Segment;
-use paged_mem::{Ram, StoreRefusal};
+use paged_mem::{PAGE, Ram, StoreRefusal};
 
-/// The bytes of a page.
-const PAGE: u64 = 4_096;
 /// The pages of the stack.
 const STACK_PAGES: u64 = 2_048;
 

@@ -1,7 +1,7 @@
 //! The steps of a guest, over its parts.
 ghost use Rattle.guest_run.specs.Run.{Runs, Steps};
 ghost use Rattle.guest_run.specs.State.{guest_state};
-ghost use Rattle.guest_run.specs.Stretch.{Stretches};
+ghost use Rattle.guest_run.specs.Inside.Stretch.{Stretches};
 ghost use Rattle.linux_calls.specs.HeapOf.{IsHeapOf};
 ghost use Rattle.rv64_machine.specs.Hart.{act};
 ghost use Rattle.rv64_machine.specs.Hart as machine;

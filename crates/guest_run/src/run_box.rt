@@ -1,28 +1,30 @@
 ghost use Rattle.guest_run.specs.Setting.{IsBox, IsBoxFile, IsText, PlacesIn};
-ghost use Rattle.mem_files.specs.Names.{is_name, stripped};
+ghost use Rattle.mem_files.specs.Names.{is_file_name, stripped};
 ghost use Rattle.std.specs.FinMap as map;
 ghost use Rattle.std.specs.Prelude.{◌≡◌, ◌^◌, ◌≤◌, [], ◌∷◌, ◌++◌, All, OnErr, OnOk};
 
 use crate::given::GivenFiles;
-use ddc_base::{Bytes, OutOfMemory};
-use mem_files::{MAX_CONTENT, MAX_NAME, MAX_NAMES, PlaceRefusal, strip};
+use crate::lent::Lent;
+use ddc_base::OutOfMemory;
+use mem_files::{MAX_CONTENT, MAX_NAMES, PlaceRefusal, is_file_name, strip};
 use std::alloc::Global;
 use std::marker::Model;
 
 /// What a program is given when it starts: arguments, environment texts, files by name, and the most
 /// bytes of its heap.
 ///
-/// It keeps the allocator that its constructor took.
-#[derive(Drop)]
-pub struct RunBox {
-    args: Vec<Bytes>,
-    env: Vec<Bytes>,
-    files: GivenFiles,
+/// Texts and contents are lent to it for `'a`, and none of their bytes is copied before a start. It keeps the allocator that its
+/// constructor took.
+#[derive(Debug, Drop)]
+pub struct RunBox<'a> {
+    args: Vec<Lent<'a>>,
+    env: Vec<Lent<'a>>,
+    files: GivenFiles<'a>,
     heap: u64,
     alloc: Global,
 }
 
-impl Model for RunBox {
+impl<'a> Model for RunBox<'a> {
     ghost use Rattle.guest_run.specs.Setting.{IsBox, Setting, setting_code};
 
     ghost Value = { Setting };
@@ -34,9 +36,9 @@ impl Model for RunBox {
     ghost invariant = { λ b. IsBox (record { args = b.args.items; env = b.env.items; files = b.files; heap = b.heap }) };
 }
 
-impl RunBox {
+impl<'a> RunBox<'a> {
     /// An empty box with a heap of at most `heap` bytes. It takes no memory.
-    pub fn new(alloc: Global, heap: u64) -> RunBox
+    pub fn new(alloc: Global, heap: u64) -> RunBox<'a>
         requires { heap ≤ 2 ^ 30 }
         ensures { result ≡ record { args = []; env = []; files = map.empty; heap = heap } }
     {
@@ -50,24 +52,22 @@ impl RunBox {
     }
 
     /// Adds an argument; want of memory leaves the box as it was.
-    pub fn push_arg(&mut self, text: &[u8]) -> Result<(), OutOfMemory>
+    pub fn push_arg(&mut self, text: &'a [u8]) -> Result<(), OutOfMemory>
         requires { IsText text.now }
         ensures ok { OnOk result (self.new ≡ record self.old { args = self.old.args ++ text.now ∷ [] }) }
         ensures err { OnErr result (self.new ≡ self.old) }
     {
-        let text = Bytes::from_slice(self.alloc, text)?;
-        self.args.push(text)?;
+        self.args.push(Lent::new(text))?;
         Ok(())
     }
 
     /// Adds a text of the environment; want of memory leaves the box as it was.
-    pub fn push_env(&mut self, text: &[u8]) -> Result<(), OutOfMemory>
+    pub fn push_env(&mut self, text: &'a [u8]) -> Result<(), OutOfMemory>
         requires { IsText text.now }
         ensures ok { OnOk result (self.new ≡ record self.old { env = self.old.env ++ text.now ∷ [] }) }
         ensures err { OnErr result (self.new ≡ self.old) }
     {
-        let text = Bytes::from_slice(self.alloc, text)?;
-        self.env.push(text)?;
+        self.env.push(Lent::new(text))?;
         Ok(())
     }
 
@@ -75,7 +75,7 @@ impl RunBox {
     ///
     /// Refuses as placing a file in a guest does, but the bytes of all files together are not limited
     /// here: the start tests them. A refusal leaves the box as it was.
-    pub fn place(&mut self, name: &[u8], content: &[u8]) -> Result<(), PlaceRefusal>
+    pub fn place(&mut self, name: &[u8], content: &'a [u8]) -> Result<(), PlaceRefusal>
         ensures files { PlacesIn self.old.files (stripped name.now) content.now result self.new.files }
         ensures others { self.new ≡ record self.old { files = self.new.files } }
     {
@@ -83,21 +83,21 @@ impl RunBox {
     }
 
     /// The arguments.
-    pub(crate) fn args(&self) -> &[Bytes]
+    pub(crate) fn args(&self) -> &[Lent<'a>]
         ensures { result.now ≡ self.now.args }
     {
         self.args.as_slice()
     }
 
     /// The texts of the environment.
-    pub(crate) fn env(&self) -> &[Bytes]
+    pub(crate) fn env(&self) -> &[Lent<'a>]
         ensures { result.now ≡ self.now.env }
     {
         self.env.as_slice()
     }
 
     /// The files.
-    pub(crate) fn files(&self) -> &GivenFiles
+    pub(crate) fn files(&self) -> &GivenFiles<'a>
         ensures { result.now ≡ self.now.files }
     {
         &self.files
@@ -114,7 +114,11 @@ impl RunBox {
 }
 
 /// Adds a file under its name without the `./` that it begins with.
-fn place_in(files: &mut GivenFiles, name: &[u8], content: &[u8]) -> Result<(), PlaceRefusal>
+fn place_in<'a>(
+    files: &mut GivenFiles<'a>,
+    name: &[u8],
+    content: &'a [u8],
+) -> Result<(), PlaceRefusal>
     ensures answer { PlacesIn files.old (stripped name.now) content.now result files.new }
     ensures each { OnOk result (All IsBoxFile (map.entries files.new)) }
 {
@@ -132,11 +136,4 @@ fn place_in(files: &mut GivenFiles, name: &[u8], content: &[u8]) -> Result<(), P
         Ok(()) => Ok(()),
         Err(OutOfMemory) => Err(PlaceRefusal::OutOfMemory),
     }
-}
-
-/// Whether this is a guest file name: 1 to 255 bytes without a zero byte.
-fn is_file_name(name: &[u8]) -> bool
-    ensures { result ≡ is_name name.now }
-{
-    !name.is_empty() && name.len() <= MAX_NAME && !name.contains(&0)
 }

@@ -1,10 +1,11 @@
 //! The stack of a program that starts.
-ghost use Rattle.guest_run.specs.Stack.{addresses, cost, gap, joined, stack_bytes, stack_pointer, start_size, texts_at, words};
+ghost use Rattle.guest_run.specs.Stack.{addresses, cost, gap, ended_texts, stack_bytes, stack_pointer, start_size, texts_at, words};
 ghost use Rattle.paged_mem.specs.Memory.{bytes_of, zeros};
 ghost use Rattle.std.specs.List.{flat_map};
 ghost use Rattle.std.specs.Prelude.{◌≡◌, ◌+◌, ◌*◌, ◌^◌, ◌<◌, ◌≤◌, ◌++◌, length, sum_by, nat_le, ◌-◌, IfOk, OnOk, SomeIff};
 
-use ddc_base::{Bytes, OutOfMemory};
+use crate::lent::Lent;
+use ddc_base::OutOfMemory;
 use std::alloc::Global;
 
 /// The stack's end, above its last byte.
@@ -22,7 +23,7 @@ pub(crate) struct Stack {
 }
 
 /// Whether texts and words take few enough bytes.
-pub(crate) fn fits(args: &[Bytes], env: &[Bytes]) -> bool
+pub(crate) fn fits(args: &[Lent], env: &[Lent]) -> bool
     ensures { result ≡ nat_le (start_size args.now env.now) 131072 }
 {
     match left_after(args, MOST - 8 * OTHER_WORDS) {
@@ -33,7 +34,7 @@ pub(crate) fn fits(args: &[Bytes], env: &[Bytes]) -> bool
 
 /// What is left of `most` bytes after each text's bytes, its zero byte and its address; `None` where
 /// they are too many.
-fn left_after(texts: &[Bytes], most: u64) -> Option<u64>
+fn left_after(texts: &[Lent], most: u64) -> Option<u64>
     ensures { SomeIff result (sum_by cost texts.now ≤ most) (most - sum_by cost texts.now) }
 {
     let mut left = most;
@@ -48,7 +49,7 @@ fn left_after(texts: &[Bytes], most: u64) -> Option<u64>
 }
 
 /// The stack of a program with these texts, which fit.
-pub(crate) fn stack_of(alloc: Global, args: &[Bytes], env: &[Bytes]) -> Result<Stack, OutOfMemory>
+pub(crate) fn stack_of(alloc: Global, args: &[Lent], env: &[Lent]) -> Result<Stack, OutOfMemory>
     requires { start_size args.now env.now ≤ 131072 }
     ensures { IfOk result (λ stack. (stack.at ≡ stack_pointer args.now env.now) × (stack.bytes.items ≡ stack_bytes args.now env.now)) }
 {
@@ -68,9 +69,9 @@ pub(crate) fn stack_of(alloc: Global, args: &[Bytes], env: &[Bytes]) -> Result<S
 }
 
 /// The bytes of the texts, each with its zero byte.
-fn joined_size(texts: &[Bytes]) -> u64
-    requires { length (joined texts.now) < 2 ^ 64 }
-    ensures { result ≡ length (joined texts.now) }
+fn joined_size(texts: &[Lent]) -> u64
+    requires { length (ended_texts texts.now) < 2 ^ 64 }
+    ensures { result ≡ length (ended_texts texts.now) }
 {
     let mut size = 0;
     for text in texts {
@@ -88,8 +89,8 @@ fn put_word(bytes: &mut Vec<u8>, word: u64) -> Result<(), OutOfMemory>
 }
 
 /// Appends the addresses of texts in a row from `at` on.
-fn put_addresses(bytes: &mut Vec<u8>, at: u64, texts: &[Bytes]) -> Result<(), OutOfMemory>
-    requires { at + length (joined texts.now) < 2 ^ 64 }
+fn put_addresses(bytes: &mut Vec<u8>, at: u64, texts: &[Lent]) -> Result<(), OutOfMemory>
+    requires { at + length (ended_texts texts.now) < 2 ^ 64 }
     ensures { OnOk result (bytes.new.items ≡ bytes.old.items ++ flat_map (bytes_of 8) (addresses at texts.now)) }
 {
     let mut next = at;
@@ -112,8 +113,8 @@ fn put_zeros(bytes: &mut Vec<u8>, count: u64) -> Result<(), OutOfMemory>
 }
 
 /// Appends the texts, each with its zero byte.
-fn put_texts(bytes: &mut Vec<u8>, texts: &[Bytes]) -> Result<(), OutOfMemory>
-    ensures { OnOk result (bytes.new.items ≡ bytes.old.items ++ joined texts.now) }
+fn put_texts(bytes: &mut Vec<u8>, texts: &[Lent]) -> Result<(), OutOfMemory>
+    ensures { OnOk result (bytes.new.items ≡ bytes.old.items ++ ended_texts texts.now) }
 {
     for text in texts {
         bytes.extend_from_slice(text.as_slice())?;

@@ -201,11 +201,13 @@ fn gives_zeros_at_a_higher_break(rt: HostRuntime) -> Result<(), Fail> {
 fn limits_the_texts(rt: HostRuntime) -> Result<(), Fail> {
     let alloc = rt.alloc();
     // 131,023 bytes, a zero byte and six words are 131,072.
+    let longest = long_text(alloc, 131_023)?;
     let mut setting = RunBox::new(alloc, 0);
-    setting.push_arg(&long_text(alloc, 131_023)?)?;
+    setting.push_arg(&longest)?;
     assert!(rt; Guest::<RunRam>::start(alloc, &EXIT, &setting).is_ok());
+    let too_long = long_text(alloc, 131_024)?;
     let mut longer = RunBox::new(alloc, 0);
-    longer.push_arg(&long_text(alloc, 131_024)?)?;
+    longer.push_arg(&too_long)?;
     let refusal = Guest::<RunRam>::start(alloc, &EXIT, &longer).err();
     assert!(rt; refusal == Some(StartRefusal::ArgsTooLong));
     Ok(())

@@ -12,7 +12,7 @@ use Rattle.mem_files.specs.Linux.{o_accmode, o_creat, o_excl}
 use Rattle.mem_files.specs.Calls.{removed, removed_at, opened, opened_at, closed, closed_at, sought, sought_at, with_cursor, ready, write_place, written, written_if, fits, has}
 use Rattle.linux_calls.specs.Linux.{sys_unlinkat, sys_faccessat, sys_fchmodat, sys_openat, sys_close, sys_lseek, sys_read, sys_write, sys_exit, sys_exit_group, sys_brk}
 use Rattle.linux_calls.specs.Paths.{low, named, name_at, in_directory}
-use Rattle.linux_calls.specs.Calls.{State, Outcome, exits, is_unknown, back, answering, unlinked, accessed, mode_changed, opened_in, opened_as, read_at, written_from, written_at, moved_break, syscall}
+use Rattle.linux_calls.specs.Calls.{State, CallOutcome, exits, is_unknown, back, answering, unlinked, accessed, mode_changed, opened_in, opened_as, read_at, written_from, written_at, moved_break, syscall}
 use Rattle.linux_calls.specs.Rules.{LeavesOnError}
 
 -- a pair whose error leaves the files
@@ -85,7 +85,7 @@ leaves-opened_as w dir flags (Ok name) = leaves-if w (bit_and (low flags) o_accm
 leaves-back : (s : State) (meant : Result ℕ ℕ × World) → Leaves s.files meant → LeavesOnError s (back s meant)
 leaves-back s meant p = λ e. ap (λ files. record s { files = files }) (p e)
 
-outcome-if : (s : State) (b : Bool) (x y : Outcome) → LeavesOnError s x → LeavesOnError s y → LeavesOnError s (cond b x y)
+outcome-if : (s : State) (b : Bool) (x y : CallOutcome) → LeavesOnError s x → LeavesOnError s y → LeavesOnError s (cond b x y)
 outcome-if s true x y p q = p
 outcome-if s false x y p q = q
 
@@ -124,61 +124,61 @@ module _ (number : ℕ) (a : List ℕ) (s : State) where
   abbrev name : Result (List ℕ) ℕ
   name = named s.memory w (arg 0) (arg 1)
 
-  abbrev after_exit_group : Outcome
+  abbrev after_exit_group : CallOutcome
   after_exit_group = cond (number == sys_brk) (moved_break s (arg 0)) (is_unknown number)
 
   after_exit_group-leaves : LeavesOnError s after_exit_group
   after_exit_group-leaves = outcome-if s (number == sys_brk) (moved_break s (arg 0)) (is_unknown number) (leaves-break s (arg 0)) (leaves-unknown s number)
 
-  abbrev after_exit : Outcome
+  abbrev after_exit : CallOutcome
   after_exit = cond (number == sys_exit_group) (exits (arg 0 % 256)) (after_exit_group)
 
   after_exit-leaves : LeavesOnError s after_exit
   after_exit-leaves = outcome-if s (number == sys_exit_group) (exits (arg 0 % 256)) (after_exit_group) (leaves-exit s (arg 0 % 256)) (after_exit_group-leaves)
 
-  abbrev after_write : Outcome
+  abbrev after_write : CallOutcome
   after_write = cond (number == sys_exit) (exits (arg 0 % 256)) (after_exit)
 
   after_write-leaves : LeavesOnError s after_write
   after_write-leaves = outcome-if s (number == sys_exit) (exits (arg 0 % 256)) (after_exit) (leaves-exit s (arg 0 % 256)) (after_exit-leaves)
 
-  abbrev after_read : Outcome
+  abbrev after_read : CallOutcome
   after_read = cond (number == sys_write) (written_at s (low (arg 0)) (arg 1) (arg 2) (write_place w (map.get w.slots (low (arg 0))))) (after_write)
 
   after_read-leaves : LeavesOnError s after_read
   after_read-leaves = outcome-if s (number == sys_write) (written_at s (low (arg 0)) (arg 1) (arg 2) (write_place w (map.get w.slots (low (arg 0))))) (after_write) (leaves-written_at s (low (arg 0)) (arg 1) (arg 2) (write_place w (map.get w.slots (low (arg 0))))) (after_write-leaves)
 
-  abbrev after_lseek : Outcome
+  abbrev after_lseek : CallOutcome
   after_lseek = cond (number == sys_read) (read_at s (low (arg 0)) (arg 1) (ready w (low (arg 0)) (arg 2))) (after_read)
 
   after_lseek-leaves : LeavesOnError s after_lseek
   after_lseek-leaves = outcome-if s (number == sys_read) (read_at s (low (arg 0)) (arg 1) (ready w (low (arg 0)) (arg 2))) (after_read) (leaves-moved s (low (arg 0)) (arg 1) (ready w (low (arg 0)) (arg 2))) (after_read-leaves)
 
-  abbrev after_close : Outcome
+  abbrev after_close : CallOutcome
   after_close = cond (number == sys_lseek) (back s (sought w (low (arg 0)) (cast_signed w64 (arg 1)) (low (arg 2)))) (after_lseek)
 
   after_close-leaves : LeavesOnError s after_close
   after_close-leaves = outcome-if s (number == sys_lseek) (back s (sought w (low (arg 0)) (cast_signed w64 (arg 1)) (low (arg 2)))) (after_lseek) (leaves-back s (sought w (low (arg 0)) (cast_signed w64 (arg 1)) (low (arg 2))) (leaves-sought w (low (arg 0)) (cast_signed w64 (arg 1)) (low (arg 2)))) (after_lseek-leaves)
 
-  abbrev after_openat : Outcome
+  abbrev after_openat : CallOutcome
   after_openat = cond (number == sys_close) (back s (answering 0 (closed w (low (arg 0))))) (after_close)
 
   after_openat-leaves : LeavesOnError s after_openat
   after_openat-leaves = outcome-if s (number == sys_close) (back s (answering 0 (closed w (low (arg 0))))) (after_close) (leaves-back s (answering 0 (closed w (low (arg 0)))) (leaves-answering w 0 (closed w (low (arg 0))).0 (closed w (low (arg 0))).1 (leaves-closed w (low (arg 0))))) (after_close-leaves)
 
-  abbrev after_fchmodat : Outcome
+  abbrev after_fchmodat : CallOutcome
   after_fchmodat = cond (number == sys_openat) (back s (opened_as w (arg 0) (arg 2) (name_at s.memory (arg 1)))) (after_openat)
 
   after_fchmodat-leaves : LeavesOnError s after_fchmodat
   after_fchmodat-leaves = outcome-if s (number == sys_openat) (back s (opened_as w (arg 0) (arg 2) (name_at s.memory (arg 1)))) (after_openat) (leaves-back s (opened_as w (arg 0) (arg 2) (name_at s.memory (arg 1))) (leaves-opened_as w (arg 0) (arg 2) (name_at s.memory (arg 1)))) (after_openat-leaves)
 
-  abbrev after_faccessat : Outcome
+  abbrev after_faccessat : CallOutcome
   after_faccessat = cond (number == sys_fchmodat) (back s (mode_changed w name, w)) (after_fchmodat)
 
   after_faccessat-leaves : LeavesOnError s after_faccessat
   after_faccessat-leaves = outcome-if s (number == sys_fchmodat) (back s (mode_changed w name, w)) (after_fchmodat) (leaves-same s (mode_changed w name)) (after_fchmodat-leaves)
 
-  abbrev after_unlinkat : Outcome
+  abbrev after_unlinkat : CallOutcome
   after_unlinkat = cond (number == sys_faccessat) (back s (accessed w (arg 2) name, w)) (after_faccessat)
 
   after_unlinkat-leaves : LeavesOnError s after_unlinkat

@@ -10,14 +10,14 @@ use Rattle.paged_mem.specs.declared.ram.StoreRefusal.TheVariants.{Unmapped, OutO
 use Rattle.std.specs.Prelude.{nat_lt}
 use Rattle.std.proofs.lemmas.Bool.{cases_lt}
 use borrow.Author.Tests.{ltb-true, ltb-false}
-use Rattle.paged_mem.specs.Memory.{Memory, IsFree, maps, with_bytes, without, zeros}
+use Rattle.paged_mem.specs.Memory.{Memory, IsFree, maps, with_bytes, without, zeros, page_up}
 use Rattle.paged_mem.specs.Held.{get-with_bytes_below, get-with_bytes_above}
 use Rattle.paged_mem.proofs.Maps.{get-without, get-without_other, maps_by_each, each_by_maps}
 use Rattle.paged_mem.proofs.Mapped.{length-zeros}
 use Rattle.paged_mem.proofs.MemoryLaws.{get-zeros}
 use Rattle.paged_mem.proofs.Wholes.{same_after_write}
 use Rattle.linux_calls.specs.declared.Heap.{Heap}
-use Rattle.linux_calls.specs.HeapOf.{IsHeapOf, page_up, resized}
+use Rattle.linux_calls.specs.HeapOf.{IsHeapOf, resized}
 
 -- memory that is mapped at the same addresses holds the same heap
 pub IsHeapOf-same : (m n : Memory) (heap : Heap) → ((q : ℕ) → is_some (get n q) ≡ is_some (get m q)) → IsHeapOf m heap → IsHeapOf n heap

@@ -4,15 +4,15 @@ use Rattle.std.specs.Prelude.{nat_lt, slice_index}
 use Rattle.std.specs.FinMap.{get}
 use Rattle.std.proofs.lemmas.Bool.{cases_lt}
 use Rattle.std.proofs.lemmas.Bool.Decides.{nat_tests}
-use Rattle.paged_mem.specs.Memory.{Memory, bytes_at, maps, with_bytes, without, zeros}
+use Rattle.paged_mem.specs.Memory.{Memory, bytes_at, maps, with_bytes, without, zeros, page_up}
 use Rattle.paged_mem.specs.Held.{get-with_bytes_below, get-with_bytes_above}
 use Rattle.paged_mem.proofs.Mapped.{length-zeros}
 use Rattle.paged_mem.proofs.Maps.{get-without_other}
 use Rattle.mem_files.specs.World.{World}
 use Rattle.mem_files.specs.Calls.{write_place, ready}
 use Rattle.linux_calls.specs.declared.Heap.{Heap}
-use Rattle.linux_calls.specs.HeapOf.{is_beside_heap, is_outside, IsHeapOf, page_up, resized}
-use Rattle.linux_calls.specs.Calls.{Outcome, State, back, read_at, moved_break, syscall, written_at, written_from}
+use Rattle.linux_calls.specs.HeapOf.{is_beside_heap, is_outside, IsHeapOf, resized}
+use Rattle.linux_calls.specs.Calls.{CallOutcome, State, back, read_at, moved_break, syscall, written_at, written_from}
 use Rattle.linux_calls.specs.Calls as call
 use Rattle.linux_calls.specs.Paths.{low}
 use Rattle.linux_calls.specs.Linux.{sys_unlinkat, sys_faccessat, sys_fchmodat, sys_openat, sys_close, sys_lseek, sys_read, sys_write, sys_exit, sys_exit_group, sys_brk}
@@ -26,21 +26,21 @@ pub record Keeps (old new : State) : Type 0 where
   pub heap_of : IsHeapOf new.memory new.heap
   pub beside : (q : ℕ) → is_beside_heap old.heap q ≡ true → is_some (get new.memory q) ≡ is_some (get old.memory q)
 
-abbrev pub OutcomeKeeps : State → Outcome → Type 0
+abbrev pub OutcomeKeeps : State → CallOutcome → Type 0
 OutcomeKeeps old (call.goes answer new) = Keeps old new
 OutcomeKeeps old (call.exits status) = Unit {0}
 OutcomeKeeps old (call.is_unknown number) = Unit {0}
 
 -- the same, as a record: what it speaks of is found from the goal
-record Kept (old : State) (meant : Outcome) : Type 0 where
+record Kept (old : State) (meant : CallOutcome) : Type 0 where
   is : OutcomeKeeps old meant
 
 -- where both choices keep, so does a choice
-chosen : (s : State) (b : Bool) (x y : Outcome) → Kept s x → Kept s y → Kept s (cond b x y)
+chosen : (s : State) (b : Bool) (x y : CallOutcome) → Kept s x → Kept s y → Kept s (cond b x y)
 chosen s true x y kx ky = kx
 chosen s false x y kx ky = ky
 
-chosen_by : (s : State) (b : Bool) (x y : Outcome) → (b ≡ true → Kept s x) → (b ≡ false → Kept s y) → Kept s (cond b x y)
+chosen_by : (s : State) (b : Bool) (x y : CallOutcome) → (b ≡ true → Kept s x) → (b ≡ false → Kept s y) → Kept s (cond b x y)
 chosen_by s true x y kx ky = kx refl
 chosen_by s false x y kx ky = ky refl
 

@@ -20,18 +20,18 @@ use Rattle.mem_files.proofs.Rules.{kept_of}
 use Rattle.linux_calls.specs.Linux.{sys_unlinkat, sys_faccessat, sys_fchmodat, sys_openat, sys_close, sys_lseek, sys_read, sys_write, sys_exit, sys_exit_group, sys_brk}
 use Rattle.linux_calls.specs.Paths.{in_directory, low, name_at, named}
 use Rattle.linux_calls.specs.HeapOf.{IsHeapOf, is_outside}
-use Rattle.linux_calls.specs.Calls.{State, Outcome, is_unknown, answer_of, answering, back, accessed, mode_changed, unlinked, opened_in, opened_as, read_at, written_from, written_at, moved_break, syscall}
+use Rattle.linux_calls.specs.Calls.{State, CallOutcome, is_unknown, answer_of, answering, back, accessed, mode_changed, unlinked, opened_in, opened_as, read_at, written_from, written_at, moved_break, syscall}
 use Rattle.linux_calls.specs.Rules.{IsState, LeavesNumber}
 use Rattle.linux_calls.proofs.Keeping.{inside}
 
 -- as a record: what it speaks of is found from the goal
-record Small (outcome : Outcome) : Type 0 where
+record Small (outcome : CallOutcome) : Type 0 where
   is : LeavesNumber outcome
 
 record Value (r : Result ℕ ℕ) : Type 0 where
   is : answer_of r < 2 ^ 64
 
-chosen : (b : Bool) (x y : Outcome) → Small x → Small y → Small (cond b x y)
+chosen : (b : Bool) (x y : CallOutcome) → Small x → Small y → Small (cond b x y)
 chosen true x y p q = p
 chosen false x y p q = q
 
@@ -178,8 +178,8 @@ every number a s is =
     (chosen (number == sys_lseek) _ _ (back-small s _ (sought-small s.files (low (arg 0)) (cast_signed w64 (arg 1)) (low (arg 2))))
     (chosen (number == sys_read) _ _ (read-small s (low (arg 0)) (arg 1) (arg 2) (ready s.files (low (arg 0)) (arg 2)) refl is.files)
     (chosen (number == sys_write) _ _ (write-small s (low (arg 0)) (arg 1) (arg 2) (write_place s.files (get s.files.slots (low (arg 0)))) is.memory)
-    (chosen (number == sys_exit) _ _ (record { is = tt })
-    (chosen (number == sys_exit_group) _ _ (record { is = tt })
+    (chosen (number == sys_exit) _ _ (record { is = omega arith })
+    (chosen (number == sys_exit_group) _ _ (record { is = omega arith })
     (chosen (number == sys_brk) (moved_break s (arg 0)) (is_unknown number) (break-small s (arg 0) is.heap) (record { is = tt })))))))))))
 
 pub syscall-small : (number : ℕ) (a : List ℕ) (s : State) → IsState s → LeavesNumber (syscall number a s)

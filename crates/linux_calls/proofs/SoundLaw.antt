@@ -17,7 +17,7 @@ use Rattle.mem_files.specs.Sound.{AreBytes, IsSound}
 use Rattle.mem_files.proofs.Rules.{closed-sound, removed-sound, opened-sound, skipped-sound, sought-sound, stripped-bytes, written-sound}
 use Rattle.linux_calls.specs.Linux.{at_fdcwd, enotdir, sys_unlinkat, sys_faccessat, sys_fchmodat, sys_openat, sys_close, sys_lseek, sys_read, sys_write, sys_exit, sys_exit_group, sys_brk}
 use Rattle.linux_calls.specs.Paths.{and_then, in_directory, is_absolute, low, name_at, named, not_empty, text_at, text_from, text_of}
-use Rattle.linux_calls.specs.Calls.{State, Outcome, is_unknown, back, answering, unlinked, opened_in, opened_as, read_at, written_from, written_at, moved_break, syscall}
+use Rattle.linux_calls.specs.Calls.{State, CallOutcome, is_unknown, back, answering, unlinked, opened_in, opened_as, read_at, written_from, written_at, moved_break, syscall}
 use Rattle.linux_calls.specs.Rules.{LeavesSound}
 use Rattle.linux_calls.proofs.Texts.{text_at-is, name_of_text}
 use Rattle.paged_mem.proofs.Wholes.{bytes_at-bytes}
@@ -115,10 +115,10 @@ opened-as-sound w dir flags (Ok name) good s =
         opened-sound w other (low flags) s are.0 are.1
 
 -- outcomes, as a record: what it speaks of is found from the goal
-record Sound (outcome : Outcome) : Type 0 where
+record Sound (outcome : CallOutcome) : Type 0 where
   is : LeavesSound outcome
 
-chosen : (b : Bool) (x y : Outcome) → Sound x → Sound y → Sound (cond b x y)
+chosen : (b : Bool) (x y : CallOutcome) → Sound x → Sound y → Sound (cond b x y)
 chosen true x y p q = p
 chosen false x y p q = q
 

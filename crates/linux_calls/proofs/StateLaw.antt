@@ -4,7 +4,7 @@ use Rattle.std.specs.Prelude.{⊤, nat_lt, slice_index}
 use Rattle.std.specs.FinMap.{get}
 use Rattle.std.proofs.lemmas.List.Elements.{All-drop, All-nil, All-replicate, All-take}
 use borrow.Author.Tests.{ltb-true}
-use Rattle.paged_mem.specs.Memory.{Memory, IsWhole, bytes_at, maps, with_bytes, without, zeros}
+use Rattle.paged_mem.specs.Memory.{Memory, IsWhole, bytes_at, maps, with_bytes, without, zeros, page_up}
 use Rattle.paged_mem.proofs.Mapped.{length-zeros}
 use Rattle.mem_files.specs.declared.slot.Slot.{Slot}
 use Rattle.mem_files.specs.declared.slot.Slot.TheVariants.{Input, Stream1, Stream2, File}
@@ -17,8 +17,8 @@ use Rattle.mem_files.proofs.Rules.{bytes_of, content_bytes}
 use Rattle.linux_calls.specs.declared.Heap.{Heap}
 use Rattle.linux_calls.specs.Linux.{sys_unlinkat, sys_faccessat, sys_fchmodat, sys_openat, sys_close, sys_lseek, sys_read, sys_write, sys_exit, sys_exit_group, sys_brk}
 use Rattle.linux_calls.specs.Paths.{low}
-use Rattle.linux_calls.specs.HeapOf.{IsHeapOf, is_outside, page_up, resized}
-use Rattle.linux_calls.specs.Calls.{State, Outcome, goes, exits, is_unknown, back, read_at, written_from, written_at, moved_break, syscall}
+use Rattle.linux_calls.specs.HeapOf.{IsHeapOf, is_outside, resized}
+use Rattle.linux_calls.specs.Calls.{State, CallOutcome, goes, exits, is_unknown, back, read_at, written_from, written_at, moved_break, syscall}
 use Rattle.linux_calls.specs.Rules.{IsState, LeavesSound, LeavesState}
 use Rattle.paged_mem.proofs.Wholes.{whole-mapped, whole-without, whole-written}
 use Rattle.linux_calls.proofs.SoundLaw.{syscall-sound}
@@ -42,15 +42,15 @@ ready-bytes w fd count bytes sound e = at_slot (get w.slots fd) e
     at_slot (Some (File number cursor flags)) e = readable (has flags may_read) number cursor e
 
 -- the memory after an outcome, as a record: what it speaks of is found from the goal
-abbrev LeavesWhole : Outcome → Type 0
+abbrev LeavesWhole : CallOutcome → Type 0
 LeavesWhole (goes answer next) = IsWhole next.memory
 LeavesWhole (exits status) = ⊤
 LeavesWhole (is_unknown n) = ⊤
 
-record Whole (outcome : Outcome) : Type 0 where
+record Whole (outcome : CallOutcome) : Type 0 where
   is : LeavesWhole outcome
 
-chosen : (b : Bool) (x y : Outcome) → (b ≡ true → Whole x) → Whole y → Whole (cond b x y)
+chosen : (b : Bool) (x y : CallOutcome) → (b ≡ true → Whole x) → Whole y → Whole (cond b x y)
 chosen true x y p q = p refl
 chosen false x y p q = q
 
@@ -111,7 +111,7 @@ every number a s is =
     (chosen (number == sys_exit_group) _ _ (λ e. record { is = tt })
     (chosen (number == sys_brk) (moved_break s (arg 0)) (is_unknown number) (λ e. break-whole s (arg 0) whole is.heap) (record { is = tt })))))))))))
 
-all_three : (s : State) (outcome : Outcome) → LeavesSound outcome → LeavesWhole outcome → OutcomeKeeps s outcome → LeavesState outcome
+all_three : (s : State) (outcome : CallOutcome) → LeavesSound outcome → LeavesWhole outcome → OutcomeKeeps s outcome → LeavesState outcome
 all_three s (goes answer next) sound whole keeps = record { memory = whole; files = sound; heap = keeps.heap_of }
 all_three s (exits status) sound whole keeps = tt
 all_three s (is_unknown n) sound whole keeps = tt

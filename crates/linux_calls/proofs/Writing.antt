@@ -10,11 +10,11 @@ use Rattle.linux_calls.specs.declared.Heap.{Heap}
 use Rattle.linux_calls.specs.declared.CallEnd.{CallEnd}
 use Rattle.linux_calls.specs.declared.CallEnd.TheVariants.{Back, OutOfMemory}
 use Rattle.linux_calls.specs.Linux.{sys_write}
-use Rattle.linux_calls.specs.Calls.{state, Outcome, goes, back, answer_of, answering, written_at, written_from}
+use Rattle.linux_calls.specs.Calls.{state, CallOutcome, goes, back, answer_of, answering, written_at, written_from}
 use Rattle.linux_calls.specs.Answer.{IsAnswer}
 
 module _ (m : Memory) (w : World) (fd buffer count : ℕ) (writable : is_some (write_place w (get w.slots fd)) ≡ true) (some : count ≢ 0) (heap : Heap) where
-  abbrev meant : Outcome
+  abbrev meant : CallOutcome
   meant = written_at (state m w heap) fd buffer count (write_place w (get w.slots fd))
 
   -- a write of bytes that are there is that of the files

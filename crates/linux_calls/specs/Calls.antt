@@ -22,10 +22,10 @@ abbrev pub state : Memory → World → Heap → State
 state memory files heap = record { memory = memory; files = files; heap = heap }
 
 -- what a call comes to: it goes back to the guest with a value or an error, ends the program, or is unknown
-pub data Outcome : Type 0 where
-  goes : Result ℕ ℕ → State → Outcome
-  exits : ℕ → Outcome
-  is_unknown : ℕ → Outcome
+pub data CallOutcome : Type 0 where
+  goes : Result ℕ ℕ → State → CallOutcome
+  exits : ℕ → CallOutcome
+  is_unknown : ℕ → CallOutcome
 
 -- what the guest gets: the value, or the number of the error, negated modulo 2 ^ 64
 abbrev pub answer_of : Result ℕ ℕ → ℕ
@@ -33,7 +33,7 @@ answer_of (Ok value) = value
 answer_of (Err errno) = (2 ^ 64 - errno) % 2 ^ 64
 
 -- an answer for the guest, with the files after it
-abbrev pub back : State → Result ℕ ℕ × World → Outcome
+abbrev pub back : State → Result ℕ ℕ × World → CallOutcome
 back s meant = goes meant.0 (record s { files = meant.1 })
 
 -- an answer that is `value` where there is no error
@@ -68,7 +68,7 @@ opened_as w dir flags (Ok name) =
     if bit_and (low flags) o_accmode == o_accmode then (Err einval, w) else opened_in w flags (in_directory w dir name)
 
 -- read: the bytes that are ready are read_at, all or none
-abbrev pub read_at : State → ℕ → ℕ → Result (List ℕ) ℕ → Outcome
+abbrev pub read_at : State → ℕ → ℕ → Result (List ℕ) ℕ → CallOutcome
 read_at s fd buffer (Err errno) = goes (Err errno) s
 read_at s fd buffer (Ok bytes) =
     if length bytes == 0 then goes (Ok 0) s
@@ -80,24 +80,24 @@ read_at s fd buffer (Ok bytes) =
     else goes (Err efault) s)
 
 -- write: to a descriptor that may be written
-abbrev pub written_from : State → ℕ → Option (List ℕ) → Outcome
+abbrev pub written_from : State → ℕ → Option (List ℕ) → CallOutcome
 written_from s fd None = goes (Err efault) s
 written_from s fd (Some bytes) = back s (answering (length bytes) (written s.files fd bytes))
 
-abbrev pub written_at : State → ℕ → ℕ → ℕ → Option (ℕ × ℕ) → Outcome
+abbrev pub written_at : State → ℕ → ℕ → ℕ → Option (ℕ × ℕ) → CallOutcome
 written_at s fd buffer count None = goes (Err ebadf) s
 written_at s fd buffer count (Some place) =
     if count == 0 then goes (Ok 0) s else written_from s fd (bytes_at s.memory buffer count)
 
 -- brk answers the break after the call
-abbrev pub moved_break : State → ℕ → Outcome
+abbrev pub moved_break : State → ℕ → CallOutcome
 moved_break s to = goes (Ok (break_heap s.heap to).now) (record s {
   memory = break_memory s.memory s.heap to;
   heap = break_heap s.heap to;
 })
 
 -- the table
-abbrev pub syscall : ℕ → List ℕ → State → Outcome
+abbrev pub syscall : ℕ → List ℕ → State → CallOutcome
 syscall number a s =
     let arg = slice_index a in
     if number == sys_unlinkat then back s (unlinked s.files (arg 2) (named s.memory s.files (arg 0) (arg 1)))

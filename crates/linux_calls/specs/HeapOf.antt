@@ -1,11 +1,7 @@
 -- The heap of a guest in its memory (docs/reference/calls.md, "The heap").
 use Rattle.std.specs.Prelude.{◌≡◌, ℕ, ◌+◌, ◌-◌, ◌*◌, ◌/◌, ◌%◌, ◌^◌, ◌≤◌, Bool, true, nat_le, nat_lt, ◌||◌, if◌then◌else◌}
-use Rattle.paged_mem.specs.Memory.{Memory, maps, IsFree, with_bytes, without, zeros}
+use Rattle.paged_mem.specs.Memory.{Memory, maps, page_up, IsFree, with_bytes, without, zeros}
 use Rattle.linux_calls.specs.declared.Heap.{Heap}
-
--- the first multiple of 4,096 that is not below `n`
-abbrev pub page_up : ℕ → ℕ
-page_up n = (n + 4095) / 4096 * 4096
 
 -- the pages of the heap, up to the break, are mapped, and the rest of those that it may have is not
 pub record IsHeapOf (m : Memory) (heap : Heap) : Type 0 where

@@ -39,7 +39,7 @@ pub fn states_stay_in_order()
         → LeavesState (syscall number arguments state) }
 {}
 
-/// What a guest gets from a call, given a state in order, is a number of 64 bits.
+/// What a guest gets from a call, given a state in order, is a number of 64 bits, and the status that it exits with one of 8.
 pub fn answers_are_numbers()
     ensures { (number : ℕ) (arguments : List ℕ) (state : State) → IsState state
         → LeavesNumber (syscall number arguments state) }

@@ -1,15 +1,12 @@
 //! The heap.
 ghost use Rattle.std.specs.Prelude.{◌≡◌, ◌≤◌, ◌<◌, ◌+◌, ◌-◌, ◌%◌, ◌^◌, true, OnOk, OnErr};
-ghost use Rattle.paged_mem.specs.Memory.{IsFree, maps};
-ghost use Rattle.linux_calls.specs.HeapOf.{IsHeapOf, page_up, resized};
+ghost use Rattle.paged_mem.specs.Memory.{IsFree, maps, page_up};
+ghost use Rattle.linux_calls.specs.HeapOf.{IsHeapOf, resized};
 ghost use Rattle.linux_calls.specs.Answer.{IsBreakAnswer};
 
 use crate::{CallEnd, Heap};
 use ddc_base::OutOfMemory;
-use paged_mem::Ram;
-
-/// The bytes of a page.
-const PAGE: u64 = 4_096;
+use paged_mem::{PAGE, Ram};
 
 /// An address rounded up to whole pages.
 fn page_up(address: u64) -> u64

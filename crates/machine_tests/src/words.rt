@@ -3,7 +3,7 @@ use rv64_table::{Op, laws, row_of, rows};
 
 #[test]
 fn rows_of_assembled_words(rt: HostRuntime) {
-    laws::no_word_fits_two_rows();
+    laws::no_word_matches_two_rows();
     laws::a_fitting_row_is_the_row();
     for (word, want) in [
         (0x4020_8fb3, Op::Sub),

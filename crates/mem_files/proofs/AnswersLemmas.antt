@@ -6,9 +6,9 @@ use Rattle.mem_files.specs.declared.slot.PlaceRefusal.{PlaceRefusal}
 use Rattle.mem_files.specs.declared.slot.PlaceRefusal.TheVariants.{BadName, Twice, Full, OutOfMemory}
 use Rattle.mem_files.specs.World.{World}
 use Rattle.mem_files.specs.Sound.{IsSound}
-use Rattle.mem_files.specs.Answers.{Answers, Places}
+use Rattle.mem_files.specs.Replies.{Replies, Places}
 
-pub answers-sound : {X : Type 0} (result : Result X FileRefusal) (old new : World) (meant : Result X ℕ × World) → Answers result old new meant → IsSound old → IsSound meant.1 → IsSound new
+pub answers-sound : {X : Type 0} (result : Result X FileRefusal) (old new : World) (meant : Result X ℕ × World) → Replies result old new meant → IsSound old → IsSound meant.1 → IsSound new
 answers-sound (Ok answer) old new meant a s t = subst IsSound (ap (λ p. p.1) a) t
 answers-sound (Err (file.Errno errno)) old new meant a s t = subst IsSound (ap (λ p. p.1) a) t
 answers-sound (Err file.OutOfMemory) old new meant a s t = subst IsSound (sym a.1) s

@@ -354,8 +354,8 @@ module _ (p : Parts) (w : World) (is : world_of p ≡ w) (ok : IsConsistent p) w
         elim (eqb number at) as (λ b. eqb number at ≡ b → fin.get (fin.from_sorted {R = bytes_cmp} (fin.put bytes_cmp name at p.names)) q ≡ Some number) [
           | true ↦ λ t. let same : number ≡ at = (grind (arith, nat_tests)) in
               let new : Some name ≡ Some q = sym named ∙ ap name_in (sym (get_or-set_same p.files at (Some file) None h)) ∙ ap (λ k. name_in (get_or (set p.files at (Some file)) k None)) (sym same) ∙ e in
-              let is_name : q ≡ name = sym (same_Some name q new) in
-              get-put name at q ∙ ap (λ b. cond b (Some at) (fin.get (world_of p).names q)) (ties q name is_name) ∙ ap (λ k. Some k) (sym same)
+              let is_file_name : q ≡ name = sym (same_Some name q new) in
+              get-put name at q ∙ ap (λ b. cond b (Some at) (fin.get (world_of p).names q)) (ties q name is_file_name) ∙ ap (λ k. Some k) (sym same)
           | false ↦ λ t. let apart : number ≢ at = (grind (arith, nat_tests)) in
               let old = ok.holds number q (ap name_in (sym (get_or-set_other p.files at number (Some file) None apart)) ∙ e) in
               get-put name at q

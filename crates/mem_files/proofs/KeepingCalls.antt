@@ -12,7 +12,7 @@ use Rattle.mem_files.specs.declared.slot.Slot.{Slot}
 use Rattle.mem_files.specs.declared.slot.Slot.TheVariants.{Input, Stream1, Stream2, File}
 use Rattle.mem_files.specs.Limits.{most_descriptors, most_names, most_content, most_total, may_read, may_write}
 use Rattle.mem_files.specs.Linux.{o_accmode, o_rdonly, o_wronly, o_append, o_creat, o_excl, o_trunc, einval, emfile, eexist, enoent, enospc, ebadf, efbig, seek_set, seek_cur, seek_end}
-use Rattle.mem_files.specs.Names.{bytes_cmp, is_stripped_name, is_name, stripped, begins_with_dot_slash}
+use Rattle.mem_files.specs.Names.{bytes_cmp, is_stripped_name, is_file_name, stripped, begins_with_dot_slash}
 use Rattle.mem_files.specs.declared.slot.PlaceRefusal.{PlaceRefusal}
 use Rattle.mem_files.specs.declared.slot.PlaceRefusal.TheVariants.{BadName, Twice, Full}
 use Rattle.mem_files.proofs.First.{three, no_bytes}
@@ -397,7 +397,7 @@ Placing = Result (Unit {0}) PlaceRefusal × World
 pub placed-kept : (w : World) (name content : List ℕ) → IsKept w → IsKept (placed w name content).1
 placed-kept w name content s =
     let rest : List ℕ = stripped name in
-    elim (is_name rest) as (λ b. is_name rest ≡ b → IsKept (cond {A = Placing} (not b) (Err BadName, w) (if fin.contains_key w.names rest then (Err Twice, w) else (if is_full w (length content) then (Err Full, w) else (Ok tt, with_file w rest content)))).1) [
+    elim (is_file_name rest) as (λ b. is_file_name rest ≡ b → IsKept (cond {A = Placing} (not b) (Err BadName, w) (if fin.contains_key w.names rest then (Err Twice, w) else (if is_full w (length content) then (Err Full, w) else (Ok tt, with_file w rest content)))).1) [
       | false ↦ λ _. s
       | true ↦ λ good. elim (fin.get w.names rest) as (λ o. fin.get w.names rest ≡ o → IsKept (cond {A = Placing} (is_some o) (Err Twice, w) (if is_full w (length content) then (Err Full, w) else (Ok tt, with_file w rest content))).1) [
         | Some number ↦ λ _. s
@@ -409,7 +409,7 @@ placed-kept w name content s =
       ] refl
     ] refl
   where
-    good_name : is_name (stripped name) ≡ true → IsTrue (is_stripped_name (stripped name))
+    good_name : is_file_name (stripped name) ≡ true → IsTrue (is_stripped_name (stripped name))
     good_name h = ap (λ b. b && not (begins_with_dot_slash (stripped name))) h ∙ ap not (stripped-is name)
 
 -- a descriptor's file stays when the descriptor goes

@@ -10,8 +10,10 @@ pub mod Keeping
 pub mod KeepingCalls
 pub mod Rules
 pub mod AnswersLemmas
+pub mod Leftovers
 pub mod Opening
 pub mod LawLemmas
 pub mod Tournament
 pub mod Counting
 pub mod After
+pub mod Walks

@@ -10,7 +10,7 @@ use Rattle.mem_files.specs.declared.slot.PlaceRefusal.{PlaceRefusal}
 use Rattle.mem_files.specs.declared.slot.PlaceRefusal.TheVariants.{BadName, Twice, Full}
 use Rattle.mem_files.specs.Linux.{o_accmode, o_creat, o_excl, o_trunc, einval, emfile, eexist, enoent, enospc}
 use Rattle.mem_files.specs.Limits.{most_descriptors, most_names}
-use Rattle.mem_files.specs.Names.{is_stripped_name, is_name, stripped}
+use Rattle.mem_files.specs.Names.{is_stripped_name, is_file_name, stripped}
 use Rattle.mem_files.specs.World.{World, content_of, is_named, is_open, lowest_unused}
 use Rattle.mem_files.specs.Calls.{first_world, with_file, with_descriptor, has, written_over, opened, opened_at, emptied_if, with_cursor, sought, sought_at, ready, skipped, skipped_at, fits, write_cursor, filled, written, written_if, placed, is_full, without_unused, closed, closed_at, removed, removed_at}
 use Rattle.mem_files.specs.Sound.{AreBytes, IsSlotAt, IsSound}
@@ -160,7 +160,7 @@ Placing = Result (Unit {0}) PlaceRefusal × World
 placed-bytes : (w : World) (name content : List ℕ) → HasBytes w → AreBytes name → AreBytes content → HasBytes (placed w name content).1
 placed-bytes w name content b good new =
     let rest : List ℕ = stripped name in
-    elim (is_name rest) as (λ t. HasBytes (cond {A = Placing} (not t) (Err BadName, w) (if fin.contains_key w.names rest then (Err Twice, w) else (if is_full w (length content) then (Err Full, w) else (Ok tt, with_file w rest content)))).1) [
+    elim (is_file_name rest) as (λ t. HasBytes (cond {A = Placing} (not t) (Err BadName, w) (if fin.contains_key w.names rest then (Err Twice, w) else (if is_full w (length content) then (Err Full, w) else (Ok tt, with_file w rest content)))).1) [
       | false ↦ b
       | true ↦ elim (fin.contains_key w.names rest) as (λ t. HasBytes (cond {A = Placing} t (Err Twice, w) (if is_full w (length content) then (Err Full, w) else (Ok tt, with_file w rest content))).1) [
         | true ↦ b

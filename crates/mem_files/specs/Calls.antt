@@ -9,7 +9,7 @@ use Rattle.mem_files.specs.declared.slot.PlaceRefusal.{PlaceRefusal}
 use Rattle.mem_files.specs.declared.slot.PlaceRefusal.TheVariants.{BadName, Twice, Full}
 use Rattle.mem_files.specs.Linux.{enoent, ebadf, eexist, einval, emfile, efbig, enospc, espipe, o_accmode, o_rdonly, o_wronly, o_creat, o_excl, o_trunc, o_append, seek_set, seek_cur, seek_end}
 use Rattle.mem_files.specs.Limits.{may_read, may_write, appends, most_content, most_total, most_descriptors, most_names}
-use Rattle.mem_files.specs.Names.{bytes_cmp, stripped, is_name}
+use Rattle.mem_files.specs.Names.{bytes_cmp, stripped, is_file_name}
 use Rattle.mem_files.specs.World.{World, content_of, total, is_named, is_open, lowest_unused}
 
 -- is this bit of the flags set?
@@ -40,7 +40,7 @@ is_full w len = nat_lt most_content len || nat_lt most_total (total w + len) || 
 -- a file under a name without `./`
 abbrev pub placed_as : World → List ℕ → List ℕ → Result (Unit {0}) PlaceRefusal × World
 placed_as w name content =
-    if not (is_name name) then (Err BadName, w)
+    if not (is_file_name name) then (Err BadName, w)
     else (if map.contains_key w.names name then (Err Twice, w)
     else (if is_full w (length content) then (Err Full, w)
     else (Ok tt, with_file w name content)))

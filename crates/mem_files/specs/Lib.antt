@@ -3,7 +3,7 @@ pub mod Limits
 pub mod Names
 pub mod World
 pub mod Calls
-pub mod Answers
+pub mod Replies
 pub mod Sound
 pub mod Outputs
 pub mod Inside

@@ -21,9 +21,9 @@ stripped (a ∷ (b ∷ rest)) = if a == 46 && b == 47 then stripped rest else a 
 stripped xs = xs
 
 -- a guest file name has 1 to 255 bytes, none of them zero
-abbrev pub is_name : List ℕ → Bool
-is_name bytes = nat_le 1 (length bytes) && nat_le (length bytes) most_name && not (list_any (λ byte. byte == 0) bytes)
+abbrev pub is_file_name : List ℕ → Bool
+is_file_name bytes = nat_le 1 (length bytes) && nat_le (length bytes) most_name && not (list_any (λ byte. byte == 0) bytes)
 
 -- a name as the files hold it
 abbrev pub is_stripped_name : List ℕ → Bool
-is_stripped_name bytes = is_name bytes && not (begins_with_dot_slash bytes)
+is_stripped_name bytes = is_file_name bytes && not (begins_with_dot_slash bytes)

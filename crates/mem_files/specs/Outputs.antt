@@ -1,8 +1,11 @@
 -- What a program leaves in its files: all names with their contents, and one of its outputs.
-use Rattle.std.specs.Prelude.{ℕ, Option, Some, List, map}
-use Rattle.std.specs.FinMap.{entries}
+use Rattle.std.specs.Prelude.{ℕ, ◌≤◌, Option, Some, List, length, map, All, IsTrue}
+use Rattle.std.specs.FinMap.{entries, is_sorted}
+use Rattle.mem_files.specs.Limits.{most_content, most_names}
+use Rattle.mem_files.specs.Names.{bytes_cmp, is_stripped_name}
 use Rattle.mem_files.specs.World.{World, content_of}
 use Rattle.mem_files.specs.Calls.{content_at}
+use Rattle.mem_files.specs.Sound.{AreBytes}
 
 -- a name with the content of its file
 abbrev pub named_content : World → List ℕ × ℕ → List ℕ × List ℕ
@@ -21,3 +24,20 @@ pub data Output : Type 0 where
 abbrev pub out : World → Output → Option (List ℕ)
 out w FirstStream = Some w.stream1
 out w (AtPath path) = content_at w path
+
+-- the bytes of a content: no more than a file or a stream may have
+pub record IsContent (content : List ℕ) : Type 0 where
+  pub bytes : AreBytes content
+  pub small : length content ≤ most_content
+
+-- a name with a content: a guest file name without the `./` that it may begin with
+pub record IsLeftFile (file : List ℕ × List ℕ) : Type 0 where
+  pub named : IsTrue (is_stripped_name file.0)
+  pub name_bytes : AreBytes file.0
+  pub content : IsContent file.1
+
+-- what files can leave: no more names than there may be, strictly ascending by their bytes
+pub record AreLeft (files : List (List ℕ × List ℕ)) : Type 0 where
+  pub few : length files ≤ most_names
+  pub ascending : IsTrue (is_sorted bytes_cmp files)
+  pub each : All IsLeftFile files

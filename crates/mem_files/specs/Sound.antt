@@ -21,7 +21,7 @@ IsSlotAt fd Stream2 = fd ≡ 2
 IsSlotAt fd (File number cursor flags) = (cursor < 2 ^ 63) × (flags < 8) × (flags % 4 ≢ 0)
 
 -- what counts and ranges say: names, contents and streams are bytes, and no limit is passed
-pub record IsWithin (w : World) : Type 0 where
+pub record IsInLimits (w : World) : Type 0 where
   pub few_names : map.len w.names ≤ most_names
   pub few_slots : map.len w.slots ≤ most_descriptors
   pub good_names : (name : List ℕ) (number : ℕ) → map.get w.names name ≡ Some number → IsTrue (is_stripped_name name)
@@ -47,5 +47,5 @@ pub record IsJoined (w : World) : Type 0 where
 
 -- both parts
 pub record IsSound (w : World) : Type 0 where
-  pub within : IsWithin w
+  pub within : IsInLimits w
   pub joined : IsJoined w

@@ -3,11 +3,11 @@ ghost use Rattle.std.specs.Prelude.{◌≡◌, ◌+◌, ◌-◌, ◌<◌, ◌≤
 ghost use Rattle.std.specs.Option.{option_copied};
 ghost use Rattle.std.specs.FinMap as map;
 ghost use Rattle.mem_files.specs.Calls.{placed, is_full, opened, opened_at, flag_byte, has, closed, released, without_unused, sought, seek_base, as_cursor, ready, skipped, fits, write_place, write_cursor, filled, written, removed, content_at};
-ghost use Rattle.mem_files.specs.Answers.{Answers, Places, Grows};
+ghost use Rattle.mem_files.specs.Replies.{Replies, Places, Grows};
 ghost use Rattle.mem_files.specs.Sound.{IsSound};
 ghost use Rattle.mem_files.specs.Inside.Kept.{HasFile};
 
-use crate::names::{is_name, strip};
+use crate::names::{is_file_name, strip};
 use crate::table::Table;
 use crate::{
     APPENDS, EBADF, EEXIST, EFBIG, EINVAL, EMFILE, ENOENT, ENOSPC, ESPIPE, FileRefusal,
@@ -63,7 +63,7 @@ impl Table {
         ensures { Places result self.old self.new (placed self.old name.now content.now) }
     {
         let name = strip(name);
-        if !is_name(name) {
+        if !is_file_name(name) {
             return Err(PlaceRefusal::BadName);
         }
         if self.number(name).is_some() {
@@ -87,7 +87,7 @@ impl Table {
     pub fn open_name(&mut self, name: &[u8], flags: u32) -> Result<u32, FileRefusal>
         requires sound { IsSound self.old }
         requires short { length name.now ≤ MAX_NAME }
-        ensures { Answers result self.old self.new (opened self.old name.now flags) }
+        ensures { Replies result self.old self.new (opened self.old name.now flags) }
     {
         if flags & O_ACCMODE == O_ACCMODE {
             return Err(FileRefusal::Errno(EINVAL));
@@ -104,7 +104,7 @@ impl Table {
     fn open_present(&mut self, number: u32, flags: u32) -> Result<u32, FileRefusal>
         requires held { IsSome (map.get self.old.files number) }
         requires room { map.len self.old.slots < MAX_SLOTS }
-        ensures { Answers result self.old self.new (opened_at self.old [] flags (Some number)) }
+        ensures { Replies result self.old self.new (opened_at self.old [] flags (Some number)) }
     {
         if has(flags, O_CREAT) && has(flags, O_EXCL) {
             return Err(FileRefusal::Errno(EEXIST));
@@ -125,7 +125,7 @@ impl Table {
         requires absent { map.get self.old.names name.now ≡ None }
         requires short { length name.now ≤ MAX_NAME }
         requires room { map.len self.old.slots < MAX_SLOTS }
-        ensures { Answers result self.old self.new (opened_at self.old name.now flags None) }
+        ensures { Replies result self.old self.new (opened_at self.old name.now flags None) }
     {
         if !has(flags, O_CREAT) {
             return Err(FileRefusal::Errno(ENOENT));

@@ -4,7 +4,7 @@ ghost use Rattle.std.specs.Option.{option_copied};
 ghost use Rattle.std.specs.FinMap as map;
 ghost use Rattle.mem_files.specs.Names.{is_stripped_name};
 ghost use Rattle.mem_files.specs.Calls.{first_world, placed, opened, closed, sought, ready, skipped, fits, write_place, written, removed, content_at, stream, name_after};
-ghost use Rattle.mem_files.specs.Answers.{Answers, Places, Grows};
+ghost use Rattle.mem_files.specs.Replies.{Replies, Places, Grows};
 ghost use Rattle.mem_files.specs.Sound.{IsSound};
 
 use crate::table::Table;
@@ -17,7 +17,7 @@ use std::marker::Model;
 ///
 /// Seen as a `World`. A look-up of a name or a number costs its logarithm at most, a read or a write of n bytes costs n,
 /// and bytes that are written at the end cost the same each on average.
-#[derive(Drop)]
+#[derive(Debug, Drop)]
 pub struct Files {
     table: Table,
 }
@@ -56,7 +56,7 @@ impl Files {
     /// Errors: `EINVAL`, `EMFILE`, `EEXIST`, `ENOENT`, `ENOSPC`.
     pub fn open_name(&mut self, name: &[u8], flags: u32) -> Result<u32, FileRefusal>
         requires { IsTrue (is_stripped_name name.now) }
-        ensures { Answers result self.old self.new (opened self.old name.now flags) }
+        ensures { Replies result self.old self.new (opened self.old name.now flags) }
     {
         self.table.open_name(name, flags)
     }

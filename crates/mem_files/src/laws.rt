@@ -1,5 +1,5 @@
 //! What the calls do together: laws about their definitions.
-ghost use Rattle.std.specs.Prelude.{◌≡◌, ◌<◌, ℕ, ℤ, pos, List, length, IsTrue, IsSome, IsOkAnd, Ok, Some, None, false};
+ghost use Rattle.std.specs.Prelude.{◌≡◌, ◌<◌, ◌≤◌, ℕ, ℤ, pos, List, length, All, IsTrue, IsSome, IsOkAnd, Ok, Some, None, false};
 ghost use Rattle.std.specs.FinMap as map;
 ghost use Rattle.mem_files.specs.declared.slot.Slot.TheVariants.{File};
 ghost use Rattle.mem_files.specs.Limits.{most_name, most_names, most_descriptors, most_content, most_total, may_read, may_write, appends};
@@ -8,6 +8,8 @@ ghost use Rattle.mem_files.specs.Names.{is_stripped_name};
 ghost use Rattle.mem_files.specs.World.{World, lowest_unused};
 ghost use Rattle.mem_files.specs.Calls.{first_world, has, placed, opened, closed, written, skipped, sought, ready, removed};
 ghost use Rattle.mem_files.specs.Sound.{AreBytes, IsSound};
+ghost use Rattle.mem_files.specs.Outputs.{left, out, Output, AtPath, AreLeft, IsContent};
+ghost use Rattle.std.specs.List.{Contains};
 
 use crate::*;
 
@@ -45,6 +47,18 @@ pub fn calls_keep_the_rules()
         → IsSound (skipped w fd count) }
     ensures at_write { (w : World) (fd : ℕ) (bytes : List ℕ) → IsSound w → AreBytes bytes → IsSound (written w fd bytes).1 }
     ensures at_remove { (w : World) (name : List ℕ) → IsSound w → IsSound (removed w name).1 }
+{}
+
+/// What files that keep their rules leave: at most 4,096 names of 1 to 255 bytes, strictly ascending, each with the content of its
+/// file; no content or stream is longer than 268,435,456 bytes, and an output is the first stream or one of these contents.
+pub fn what_is_left_keeps_the_limits()
+    ensures left { (w : World) → IsSound w → AreLeft (left w) }
+    ensures names { (w : World) → IsSound w → All (λ file. (1 ≤ length file.0) × (length file.0 ≤ most_name)) (left w) }
+    ensures contents { (w : World) → IsSound w → All (λ file. out w (AtPath file.0) ≡ Some file.1) (left w) }
+    ensures streams { (w : World) → IsSound w → IsContent w.stream1 × IsContent w.stream2 }
+    ensures output { (w : World) (output : Output) (content : List ℕ) → IsSound w → out w output ≡ Some content → IsContent content }
+    ensures at_path { (w : World) (path content : List ℕ) → IsSound w → out w (AtPath path) ≡ Some content
+        → Contains (left w) (path, content) }
 {}
 
 /// The lowest unused number is none of the numbers, and every smaller number is one of them: of descriptors and of files.

@@ -16,7 +16,7 @@ mod stored;
 mod table;
 
 pub use files::Files;
-pub use names::{is_stripped_name, strip};
+pub use names::{is_file_name, is_stripped_name, strip};
 pub use slot::{FileRefusal, PlaceRefusal, Slot};
 
 /// No such file (Linux, asm-generic/errno-base.h, as the other error numbers).

@@ -1,7 +1,7 @@
 //! Names of files.
 ghost use Rattle.std.specs.Prelude.{◌≡◌, ◌==◌, take};
 ghost use Rattle.std.specs.List.{list_any};
-ghost use Rattle.mem_files.specs.Names.{stripped, is_name, is_stripped_name, begins_with_dot_slash};
+ghost use Rattle.mem_files.specs.Names.{stripped, is_file_name, is_stripped_name, begins_with_dot_slash};
 
 use crate::MAX_NAME;
 use arrayvec::ArrayVec;
@@ -32,8 +32,8 @@ pub fn strip(name: &[u8]) -> &[u8]
 }
 
 /// Is this a guest file name: 1 to 255 bytes, none of them zero?
-pub fn is_name(name: &[u8]) -> bool
-    ensures { result ≡ is_name name.now }
+pub fn is_file_name(name: &[u8]) -> bool
+    ensures { result ≡ is_file_name name.now }
 {
     if name.is_empty() || name.len() > MAX_NAME {
         return false;
@@ -45,7 +45,7 @@ pub fn is_name(name: &[u8]) -> bool
 pub fn is_stripped_name(name: &[u8]) -> bool
     ensures { result ≡ is_stripped_name name.now }
 {
-    is_name(name) && !begins_with_dot_slash(name)
+    is_file_name(name) && !begins_with_dot_slash(name)
 }
 
 /// Does a name begin with `./`?

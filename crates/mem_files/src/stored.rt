@@ -5,7 +5,7 @@ ghost use Rattle.mem_files.specs.Calls.{written_over};
 use std::alloc::{AllocError, Global};
 
 /// A file: its name, if it still has one, and its bytes.
-#[derive(Drop)]
+#[derive(Debug, Drop)]
 pub struct Stored {
     name: Option<Vec<u8>>,
     content: Vec<u8>,

@@ -25,7 +25,7 @@ const SLOTS_HEIGHT: u32 = 10;
 const FILES_HEIGHT: u32 = 13;
 
 /// The files by number, the descriptors by number, and the numbers by name.
-#[derive(Drop)]
+#[derive(Debug, Drop)]
 pub struct Table {
     names: BTreeMap<Key, u32>,
     files: Vec<Option<Stored>>,

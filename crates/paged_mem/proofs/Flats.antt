@@ -6,7 +6,7 @@ use Rattle.std.proofs.lemmas.Grind.{same_number_lists}
 use Rattle.std.proofs.lemmas.List.{places, length-replicate, get_or-replicate, get_or_past, get_or_append_left, get_or-append-add, get_or-take, get_or-drop, get_or_default, take-append-drop, take_at, drop_at, drop-drop}
 use borrow.Rule.Slice.PartMut.{put_mid}
 use Rattle.paged_mem.specs.Memory.{zeros}
-use Rattle.paged_mem.specs.Flat.{overwritten, number_at}
+use Rattle.paged_mem.specs.Inside.Flat.{overwritten, number_at}
 use Rattle.paged_mem.specs.Entries.{Entry, AreFull, ArePages, content, flat, held_pages}
 use Rattle.paged_mem.proofs.Mapped.{length-zeros}
 use Rattle.paged_mem.proofs.Views.{get_or-overwritten, get_or-overwritten_other, length-overwritten}

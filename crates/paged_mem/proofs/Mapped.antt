@@ -7,7 +7,7 @@ use Rattle.std.proofs.lemmas.Bool.{cases_lt}
 use Rattle.std.proofs.lemmas.List.{get_or-replicate, length-replicate}
 use Rattle.std.proofs.lemmas.List.FromFn.{length-range_with_len}
 use Rattle.paged_mem.specs.Memory.{IsFree, with_bytes, without, zeros}
-use Rattle.paged_mem.specs.Flat.{memory_of, place, Rises}
+use Rattle.paged_mem.specs.Inside.Flat.{memory_of, place, Rises}
 use Rattle.paged_mem.specs.Held.{get-memory_of, contains-memory_of, get-with_bytes, get-with_bytes_below, get-with_bytes_above}
 use Rattle.paged_mem.proofs.Maps.{same_memory, get-without, get-without_other}
 use Rattle.paged_mem.proofs.Places.{place-none}

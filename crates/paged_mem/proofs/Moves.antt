@@ -6,7 +6,7 @@ use Rattle.std.proofs.lemmas.Grind.{same_number_lists}
 use Rattle.std.proofs.lemmas.List.{get_or-take, get_or-drop, take-append-drop, drop-drop, length-replicate, get_or_append_left, get_or-append-add, get_or-replicate, get_or_past}
 use Rattle.std.proofs.lemmas.List.FromFn.{length-range_with_len, get_or-range_with_len}
 use Rattle.paged_mem.specs.Memory.{IsFree, maps, bytes_at, with_bytes, without, zeros}
-use Rattle.paged_mem.specs.Flat.{memory_of, place, Rises, AreLow, IsRank, AreFlatPages}
+use Rattle.paged_mem.specs.Inside.Flat.{memory_of, place, Rises, AreLow, IsRank, AreFlatPages}
 use Rattle.paged_mem.specs.Held.{place-some, contains-memory_of}
 use Rattle.paged_mem.proofs.Maps.{get_in_bytes_at}
 use Rattle.paged_mem.proofs.Places.{place-at, in_a_row}

@@ -7,7 +7,7 @@ use Rattle.paged_mem.specs.Memory.{number_of, bytes_of}
 use Rattle.paged_mem.specs.Ram.{count_of}
 use Rattle.paged_mem.specs.declared.ram.Width.{Width}
 use Rattle.paged_mem.specs.declared.ram.Width.TheVariants.{W1, W2, W4, W8}
-use Rattle.paged_mem.specs.Flat.{number_at}
+use Rattle.paged_mem.specs.Inside.Flat.{number_at}
 
 pub number_of-take : (bytes : List ℕ) (start count : ℕ) → start + count ≤ length bytes → number_of (take count (drop start bytes)) ≡ number_at bytes start count
 unfolding number_of

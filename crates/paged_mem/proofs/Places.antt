@@ -2,7 +2,7 @@
 use Rattle.std.proofs.Common.{◌≡◌, ◌≢◌, ℕ, zero, suc, ◌+◌, ◌-◌, ◌^◌, ◌<◌, ◌≤◌, Option, None, Some, IsSome, add-zero, List, [], ◌∷◌, length, get_or, refl, sym, ap, ◌∙◌, arith, ◌⊎◌, inl, inr, Bool, true, false, ◌&&◌, ◌==◌, nat_lt}
 use Rattle.std.specs.Option.{option_map}
 use Rattle.std.proofs.lemmas.Bool.{cases_eq, cases_order, and_parts, and_from, ltb-true, lt-ltb, eqb-true, eq-eqb, false≢true}
-use Rattle.paged_mem.specs.Flat.{place, Rises, AreLow, IsRank}
+use Rattle.paged_mem.specs.Inside.Flat.{place, Rises, AreLow, IsRank}
 use Rattle.paged_mem.specs.Held.{place_here, place_later, place-some}
 
 -- the page with a number stands at one place, and where no page has it there is none

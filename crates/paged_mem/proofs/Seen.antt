@@ -2,7 +2,7 @@
 use Rattle.std.proofs.Common.{◌≡◌, ℕ, Option, None, Some, is_some, unwrap_or, List, length, take, drop, sym, ap, subst, ◌∙◌, arith}
 use Rattle.std.specs.Option.{option_map}
 use Rattle.paged_mem.specs.Memory.{Memory, maps, bytes_at, reads, number_of, with_bytes}
-use Rattle.paged_mem.specs.Flat.{memory_of, AreFlatPages, Spans, overwritten, number_at}
+use Rattle.paged_mem.specs.Inside.Flat.{memory_of, AreFlatPages, Spans, overwritten, number_at}
 use Rattle.paged_mem.proofs.Views.{maps-span, bytes_at-span, bytes_at-no_span, memory_of-overwritten}
 use Rattle.paged_mem.proofs.Numbers.{number_of-take}
 

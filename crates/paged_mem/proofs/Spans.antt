@@ -2,7 +2,7 @@
 use Rattle.std.proofs.Common.{◌≡◌, ◌≢◌, ℕ, zero, suc, ◌+◌, ◌-◌, ◌*◌, ◌/◌, ◌%◌, ◌^◌, ◌<◌, ◌≤◌, Option, None, Some, IsSome, is_some, subst, List, length, get_or, refl, ap, ◌∙◌, arith, ◌⊎◌, inl, inr}
 use Rattle.std.specs.Option.{option_map}
 use Rattle.std.proofs.lemmas.Bool.{cases_eq}
-use Rattle.paged_mem.specs.Flat.{place, slot, Rises, AreLow, Spans}
+use Rattle.paged_mem.specs.Inside.Flat.{place, slot, Rises, AreLow, Spans}
 use Rattle.paged_mem.specs.Held.{place-some}
 use Rattle.paged_mem.proofs.Places.{place-at, place-none, rising_by, in_a_row}
 

@@ -6,7 +6,7 @@ use Rattle.std.proofs.lemmas.Bool.{cases_lt}
 use Rattle.std.proofs.lemmas.Option.{none-some, same_Some}
 use Rattle.std.proofs.lemmas.List.{get_or-take, get_or-drop, places}
 use Rattle.paged_mem.specs.Memory.{bytes_at, maps, with_bytes}
-use Rattle.paged_mem.specs.Flat.{memory_of, place, slot, Spans, overwritten}
+use Rattle.paged_mem.specs.Inside.Flat.{memory_of, place, slot, Spans, overwritten}
 use Rattle.paged_mem.proofs.Maps.{same_memory, bytes_at-found, bytes_at-none}
 use Rattle.paged_mem.specs.Held.{place-some, get-memory_of, get-with_bytes, get-with_bytes_below, get-with_bytes_above}
 

@@ -3,7 +3,7 @@
 use Rattle.std.specs.Prelude.{◌≡◌, ℕ, ◌+◌, ◌*◌, ◌/◌, ◌%◌, ◌^◌, ◌<◌, ◌≤◌, Option, None, Some, List, [], ◌∷◌, ◌++◌, length, slice_index, slice_index_or}
 use Rattle.std.specs.Global.{Box}
 use Rattle.paged_mem.specs.Memory.{zeros}
-use Rattle.paged_mem.specs.Flat.{AreFlatPages}
+use Rattle.paged_mem.specs.Inside.Flat.{AreFlatPages}
 use Rattle.paged_mem.specs.declared.rows.Row.{Row}
 use Rattle.paged_mem.specs.declared.rows.Rows.{Rows}
 

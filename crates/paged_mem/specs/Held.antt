@@ -15,7 +15,7 @@ use Rattle.std.proofs.lemmas.Option.{none-some, same_Some}
 use mathlib.Core.HLevel.{Σ_prop_path}
 use base.Stored.{coded_via}
 use Rattle.paged_mem.specs.Memory.{Memory, IsWhole, with_bytes}
-use Rattle.paged_mem.specs.Flat.{memory_of, place, slot, AreFlatPages}
+use Rattle.paged_mem.specs.Inside.Flat.{memory_of, place, slot, AreFlatPages}
 use Rattle.paged_mem.specs.Entries.{Entry, ArePages, AreRowsOf}
 use Rattle.paged_mem.specs.declared.rows.Rows.{Rows}
 

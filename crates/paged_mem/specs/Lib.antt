@@ -1,6 +1,6 @@
 pub mod Entries
-pub mod Flat
 pub mod Held
 pub mod Memory
 pub mod Paged
 pub mod Ram
+pub mod Inside

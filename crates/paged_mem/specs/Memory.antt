@@ -13,6 +13,10 @@ Memory = FinMap nat_cmp ℕ
 abbrev pub page_size : ℕ
 page_size = 4096
 
+-- the first multiple of a page's bytes that is not below `n`
+abbrev pub page_up : ℕ → ℕ
+page_up n = (n + 4095) / 4096 * 4096
+
 -- mapped addresses come in whole pages of 4,096 bytes below 2 ^ 38, and each holds a byte
 pub record IsWhole (m : Memory) : Type 0 where
   pub small : (at byte : ℕ) → get m at ≡ Some byte → byte < 256

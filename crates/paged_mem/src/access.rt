@@ -3,7 +3,7 @@ ghost use Rattle.std.specs.Prelude.{◌≡◌, ℕ, ◌+◌, ◌-◌, ◌*◌, �
 ghost use Rattle.paged_mem.specs.Memory.{bytes_at, maps, reads};
 ghost use Rattle.paged_mem.specs.Ram.{count_of, RunsFrom, shown, Stores, StoresNear, Writes};
 ghost use Rattle.paged_mem.specs.Entries.{AreFull, ArePages, AreRowsOf, flat, held_pages};
-ghost use Rattle.paged_mem.specs.Flat.{memory_of, number_at, Rises};
+ghost use Rattle.paged_mem.specs.Inside.Flat.{memory_of, number_at, Rises};
 ghost use Rattle.paged_mem.specs.Paged.{pages_touched, TouchesUnheld};
 
 use crate::entries::{Entry, number_in, put_into, read, take_memory, write};

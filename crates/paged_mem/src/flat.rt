@@ -1,6 +1,6 @@
 ghost use Rattle.std.specs.Prelude.{◌≡◌, ◌≢◌, ◌*◌, Err};
 ghost use Rattle.paged_mem.specs.Ram.{count_of, Stores, Writes};
-ghost use Rattle.paged_mem.specs.Flat.{AreFlatPages};
+ghost use Rattle.paged_mem.specs.Inside.Flat.{AreFlatPages};
 ghost use Rattle.paged_mem.specs.Held.{AreFlatPages-prop};
 
 use crate::mapping::{map_pages, unmap_pages};
@@ -15,7 +15,7 @@ use std::marker::Model;
 ///
 /// A look-up is a binary search on page numbers, after a guess each for pages in a row from the first one on, as a program's are, and up
 /// to the last one, as the stack's are.
-#[derive(Drop)]
+#[derive(Debug, Drop)]
 pub struct FlatRam {
     pages: Vec<u64>,
     bytes: Vec<u8>,
@@ -24,7 +24,7 @@ pub struct FlatRam {
 
 impl Model for FlatRam {
     ghost use Rattle.paged_mem.specs.Held.{Held, held_code, IsWhole-memory_of};
-    ghost use Rattle.paged_mem.specs.Flat.{memory_of};
+    ghost use Rattle.paged_mem.specs.Inside.Flat.{memory_of};
 
     ghost Value = { Held };
 

@@ -1,7 +1,7 @@
 ghost use Rattle.std.specs.Prelude.{◌≡◌, ℕ, ◌+◌, ◌*◌, ◌%◌, ◌^◌, ◌<◌, ◌≤◌, IsTrue, OnOk, OnErr, length};
 ghost use Rattle.paged_mem.specs.Memory.{IsFree, maps, with_bytes, without, zeros};
 ghost use Rattle.paged_mem.specs.Entries.{ArePages, flat, held_pages};
-ghost use Rattle.paged_mem.specs.Flat.{AreFlatPages, memory_of};
+ghost use Rattle.paged_mem.specs.Inside.Flat.{AreFlatPages, memory_of};
 
 use crate::entries::Entry;
 use crate::gaps::{close_gap, insert_numbers, open_entries, open_gap};

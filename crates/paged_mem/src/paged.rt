@@ -22,7 +22,7 @@ use std::marker::Model;
 ///
 /// An address in the row of pages from the first one on, or in the one up to the last one, is found at once, any other by a search.
 /// Contracts see the map, and the numbers of the pages that are held.
-#[derive(Drop)]
+#[derive(Debug, Drop)]
 pub struct PagedRam {
     pages: Vec<u64>,
     entries: Vec<Entry>,
@@ -35,7 +35,7 @@ pub struct PagedRam {
 impl Model for PagedRam {
     ghost use Rattle.paged_mem.specs.Held.{PagedMemory, paged_code, IsWhole-memory_of};
     ghost use Rattle.paged_mem.specs.Entries.{flat, held_pages};
-    ghost use Rattle.paged_mem.specs.Flat.{memory_of};
+    ghost use Rattle.paged_mem.specs.Inside.Flat.{memory_of};
 
     ghost Value = { PagedMemory };
 

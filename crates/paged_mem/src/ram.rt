@@ -39,7 +39,7 @@ pub enum StoreRefusal {
 /// What a page holds: nothing, 4,096 zero bytes, or the 4,096 bytes that are lent.
 ///
 /// `Zero` and `Full` both speak of a mapped page, and a page that is all zero may be shown either way.
-#[derive(Clone, Copy, Debug)]
+#[derive(Clone, Copy, Debug, PartialEq, Eq)]
 pub enum PageView<'a> {
     Unmapped,
     Zero,

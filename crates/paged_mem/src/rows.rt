@@ -1,13 +1,13 @@
 //! Rows of pages, in which an address is found without a search.
 ghost use Rattle.std.specs.Prelude.{◌≡◌, ℕ, ◌+◌, ◌/◌, ◌^◌, ◌<◌, IfSome, List, Some};
 ghost use Rattle.paged_mem.specs.Entries.{AreRowsOf, IsRowOf};
-ghost use Rattle.paged_mem.specs.Flat.{AreLow, Rises, place};
+ghost use Rattle.paged_mem.specs.Inside.Flat.{AreLow, Rises, place};
 
 use crate::PAGE;
 
 /// Pages with numbers in a row: the address of the first one, how many bytes all of them have, and where the first one stands among the
 /// mapped pages.
-#[derive(Clone, Copy)]
+#[derive(Clone, Copy, Debug, PartialEq, Eq)]
 pub struct Row {
     pub base: u64,
     pub size: u64,
@@ -96,7 +96,7 @@ pub fn last_row(pages: &[u64]) -> Row
 }
 
 /// The row from the first page on, and the one up to the last page.
-#[derive(Clone, Copy)]
+#[derive(Clone, Copy, Debug, PartialEq, Eq)]
 pub struct Rows {
     pub first: Row,
     pub last: Row,

@@ -6,12 +6,12 @@ use Rattle.std.proofs.lemmas.Bool.{and_parts, and_from, eqb-true, eq-eqb}
 use Rattle.rv64_table.specs.declared.Form.{Form}
 use Rattle.rv64_table.specs.declared.Form.TheVariants.{R, I, H, K, S, B, U, J, E}
 use Rattle.rv64_table.specs.Table.{mask_of}
-use Rattle.rv64_table.specs.Lookup.{has_fields, fits_funct3, fits_funct7}
-use Rattle.rv64_table.proofs.RowsByField.{fits-form}
+use Rattle.rv64_table.specs.Inside.Lookup.{has_fields, fits_funct3, fits_funct7}
+use Rattle.rv64_table.proofs.RowsByField.{matches-form}
 use Rattle.rv64_table.proofs.Masks.{and-fixed}
 use Rattle.rv64_table.proofs.Places.{Wants}
 use Rattle.rv64_decode.specs.Fields.{bits, branch_offset, jump_offset, signed, immediate, has_rd, has_rs1, has_rs2}
-use Rattle.rv64_decode.specs.Encode.{placed, has_immediate, is_signed, is_multiple}
+use Rattle.rv64_decode.specs.Encode.{immediate_bits, has_immediate, is_signed, is_multiple}
 use Rattle.rv64_decode.proofs.Signed.{signed-code, unsigned-code, multiple-2, multiple-4096}
 
 -- what is known of a row's wanted bits and an instruction's fields
@@ -26,7 +26,7 @@ pub record Given (form : Form) (want d a b : ℕ) (z : ℤ) : Type 0 where
 -- what their sum reads
 pub record Reads (form : Form) (want d a b : ℕ) (z : ℤ) (w : ℕ) : Type 0 where
   pub below : w < 2 ^ 32
-  pub fits : (bit_and w (mask_of form) == want) ≡ true
+  pub matches : (bit_and w (mask_of form) == want) ≡ true
   pub rd : (if has_rd form then bits w 11 7 else 0) ≡ d
   pub rs1 : (if has_rs1 form then bits w 19 15 else 0) ≡ a
   pub rs2 : (if has_rs2 form then bits w 24 20 else 0) ≡ b
@@ -36,23 +36,23 @@ pub record Reads (form : Form) (want d a b : ℕ) (z : ℤ) (w : ℕ) : Type 0 w
 abbrev pub low : ℤ → ℕ
 low z = cast_unsigned w64 z % 2 ^ 32
 
--- a word with the wanted fields fits
-fits-from : (form : Form) (want w : ℕ) → w < 2 ^ 32 → has_fields form ≡ true → Wants form want → w % 2 ^ 7 ≡ want % 2 ^ 7
+-- a word with the wanted fields matches
+matches-from : (form : Form) (want w : ℕ) → w < 2 ^ 32 → has_fields form ≡ true → Wants form want → w % 2 ^ 7 ≡ want % 2 ^ 7
     → fits_funct3 form (want / 2 ^ 12 % 2 ^ 3) (w / 2 ^ 12 % 2 ^ 3) ≡ true → fits_funct7 form (want / 2 ^ 25) (w / 2 ^ 25) ≡ true
     → (bit_and w (mask_of form) == want) ≡ true
-fits-from form want w below fields wants opcode funct3 funct7 =
-    fits-form form w want below fields
+matches-from form want w below fields wants opcode funct3 funct7 =
+    matches-form form w want below fields
     ∙ and_from _ _ (eq-eqb _ _ opcode) (and_from _ _ (eq-eqb _ _ wants.rd) (and_from _ _ funct3 (and_from _ _ (eq-eqb _ _ wants.rs) funct7)))
 
 pub reads : (form : Form) (want d a b : ℕ) (z : ℤ) (w : ℕ) → Given form want d a b z
-    → w ≡ want + d * 2 ^ 7 + a * 2 ^ 15 + b * 2 ^ 20 + placed form (low z) → Reads form want d a b z w
+    → w ≡ want + d * 2 ^ 7 + a * 2 ^ 15 + b * 2 ^ 20 + immediate_bits form (low z) → Reads form want d a b z w
 reads R want d a b z w g e =
     let wants = g.wants refl in
     let number : 0 ≡ low z % 2 ^ 0 = omega arith in
     let below : w < 2 ^ 32 = omega arith in
     record {
       below = below;
-      fits = fits-from R want w below refl wants (omega arith) (eq-eqb _ _ (omega arith)) (eq-eqb _ _ (omega arith));
+      matches = matches-from R want w below refl wants (omega arith) (eq-eqb _ _ (omega arith)) (eq-eqb _ _ (omega arith));
       rd = omega arith;
       rs1 = omega arith;
       rs2 = omega arith;
@@ -65,7 +65,7 @@ reads I want d a b z w g e =
     let below : w < 2 ^ 32 = omega arith in
     record {
       below = below;
-      fits = fits-from I want w below refl wants (omega arith) (eq-eqb _ _ (omega arith)) (wants.funct7);
+      matches = matches-from I want w below refl wants (omega arith) (eq-eqb _ _ (omega arith)) (wants.funct7);
       rd = omega arith;
       rs1 = omega arith;
       rs2 = omega arith;
@@ -79,7 +79,7 @@ reads H want d a b z w g e =
     let below : w < 2 ^ 32 = omega arith in
     record {
       below = below;
-      fits = fits-from H want w below refl wants (omega arith) (eq-eqb _ _ (omega arith)) (and_from _ _ funct7.0 (eq-eqb _ _ (omega arith)));
+      matches = matches-from H want w below refl wants (omega arith) (eq-eqb _ _ (omega arith)) (and_from _ _ funct7.0 (eq-eqb _ _ (omega arith)));
       rd = omega arith;
       rs1 = omega arith;
       rs2 = omega arith;
@@ -91,7 +91,7 @@ reads K want d a b z w g e =
     let below : w < 2 ^ 32 = omega arith in
     record {
       below = below;
-      fits = fits-from K want w below refl wants (omega arith) (eq-eqb _ _ (omega arith)) (eq-eqb _ _ (omega arith));
+      matches = matches-from K want w below refl wants (omega arith) (eq-eqb _ _ (omega arith)) (eq-eqb _ _ (omega arith));
       rd = omega arith;
       rs1 = omega arith;
       rs2 = omega arith;
@@ -104,7 +104,7 @@ reads S want d a b z w g e =
     let below : w < 2 ^ 32 = omega arith in
     record {
       below = below;
-      fits = fits-from S want w below refl wants (omega arith) (eq-eqb _ _ (omega arith)) (wants.funct7);
+      matches = matches-from S want w below refl wants (omega arith) (eq-eqb _ _ (omega arith)) (wants.funct7);
       rd = omega arith;
       rs1 = omega arith;
       rs2 = omega arith;
@@ -119,7 +119,7 @@ reads B want d a b z w g e =
     let below : w < 2 ^ 32 = omega arith in
     record {
       below = below;
-      fits = fits-from B want w below refl wants (omega arith) (eq-eqb _ _ (omega arith)) (wants.funct7);
+      matches = matches-from B want w below refl wants (omega arith) (eq-eqb _ _ (omega arith)) (wants.funct7);
       rd = omega arith;
       rs1 = omega arith;
       rs2 = omega arith;
@@ -135,7 +135,7 @@ reads U want d a b z w g e =
     let below : w < 2 ^ 32 = omega arith in
     record {
       below = below;
-      fits = fits-from U want w below refl wants (omega arith) (wants.funct3) (wants.funct7);
+      matches = matches-from U want w below refl wants (omega arith) (wants.funct3) (wants.funct7);
       rd = omega arith;
       rs1 = omega arith;
       rs2 = omega arith;
@@ -151,7 +151,7 @@ reads J want d a b z w g e =
     let below : w < 2 ^ 32 = omega arith in
     record {
       below = below;
-      fits = fits-from J want w below refl wants (omega arith) (wants.funct3) (wants.funct7);
+      matches = matches-from J want w below refl wants (omega arith) (wants.funct3) (wants.funct7);
       rd = omega arith;
       rs1 = omega arith;
       rs2 = omega arith;
@@ -162,7 +162,7 @@ reads E want d a b z w g e =
     let word : w ≡ want = omega arith in
     record {
       below = omega arith;
-      fits = rw (word, and-fixed 32 want g.below) (eq-eqb _ _ refl);
+      matches = rw (word, and-fixed 32 want g.below) (eq-eqb _ _ refl);
       rd = omega arith;
       rs1 = omega arith;
       rs2 = omega arith;

@@ -5,21 +5,21 @@ use Rattle.std.proofs.lemmas.Bool.{and_parts, eqb-true}
 use Rattle.rv64_table.specs.declared.Form.{Form}
 use Rattle.rv64_table.specs.declared.Form.TheVariants.{R, I, H, K, S, B, U, J, E}
 use Rattle.rv64_table.specs.Table.{mask_of}
-use Rattle.rv64_table.specs.Lookup.{has_fields, fits_funct3, fits_funct7}
-use Rattle.rv64_table.proofs.RowsByField.{fits-form}
+use Rattle.rv64_table.specs.Inside.Lookup.{has_fields, fits_funct3, fits_funct7}
+use Rattle.rv64_table.proofs.RowsByField.{matches-form}
 use Rattle.rv64_table.proofs.Masks.{and-fixed}
 use Rattle.rv64_decode.specs.Fields.{bits, branch_offset, jump_offset, immediate, has_rd, has_rs1, has_rs2}
 use Rattle.rv64_decode.proofs.Signed.{signed-same}
 
--- what a word that fits has in its fixed fields
+-- what a word that matches has in its fixed fields
 record Fixed (form : Form) (want w : ℕ) : Type 0 where
   opcode : w % 2 ^ 7 ≡ want % 2 ^ 7
   funct3 : fits_funct3 form (want / 2 ^ 12 % 2 ^ 3) (w / 2 ^ 12 % 2 ^ 3) ≡ true
   funct7 : fits_funct7 form (want / 2 ^ 25) (w / 2 ^ 25) ≡ true
 
 fixed : (form : Form) (want w : ℕ) → w < 2 ^ 32 → has_fields form ≡ true → (bit_and w (mask_of form) == want) ≡ true → Fixed form want w
-fixed form want w below fields fits =
-    let opcode = and_parts (w % 2 ^ 7 == want % 2 ^ 7) _ (sym (fits-form form w want below fields) ∙ fits) in
+fixed form want w below fields matches =
+    let opcode = and_parts (w % 2 ^ 7 == want % 2 ^ 7) _ (sym (matches-form form w want below fields) ∙ matches) in
     let rd = and_parts _ _ opcode.1 in
     let funct3 = and_parts _ _ rd.1 in
     let rs = and_parts _ _ funct3.1 in

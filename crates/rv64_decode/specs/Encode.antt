@@ -46,16 +46,16 @@ abbrev pub is_encodable : Inst → Bool
 is_encodable inst = option_map_or (λ row. fits_form row.form inst) (row_with inst.op) false
 
 -- the bits of a number at the places that a form gives its immediate
-abbrev pub placed : Form → ℕ → ℕ
-placed R n = 0
-placed I n = bits n 11 0 * 2 ^ 20
-placed H n = bits n 5 0 * 2 ^ 20
-placed K n = bits n 4 0 * 2 ^ 20
-placed S n = bits n 11 5 * 2 ^ 25 + bits n 4 0 * 2 ^ 7
-placed B n = bits n 12 12 * 2 ^ 31 + bits n 10 5 * 2 ^ 25 + bits n 4 1 * 2 ^ 8 + bits n 11 11 * 2 ^ 7
-placed U n = bits n 31 12 * 2 ^ 12
-placed J n = bits n 20 20 * 2 ^ 31 + bits n 10 1 * 2 ^ 21 + bits n 11 11 * 2 ^ 20 + bits n 19 12 * 2 ^ 12
-placed E n = 0
+abbrev pub immediate_bits : Form → ℕ → ℕ
+immediate_bits R n = 0
+immediate_bits I n = bits n 11 0 * 2 ^ 20
+immediate_bits H n = bits n 5 0 * 2 ^ 20
+immediate_bits K n = bits n 4 0 * 2 ^ 20
+immediate_bits S n = bits n 11 5 * 2 ^ 25 + bits n 4 0 * 2 ^ 7
+immediate_bits B n = bits n 12 12 * 2 ^ 31 + bits n 10 5 * 2 ^ 25 + bits n 4 1 * 2 ^ 8 + bits n 11 11 * 2 ^ 7
+immediate_bits U n = bits n 31 12 * 2 ^ 12
+immediate_bits J n = bits n 20 20 * 2 ^ 31 + bits n 10 1 * 2 ^ 21 + bits n 11 11 * 2 ^ 20 + bits n 19 12 * 2 ^ 12
+immediate_bits E n = 0
 
 -- a row's wanted bits, an instruction's registers at their places and the placed immediate
 abbrev pub joined : ℕ → Inst → ℕ → ℕ

@@ -17,7 +17,7 @@ pub fn encode(inst: &Inst) -> u32
     ensures only { (word : ℕ) → word < 2 ^ 32 → decoded word ≡ Some inst.now → result ≡ word }
 {
     let row = inst.op.row();
-    joined(row.want, inst, placed(row.form, inst))
+    joined(row.want, inst, immediate_bits(row.form, inst))
 }
 
 /// A row's wanted bits, an instruction's registers at their places and the placed immediate.
@@ -32,8 +32,8 @@ fn joined(want: u32, inst: &Inst, immediate: u32) -> u32
 }
 
 /// The bits of an instruction's immediate at the places that a form gives them.
-fn placed(form: Form, inst: &Inst) -> u32
-    ensures { result ≡ encoding.placed form (cast_unsigned w64 inst.now.imm % 2 ^ 32) }
+fn immediate_bits(form: Form, inst: &Inst) -> u32
+    ensures { result ≡ encoding.immediate_bits form (cast_unsigned w64 inst.now.imm % 2 ^ 32) }
 {
     let number = (inst.imm.cast_unsigned() & 0xFFFF_FFFF) as u32;
     placed_bits(form, number)
@@ -41,7 +41,7 @@ fn placed(form: Form, inst: &Inst) -> u32
 
 /// The bits of a number at the places that a form gives its immediate.
 fn placed_bits(form: Form, number: u32) -> u32
-    ensures { result ≡ encoding.placed form number }
+    ensures { result ≡ encoding.immediate_bits form number }
 {
     match form {
         Form::R | Form::E => 0,
@@ -56,7 +56,7 @@ fn placed_bits(form: Form, number: u32) -> u32
 }
 
 fn placed_branch(number: u32) -> u32
-    ensures { result ≡ encoding.placed Form.B number }
+    ensures { result ≡ encoding.immediate_bits Form.B number }
 {
     (bits(number, 12, 12) << 31)
         + (bits(number, 10, 5) << 25)
@@ -65,7 +65,7 @@ fn placed_branch(number: u32) -> u32
 }
 
 fn placed_jump(number: u32) -> u32
-    ensures { result ≡ encoding.placed Form.J number }
+    ensures { result ≡ encoding.immediate_bits Form.J number }
 {
     (bits(number, 20, 20) << 31)
         + (bits(number, 10, 1) << 21)

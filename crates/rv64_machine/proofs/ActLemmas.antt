@@ -16,7 +16,7 @@ use Rattle.rv64_machine.specs.declared.effect.Effect.TheVariants.{Put, Jump, Bra
 use Rattle.rv64_machine.specs.declared.answer.Cause.TheVariants.{StoreUnmapped}
 use Rattle.rv64_machine.specs.declared.answer.StepEnd.{StepEnd}
 use Rattle.rv64_machine.specs.declared.answer.StepEnd.TheVariants as end
-use Rattle.rv64_machine.specs.Hart.{Goes, Traps, HartState, act, arrives, carried, effect_at, effect_of, fetched, following, is_store, loads, passes, runs, Steps, with_register}
+use Rattle.rv64_machine.specs.Hart.{Goes, Traps, HartState, act, arrives, carried, effect_at, effect_of, fetched, following, is_store, loads, passes, runs, Acts, with_register}
 use Rattle.paged_mem.proofs.MemoryLaws.{get-writes_other, reads-writes}
 use Rattle.rv64_machine.proofs.StoredBytes.{contains_key-writes}
 
@@ -135,22 +135,22 @@ unfolding act
 act-after_store hart next value goes is = ap (fetched next) (act-store_access hart next W4 next.pc value goes is)
 
 -- what a step leaves, and how two steps of one state end
-pub Steps-mapping : (old new : HartState) (answer : StepEnd) → Steps old answer new → (address : ℕ) → contains_key new.memory address ≡ contains_key old.memory address
-Steps-mapping old new end.Done goes address = act-mapping old new goes address
-Steps-mapping old new end.Call ends address = ap (λ h. contains_key h.memory address) ends.1
-Steps-mapping old new (end.Trap cause) ends address = ap (λ h. contains_key h.memory address) ends.1
-Steps-mapping old new end.OutOfMemory ends address = ap (λ h. contains_key h.memory address) ends.2
+pub Acts-mapping : (old new : HartState) (answer : StepEnd) → Acts old answer new → (address : ℕ) → contains_key new.memory address ≡ contains_key old.memory address
+Acts-mapping old new end.Done goes address = act-mapping old new goes address
+Acts-mapping old new end.Call ends address = ap (λ h. contains_key h.memory address) ends.1
+Acts-mapping old new (end.Trap cause) ends address = ap (λ h. contains_key h.memory address) ends.1
+Acts-mapping old new end.OutOfMemory ends address = ap (λ h. contains_key h.memory address) ends.2
 
-pub Steps-same : (old one other : HartState) (first second : StepEnd) → Steps old first one → Steps old second other
+pub Acts-same : (old one other : HartState) (first second : StepEnd) → Acts old first one → Acts old second other
     → first ≢ end.OutOfMemory → second ≢ end.OutOfMemory → (first ≡ second) × (one ≡ other)
-Steps-same old one other end.Done end.Done a b _ _ = (refl, cc)
-Steps-same old one other end.Done end.Call a b _ _ = absurd cc
-Steps-same old one other end.Done (end.Trap cause) a b _ _ = absurd cc
-Steps-same old one other end.Call end.Done a b _ _ = absurd cc
-Steps-same old one other end.Call end.Call a b _ _ = (refl, cc)
-Steps-same old one other end.Call (end.Trap cause) a b _ _ = absurd cc
-Steps-same old one other (end.Trap cause) end.Done a b _ _ = absurd cc
-Steps-same old one other (end.Trap cause) end.Call a b _ _ = absurd cc
-Steps-same old one other (end.Trap cause) (end.Trap other_cause) a b _ _ = (cc, cc)
-Steps-same old one other end.OutOfMemory _ a b memory _ = absurd (memory refl)
-Steps-same old one other _ end.OutOfMemory a b _ memory = absurd (memory refl)
+Acts-same old one other end.Done end.Done a b _ _ = (refl, cc)
+Acts-same old one other end.Done end.Call a b _ _ = absurd cc
+Acts-same old one other end.Done (end.Trap cause) a b _ _ = absurd cc
+Acts-same old one other end.Call end.Done a b _ _ = absurd cc
+Acts-same old one other end.Call end.Call a b _ _ = (refl, cc)
+Acts-same old one other end.Call (end.Trap cause) a b _ _ = absurd cc
+Acts-same old one other (end.Trap cause) end.Done a b _ _ = absurd cc
+Acts-same old one other (end.Trap cause) end.Call a b _ _ = absurd cc
+Acts-same old one other (end.Trap cause) (end.Trap other_cause) a b _ _ = (cc, cc)
+Acts-same old one other end.OutOfMemory _ a b memory _ = absurd (memory refl)
+Acts-same old one other _ end.OutOfMemory a b _ memory = absurd (memory refl)

@@ -127,23 +127,23 @@ Ends an_act effect old (end.Trap cause) new = (an_act ≡ Traps cause) × (new �
 Ends an_act effect old end.OutOfMemory new = IsTrue (goes_on an_act) × IsTrue (is_store effect) × (new ≡ old)
 
 -- what a step answers, and the state that it leaves: its act's, or want of memory in a store that would go on
-abbrev pub Steps : HartState → StepEnd → HartState → Type 0
-Steps old end new = Ends (act old) (effect_at old) old end new
+abbrev pub Acts : HartState → StepEnd → HartState → Type 0
+Acts old end new = Ends (act old) (effect_at old) old end new
 
 -- the state in which an act went on
-abbrev pub went_to : Act → Option HartState
-went_to (Goes next) = Some next
-went_to _ = None
+abbrev pub onward : Act → Option HartState
+onward (Goes next) = Some next
+onward _ = None
 
 -- the state after so many acts that went on; none where one of them did not
-unfoldable pub after : HartState → ℕ → Option HartState
-after hart zero = Some hart
-after hart (suc count) = option_and_then (λ last. went_to (act last)) (after hart count)
+unfoldable pub acted : HartState → ℕ → Option HartState
+acted hart zero = Some hart
+acted hart (suc count) = option_and_then (λ last. onward (act last)) (acted hart count)
 
 -- how at most so many steps ended, after so many that went on, and the state that they left: all of them went on, or the next one
 -- did not, and left the state
-abbrev pub Runs : HartState → ℕ → ℕ → StepEnd → HartState → Type 0
-Runs old most done end.Done new = (done ≡ most) × (after old done ≡ Some new)
-Runs old most done end.Call new = (done < most) × (after old done ≡ Some new) × Steps new end.Call new
-Runs old most done (end.Trap cause) new = (done < most) × (after old done ≡ Some new) × Steps new (end.Trap cause) new
-Runs old most done end.OutOfMemory new = (done < most) × (after old done ≡ Some new) × Steps new end.OutOfMemory new
+abbrev pub ActsInARow : HartState → ℕ → ℕ → StepEnd → HartState → Type 0
+ActsInARow old most done end.Done new = (done ≡ most) × (acted old done ≡ Some new)
+ActsInARow old most done end.Call new = (done < most) × (acted old done ≡ Some new) × Acts new end.Call new
+ActsInARow old most done (end.Trap cause) new = (done < most) × (acted old done ≡ Some new) × Acts new (end.Trap cause) new
+ActsInARow old most done end.OutOfMemory new = (done < most) × (acted old done ≡ Some new) × Acts new end.OutOfMemory new

@@ -1,4 +1,4 @@
 pub mod Arithmetic
 pub mod Hart
 pub mod Meaning
-pub mod Computed
+pub mod Inside

@@ -1,7 +1,7 @@
 ghost use Rattle.std.specs.Prelude.{◌≡◌};
 ghost use Rattle.rv64_machine.specs.Arithmetic.{wrapped};
 ghost use Rattle.rv64_machine.specs.Meaning.{meaning};
-ghost use Rattle.rv64_machine.specs.Computed.{computed};
+ghost use Rattle.rv64_machine.specs.Inside.Computed.{computed};
 
 use crate::arithmetic::{
     difference, difference_word, even, extended, flag, high_signed, high_signed_unsigned,

@@ -4,7 +4,7 @@ ghost use Rattle.rv64_table.specs.Table.{row_for};
 ghost use Rattle.paged_mem.specs.Memory.{reads};
 ghost use Rattle.paged_mem.specs.Ram.{count_of, Stores};
 ghost use Rattle.rv64_machine.specs.Arithmetic.{sign_extended};
-ghost use Rattle.rv64_machine.specs.Hart.{carried, effect_of, Ends, following, HartState, IsHart, runs, Runs, Steps, with_register};
+ghost use Rattle.rv64_machine.specs.Hart.{carried, effect_of, Ends, following, HartState, IsHart, runs, ActsInARow, Acts, with_register};
 ghost use Rattle.std.specs.FinMap.{contains_key};
 ghost use Rattle.std.specs.Borrow.{Lends, sem};
 ghost use Rattle.rv64_machine.specs.contracts.hart.Hart.{the_row};
@@ -28,7 +28,7 @@ macro_rules! by_operation {
 /// A hart of RV64IM with its memory.
 ///
 /// Contracts see it as its state: the registers, the pc, and the memory as one map of bytes.
-#[derive(Drop)]
+#[derive(Debug, Drop)]
 pub struct Hart<R: Ram> {
     registers: [u64; 32],
     pc: u64,
@@ -119,7 +119,7 @@ impl<R: Ram> Hart<R> {
     /// leaves the hart as it was.
     #[inline(always)]
     pub fn step(&mut self) -> StepEnd
-        ensures act { Steps self.old result self.new }
+        ensures act { Acts self.old result self.new }
         // No step maps or unmaps an address.
         ensures mapping { (address : ℕ)
             → contains_key self.new.memory address ≡ contains_key self.old.memory address }
@@ -127,9 +127,9 @@ impl<R: Ram> Hart<R> {
         self.advance()
     }
 
-    /// Steps until one does not go on, at most `most` of them: how the last one ended, and how many went on before it.
+    /// Acts until one does not go on, at most `most` of them: how the last one ended, and how many went on before it.
     pub fn run(&mut self, most: u64) -> (StepEnd, u64)
-        ensures acts { Runs self.old most result.1 result.0 self.new }
+        ensures acts { ActsInARow self.old most result.1 result.0 self.new }
         ensures mapping { (address : ℕ)
             → contains_key self.new.memory address ≡ contains_key self.old.memory address }
     {
@@ -137,13 +137,13 @@ impl<R: Ram> Hart<R> {
         (end, most - left)
     }
 
-    /// Steps until one does not go on, at most `most` of them: how the last one ended, and how many of them were left before it.
+    /// Acts until one does not go on, at most `most` of them: how the last one ended, and how many of them were left before it.
     ///
     /// A function of its own that counts down, so that its loop needs one register for the count.
     #[inline(never)]
     fn run_down(&mut self, most: u64) -> (StepEnd, u64)
         ensures left { result.1 ≤ most }
-        ensures acts { Runs self.old most (most - result.1) result.0 self.new }
+        ensures acts { ActsInARow self.old most (most - result.1) result.0 self.new }
         ensures mapping { (address : ℕ)
             → contains_key self.new.memory address ≡ contains_key self.old.memory address }
     {
@@ -164,7 +164,7 @@ impl<R: Ram> Hart<R> {
     #[inline(always)]
     #[tactic(auto, unfolding(crate::specs::Hart::act, crate::specs::Hart::effect_at))]
     fn advance(&mut self) -> StepEnd
-        ensures { Steps self.old result self.new }
+        ensures { Acts self.old result self.new }
     {
         let word = match self.ram.load_near(self.aligned_pc(), Width::W4) {
             Some(word) => word,

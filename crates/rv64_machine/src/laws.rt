@@ -3,7 +3,7 @@ ghost use Rattle.paged_mem.specs.Memory.{reads};
 ghost use Rattle.paged_mem.specs.Ram.{count_of};
 ghost use Rattle.paged_mem.specs.declared.ram.Width.{Width};
 ghost use Rattle.rv64_decode.specs.Decode.{decoded};
-ghost use Rattle.rv64_machine.specs.Hart.{act, effect_at, following, Goes, HartState, HasNumbers, is_store, IsHart, runs, Steps, with_register};
+ghost use Rattle.rv64_machine.specs.Hart.{act, effect_at, following, Goes, HartState, HasNumbers, is_store, IsHart, runs, Acts, with_register};
 ghost use Rattle.rv64_machine.specs.declared.effect.Effect.TheVariants.{Store};
 ghost use Rattle.std.specs.FinMap.{contains_key, get};
 ghost use Rattle.std.specs.Prelude.{◌≡◌, ◌≢◌, ℕ, ◌+◌, ◌*◌, ◌%◌, ◌^◌, ◌<◌, ◌≤◌, ◌⊎◌, false, Some};
@@ -19,8 +19,8 @@ pub fn equal_harts_step_alike<R: Ram, S: Ram>(
     other: &mut Hart<S>,
 ) -> (StepEnd, StepEnd)
     requires { one.old ≡ other.old }
-    ensures one { Steps one.old result.0 one.new }
-    ensures other { Steps other.old result.1 other.new }
+    ensures one { Acts one.old result.0 one.new }
+    ensures other { Acts other.old result.1 other.new }
     ensures alike { result.0 ≢ StepEnd.OutOfMemory → result.1 ≢ StepEnd.OutOfMemory
         → (result.0 ≡ result.1) × (one.new ≡ other.new) }
 {

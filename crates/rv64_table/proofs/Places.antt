@@ -6,8 +6,8 @@ use Rattle.std.proofs.lemmas.Bool.{and_parts, eqb-true, ltb-true, cases_Bool}
 use Rattle.rv64_table.specs.declared.Row.{Row}
 use Rattle.rv64_table.specs.declared.Form.{Form}
 use Rattle.rv64_table.specs.declared.Op.{Op}
-use Rattle.rv64_table.specs.Table.{mask_of, fits, row_for, table, row_with, number}
-use Rattle.rv64_table.specs.Lookup.{has_fields, fits_funct3, fits_funct7, fits_fields}
+use Rattle.rv64_table.specs.Table.{mask_of, matches, row_for, table, row_with, number}
+use Rattle.rv64_table.specs.Inside.Lookup.{has_fields, fits_funct3, fits_funct7, fits_fields}
 use Rattle.rv64_table.proofs.OpRows.{row_with-at}
 
 -- a test that all pass holds of the one at a place
@@ -61,7 +61,7 @@ row_with-listed i r e =
 
 -- so is the row of a word
 pub row_with-row_for : (w : ℕ) (r : Row) → row_for w ≡ Some r → row_with r.op ≡ Some r
-row_with-row_for w r e = let found = find-listed (λ s. fits s w) table r e in row_with-listed found.place r found.at
+row_with-row_for w r e = let found = find-listed (λ s. matches s w) table r e in row_with-listed found.place r found.at
 
 -- the row of a word of which the operation is known
 pub record IsFound (w : ℕ) (op : Op) (r : Row) : Type 0 where

@@ -100,12 +100,12 @@ table =
     ∷ []
 
 -- the word has the bits that the row wants where its mask is set
-abbrev pub fits : Row → ℕ → Bool
-fits r word = bit_and word r.mask == r.want
+abbrev pub matches : Row → ℕ → Bool
+matches r word = bit_and word r.mask == r.want
 
 -- the row of a word: the row of the table with word & mask = want, if there is one
 abbrev pub row_for : ℕ → Option Row
-row_for word = find (λ r. fits r word) table
+row_for word = find (λ r. matches r word) table
 
 -- the number of an operation: where its row stands in the table, and what the cast `op as usize` gives
 abbrev pub number : Op → ℕ
@@ -179,16 +179,16 @@ number Remuw = 64
 abbrev pub row_with : Op → Option Row
 row_with op = find (λ r. number r.op == number op) table
 
--- a row that a word fits is the row of the word
+-- a row that a word matches is the row of the word
 abbrev pub FitsItsRow : Type 0
-FitsItsRow = (word i : ℕ) (r : Row) → slice_get table i ≡ Some r → IsTrue (fits r word) → row_for word ≡ Some r
+FitsItsRow = (word i : ℕ) (r : Row) → slice_get table i ≡ Some r → IsTrue (matches r word) → row_for word ≡ Some r
 
--- no word fits two rows: where a word fits the rows at two places, the places are one
+-- no word matches two rows: where a word matches the rows at two places, the places are one
 abbrev pub Apart : Type 0
 Apart =
     (word i j : ℕ) (r s : Row)
     → slice_get table i ≡ Some r
     → slice_get table j ≡ Some s
-    → IsTrue (fits r word)
-    → IsTrue (fits s word)
+    → IsTrue (matches r word)
+    → IsTrue (matches s word)
     → i ≡ j

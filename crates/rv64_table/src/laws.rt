@@ -2,12 +2,12 @@
 
 ghost use Rattle.rv64_table.specs.Table.{Apart, FitsItsRow};
 
-/// No word fits two rows of the table.
-pub fn no_word_fits_two_rows()
+/// No word matches two rows of the table.
+pub fn no_word_matches_two_rows()
     ensures { Apart }
 {}
 
-/// The row that a word fits is the word's row, wherever it stands in the table.
+/// The row that a word matches is the word's row, wherever it stands in the table.
 pub fn a_fitting_row_is_the_row()
     ensures { FitsItsRow }
 {}

@@ -1,8 +1,8 @@
 //! The row of a word, by its opcode and its fields funct3 and funct7.
 
 ghost use Rattle.std.specs.Prelude.{◌≡◌, option_map, find};
-ghost use Rattle.rv64_table.specs.Table.{fits, row_for, table};
-ghost use Rattle.rv64_table.specs.Lookup.{pick, rows_of};
+ghost use Rattle.rv64_table.specs.Table.{matches, row_for, table};
+ghost use Rattle.rv64_table.specs.Inside.Lookup.{pick, rows_of};
 
 use crate::Op;
 
@@ -200,7 +200,7 @@ fn op_32(funct3: u32, funct7: u32) -> Option<Op>
 
 #[tactic(auto, unfolding(crate::specs::Table::table), using(std::proofs::lemmas::Nat::and_mask))]
 fn system(word: u32) -> Option<Op>
-    ensures { result ≡ option_map (λ r. r.op) (find (λ r. fits r word) (rows_of OPCODE_SYSTEM table)) }
+    ensures { result ≡ option_map (λ r. r.op) (find (λ r. matches r word) (rows_of OPCODE_SYSTEM table)) }
 {
     match word {
         0x0000_0073 => Some(Op::Ecall),

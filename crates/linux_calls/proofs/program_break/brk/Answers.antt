@@ -1,6 +1,6 @@
 use Rattle.std.proofs.Common.{◌-◌, ap, subst, sym, ◌∙◌, arith}
-use Rattle.paged_mem.specs.Memory.{maps}
-use Rattle.linux_calls.specs.HeapOf.{IsHeapOf, page_up, resized}
+use Rattle.paged_mem.specs.Memory.{maps, page_up}
+use Rattle.linux_calls.specs.HeapOf.{IsHeapOf, resized}
 use Rattle.linux_calls.proofs.Heaps.{mapped_above, kept_resized}
 use Rattle.linux_calls.proofs.program_break.brk.Goals as goal
 

@@ -1,6 +1,6 @@
 use Rattle.std.proofs.Common.{refl}
 use Rattle.paged_mem.specs.Entries.{flat}
-use Rattle.paged_mem.specs.Flat.{memory_of}
+use Rattle.paged_mem.specs.Inside.Flat.{memory_of}
 use Rattle.paged_mem.specs.Ram.{count_of}
 use Rattle.paged_mem.proofs.Accessed.{few, few_entries}
 use Rattle.paged_mem.proofs.Seen.{none_read, number_read}

@@ -1,6 +1,6 @@
 use Rattle.std.proofs.Common.{sym, ap, ◌∙◌, is_some, arith}
 use Rattle.std.proofs.lemmas.List.{get_or_default}
-use Rattle.paged_mem.specs.Flat.{overwritten}
+use Rattle.paged_mem.specs.Inside.Flat.{overwritten}
 use Rattle.paged_mem.specs.Memory.{bytes_of}
 use Rattle.paged_mem.specs.Ram.{count_of}
 use Rattle.paged_mem.proofs.Accessed.{are_near, count_some, few_entries, held_near, low_bytes, memory_near, placed, small-bytes_of}

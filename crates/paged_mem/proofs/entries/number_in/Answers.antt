@@ -1,6 +1,6 @@
 use Rattle.std.proofs.Common.{sym, ap, ◌∙◌}
 use Rattle.paged_mem.specs.Entries.{content}
-use Rattle.paged_mem.specs.Flat.{number_at}
+use Rattle.paged_mem.specs.Inside.Flat.{number_at}
 use Rattle.paged_mem.specs.Ram.{count_of}
 use Rattle.paged_mem.proofs.Flats.{number_at-zeros}
 use Rattle.paged_mem.proofs.entries.number_in.Goals as goal

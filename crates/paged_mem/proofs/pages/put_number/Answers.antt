@@ -1,6 +1,6 @@
 use Rattle.std.proofs.Common.{◌≡◌, ℕ, ◌≤◌, List, take, sym, ap, ◌∙◌, arith}
 use Rattle.std.specs.Int.{to_le_bytes, w64}
-use Rattle.paged_mem.specs.Flat.{overwritten}
+use Rattle.paged_mem.specs.Inside.Flat.{overwritten}
 use Rattle.paged_mem.specs.Memory.{bytes_of}
 use Rattle.paged_mem.specs.Ram.{count_of}
 use Rattle.paged_mem.specs.declared.ram.Width.{Width}

@@ -10,8 +10,8 @@ use Rattle.guest_run.proofs.given.GivenFiles.insert.Goals as goal
 
 pub invariant_of-self-2 : goal.invariant_of-self-2
 invariant_of-self-2 c =
-    let listed = ap (keyed (λ name. name.items)) c.in_ok-insert.ensures.entries ∙ keyed-insert (λ name. name.items) c.self.inside.entries.entries c.in_ok-key.key c.in_ok-held.held in
-    let now = rw (c.in_ok-key.ensures.items, c.in_ok-held.ensures) at listed in
+    let listed = ap (keyed (λ name. name.items)) c.in_ok-insert.ensures.entries ∙ keyed-insert (λ name. name.items) c.self.inside.entries.entries c.in_ok-key.key c.new.result in
+    let now = rw (c.in_ok-key.ensures.items, c.new.ensures) at listed in
     let long = len-given (keyed (λ name. name.items) c.self.inside.entries.entries) c.self.invariant.sorted in
     let seen = ap fin.len c.self.view_is in
     let few : length (keyed (λ name. name.items) c.self.inside.entries.entries) < most_names = omega (arith, long, seen, c.requires.few) in
@@ -29,8 +29,8 @@ invariant_of-self-2 c =
 
 pub returns-clause-each : goal.returns-clause-each
 returns-clause-each c =
-    let listed = ap (keyed (λ name. name.items)) c.in_ok-insert.ensures.entries ∙ keyed-insert (λ name. name.items) c.self.inside.entries.entries c.in_ok-key.key c.in_ok-held.held in
-    let now = rw (c.in_ok-key.ensures.items, c.in_ok-held.ensures) at listed in
+    let listed = ap (keyed (λ name. name.items)) c.in_ok-insert.ensures.entries ∙ keyed-insert (λ name. name.items) c.self.inside.entries.entries c.in_ok-key.key c.new.result in
+    let now = rw (c.in_ok-key.ensures.items, c.new.ensures) at listed in
     let long = len-given (keyed (λ name. name.items) c.self.inside.entries.entries) c.self.invariant.sorted in
     let seen = ap fin.len c.self.view_is in
     let few : length (keyed (λ name. name.items) c.self.inside.entries.entries) < most_names = omega (arith, long, seen, c.requires.few) in
@@ -49,8 +49,8 @@ returns-clause-each c =
 
 pub returns-clause-ok : goal.returns-clause-ok
 returns-clause-ok c =
-    let listed = ap (keyed (λ name. name.items)) c.in_ok-insert.ensures.entries ∙ keyed-insert (λ name. name.items) c.self.inside.entries.entries c.in_ok-key.key c.in_ok-held.held in
-    let now = rw (c.in_ok-key.ensures.items, c.in_ok-held.ensures) at listed in
+    let listed = ap (keyed (λ name. name.items)) c.in_ok-insert.ensures.entries ∙ keyed-insert (λ name. name.items) c.self.inside.entries.entries c.in_ok-key.key c.new.result in
+    let now = rw (c.in_ok-key.ensures.items, c.new.ensures) at listed in
     ap fin.from_sorted now
     ∙ put-given (keyed (λ name. name.items) c.self.inside.entries.entries) c.args.name.now c.args.content.now c.self.invariant.sorted
     ∙ ap (λ m. fin.insert m c.args.name.now c.args.content.now) c.self.view_is

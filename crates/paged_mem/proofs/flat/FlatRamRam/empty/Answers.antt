@@ -1,5 +1,5 @@
 use Rattle.std.proofs.Common.{ap}
-use Rattle.paged_mem.specs.Flat.{memory_of}
+use Rattle.paged_mem.specs.Inside.Flat.{memory_of}
 use Rattle.paged_mem.proofs.flat.FlatRamRam.empty.Goals as goal
 
 pub returns : goal.returns

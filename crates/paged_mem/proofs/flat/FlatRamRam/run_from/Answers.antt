@@ -1,7 +1,7 @@
 use Rattle.std.proofs.Common.{ℕ, ap, subst, arith, ◌/◌, ◌*◌, ◌∙◌, sym, length}
 use Rattle.std.specs.FinMap.{get}
 use Rattle.paged_mem.specs.Ram.{IsRun}
-use Rattle.paged_mem.specs.Flat.{IsRank, IsRowAt}
+use Rattle.paged_mem.specs.Inside.Flat.{IsRank, IsRowAt}
 use Rattle.paged_mem.proofs.Runs.{no_run, run_of_row}
 use Rattle.paged_mem.proofs.flat.FlatRamRam.run_from.Goals as goal
 

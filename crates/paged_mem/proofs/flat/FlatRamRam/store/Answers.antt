@@ -1,7 +1,7 @@
 use Rattle.std.proofs.Common.{◌≡◌, refl, ap, subst, length, None, Some, ◌∙◌, sym, arith, ◌+◌, ◌≤◌, get_or}
 use Rattle.paged_mem.specs.Memory.{bytes_of}
 use Rattle.paged_mem.specs.Ram.{count_of}
-use Rattle.paged_mem.specs.Flat.{Spans}
+use Rattle.paged_mem.specs.Inside.Flat.{Spans}
 use Rattle.paged_mem.proofs.Numbers.{length-bytes_of, bytes_of-small}
 use Rattle.paged_mem.proofs.Seen.{maps_seen, written}
 use Rattle.paged_mem.proofs.Views.{length-overwritten, small-overwritten}

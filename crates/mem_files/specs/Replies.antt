@@ -10,10 +10,10 @@ use Rattle.mem_files.specs.Calls.{write_place}
 
 -- the answer and the files after it are those that are meant; or memory was out, where the answer that is meant is no
 -- error, and the files are as before
-abbrev pub Answers : {X : Type 0} → Result X FileRefusal → World → World → Result X ℕ × World → Type 0
-Answers (Ok answer) old new meant = meant ≡ (Ok answer, new)
-Answers (Err (file.Errno errno)) old new meant = meant ≡ (Err errno, new)
-Answers (Err file.OutOfMemory) old new meant = IsOk meant.0 × (new ≡ old)
+abbrev pub Replies : {X : Type 0} → Result X FileRefusal → World → World → Result X ℕ × World → Type 0
+Replies (Ok answer) old new meant = meant ≡ (Ok answer, new)
+Replies (Err (file.Errno errno)) old new meant = meant ≡ (Err errno, new)
+Replies (Err file.OutOfMemory) old new meant = IsOk meant.0 × (new ≡ old)
 
 -- the same for `place`
 abbrev pub Places : Result (Unit {0}) PlaceRefusal → World → World → Result (Unit {0}) PlaceRefusal × World → Type 0

@@ -1,0 +1,41 @@
+//! Bytes that their owner lends.
+ghost use Rattle.std.specs.Prelude.{◌≡◌, length};
+
+use std::marker::Model;
+
+/// Bytes that are lent, which contracts see as a list of numbers below 256.
+#[derive(Debug, Drop)]
+pub(crate) struct Lent<'a> {
+    bytes: &'a [u8],
+}
+
+impl<'a> Model for Lent<'a> {
+    ghost use Rattle.std.specs.Prelude.{ℕ, List};
+
+    ghost Value = { List ℕ };
+
+    ghost view = { λ lent. lent.bytes.now };
+}
+
+impl<'a> Lent<'a> {
+    /// These bytes.
+    pub(crate) fn new(bytes: &'a [u8]) -> Lent<'a>
+        ensures { result ≡ bytes.now }
+    {
+        Lent { bytes }
+    }
+
+    /// All of them.
+    pub(crate) fn as_slice(&self) -> &'a [u8]
+        ensures { result.now ≡ self.now }
+    {
+        self.bytes
+    }
+
+    /// How many there are.
+    pub(crate) fn len(&self) -> usize
+        ensures { result ≡ length self.now }
+    {
+        self.bytes.len()
+    }
+}

@@ -1,0 +1,5 @@
+pub mod Accepted
+pub mod Arrays
+pub mod Members
+pub mod NoTexts
+pub mod Walks
