@@ -1,0 +1,6 @@
+pub mod DistinctNames
+pub mod FirstWalk
+pub mod GuestPaths
+pub mod Keeps
+pub mod MoreStages
+pub mod SecondWalk

@@ -1,5 +1,5 @@
 -- What the names of a recipe stand for (docs/reference/recipe.md, "Names").
-use Rattle.std.specs.Prelude.{ℕ, Bool, true, false, List, bytes_eq, slice_get, Option, Some, None, option_and_then, option_map, is_some, if◌then◌else◌}
+use Rattle.std.specs.Prelude.{ℕ, Bool, true, false, List, bytes_eq, slice_get, Option, Some, None, option_and_then, option_map, if◌then◌else◌}
 use Rattle.std.specs.List.{find, position}
 use Rattle.languages.specs.declared.Language.TheVariants.{Hex0, Hex1, Hex2, M1}
 use Rattle.recipe.specs.declared.parts.Content.{Content}

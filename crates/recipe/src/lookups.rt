@@ -3,7 +3,6 @@ ghost use Rattle.std.specs.Prelude.{◌≡◌, ◌<◌, IfSome, length, option_a
 ghost use Rattle.recipe.specs.Inside.Indices.{IsIndex};
 ghost use Rattle.recipe.specs.Lookups.{content_of, content_source, hex_check, input_at, is_hex, source_named, stage_at, stage_source};
 
-use crate::accepted::Recipe;
 use crate::contents::Said;
 use crate::parts::{Content, Input, Source, SourceLanguage, Stage};
 use ddc_base::Name;
@@ -116,21 +115,5 @@ fn is_hex(language: SourceLanguage) -> bool
         SourceLanguage::Defined(Language::Hex0 | Language::Hex1 | Language::Hex2) => true,
         SourceLanguage::Defined(Language::M1) => false,
         SourceLanguage::Other => false,
-    }
-}
-
-impl Recipe {
-    /// What a name stands for.
-    pub fn content(&self, name: &Name) -> Option<Content>
-        ensures { result ≡ content_of self.now.inputs self.now.stages name.now }
-    {
-        content_of(self.inputs().as_slice(), self.stages().as_slice(), name)
-    }
-
-    /// The source of a name.
-    pub fn source(&self, name: &Name) -> Option<&Source>
-        ensures { option_map (λ x. x.now) result ≡ source_named self.now.sources name.now }
-    {
-        source_named(self.sources().as_slice(), name)
     }
 }

@@ -82,9 +82,9 @@ a_path place key value = do
   text ← a_text place key value
   or_refused (BadPath place key) (path_of text)
 
--- a word for a program: at most 255 bytes, each from 1 to 255
+-- a word for a program: at most 255 bytes, none of them zero
 unfoldable pub is_word : List ℕ → Bool
-is_word text = nat_le (length text) 255 && list_all (λ byte. nat_le 1 byte && nat_le byte 255) text
+is_word text = nat_le (length text) 255 && not (list_any (λ byte. byte == 0) text)
 
 unfoldable pub a_word : Place → Key → Data → Result (List ℕ) RecipeRefusal
 a_word place key value = do

@@ -1,6 +1,5 @@
 //! The readers of one value: each takes the place of the table and the key, which its refusals name.
-ghost use Rattle.std.specs.List.{list_all};
-ghost use Rattle.std.specs.Prelude.{nat_le, ◌&&◌, ◌≡◌, ◌==◌, map};
+ghost use Rattle.std.specs.Prelude.{◌≡◌, ◌==◌, map};
 ghost use Rattle.std.specs.List.{list_any};
 ghost use Rattle.toml.specs.View.{view, table_view};
 ghost use Rattle.recipe_text.specs.Reading.{Gives, a_text, a_name, a_path, a_word, a_number, a_table, in_range, is_word};
@@ -66,14 +65,7 @@ pub fn word(alloc: Global, place: Place, key: Key, value: &Value) -> Result<Byte
 fn is_word(text: &[u8]) -> bool
     ensures { result ≡ is_word text.now }
 {
-    text.len() <= 255 && are_word_bytes(text)
-}
-
-/// Whether every byte may stand in a word.
-fn are_word_bytes(text: &[u8]) -> bool
-    ensures { result ≡ list_all (λ byte. nat_le 1 byte && nat_le byte 255) text.now }
-{
-    text.iter().all(|byte| matches!(*byte, 1..=255))
+    text.len() <= 255 && !has_zero(text)
 }
 
 /// Whether a byte is zero.

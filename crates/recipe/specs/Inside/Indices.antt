@@ -1,5 +1,5 @@
 -- Indices of contents.
-use Rattle.std.specs.Prelude.{ℕ, ◌<◌, List, length}
+use Rattle.std.specs.Prelude.{◌<◌, List, length}
 use Rattle.recipe.specs.declared.parts.Content.{Content}
 use Rattle.recipe.specs.declared.parts.Content.TheVariants as content
 use Rattle.recipe.specs.declared.parts.Input.{Input}
