@@ -60,7 +60,9 @@ pub fn take<'s>(
     at: usize,
     token: Token<'s>,
 ) -> Result<Option<Open<'s>>, Halt>
-    ensures { Takes result (taken word.entry at token.entry) items.old items.new }
+    requires { length items.old ≤ 33554432 }
+    ensures takes { Takes result (taken word.entry at token.entry) items.old items.new }
+    ensures few { length items.new ≤ 33554432 }
 {
     match (word, token) {
         (None, Token::Byte(byte)) => {
@@ -113,7 +115,9 @@ pub fn take_byte<'s>(
     word: Option<Open<'s>>,
     byte: u8,
 ) -> Result<Option<Open<'s>>, Halt>
-    ensures { (at : ℕ) → Takes result (taken word.entry at (token.Byte byte)) items.old items.new }
+    requires { length items.old ≤ 33554432 }
+    ensures takes { (at : ℕ) → Takes result (taken word.entry at (token.Byte byte)) items.old items.new }
+    ensures few { length items.new ≤ 33554432 }
 {
     match word {
         None => {
@@ -130,7 +134,9 @@ fn byte_of_word<'s>(
     word: Open<'s>,
     byte: u8,
 ) -> Result<Option<Open<'s>>, Halt>
-    ensures { Takes result (byte_taken word.entry byte) items.old items.new }
+    requires { length items.old ≤ 33554432 }
+    ensures takes { Takes result (byte_taken word.entry byte) items.old items.new }
+    ensures few { length items.new ≤ 33554432 }
 {
     let begun = match word.begun {
         Begun::Nothing => Begun::One(byte),
@@ -155,7 +161,9 @@ fn byte_of_word<'s>(
 
 /// Adds an item, unless too many are there.
 fn add<'s>(items: &mut Items<'s>, item: Item<'s>) -> Result<(), Halt>
-    ensures { Adds (item.entry ∷ []) result items.old items.new }
+    requires { length items.old ≤ 33554432 }
+    ensures adds { Adds (item.entry ∷ []) result items.old items.new }
+    ensures few { length items.new ≤ 33554432 }
 {
     if items.len() == MOST_ITEMS {
         return Err(Halt::TooLong);
@@ -166,7 +174,9 @@ fn add<'s>(items: &mut Items<'s>, item: Item<'s>) -> Result<(), Halt>
 
 /// Adds the four bytes of a word without a reference.
 fn add_bytes<'s>(items: &mut Items<'s>, value: u32) -> Result<(), Halt>
-    ensures { Adds (map Byte (to_le_bytes w32 value)) result items.old items.new }
+    requires { length items.old ≤ 33554432 }
+    ensures adds { Adds (map Byte (to_le_bytes w32 value)) result items.old items.new }
+    ensures few { length items.new ≤ 33554432 }
 {
     if items.len() > MOST_ITEMS - 4 {
         return Err(Halt::TooLong);

@@ -1,0 +1,5 @@
+pub mod Passing
+pub mod Definings
+pub mod Takings
+pub mod Expandings
+pub mod Goods
