@@ -9,6 +9,7 @@ use Rattle.command_plan.specs.declared.status.Status.TheVariants as status
 use Rattle.command_plan.specs.declared.answer.Answer.{Answer}
 use Rattle.command_plan.specs.declared.stop.Stop.{Stop}
 use Rattle.command_plan.specs.declared.stop.Stop.TheVariants as stop
+use Rattle.command_plan.specs.Performs.{Performs}
 use Rattle.command_plan.specs.Plan.{Plan, answers}
 use Rattle.command_plan.specs.Texts.{absent_line, too_long_line, shelf_fault_line}
 
@@ -49,3 +50,17 @@ SavesBy name content old new (Err stop.OutOfMemory) = (new ≡ old) ⊎ SaveFail
 -- a name was set, or ended the command
 pub record Saves (name content : List ℕ) (old new : ShelfState) (result : Result (Unit {0}) Stop) : Type 0 where
   pub by_result : SavesBy name content old new result
+
+-- from where the shelf stands now a plan goes on as the rest of it, whatever follows both
+abbrev pub LeadsOn : ((List (List ℕ) → Plan) → Plan) → ((List (List ℕ) → Plan) → Plan) → ShelfState → ShelfState → Type 0
+LeadsOn plan rest old now =
+    (next : List (List ℕ) → Plan) (final : ShelfState) (result : Result Answer Stop)
+    → Performs (rest next) now final result → Performs (plan next) old final result
+
+abbrev pub GathersBy : ((List (List ℕ) → Plan) → Plan) → ShelfState → ShelfState → Result (List (List ℕ)) Stop → Type 0
+GathersBy plan old new (Ok contents) = LeadsOn plan (λ next. next contents) old new
+GathersBy plan old new (Err ending) = (next : List (List ℕ) → Plan) → Performs (plan next) old new (Err ending)
+
+-- the contents that a plan needs were fetched one after the other, or one of them ended the command, whatever follows
+pub record Gathers (plan : (List (List ℕ) → Plan) → Plan) (old new : ShelfState) (result : Result (List (List ℕ)) Stop) : Type 0 where
+  pub by_result : GathersBy plan old new result
