@@ -1,2 +1,3 @@
 pub mod Show
 pub mod Texts
+pub mod Audit

@@ -3,5 +3,6 @@
 //! Their rules for people: docs/reference/command-line.md.
 #![tactic(auto)]
 
+mod causes;
 pub mod show;
 pub mod texts;
