@@ -46,8 +46,13 @@ taken_names inputs sources stages name =
     let a : List (List ℕ) = map (λ (input : Input). input.name) inputs in
     let b : List (List ℕ) = map (λ (source : Source). source.name) sources in
     let d : List (List ℕ) = map (λ (stage : Stage). stage.name) stages in
-    rw (list_any-append p (a ++ b) d, list_any-append p a b, any_map (λ (input : Input). input.name) name inputs, any_map (λ (source : Source). source.name) name sources,
-      any_map (λ (stage : Stage). stage.name) name stages) refl
+    rw (
+      list_any-append p (a ++ b) d,
+      list_any-append p a b,
+      any_map (λ (input : Input). input.name) name inputs,
+      any_map (λ (source : Source). source.name) name sources,
+      any_map (λ (stage : Stage). stage.name) name stages,
+    ) refl
 
 new_among : (inputs : List Input) (sources : List Source) (stages : List Stage) (name : List ℕ) (more : List (List ℕ))
     → IsDistinct bytes_eq (names_of inputs sources stages) → not (is_taken inputs sources stages name) ≡ true → more ≡ names_of inputs sources stages ++ name ∷ []
@@ -60,8 +65,8 @@ pub input_added : (before : List Input) (input : Input) → IsDistinct bytes_eq 
 input_added before input distinct isnt =
     let name : Input → List ℕ = λ input. input.name in
     new_among before [] [] input.name (names_of (before ++ input ∷ []) [] []) distinct isnt
-      (append-nil (map name (before ++ input ∷ []) ++ []) ∙ append-nil (map name (before ++ input ∷ [])) ∙ map_push name before input
-        ∙ ap (λ names. names ++ input.name ∷ []) (sym (append-nil (map name before ++ []) ∙ append-nil (map name before))))
+    (append-nil (map name (before ++ input ∷ []) ++ []) ∙ append-nil (map name (before ++ input ∷ [])) ∙ map_push name before input
+    ∙ ap (λ names. names ++ input.name ∷ []) (sym (append-nil (map name before ++ []) ∙ append-nil (map name before))))
 
 pub source_added : (inputs : List Input) (before : List Source) (source : Source) → IsDistinct bytes_eq (names_of inputs before []) → not (is_taken inputs before [] source.name) ≡ true
     → IsDistinct bytes_eq (names_of inputs (before ++ source ∷ []) [])
@@ -69,8 +74,8 @@ source_added inputs before source distinct isnt =
     let first : List (List ℕ) = map (λ (input : Input). input.name) inputs in
     let name : Source → List ℕ = λ source. source.name in
     new_among inputs before [] source.name (names_of inputs (before ++ source ∷ []) []) distinct isnt
-      (append-nil (first ++ map name (before ++ source ∷ [])) ∙ ap (λ names. first ++ names) (map_push name before source) ∙ sym (append_assoc first (map name before) (source.name ∷ []))
-        ∙ ap (λ names. names ++ source.name ∷ []) (sym (append-nil (first ++ map name before))))
+    (append-nil (first ++ map name (before ++ source ∷ [])) ∙ ap (λ names. first ++ names) (map_push name before source) ∙ sym (append_assoc first (map name before) (source.name ∷ []))
+    ∙ ap (λ names. names ++ source.name ∷ []) (sym (append-nil (first ++ map name before))))
 
 pub stage_added : (inputs : List Input) (sources : List Source) (before : List Stage) (stage : Stage) → IsDistinct bytes_eq (names_of inputs sources before)
     → not (is_taken inputs sources before stage.name) ≡ true → IsDistinct bytes_eq (names_of inputs sources (before ++ stage ∷ []))
@@ -78,4 +83,4 @@ stage_added inputs sources before stage distinct isnt =
     let first : List (List ℕ) = map (λ (input : Input). input.name) inputs ++ map (λ (source : Source). source.name) sources in
     let name : Stage → List ℕ = λ stage. stage.name in
     new_among inputs sources before stage.name (names_of inputs sources (before ++ stage ∷ [])) distinct isnt
-      (ap (λ names. first ++ names) (map_push name before stage) ∙ sym (append_assoc first (map name before) (stage.name ∷ [])))
+    (ap (λ names. first ++ names) (map_push name before stage) ∙ sym (append_assoc first (map name before) (stage.name ∷ [])))

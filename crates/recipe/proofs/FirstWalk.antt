@@ -50,7 +50,7 @@ input_said inputs place table input e =
     bound _ (closed place (key.Name ∷ key.Path ∷ key.Implements ∷ []) table) _ input rest3 (λ other closed_is rest4.
     let path_at = required_ok a_path place key.Path table path path_is in
     subst (InputSaid inputs) (ok_same (record { name = name; path = path; implements = implements }) input rest4)
-      (record { name = new_name_ok inputs [] [] place table name name_is; path = path_ok place key.Path path_at.0 path path_at.1 })))))
+    (record { name = new_name_ok inputs [] [] place table name name_is; path = path_ok place key.Path path_at.0 path path_at.1 })))))
 
 -- ---- a source
 
@@ -74,11 +74,11 @@ source_said inputs sources place table source e =
     bound _ (closed place (key.Name ∷ key.Lang ∷ key.Base ∷ key.Files ∷ []) table) _ source rest4 (λ other closed_is rest5.
     let files_at = required_ok (a_list a_name 1 64) place key.Files table files files_is in
     subst (SourceSaid inputs sources) (ok_same (record { name = name; lang = lang; base = unwrap_or base 6291456; files = files }) source rest5)
-      (record {
-        name = new_name_ok inputs sources [] place table name name_is;
-        base = base_ok place base (optional_ok (a_number 0 (2 ^ 37)) place key.Base table base base_is);
-        files = (list_ok a_name 1 64 place key.Files files_at.0 files files_at.1).0;
-      }))))))
+    (record {
+      name = new_name_ok inputs sources [] place table name name_is;
+      base = base_ok place base (optional_ok (a_number 0 (2 ^ 37)) place key.Base table base base_is);
+      files = (list_ok a_name 1 64 place key.Files files_at.0 files files_at.1).0;
+    }))))))
 
 -- ---- the files of a stage
 
@@ -97,10 +97,10 @@ file_said place files value file e =
     bound _ (or_refused (BadPath place key.Files) (guest_path path_text)) _ file rest5 (λ path path_is rest6.
     bound _ (refused_unless (DoubleName place key.Files) (not (is_file_path files path))) _ file rest6 (λ new new_is rest7.
     subst (FileSaid files) (ok_same (record { path = path; from = from }) file rest7)
-      (record {
-        path = guest_path_ok path_text path (or_ok (BadPath place key.Files) (guest_path path_text) path path_is);
-        is_new = unless_ok (DoubleName place key.Files) (not (is_file_path files path)) new new_is;
-      }))))))))
+    (record {
+      path = guest_path_ok path_text path (or_ok (BadPath place key.Files) (guest_path path_text) path path_is);
+      is_new = unless_ok (DoubleName place key.Files) (not (is_file_path files path)) new new_is;
+    }))))))))
 
 pub record FilesSaid (files : List StageFile) : Type 0 where
   pub few : length files ≤ 256
@@ -113,7 +113,7 @@ distinct_files place before value file distinct e =
     let path : StageFile → List ℕ = λ file. file.path in
     let said = file_said place before value file e in
     rw (map_push path before file) (distinct_push (map path before) file.path distinct
-      (any_map path file.path before ∙ not_false (is_file_path before file.path) said.is_new))
+    (any_map path file.path before ∙ not_false (is_file_path before file.path) said.is_new))
 
 files_said : (place : Place) (value : Data) (files : List StageFile) → some_files place key.Files value ≡ Ok files → FilesSaid files
 unfolding some_files IsDistinct
@@ -189,21 +189,29 @@ stage_said inputs sources stages place table stage e =
     let steps_at = required_ok (a_number 1 (2 ^ 48)) place key.Steps table steps steps_is in
     let limits = number_ok 1 (2 ^ 48) place key.Steps steps_at.0 steps steps_at.1 in
     subst (StageSaid inputs sources stages)
-      (ok_same
-        (record {
-          name = name; program = program; args = args; env = unwrap_or env []; files = unwrap_or files []; output = output; steps = steps;
-          heap = unwrap_or heap 536870912; check = check; becomes = becomes;
-        }) stage rest11)
-      (record {
-        name = new_name_ok inputs sources stages place table name name_is;
-        some_args = words.0.some;
-        few_args = words.0.few;
-        args = words.1;
-        few_env = texts.0;
-        env = texts.1;
-        files = optional_files_ok place files (optional_ok some_files place key.Files table files files_is);
-        output = an_output_ok place output_at.0 output output_at.1;
-        some_steps = limits.0;
-        few_steps = limits.1;
-        heap = heap_ok place heap (optional_ok (a_number 0 (2 ^ 30)) place key.Heap table heap heap_is);
-      }))))))))))))
+    (ok_same
+    (record {
+      name = name;
+      program = program;
+      args = args;
+      env = unwrap_or env [];
+      files = unwrap_or files [];
+      output = output;
+      steps = steps;
+      heap = unwrap_or heap 536870912;
+      check = check;
+      becomes = becomes;
+    }) stage rest11)
+    (record {
+      name = new_name_ok inputs sources stages place table name name_is;
+      some_args = words.0.some;
+      few_args = words.0.few;
+      args = words.1;
+      few_env = texts.0;
+      env = texts.1;
+      files = optional_files_ok place files (optional_ok some_files place key.Files table files files_is);
+      output = an_output_ok place output_at.0 output output_at.1;
+      some_steps = limits.0;
+      few_steps = limits.1;
+      heap = heap_ok place heap (optional_ok (a_number 0 (2 ^ 30)) place key.Heap table heap heap_is);
+    }))))))))))))

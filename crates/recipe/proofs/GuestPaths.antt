@@ -33,7 +33,7 @@ guest_path_ok text path e =
     record {
       path = p.0;
       stripped = joined (nat_le 1 (length path)) (nat_le (length path) 255) (list_any (λ byte. byte == 0) path) (files.begins_with_dot_slash path) b.0 b.1
-        (no_zero path a.1) (subst (λ path. files.begins_with_dot_slash path ≡ false) p.1 (stripped-is text));
+          (no_zero path a.1) (subst (λ path. files.begins_with_dot_slash path ≡ false) p.1 (stripped-is text));
     }
 
 some_same : {A : Type 0} (x y : A) → Some x ≡ Some y → x ≡ y

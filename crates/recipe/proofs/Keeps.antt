@@ -1,5 +1,5 @@
 -- What both walks accept is a recipe.
-use Rattle.std.proofs.Common.{◌≡◌, ℕ, ◌+◌, ◌≤◌, List, [], ◌∷◌, length, take, Option, Some, None, Ok, subst, arith}
+use Rattle.std.proofs.Common.{◌≡◌, ℕ, ◌+◌, ◌≤◌, List, [], ◌∷◌, length, take, Option, Some, None, Ok, refl, subst, arith}
 use Rattle.std.specs.Prelude.{IfSome, bytes_eq, slice_get, unwrap_or}
 use Rattle.std.specs.List.{IsDistinct}
 use Rattle.sha2.specs.Sha256.{sha256}
@@ -42,15 +42,16 @@ top_said table top e =
     let inputs_at = required_ok (a_list a_table 1 256) top_place key.Input table inputs inputs_is in
     let stages_at = required_ok (a_list a_table 1 256) top_place key.Stage table stages stages_is in
     subst TopSaid (ok_same (record { inputs = inputs; sources = unwrap_or sources []; stages = stages; compare = compare }) top rest6)
-      (record {
-        inputs = (list_ok a_table 1 256 top_place key.Input inputs_at.0 inputs inputs_at.1).0;
-        sources = few_sources sources (optional_ok (a_list a_table 0 256) top_place key.Source table sources sources_is);
-        stages = (list_ok a_table 1 256 top_place key.Stage stages_at.0 stages stages_at.1).0;
-      })))))))
+    (record {
+      inputs = (list_ok a_table 1 256 top_place key.Input inputs_at.0 inputs inputs_at.1).0;
+      sources = few_sources sources (optional_ok (a_list a_table 0 256) top_place key.Source table sources sources_is);
+      stages = (list_ok a_table 1 256 top_place key.Stage stages_at.0 stages stages_at.1).0;
+    })))))))
 
 -- ---- the first walk
 
 record FirstSaid (said : Said) : Type 0 where
+  digest : (bytes : List ℕ) × (said.digest.0 ≡ sha256 bytes)
   few_inputs : Few 1 256 (length said.inputs)
   few_sources : length said.sources ≤ 256
   few_stages : Few 1 256 (length said.stages)
@@ -83,24 +84,25 @@ walked_first bytes said e =
     let sources_long = gathered_length (next_source inputs) [] top.sources sources sources_is in
     let stages_long = gathered_length (next_stage inputs sources) [] top.stages stages stages_is in
     let input_names = gathered_keeps (λ found. IsDistinct bytes_eq (names_of found [] [])) next_input [] top.inputs inputs
-      (λ before table input distinct is. input_added before input distinct (input_next before table input is).name.is_new) tt inputs_is in
+    (λ before table input distinct is. input_added before input distinct (input_next before table input is).name.is_new) tt inputs_is in
     let source_names = gathered_keeps (λ found. IsDistinct bytes_eq (names_of inputs found [])) (next_source inputs) [] top.sources sources
-      (λ before table source distinct is. source_added inputs before source distinct (source_next inputs before table source is).name.is_new) input_names sources_is in
+    (λ before table source distinct is. source_added inputs before source distinct (source_next inputs before table source is).name.is_new) input_names sources_is in
     let stage_names = gathered_keeps (λ found. IsDistinct bytes_eq (names_of inputs sources found)) (next_stage inputs sources) [] top.stages stages
-      (λ before table stage distinct is. stage_added inputs sources before stage distinct (stage_next inputs sources before table stage is).name.is_new) source_names stages_is in
+    (λ before table stage distinct is. stage_added inputs sources before stage distinct (stage_next inputs sources before table stage is).name.is_new) source_names stages_is in
     subst FirstSaid (ok_same (record { digest = record { 0 = sha256 bytes }; inputs = inputs; sources = sources; stages = stages; compare = compare }) said rest6)
-      (record {
-        few_inputs = record { some = omega (arith, top_said.inputs.some, inputs_long); few = omega (arith, top_said.inputs.few, inputs_long) };
-        few_sources = omega (arith, top_said.sources, sources_long);
-        few_stages = record { some = omega (arith, top_said.stages.some, stages_long); few = omega (arith, top_said.stages.few, stages_long) };
-        names = stage_names;
-        inputs = gathered_each (λ input. (before : List Input) × InputSaid before input) next_input top.inputs inputs
+    (record {
+      digest = (bytes, refl);
+      few_inputs = record { some = omega (arith, top_said.inputs.some, inputs_long); few = omega (arith, top_said.inputs.few, inputs_long) };
+      few_sources = omega (arith, top_said.sources, sources_long);
+      few_stages = record { some = omega (arith, top_said.stages.some, stages_long); few = omega (arith, top_said.stages.few, stages_long) };
+      names = stage_names;
+      inputs = gathered_each (λ input. (before : List Input) × InputSaid before input) next_input top.inputs inputs
           (λ before table input is. (before, input_next before table input is)) inputs_is;
-        sources = gathered_each (λ source. (before : List Source) × SourceSaid inputs before source) (next_source inputs) top.sources sources
+      sources = gathered_each (λ source. (before : List Source) × SourceSaid inputs before source) (next_source inputs) top.sources sources
           (λ before table source is. (before, source_next inputs before table source is)) sources_is;
-        stages = gathered_each (λ stage. (before : List Stage) × StageSaid inputs sources before stage) (next_stage inputs sources) top.stages stages
+      stages = gathered_each (λ stage. (before : List Stage) × StageSaid inputs sources before stage) (next_stage inputs sources) top.stages stages
           (λ before table stage is. (before, stage_next inputs sources before table stage is)) stages_is;
-      })))))))
+    })))))))
 
 -- ---- both
 
@@ -134,6 +136,7 @@ keeps bytes said is second =
     let first = walked_first bytes said is in
     let walk = walked said second in
     record {
+      digest = first.digest;
       some_inputs = first.few_inputs.some;
       few_inputs = first.few_inputs.few;
       few_sources = first.few_sources;

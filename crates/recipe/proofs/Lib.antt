@@ -3,4 +3,5 @@ pub mod FirstWalk
 pub mod GuestPaths
 pub mod Keeps
 pub mod MoreStages
+pub mod NoWant
 pub mod SecondWalk

@@ -39,11 +39,14 @@ checks_there : (said : Said) (earlier : List Stage) (place : Place) (name : List
     → checks_source said earlier place found ≡ Ok tt → (source : Source) × (source_named said.sources name ≡ Some source) × Checks said earlier source
 checks_there said earlier place name None is e = absurd cc
 checks_there said earlier place name (Some source) is e =
-    bound _ (refused_unless (NotMadeYet place key.Check) (list_all (is_content said.inputs earlier) source.files)) (λ _. refused_unless (BadName place key.Check) (is_defined source.lang)) tt e (λ u made rest.
-    (source, is, record {
-      files = all_at (is_content said.inputs earlier) source.files (unless_ok (NotMadeYet place key.Check) (list_all (is_content said.inputs earlier) source.files) u made);
-      defined = unless_ok (BadName place key.Check) (is_defined source.lang) tt rest;
-    }))
+    bound _ (refused_unless (NotMadeYet place key.Check) (list_all (is_content said.inputs earlier) source.files)) (λ _. refused_unless (BadName place key.Check) (is_defined source.lang)) tt e (λ u made rest. (
+      source,
+      is,
+      record {
+        files = all_at (is_content said.inputs earlier) source.files (unless_ok (NotMadeYet place key.Check) (list_all (is_content said.inputs earlier) source.files) u made);
+        defined = unless_ok (BadName place key.Check) (is_defined source.lang) tt rest;
+      },
+    ))
 
 check_there : (said : Said) (earlier : List Stage) (place : Place) (check : Option (List ℕ)) → check_refers said earlier place check ≡ Ok tt → IsCheck said earlier check
 unfolding check_refers
@@ -68,7 +71,7 @@ pub stage_refers_at : (said : Said) (i : ℕ) (stage : Stage) → each_passes (s
 stage_refers_at said i stage passed is =
     let here : (1 + i) - 1 ≡ i = omega arith in
     subst (λ n. StageRefers said (take n said.stages) stage) here
-      (stage_there said (take ((1 + i) - 1) said.stages) (stage_place (1 + i)) stage (passes_at (stage_refers said) 1 said.stages i stage passed is))
+    (stage_there said (take ((1 + i) - 1) said.stages) (stage_place (1 + i)) stage (passes_at (stage_refers said) 1 said.stages i stage passed is))
 
 -- ---- the source of an unchecked stage's program
 
@@ -102,7 +105,7 @@ walked said e =
     bound _ (each_passes (stage_refers said) 1 said.stages) _ tt rest2 (λ d stages rest3.
     bound _ (compare_refers said) (λ _. each_passes (program_has_source said) 1 said.stages) tt rest3 (λ f compare argued.
     bound _ (refused_unless (NotMadeYet compare_place key.Stage) (is_some (stage_at said.stages said.compare.stage)))
-      (λ _. refused_unless (NotMadeYet compare_place key.Binary) (is_some (input_at said.inputs said.compare.binary))) f compare (λ g compared binary.
+    (λ _. refused_unless (NotMadeYet compare_place key.Binary) (is_some (input_at said.inputs said.compare.binary))) f compare (λ g compared binary.
     record {
       inputs = inputs;
       sources = sources;

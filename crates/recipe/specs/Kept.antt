@@ -1,6 +1,7 @@
 -- What every recipe keeps, so that no layer above tests it again (docs/reference/recipe.md).
 use Rattle.std.specs.Prelude.{◌≡◌, ℕ, ◌≤◌, ◌^◌, IsTrue, true, List, ◌++◌, length, map, take, bytes_eq, slice_get, Option, Some, None, IsSome, IfSome}
 use Rattle.std.specs.List.{IsDistinct}
+use Rattle.sha2.specs.Sha256.{sha256}
 use Rattle.ddc_base.specs.Names.{IsName}
 use Rattle.mem_files.specs.Names.{is_stripped_name}
 use Rattle.recipe_text.specs.Reading.{is_path, is_word}
@@ -92,6 +93,8 @@ abbrev pub all_names : Said → List (List ℕ)
 all_names said = map (λ input. input.name) said.inputs ++ map (λ source. source.name) said.sources ++ map (λ stage. stage.name) said.stages
 
 pub record IsRecipe (said : Said) : Type 0 where
+  -- the digest is that of some bytes
+  pub digest : (bytes : List ℕ) × (said.digest.0 ≡ sha256 bytes)
   pub some_inputs : 1 ≤ length said.inputs
   pub few_inputs : length said.inputs ≤ 256
   pub few_sources : length said.sources ≤ 256

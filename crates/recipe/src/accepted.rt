@@ -6,8 +6,8 @@ ghost use Rattle.recipe.specs.Lookups.{content_of, source_named, source_of};
 use crate::contents::Said;
 use crate::lookups::{content_of, content_source, source_named};
 use crate::parts::{Compare, Content, Input, Source, Stage};
-use ddc_base::{ListOf, Name};
 use ddc_base::digests::Digest;
+use ddc_base::{ListOf, Name};
 use std::marker::Model;
 
 /// A recipe, which contracts see as what it says. Both walks accepted it.
@@ -81,7 +81,11 @@ impl Recipe {
         ensures value { result ≡ content_of self.now.inputs self.now.stages name.now }
         ensures index { IfSome result (IsIndex self.now.inputs self.now.stages) }
     {
-        content_of(self.said.inputs.as_slice(), self.said.stages.as_slice(), name)
+        content_of(
+            self.said.inputs.as_slice(),
+            self.said.stages.as_slice(),
+            name,
+        )
     }
 
     /// What a name stands for at a stage, by its index from 0: among the inputs and the stages before it.
@@ -90,7 +94,11 @@ impl Recipe {
         ensures value { result ≡ content_of self.now.inputs (take stage self.now.stages) name.now }
         ensures index { IfSome result (IsIndex self.now.inputs (take stage self.now.stages)) }
     {
-        content_of(self.said.inputs.as_slice(), &self.said.stages.as_slice()[..stage], name)
+        content_of(
+            self.said.inputs.as_slice(),
+            &self.said.stages.as_slice()[..stage],
+            name,
+        )
     }
 
     /// The source of a name.

@@ -6,7 +6,9 @@ ghost use Rattle.recipe.specs.Inside.Views.{top_view};
 ghost use Rattle.recipe.specs.Tables.{top_table};
 
 use crate::top_tables::Top;
-use recipe_text::{Key, Place, RecipeRefusal, closed, find, required, required_number, table, tables};
+use recipe_text::{
+    Key, Place, RecipeRefusal, closed, find, required, required_number, table, tables,
+};
 use std::alloc::Global;
 use toml::Table;
 
@@ -26,7 +28,17 @@ pub(crate) fn top_of<'a>(alloc: Global, top: &'a Table) -> Result<Top<'a>, Recip
     let sources = optional_tables(alloc, Key::Source, top)?.unwrap_or(Vec::new(alloc));
     let stages = required_tables(alloc, Key::Stage, top)?;
     let compare = required_table(Key::Compare, top)?;
-    closed(TOP, &[Key::Format, Key::Input, Key::Source, Key::Stage, Key::Compare], top)?;
+    closed(
+        TOP,
+        &[
+            Key::Format,
+            Key::Input,
+            Key::Source,
+            Key::Stage,
+            Key::Compare,
+        ],
+        top,
+    )?;
     Ok(Top {
         inputs,
         sources,
@@ -37,7 +49,11 @@ pub(crate) fn top_of<'a>(alloc: Global, top: &'a Table) -> Result<Top<'a>, Recip
 
 /// 1 to 256 tables at a key of the top.
 #[tactic(auto, unfolding(recipe_text::specs::Reading::required))]
-fn required_tables<'a>(alloc: Global, key: Key, top: &'a Table) -> Result<Vec<&'a Table>, RecipeRefusal>
+fn required_tables<'a>(
+    alloc: Global,
+    key: Key,
+    top: &'a Table,
+) -> Result<Vec<&'a Table>, RecipeRefusal>
     ensures tables { Gives (λ x. tables_view x.items) result (required (a_list a_table 1 256) TOP key (table_view top.now)) }
     ensures few { IfOk result (λ x. length x.items ≤ 256) }
 {
@@ -46,7 +62,11 @@ fn required_tables<'a>(alloc: Global, key: Key, top: &'a Table) -> Result<Vec<&'
 
 /// Up to 256 tables at a key of the top, where it is there.
 #[tactic(auto, unfolding(recipe_text::specs::Reading::optional))]
-fn optional_tables<'a>(alloc: Global, key: Key, top: &'a Table) -> Result<Option<Vec<&'a Table>>, RecipeRefusal>
+fn optional_tables<'a>(
+    alloc: Global,
+    key: Key,
+    top: &'a Table,
+) -> Result<Option<Vec<&'a Table>>, RecipeRefusal>
     ensures tables { Gives (λ x. option_map (λ t. tables_view t.items) x) result (optional (a_list a_table 0 256) TOP key (table_view top.now)) }
     ensures few { IfOk result (λ x. IfSome x (λ t. length t.items ≤ 256)) }
 {

@@ -39,14 +39,23 @@ fn next_input(alloc: Global, inputs: &ListOf<Input>, table: &Table) -> Result<In
 
 /// The input that a table says at its place.
 #[tactic(auto, unfolding(crate::specs::Tables::input_table))]
-fn input_of(alloc: Global, inputs: &[Input], place: Place, table: &Table) -> Result<Input, RecipeRefusal>
+fn input_of(
+    alloc: Global,
+    inputs: &[Input],
+    place: Place,
+    table: &Table,
+) -> Result<Input, RecipeRefusal>
     ensures { Gives (λ x. x) result (input_table inputs.now place (table_view table.now)) }
 {
     let name = required_new_name(inputs, &[], &[], place, table)?;
     let path = required_path(alloc, place, table)?;
     let implements = optional_name(place, Key::Implements, table)?;
     closed(place, &[Key::Name, Key::Path, Key::Implements], table)?;
-    Ok(Input { name, path, implements })
+    Ok(Input {
+        name,
+        path,
+        implements,
+    })
 }
 
 /// The path of an input.

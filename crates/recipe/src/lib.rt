@@ -20,6 +20,8 @@ mod stages;
 mod top_tables;
 
 pub use accepted::Recipe;
-pub use parts::{Compare, Content, Input, Inputs, Output, Source, SourceLanguage, Stage, StageFile};
+pub use parts::{
+    Compare, Content, Input, Inputs, Output, Source, SourceLanguage, Stage, StageFile,
+};
 pub use reading::read;
 pub use recipe_text::{Key, Path, Place, RecipeRefusal, Table};

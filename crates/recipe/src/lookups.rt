@@ -53,7 +53,11 @@ pub(crate) fn content_source(said: &Said, content: Content) -> Option<&Name>
 {
     match content {
         Content::Input(index) => input_source(said.inputs.as_slice(), index),
-        Content::Stage(index) => artefact_source(said.sources.as_slice(), said.stages.as_slice(), index),
+        Content::Stage(index) => artefact_source(
+            said.sources.as_slice(),
+            said.stages.as_slice(),
+            index,
+        ),
     }
 }
 

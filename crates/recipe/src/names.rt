@@ -20,7 +20,13 @@ pub(crate) fn required_new_name(
 ) -> Result<Name, RecipeRefusal>
     ensures { Gives (λ x. x) result (required (a_new_name inputs.now sources.now stages.now) place Key.Name (table_view table.now)) }
 {
-    new_name(inputs, sources, stages, place, required(place, Key::Name, table)?)
+    new_name(
+        inputs,
+        sources,
+        stages,
+        place,
+        required(place, Key::Name, table)?,
+    )
 }
 
 /// The same, of the value.

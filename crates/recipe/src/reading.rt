@@ -35,7 +35,12 @@ fn first_walk(alloc: Global, bytes: &[u8]) -> Result<Said, RecipeRefusal>
     let top = top_of(alloc, &document)?;
     let inputs = inputs_of(alloc, top.inputs.as_slice())?;
     let sources = sources_of(alloc, inputs.as_slice(), top.sources.as_slice())?;
-    let stages = stages_of(alloc, inputs.as_slice(), sources.as_slice(), top.stages.as_slice())?;
+    let stages = stages_of(
+        alloc,
+        inputs.as_slice(),
+        sources.as_slice(),
+        top.stages.as_slice(),
+    )?;
     let compare = compare_of(top.compare)?;
     Ok(Said {
         digest: ddc_base::digest(bytes),

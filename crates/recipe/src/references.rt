@@ -49,11 +49,21 @@ fn input_refers(said: &Said, number: u32, input: &Input) -> Result<(), RecipeRef
         table: Table::Input,
         number,
     };
-    refers_to_source(said.sources.as_slice(), place, Key::Implements, &input.implements)
+    refers_to_source(
+        said.sources.as_slice(),
+        place,
+        Key::Implements,
+        &input.implements,
+    )
 }
 
 /// Whether a source of the name is there, where there is a name.
-fn refers_to_source(sources: &[Source], place: Place, key: Key, name: &Option<Name>) -> Result<(), RecipeRefusal>
+fn refers_to_source(
+    sources: &[Source],
+    place: Place,
+    key: Key,
+    name: &Option<Name>,
+) -> Result<(), RecipeRefusal>
     ensures { Gives (λ x. x) result (refers_to_source sources.now place key name.now) }
 {
     match name {
@@ -93,7 +103,11 @@ fn source_refers(said: &Said, number: u32, source: &Source) -> Result<(), Recipe
         table: Table::Source,
         number,
     };
-    let made = are_contents(said.inputs.as_slice(), said.stages.as_slice(), source.files.as_slice());
+    let made = are_contents(
+        said.inputs.as_slice(),
+        said.stages.as_slice(),
+        source.files.as_slice(),
+    );
     made_by_now(made, place, Key::Files)
 }
 
@@ -140,12 +154,25 @@ fn stage_refers(said: &Said, number: u32, stage: &Stage) -> Result<(), RecipeRef
 
 /// The same, of a stage after these earlier ones.
 #[tactic(auto, unfolding(crate::specs::SecondWalk::stage_refers_after))]
-fn stage_refers_after(said: &Said, earlier: &[Stage], place: Place, stage: &Stage) -> Result<(), RecipeRefusal>
+fn stage_refers_after(
+    said: &Said,
+    earlier: &[Stage],
+    place: Place,
+    stage: &Stage,
+) -> Result<(), RecipeRefusal>
     ensures { Gives (λ x. x) result (stage_refers_after said.now earlier.now place stage.now) }
 {
     let inputs = said.inputs.as_slice();
-    made_by_now(is_content(inputs, earlier, &stage.program), place, Key::Program)?;
-    made_by_now(are_made(inputs, earlier, stage.files.as_slice()), place, Key::Files)?;
+    made_by_now(
+        is_content(inputs, earlier, &stage.program),
+        place,
+        Key::Program,
+    )?;
+    made_by_now(
+        are_made(inputs, earlier, stage.files.as_slice()),
+        place,
+        Key::Files,
+    )?;
     check_refers(said, earlier, place, &stage.check)?;
     refers_to_source(said.sources.as_slice(), place, Key::Becomes, &stage.becomes)
 }
@@ -154,12 +181,19 @@ fn stage_refers_after(said: &Said, earlier: &[Stage], place: Place, stage: &Stag
 fn are_made(inputs: &[Input], stages: &[Stage], files: &[StageFile]) -> bool
     ensures { result ≡ list_all (λ file. is_content inputs.now stages.now file.from) files.now }
 {
-    files.iter().all(|file| is_content(inputs, stages, &file.from))
+    files
+        .iter()
+        .all(|file| is_content(inputs, stages, &file.from))
 }
 
 /// Whether a stage may be checked against a source, where it names one.
 #[tactic(auto, unfolding(crate::specs::SecondWalk::check_refers))]
-fn check_refers(said: &Said, earlier: &[Stage], place: Place, check: &Option<Name>) -> Result<(), RecipeRefusal>
+fn check_refers(
+    said: &Said,
+    earlier: &[Stage],
+    place: Place,
+    check: &Option<Name>,
+) -> Result<(), RecipeRefusal>
     ensures { Gives (λ x. x) result (check_refers said.now earlier.now place check.now) }
 {
     match check {
@@ -168,7 +202,12 @@ fn check_refers(said: &Said, earlier: &[Stage], place: Place, check: &Option<Nam
     }
 }
 
-fn named_source_checks(said: &Said, earlier: &[Stage], place: Place, name: &Name) -> Result<(), RecipeRefusal>
+fn named_source_checks(
+    said: &Said,
+    earlier: &[Stage],
+    place: Place,
+    name: &Name,
+) -> Result<(), RecipeRefusal>
     ensures { Gives (λ x. x) result (checks_source said.now earlier.now place (spec.source_named said.now.sources name.now)) }
 {
     match source_named(said.sources.as_slice(), name) {
@@ -178,7 +217,12 @@ fn named_source_checks(said: &Said, earlier: &[Stage], place: Place, name: &Name
 }
 
 /// Whether a source's files stand before the stage, and its language has a definition.
-fn source_checks(said: &Said, earlier: &[Stage], place: Place, source: &Source) -> Result<(), RecipeRefusal>
+fn source_checks(
+    said: &Said,
+    earlier: &[Stage],
+    place: Place,
+    source: &Source,
+) -> Result<(), RecipeRefusal>
     ensures { Gives (λ x. x) result (checks_source said.now earlier.now place (Some source.now)) }
 {
     if !are_contents(said.inputs.as_slice(), earlier, source.files.as_slice()) {

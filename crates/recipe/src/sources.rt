@@ -12,11 +12,15 @@ use recipe_text::{Key, Place, RecipeRefusal, closed, names, optional_number, req
 use std::alloc::Global;
 use toml::{Table, Value};
 
-/// The base of a source that names none: 0x600000, where stage0-posix links its programs.
+/// The base of a source that names none: 0x600000.
 const DEFAULT_BASE: u64 = 6_291_456;
 
 /// The sources that the tables say.
-pub(crate) fn sources_of(alloc: Global, inputs: &[Input], tables: &[&Table]) -> Result<ListOf<Source>, RecipeRefusal>
+pub(crate) fn sources_of(
+    alloc: Global,
+    inputs: &[Input],
+    tables: &[&Table],
+) -> Result<ListOf<Source>, RecipeRefusal>
     requires { length tables.now ≤ 256 }
     ensures sources { Gives (λ x. x) result (gathered (next_source inputs.now) [] (tables_view tables.now)) }
     ensures few { IfOk result (λ x. length x ≤ 256) }
@@ -30,7 +34,12 @@ pub(crate) fn sources_of(alloc: Global, inputs: &[Input], tables: &[&Table]) -> 
 }
 
 /// The source that a table says, after those before it.
-fn next_source(alloc: Global, inputs: &[Input], sources: &ListOf<Source>, table: &Table) -> Result<Source, RecipeRefusal>
+fn next_source(
+    alloc: Global,
+    inputs: &[Input],
+    sources: &ListOf<Source>,
+    table: &Table,
+) -> Result<Source, RecipeRefusal>
     requires { length sources.now < 2 ^ 32 - 1 }
     ensures { Gives (λ x. x) result (next_source inputs.now sources.now (table_view table.now)) }
 {
@@ -57,7 +66,12 @@ fn source_of(
     let base = optional_number(0, 1 << 37, place, Key::Base, table)?.unwrap_or(DEFAULT_BASE);
     let files = required_names(alloc, place, table)?;
     closed(place, &[Key::Name, Key::Lang, Key::Base, Key::Files], table)?;
-    Ok(Source { name, lang, base, files })
+    Ok(Source {
+        name,
+        lang,
+        base,
+        files,
+    })
 }
 
 /// The language of a source.
@@ -95,5 +109,12 @@ fn source_language(word: &[u8]) -> Option<SourceLanguage>
 fn required_names(alloc: Global, place: Place, table: &Table) -> Result<ListOf<Name>, RecipeRefusal>
     ensures { Gives (λ x. x) result (required (a_list a_name 1 64) place Key.Files (table_view table.now)) }
 {
-    names(alloc, 1, 64, place, Key::Files, required(place, Key::Files, table)?)
+    names(
+        alloc,
+        1,
+        64,
+        place,
+        Key::Files,
+        required(place, Key::Files, table)?,
+    )
 }

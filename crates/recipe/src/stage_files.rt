@@ -13,7 +13,11 @@ use toml::{Table, Value};
 
 /// The files of a stage, none where the key is absent.
 #[tactic(auto, unfolding(recipe_text::specs::Reading::optional))]
-pub(crate) fn optional_files(alloc: Global, place: Place, table: &Table) -> Result<Option<ListOf<StageFile>>, RecipeRefusal>
+pub(crate) fn optional_files(
+    alloc: Global,
+    place: Place,
+    table: &Table,
+) -> Result<Option<ListOf<StageFile>>, RecipeRefusal>
     ensures { Gives (λ x. x) result (optional some_files place Key.Files (table_view table.now)) }
 {
     match find(table, Key::Files) {
@@ -24,14 +28,22 @@ pub(crate) fn optional_files(alloc: Global, place: Place, table: &Table) -> Resu
 
 /// The files that an array says.
 #[tactic(auto, unfolding(crate::specs::Tables::some_files))]
-fn some_files(alloc: Global, place: Place, value: &Value) -> Result<ListOf<StageFile>, RecipeRefusal>
+fn some_files(
+    alloc: Global,
+    place: Place,
+    value: &Value,
+) -> Result<ListOf<StageFile>, RecipeRefusal>
     ensures { Gives (λ x. x) result (some_files place Key.Files (view value.now)) }
 {
     files_of(alloc, place, array(0, 256, place, Key::Files, value)?)
 }
 
 /// The files that the entries say.
-fn files_of(alloc: Global, place: Place, entries: &[Value]) -> Result<ListOf<StageFile>, RecipeRefusal>
+fn files_of(
+    alloc: Global,
+    place: Place,
+    entries: &[Value],
+) -> Result<ListOf<StageFile>, RecipeRefusal>
     ensures { Gives (λ x. x) result (gathered (next_file place Key.Files) [] (map view entries.now)) }
 {
     let mut files = ListOf::new(alloc);
@@ -44,7 +56,12 @@ fn files_of(alloc: Global, place: Place, entries: &[Value]) -> Result<ListOf<Sta
 
 /// The file that an entry says, after those before it.
 #[tactic(auto, unfolding(crate::specs::Tables::next_file))]
-fn next_file(alloc: Global, place: Place, files: &ListOf<StageFile>, value: &Value) -> Result<StageFile, RecipeRefusal>
+fn next_file(
+    alloc: Global,
+    place: Place,
+    files: &ListOf<StageFile>,
+    value: &Value,
+) -> Result<StageFile, RecipeRefusal>
     ensures { Gives (λ x. x) result (next_file place Key.Files files.now (view value.now)) }
 {
     let entry = table(place, Key::Files, value)?;
@@ -96,7 +113,11 @@ fn is_file_path(files: &[StageFile], path: &[u8]) -> bool
 
 /// What a stage makes.
 #[tactic(auto, unfolding(recipe_text::specs::Reading::required))]
-pub(crate) fn required_output(alloc: Global, place: Place, table: &Table) -> Result<Output, RecipeRefusal>
+pub(crate) fn required_output(
+    alloc: Global,
+    place: Place,
+    table: &Table,
+) -> Result<Output, RecipeRefusal>
     ensures { Gives (λ x. x) result (required an_output place Key.Output (table_view table.now)) }
 {
     output(alloc, place, required(place, Key::Output, table)?)

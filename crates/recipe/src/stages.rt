@@ -8,7 +8,10 @@ use crate::names::required_new_name;
 use crate::parts::{Input, Source, Stage};
 use crate::stage_files::{optional_files, required_output};
 use ddc_base::{Bytes, ListOf};
-use recipe_text::{Key, Place, RecipeRefusal, closed, find, optional_name, optional_number, required, required_name, required_number, words};
+use recipe_text::{
+    Key, Place, RecipeRefusal, closed, find, optional_name, optional_number, required,
+    required_name, required_number, words,
+};
 use std::alloc::Global;
 use toml::Table;
 
@@ -108,12 +111,23 @@ fn stage_of(
 fn required_args(alloc: Global, place: Place, table: &Table) -> Result<ListOf<Bytes>, RecipeRefusal>
     ensures { Gives (λ x. x) result (required (a_list a_word 1 64) place Key.Args (table_view table.now)) }
 {
-    words(alloc, 1, 64, place, Key::Args, required(place, Key::Args, table)?)
+    words(
+        alloc,
+        1,
+        64,
+        place,
+        Key::Args,
+        required(place, Key::Args, table)?,
+    )
 }
 
 /// The environment of a stage's program, where it names one.
 #[tactic(auto, unfolding(recipe_text::specs::Reading::optional))]
-fn optional_env(alloc: Global, place: Place, table: &Table) -> Result<Option<ListOf<Bytes>>, RecipeRefusal>
+fn optional_env(
+    alloc: Global,
+    place: Place,
+    table: &Table,
+) -> Result<Option<ListOf<Bytes>>, RecipeRefusal>
     ensures { Gives (λ x. x) result (optional (a_list a_word 0 64) place Key.Env (table_view table.now)) }
 {
     match find(table, Key::Env) {

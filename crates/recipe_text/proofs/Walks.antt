@@ -48,7 +48,7 @@ pub gathers_more : {X B C : Type 0} (view : X → C) (next : List B → C → Re
     → i < length xs → x ≡ get_or xs i x → Gathers view next xs i found → next found (view x) ≡ Ok y → more ≡ found ++ y ∷ [] → Gathers view next xs (i + 1) more
 gathers_more view next xs i x found more y within is gathers read grown = record {
   so_far = ap (λ ys. gathered next ys (map view (drop (i + 1) xs))) grown ∙ sym (gathered_one next found (view x) (map view (drop (i + 1) xs)) y read)
-    ∙ ap (gathered next found) (sym (next_of view xs i x within is)) ∙ gathers.so_far;
+      ∙ ap (gathered next found) (sym (next_of view xs i x within is)) ∙ gathers.so_far;
   few = omega (arith, ap length grown, length-append found (y ∷ []), gathers.few);
 }
 

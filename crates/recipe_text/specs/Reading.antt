@@ -1,6 +1,6 @@
 -- What stands at a key of a recipe's tables: its value, or the first refusal (docs/reference/recipe.md, "What stands at a key").
-use Rattle.std.specs.Prelude.{◌≡◌, ℕ, ◌+◌, ℤ, pos, negsuc, Bool, ◌&&◌, ◌==◌, not, nat_le, List, [], ◌∷◌, ◌++◌, length, Option, Some, None, option_map, Result, Ok, Err, if◌then◌else◌}
-use Rattle.std.specs.List.{list_all, list_any}
+use Rattle.std.specs.Prelude.{◌≡◌, ℕ, ◌+◌, ℤ, pos, negsuc, Bool, ◌&&◌, nat_le, List, [], ◌∷◌, ◌++◌, length, Option, Some, None, option_map, Result, Ok, Err, if◌then◌else◌}
+use Rattle.std.specs.List.{list_all}
 use Rattle.std.specs.Str.{is_utf8}
 use Rattle.toml.specs.Data.{Data, Members, Items, no_items, item, get_member, as_str, as_integer, as_array, as_table}
 use Rattle.toml.specs.Parse.{parse_document}
@@ -82,9 +82,13 @@ a_path place key value = do
   text ← a_text place key value
   or_refused (BadPath place key) (path_of text)
 
--- a word for a program: at most 255 bytes, none of them zero
+-- a byte of a word for a program: 1 to FF
+abbrev pub is_word_byte : ℕ → Bool
+is_word_byte byte = nat_le 1 byte && nat_le byte 0xFF
+
+-- a word for a program: at most 255 such bytes
 unfoldable pub is_word : List ℕ → Bool
-is_word text = nat_le (length text) 255 && not (list_any (λ byte. byte == 0) text)
+is_word text = nat_le (length text) 255 && list_all is_word_byte text
 
 unfoldable pub a_word : Place → Key → Data → Result (List ℕ) RecipeRefusal
 a_word place key value = do

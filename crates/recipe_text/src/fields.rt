@@ -59,7 +59,13 @@ pub fn optional_name(place: Place, key: Key, table: &Table) -> Result<Option<Nam
 
 /// The number at a key that has to be there.
 #[tactic(auto, unfolding(crate::specs::Reading::required))]
-pub fn required_number(least: u64, most: u64, place: Place, key: Key, table: &Table) -> Result<u64, RecipeRefusal>
+pub fn required_number(
+    least: u64,
+    most: u64,
+    place: Place,
+    key: Key,
+    table: &Table,
+) -> Result<u64, RecipeRefusal>
     ensures { Gives (λ x. x) result (required (a_number least most) place key (table_view table.now)) }
 {
     number(least, most, place, key, required(place, key, table)?)
@@ -105,7 +111,9 @@ fn are_listed(keys: &[Key], table: &Table) -> bool
 fn are_keys_listed(keys: &[Key], table: &Table) -> bool
     ensures { result ≡ list_all (λ k. is_listed keys.now (string_bytes k)) (map_keys table.now) }
 {
-    table.keys().all(|key| is_listed(keys, key.as_str().as_bytes()))
+    table
+        .keys()
+        .all(|key| is_listed(keys, key.as_str().as_bytes()))
 }
 
 /// Whether a text is one of the keys.

@@ -1,8 +1,8 @@
 //! The readers of one value: each takes the place of the table and the key, which its refusals name.
-ghost use Rattle.std.specs.Prelude.{◌≡◌, ◌==◌, map};
-ghost use Rattle.std.specs.List.{list_any};
+ghost use Rattle.std.specs.Prelude.{◌≡◌, map};
+ghost use Rattle.std.specs.List.{list_all};
 ghost use Rattle.toml.specs.View.{view, table_view};
-ghost use Rattle.recipe_text.specs.Reading.{Gives, a_text, a_name, a_path, a_word, a_number, a_table, in_range, is_word};
+ghost use Rattle.recipe_text.specs.Reading.{Gives, a_text, a_name, a_path, a_word, a_number, a_table, in_range, is_word, is_word_byte};
 
 use crate::keys::{Key, Place};
 use crate::paths::{Path, is_path};
@@ -65,19 +65,25 @@ pub fn word(alloc: Global, place: Place, key: Key, value: &Value) -> Result<Byte
 fn is_word(text: &[u8]) -> bool
     ensures { result ≡ is_word text.now }
 {
-    text.len() <= 255 && !has_zero(text)
+    text.len() <= 255 && are_word_bytes(text)
 }
 
-/// Whether a byte is zero.
-fn has_zero(text: &[u8]) -> bool
-    ensures { result ≡ list_any (λ byte. byte == 0) text.now }
+/// Whether every byte may stand in a word.
+fn are_word_bytes(text: &[u8]) -> bool
+    ensures { result ≡ list_all is_word_byte text.now }
 {
-    text.iter().any(|byte| *byte == 0)
+    text.iter().all(|byte| matches!(*byte, 1..=255))
 }
 
 /// A number from `least` to `most`.
 #[tactic(auto, unfolding(crate::specs::Reading::a_number))]
-pub fn number(least: u64, most: u64, place: Place, key: Key, value: &Value) -> Result<u64, RecipeRefusal>
+pub fn number(
+    least: u64,
+    most: u64,
+    place: Place,
+    key: Key,
+    value: &Value,
+) -> Result<u64, RecipeRefusal>
     ensures { Gives (λ number. number) result (a_number least most place key (view value.now)) }
 {
     match value.as_integer() {

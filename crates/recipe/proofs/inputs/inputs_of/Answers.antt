@@ -9,12 +9,12 @@ pub returns-in_err-input-clause-inputs : goal.returns-in_err-input-clause-inputs
 returns-in_err-input-clause-inputs c =
     let p = err_from_is_err_and c.from_residual.result c.from_residual.ensures.1 in
     rw (p.1, p.2) (gathers_fails c.in_err-input.field-0.0 (λ (table : TableRef). table_view table.now) next_input c.args.tables.now c.loop-table.table-index
-      c.table-item.result c.loop-table.inputs c.loop-table-test.true c.table-item.is c.loop-table.invariant c.in_err-input.ensures)
+    c.table-item.result c.loop-table.inputs c.loop-table-test.true c.table-item.is c.loop-table.invariant c.in_err-input.ensures)
 
 pub loop-table-preserved : goal.loop-table-preserved
 loop-table-preserved c =
     gathers_more (λ (table : TableRef). table_view table.now) next_input c.args.tables.now c.loop-table.table-index c.table-item.result c.loop-table.inputs c.push.new.self
-      c.in_ok-input.input c.loop-table-test.true c.table-item.is c.loop-table.invariant c.in_ok-input.ensures c.in_ok-push.ensures.ok
+    c.in_ok-input.input c.loop-table-test.true c.table-item.is c.loop-table.invariant c.in_ok-input.ensures c.in_ok-push.ensures.ok
 
 pub returns-clause-inputs : goal.returns-clause-inputs
 returns-clause-inputs c =

@@ -7,7 +7,7 @@ pub returns-in_err-program_has_source : goal.returns-in_err-program_has_source
 returns-in_err-program_has_source c =
     let p = err_from_is_err_and c.from_residual.result c.from_residual.ensures.1 in
     rw (p.1, p.2) (passes_fails c.in_err-program_has_source.field-0.0 (program_has_source c.args.said.now) c.args.stages.now c.loop-stage.stage-index c.loop-stage.number c.stage-item.result
-      c.loop-stage-test.true c.stage-item.is c.loop-stage.invariant c.in_err-program_has_source.ensures)
+    c.loop-stage-test.true c.stage-item.is c.loop-stage.invariant c.in_err-program_has_source.ensures)
 
 pub loop-stage-preserved : goal.loop-stage-preserved
 loop-stage-preserved c = passes_more (program_has_source c.args.said.now) c.args.stages.now c.loop-stage.stage-index c.loop-stage.number c.stage-item.result
