@@ -52,15 +52,14 @@ pub record Saves (name content : List ℕ) (old new : ShelfState) (result : Resu
   pub by_result : SavesBy name content old new result
 
 -- from where the shelf stands now a plan goes on as the rest of it, whatever follows both
-abbrev pub LeadsOn : ((List (List ℕ) → Plan) → Plan) → ((List (List ℕ) → Plan) → Plan) → ShelfState → ShelfState → Type 0
-LeadsOn plan rest old now =
-    (next : List (List ℕ) → Plan) (final : ShelfState) (result : Result Answer Stop)
-    → Performs (rest next) now final result → Performs (plan next) old final result
+abbrev pub LeadsOn : {A : Type 0} → ((A → Plan) → Plan) → ((A → Plan) → Plan) → ShelfState → ShelfState → Type 0
+LeadsOn {A} plan rest old now =
+    (next : A → Plan) (final : ShelfState) (result : Result Answer Stop) → Performs (rest next) now final result → Performs (plan next) old final result
 
-abbrev pub GathersBy : ((List (List ℕ) → Plan) → Plan) → ShelfState → ShelfState → Result (List (List ℕ)) Stop → Type 0
-GathersBy plan old new (Ok contents) = LeadsOn plan (λ next. next contents) old new
-GathersBy plan old new (Err ending) = (next : List (List ℕ) → Plan) → Performs (plan next) old new (Err ending)
+abbrev pub ObtainsBy : {A : Type 0} → ((A → Plan) → Plan) → ShelfState → ShelfState → Result A Stop → Type 0
+ObtainsBy plan old new (Ok value) = LeadsOn plan (λ next. next value) old new
+ObtainsBy {A} plan old new (Err ending) = (next : A → Plan) → Performs (plan next) old new (Err ending)
 
--- the contents that a plan needs were fetched one after the other, or one of them ended the command, whatever follows
-pub record Gathers (plan : (List (List ℕ) → Plan) → Plan) (old new : ShelfState) (result : Result (List (List ℕ)) Stop) : Type 0 where
-  pub by_result : GathersBy plan old new result
+-- what a plan needs first was obtained, or ended the command, whatever follows it
+pub record Obtains {A : Type 0} (plan : (A → Plan) → Plan) (old new : ShelfState) (result : Result A Stop) : Type 0 where
+  pub by_result : ObtainsBy plan old new result

@@ -1,0 +1,30 @@
+//! Where an audit stands.
+use source_check::CheckCause;
+use wheeler::RunCause;
+
+/// What an advance answers.
+#[derive(Clone, Copy, Debug, PartialEq, Eq)]
+pub enum Progress {
+    /// The audit is over: the compared artefact is the audited binary.
+    Equal,
+    /// The audit is over: they differ.
+    Differs,
+    /// The audit is over: a stage's run made no artefact.
+    RunFailed {
+        /// The stage's number, from 1.
+        stage: u32,
+        cause: RunCause,
+        /// The step of the run, from 1; 0 where the program did not start.
+        step: u64,
+    },
+    /// The audit is over: an artefact is not what its source stands for.
+    CheckFailed {
+        /// The stage's number, from 1.
+        stage: u32,
+        cause: CheckCause,
+    },
+    /// All steps that were asked for were taken, and the audit is not over.
+    Paused,
+    /// Want of memory. The audit stands after the steps that were done, and may be advanced again.
+    OutOfMemory,
+}
