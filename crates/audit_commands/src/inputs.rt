@@ -1,18 +1,20 @@
 //! What the commands of a recipe begin with: the recipe, and its inputs.
-ghost use Rattle.std.specs.Prelude.{◌≡◌, ◌≤◌, IfOk, Ok, Err};
+ghost use Rattle.std.specs.Prelude.{◌≡◌, ◌≤◌, IfOk, Ok, Err, All, length, map};
 ghost use Rattle.std.specs.List.{list_any};
 ghost use Rattle.ddc_base.specs.Outside.{IsFileName};
 ghost use Rattle.mem_files.specs.Outputs.{IsContent};
+ghost use Rattle.recipe.specs.Kept.{IsRecipe};
 ghost use Rattle.recipe.specs.Reading.{recipe_of};
 ghost use Rattle.wheeler.specs.Valid.{IsInputs};
-ghost use Rattle.command_plan.specs.Steps.{Fetches, Obtains};
+ghost use Rattle.command_plan.specs.Plan.{needs_all};
+ghost use Rattle.command_plan.specs.Steps.{Obtains};
 ghost use Rattle.audit_commands.specs.Audit.{is_input, needs_inputs, needs_recipe};
 ghost use Rattle.audit_commands.specs.Inside.Opening.{Opens};
 
 use crate::texts;
 use command_plan::{Answer, Status, Stop, fetch, usage};
 use ddc_base::{Bytes, OutOfMemory, Shelf};
-use recipe::{Inputs, Path, Recipe, RecipeRefusal};
+use recipe::{Input, Inputs, Recipe, RecipeRefusal};
 use std::alloc::Global;
 use wheeler::MAX_INPUT;
 
@@ -88,33 +90,43 @@ pub(crate) fn fetch_inputs<S: Shelf>(
 ) -> Result<Inputs, Stop>
     ensures loads { Obtains (needs_inputs recipe.now) (S.state shelf.old) (S.state shelf.new) result }
     ensures inputs { IfOk result (IsInputs recipe.now) }
+    ensures kept { IsRecipe recipe.now }
+{
+    fetch_each(alloc, shelf, recipe.inputs().as_slice())
+}
+
+/// Fetches these inputs, in order.
+fn fetch_each<S: Shelf>(
+    alloc: Global,
+    shelf: &mut S,
+    inputs: &[Input],
+) -> Result<Inputs, Stop>
+    ensures loads { Obtains (needs_all 268_435_456 1_073_741_824 (map (λ input. input.path) inputs.now))
+        (S.state shelf.old) (S.state shelf.new) result }
+    ensures count { IfOk result (λ contents. length contents ≡ length inputs.now) }
+    ensures each { IfOk result (All IsContent) }
 {
     let mut room = INPUTS_LIMIT;
-    let mut inputs = Inputs::new(alloc);
-    for input in recipe.inputs().as_slice() {
-        let content = match fetch_input(alloc, shelf, &input.path, MAX_INPUT.min(room)) {
+    let mut contents = Inputs::new(alloc);
+    for input in inputs {
+        let content = match fetch(alloc, shelf, input.path.as_str(), MAX_INPUT.min(room)) {
             Ok(content) => content,
             Err(stop) => return Err(stop),
         };
-        room -= content.len() as u64;
-        match inputs.push(content) {
+        room -= size_of(content.as_slice());
+        match contents.push(content) {
             Ok(()) => {}
             Err(OutOfMemory) => return Err(Stop::OutOfMemory),
         }
     }
-    Ok(inputs)
+    Ok(contents)
 }
 
-/// Fetches an input.
-fn fetch_input<S: Shelf>(
-    alloc: Global,
-    shelf: &mut S,
-    path: &Path,
-    limit: u64,
-) -> Result<Bytes, Stop>
-    requires { limit ≤ 268_435_456 }
-    ensures fetch { Fetches path.now limit (S.state shelf.old) (S.state shelf.new) result }
-    ensures content { IfOk result IsContent }
+/// How many bytes an input has.
+fn size_of(content: &[u8]) -> u64
+    requires { length content.now ≤ 268_435_456 }
+    ensures size { result ≡ length content.now }
+    ensures content { IsContent content.now }
 {
-    fetch(alloc, shelf, path.as_str(), limit)
+    content.len() as u64
 }

@@ -1,6 +1,7 @@
 -- Loads in a row.
-use Rattle.std.proofs.Common.{◌≡◌, ℕ, zero, suc, ◌+◌, ◌-◌, ◌<◌, ◌≤◌, Result, Ok, Err, List, [], ◌∷◌, ◌++◌, length, map, drop, get_or, min, append_assoc, append-nil, refl, sym, ap, subst, arith}
+use Rattle.std.proofs.Common.{◌≡◌, ℕ, zero, suc, ◌+◌, ◌-◌, ◌<◌, ◌≤◌, Result, Ok, Err, List, [], ◌∷◌, ◌++◌, length, map, drop, get_or, min, append_assoc, append-nil, le_trans, refl, sym, ap, subst, arith}
 use Rattle.std.proofs.lemmas.List.{drop_all, length-map}
+use Rattle.std.proofs.Math.Nat.{min-le_left, min-le_right}
 use Rattle.ddc_base.specs.Outside.{ShelfState}
 use Rattle.command_plan.specs.declared.answer.Answer.{Answer}
 use Rattle.command_plan.specs.declared.stop.Stop.{Stop}
@@ -58,30 +59,41 @@ module _ (plan : (List (List ℕ) → Plan) → Plan) (most room : ℕ) (content
           by_result = λ next final result p. led next final result (subst (λ c. Performs (next c) now final result) (sym (append-nil contents)) p);
         }
 
-names_from : {A : Type 0} (name : A → List ℕ) (values : List A) (index : ℕ) (d : A) → index < length values
-    → drop index (map name values) ≡ name (get_or values index d) ∷ drop (index + 1) (map name values)
-names_from name [] index d lt = absurd (omega (arith, lt))
-names_from name (value ∷ values) zero d lt = refl
-names_from name (value ∷ values) (suc index) d lt =
+names_from : {A : Type 0} (name : A → List ℕ) (values : List A) (index : ℕ) (item : A) → index < length values → item ≡ get_or values index item
+    → drop index (map name values) ≡ name item ∷ drop (index + 1) (map name values)
+names_from name [] index item lt is = absurd (omega (arith, lt))
+names_from name (value ∷ values) zero item lt is = ap (λ v. name v ∷ map name values) (sym is)
+names_from name (value ∷ values) (suc index) item lt is =
     let next : suc index + 1 ≡ suc (index + 1) = omega arith in
-    subst (λ n. drop index (map name values) ≡ name (get_or values index d) ∷ drop n (map name (value ∷ values))) (sym next) (names_from name values index d (omega (arith, lt)))
+    subst (λ n. drop index (map name values) ≡ name item ∷ drop n (map name (value ∷ values))) (sym next) (names_from name values index item (omega (arith, lt)) is)
 
--- the same, as a loop over values with names has them, with a limit and what is left of the room computed
-module _ {A : Type 0} (plan : (List (List ℕ) → Plan) → Plan) (most room limit : ℕ) (contents : List (List ℕ)) (name : A → List ℕ) (values : List A) (index : ℕ) (d : A) (old now : ShelfState) where
-  pub stops_at : (new : ShelfState) (ending : Stop) → LeadsOn plan (rest_of most room contents (drop index (map name values))) old now → index < length values → limit ≡ min most room
-      → Fetches (name (get_or values index d)) limit now new (Err ending) → Obtains plan old new (Err ending)
-  stops_at new ending leads lt limited f =
-      stops plan most room contents old now (name (get_or values index d)) (drop (index + 1) (map name values)) new ending
-      (subst (λ names. LeadsOn plan (rest_of most room contents names) old now) (names_from name values index d lt) leads)
-      (subst (λ l. Fetches (name (get_or values index d)) l now new (Err ending)) limited f)
+-- the same, as a loop over values with names has them: the name's text, the limit and what is left of the room are computed
+module _ {A : Type 0} (plan : (List (List ℕ) → Plan) → Plan) (most room limit : ℕ) (contents : List (List ℕ)) (name : A → List ℕ) (values : List A) (index : ℕ) (item : A) (text : List ℕ)
+    (old now : ShelfState) where
+  one : (new : ShelfState) (result : Result (List ℕ) Stop) → text ≡ name item → limit ≡ min most room → Fetches text limit now new result → Fetches (name item) (min most room) now new result
+  one new result named limited f = subst (λ n. Fetches n (min most room) now new result) named (subst (λ l. Fetches text l now new result) limited f)
+
+  there : LeadsOn plan (rest_of most room contents (drop index (map name values))) old now → index < length values → item ≡ get_or values index item
+      → LeadsOn plan (rest_of most room contents (name item ∷ drop (index + 1) (map name values))) old now
+  there leads lt is = subst (λ names. LeadsOn plan (rest_of most room contents names) old now) (names_from name values index item lt is) leads
+
+  pub stops_at : (new : ShelfState) (ending : Stop) → LeadsOn plan (rest_of most room contents (drop index (map name values))) old now → index < length values → item ≡ get_or values index item
+      → text ≡ name item → limit ≡ min most room → Fetches text limit now new (Err ending) → Obtains plan old new (Err ending)
+  stops_at new ending leads lt is named limited f =
+      stops plan most room contents old now (name item) (drop (index + 1) (map name values)) new ending (there leads lt is) (one new (Err ending) named limited f)
 
   pub goes_on : (mid : ShelfState) (content : List ℕ) (left : ℕ) (so_far : List (List ℕ)) → LeadsOn plan (rest_of most room contents (drop index (map name values))) old now
-      → index < length values → limit ≡ min most room → Fetches (name (get_or values index d)) limit now mid (Ok content)
+      → index < length values → item ≡ get_or values index item → text ≡ name item → limit ≡ min most room → Fetches text limit now mid (Ok content)
       → left ≡ room - length content → so_far ≡ contents ++ content ∷ []
       → LeadsOn plan (rest_of most left so_far (drop (index + 1) (map name values))) old mid
-  goes_on mid content left so_far leads lt limited f falls pushed =
+  goes_on mid content left so_far leads lt is named limited f falls pushed =
       subst (λ c. LeadsOn plan (rest_of most left c (drop (index + 1) (map name values))) old mid) (sym pushed)
       (subst (λ r. LeadsOn plan (rest_of most r (contents ++ content ∷ []) (drop (index + 1) (map name values))) old mid) (sym falls)
-      (more plan most room contents old now (name (get_or values index d)) (drop (index + 1) (map name values)) mid content
-        (subst (λ names. LeadsOn plan (rest_of most room contents names) old now) (names_from name values index d lt) leads)
-        (subst (λ l. Fetches (name (get_or values index d)) l now mid (Ok content)) limited f)))
+      (more plan most room contents old now (name item) (drop (index + 1) (map name values)) mid content (there leads lt is) (one mid (Ok content) named limited f)))
+
+-- what was fetched is no more than the limit, so than either limit
+pub fetched_within : (text : List ℕ) (most room limit : ℕ) (old new : ShelfState) (content : List ℕ) → limit ≡ min most room → Fetches text limit old new (Ok content)
+    → (length content ≤ most) × (length content ≤ room)
+fetched_within text most room limit old new content limited f =
+    let fits : length content ≤ min most room = subst (λ l. length content ≤ l) limited f.by_result.2 in
+    (le_trans fits (min-le_left most room), le_trans fits (min-le_right most room))
