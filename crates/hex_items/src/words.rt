@@ -1,9 +1,9 @@
 //! Words: fields and at most one reference, and then exactly four bytes.
-ghost use Rattle.hex_items.specs.Words.{taken, byte_taken, Takes, Adds};
+ghost use Rattle.hex_items.specs.Words.{taken, byte_taken, word_items, Takes, Adds};
 ghost use Rattle.hex_items.specs.declared.item.Item.TheVariants.{Byte};
 ghost use Rattle.hex_items.specs.declared.token.Token.TheVariants as token;
-ghost use Rattle.std.specs.Prelude.{ℕ};
-ghost use Rattle.std.specs.Int.{w32, to_le_bytes};
+ghost use Rattle.std.specs.Prelude.{ℕ, bit_xor};
+ghost use Rattle.std.specs.Int.{w32, from_le_bytes, to_le_bytes};
 ghost use Rattle.std.specs.Prelude.{◌≡◌, [], ◌∷◌, ◌++◌, ◌≤◌, ◌<◌, length, map};
 
 use crate::item::{Item, Kind, Name};
@@ -143,11 +143,7 @@ fn byte_of_word<'s>(
         Begun::One(a) => Begun::Two(a, byte),
         Begun::Two(a, b) => Begun::Three(a, b, byte),
         Begun::Three(a, b, c) => {
-            let value = word.mask ^ u32::from_le_bytes([a, b, c, byte]);
-            match word.reference {
-                None => add_bytes(items, value)?,
-                Some((kind, name)) => add(items, Item::Word(value, kind, name))?,
-            }
+            take_four(items, word, [a, b, c, byte])?;
             return Ok(None);
         }
     };
@@ -157,6 +153,19 @@ fn byte_of_word<'s>(
         reference: word.reference,
         begun,
     }))
+}
+
+/// Takes all four bytes of an open word at once.
+pub fn take_four<'s>(items: &mut Items<'s>, word: Open<'s>, bytes: [u8; 4]) -> Result<(), Halt>
+    requires { length items.old ≤ 33554432 }
+    ensures adds { Adds (word_items word.entry.reference (bit_xor word.entry.mask (from_le_bytes w32 bytes))) result items.old items.new }
+    ensures few { length items.new ≤ 33554432 }
+{
+    let value = word.mask ^ u32::from_le_bytes(bytes);
+    match word.reference {
+        None => add_bytes(items, value),
+        Some((kind, name)) => add(items, Item::Word(value, kind, name)),
+    }
 }
 
 /// Adds an item, unless too many are there.

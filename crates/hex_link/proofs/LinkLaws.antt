@@ -1,5 +1,5 @@
 -- What linking does not depend on.
-use Rattle.std.proofs.Common.{◌≡◌, ℕ, ◌+◌, ◌≤◌, Bool, true, false, cond, ◌&&◌, List, [], ◌∷◌, ◌++◌, length, map, length-append, Option, Some, None, Result, Ok, Err, IsTrue, refl, sym, ap, subst, ◌∙◌, arith}
+use Rattle.std.proofs.Common.{◌≡◌, ℕ, ◌+◌, ◌≤◌, Bool, true, false, cond, List, [], ◌∷◌, ◌++◌, length, map, length-append, Option, Some, None, Result, Ok, Err, IsTrue, refl, sym, ap, ◌∙◌, arith}
 use Rattle.std.specs.List.{list_all, list_any}
 use Rattle.std.proofs.lemmas.Slice.Eq.{bytes_eq-Decides}
 use Rattle.hex_items.specs.declared.item.Item.{Item}
@@ -14,7 +14,7 @@ use Rattle.hex_link.specs.declared.values.HexLanguage.{HexLanguage}
 use Rattle.hex_link.specs.declared.values.HexLanguage.TheVariants.{Hex0, Hex1, Hex2}
 use Rattle.hex_link.specs.Values.{linked, value_of}
 use Rattle.hex_link.specs.Laws.{address_behind, is_fixed, KeepsApart, renamed}
-use Rattle.hex_link.specs.Link.{address_of, behind, item_bytes, defines, first_repeat, bytes_from, label_in, Labels, link_of, written_number, onto, refused, repeats, same_name, size_at, unless_repeat}
+use Rattle.hex_link.specs.Link.{address_of, behind, item_bytes, defines, first_repeat, bytes_from, label_in, Labels, link_of, onto, repeats, same_name, size_at, unless_repeat}
 use Rattle.hex_link.proofs.Joins.{bytes-size}
 
 -- ---- bases

@@ -1,20 +1,18 @@
 -- The tokens of hex2 are good: their numbers fit, and their names are names.
-use Rattle.std.proofs.Common.{◌≡◌, ℕ, zero, suc, ◌+◌, ◌-◌, ◌*◌, ◌<◌, ◌≤◌, ◌==◌, nat_lt, nat_eq, Bool, true, false, cond, not, ◌&&◌, ◌||◌, List, [], ◌∷◌, length, take, drop, refl, sym, ap, ◌∙◌, arith, Option, Some, None, Result, Ok, Err}
+use Rattle.std.proofs.Common.{◌≡◌, ℕ, zero, suc, ◌+◌, ◌<◌, ◌≤◌, ◌==◌, nat_lt, Bool, true, false, cond, not, ◌&&◌, ◌||◌, List, [], ◌∷◌, length, take, drop, refl, ap, ◌∙◌, arith, Option, Some, None, Result, Ok, Err}
 use Rattle.std.proofs.lemmas.Bool.Decides.{nat_tests}
 use Rattle.std.specs.List.{list_any, position_or_len}
-use Rattle.std.specs.Prelude.{slice_index, ◌^◌}
-use Rattle.std.specs.Int.{w32, from_le_bytes}
+use Rattle.std.specs.Prelude.{slice_index}
 use Rattle.hex.specs.Hex.{hex_digit_value, is_hex_digit}
-use Rattle.hex_items.specs.declared.item.Kind.{Kind}
 use Rattle.hex_items.specs.declared.item.Kind.TheVariants.{I, B, J, U}
 use Rattle.hex_items.specs.declared.item.Item.TheVariants as item
 use Rattle.hex_items.specs.declared.token.Dialect.TheVariants.{Hex2}
 use Rattle.hex_items.specs.declared.token.Fault.{Fault}
 use Rattle.hex_items.specs.declared.token.Fault.TheVariants.{BadField}
 use Rattle.hex_items.specs.declared.token.Token.{Token}
-use Rattle.hex_items.specs.declared.token.Token.TheVariants.{Byte, Field, Reference, Alone}
-use Rattle.hex_items.specs.Tokens.{byte_at, byte_of, ends_name, field_at, field_of, gap_length, low_digit, name_length, named_by, pad_at, pair_at, pair_with, rel_at, second_name, token_at}
-use Rattle.hex_writer.specs.Writable.{IsName, IsWritable}
+use Rattle.hex_items.specs.declared.token.Token.TheVariants.{Reference, Alone}
+use Rattle.hex_items.specs.Tokens.{byte_at, byte_of, ends_name, field_at, field_of, gap_length, low_digit, name_length, named_by, pair_at, pair_with, rel_at, second_name, token_at}
+use Rattle.hex_writer.specs.Writable.{IsHexName}
 use Rattle.hex_writer.proofs.Writables.{IsGood}
 
 -- ---- bytes
@@ -91,7 +89,7 @@ no-blank p (byte ∷ left) = by (p byte) refl (no-blank p left)
     by false is rest =
         let one : 1 + position_or_len p left ≡ suc (position_or_len p left) = omega arith in
         let open_is : take (position_or_len p (byte ∷ left)) (byte ∷ left) ≡ byte ∷ take (position_or_len p left) left =
-            rw is (ap (λ (n : ℕ). take n (byte ∷ left)) one) in
+        rw is (ap (λ (n : ℕ). take n (byte ∷ left)) one) in
         ap (list_any p) open_is ∙ ap (λ (b : Bool). b || list_any p (take (position_or_len p left) left)) is ∙ rest
 
 size-within : (p : ℕ → Bool) (left : List ℕ) → position_or_len p left ≤ length left
@@ -107,17 +105,17 @@ front-some size [] some within = absurd (grind (arith, nat_tests))
 front-some zero (byte ∷ left) some within = absurd (cc)
 front-some (suc size) (byte ∷ left) some within = omega arith
 
-front-name : (size : ℕ) (left : List ℕ) → size ≡ position_or_len ends_name left → (size == 0) ≡ false → IsName (take size left)
+front-name : (size : ℕ) (left : List ℕ) → size ≡ position_or_len ends_name left → (size == 0) ≡ false → IsHexName (take size left)
 front-name size left is some = record {
   some = front-some size left some (omega (arith, is, size-within ends_name left));
   whole = ap (λ (n : ℕ). list_any ends_name (take n left)) is ∙ no-blank ends_name left;
 }
 
-name-good : (left : List ℕ) → (name_length Hex2 left == 0) ≡ false → IsName (take (name_length Hex2 left) left)
+name-good : (left : List ℕ) → (name_length Hex2 left == 0) ≡ false → IsHexName (take (name_length Hex2 left) left)
 unfolding name_length
 name-good left some = front-name (position_or_len ends_name left) left refl some
 
-named-good : (make : List ℕ → Token) (left : List ℕ) → ((name : List ℕ) → IsName name → IsGood (make name)) → IsGoodFound (named_by make (name_length Hex2 left) left)
+named-good : (make : List ℕ → Token) (left : List ℕ) → ((name : List ℕ) → IsHexName name → IsGood (make name)) → IsGoodFound (named_by make (name_length Hex2 left) left)
 named-good make left good = by (name_length Hex2 left == 0) refl
   where
     by : (none : Bool) → (name_length Hex2 left == 0) ≡ none → IsGoodFound (cond none (Err BadField) (Ok (make (take (name_length Hex2 left) left), name_length Hex2 left)))

@@ -1,10 +1,9 @@
 -- What a reader makes of one line.
-use Rattle.std.proofs.Common.{◌≡◌, ℕ, zero, suc, ◌+◌, ◌*◌, ◌-◌, ◌/◌, ◌%◌, ◌<◌, ◌≤◌, ◌==◌, nat_eq, Bool, true, false, cond, not, ◌&&◌, ◌||◌, List, [], ◌∷◌, ◌++◌, length, drop, take, get_or, append_assoc, refl, sym, ap, subst, ◌∙◌, arith, Option, Some, None, Result, Ok, Err, is_some}
-use Rattle.std.proofs.lemmas.Bool.{cond-true, cond-false}
+use Rattle.std.proofs.Common.{◌≡◌, ℕ, suc, ◌+◌, ◌*◌, ◌-◌, ◌/◌, ◌%◌, ◌<◌, ◌==◌, Bool, true, false, cond, ◌||◌, List, [], ◌∷◌, ◌++◌, length, drop, append_assoc, refl, sym, ap, ◌∙◌, arith, Some, None, Ok}
 use Rattle.std.proofs.lemmas.Bool.Decides.{nat_tests}
 use Rattle.std.proofs.lemmas.List.{drop-drop}
 use Rattle.std.proofs.Math.Seq.{drop-append_seam, get_or-append_seam, take-append_seam}
-use Rattle.std.specs.List.{list_any, position_or_len}
+use Rattle.std.specs.List.{list_any}
 use Rattle.std.specs.Prelude.{slice_index}
 use Rattle.hex.specs.Hex.{encode_upper, encode_with, hex_digit_value, upper_digits}
 use Rattle.hex.proofs.HexLemmas.{IsDigits-upper_digits}
@@ -13,18 +12,18 @@ use Rattle.hex_items.specs.declared.item.Kind.TheVariants.{I, B, J, U}
 use Rattle.hex_items.specs.declared.item.Item.{Item}
 use Rattle.hex_items.specs.declared.item.Item.TheVariants as item
 use Rattle.hex_items.specs.declared.token.Dialect.{Dialect}
-use Rattle.hex_items.specs.declared.token.Dialect.TheVariants.{Hex1, Hex2}
+use Rattle.hex_items.specs.declared.token.Dialect.TheVariants.{Hex2}
 use Rattle.hex_items.specs.declared.token.Fault.{Fault}
 use Rattle.hex_items.specs.declared.token.Token.{Token}
-use Rattle.hex_items.specs.declared.token.Token.TheVariants.{Byte, Field, Reference, Alone}
-use Rattle.hex_items.specs.Tokens.{ends_name, gap_from, gap_length, is_blank, low_digit, name_length, named_by, opens_gap, pair_at, token_at}
+use Rattle.hex_items.specs.declared.token.Token.TheVariants.{Byte, Reference, Alone}
+use Rattle.hex_items.specs.Tokens.{ends_name, gap_from, gap_length, is_blank, name_length, named_by, opens_gap, pair_at, token_at}
 use Rattle.hex_langs.specs.Hex0.{begins_comment}
-use Rattle.hex_items.specs.Reading.{Ends, formed, Reading, reading, Then, with_front}
+use Rattle.hex_items.specs.Reading.{formed, Reading, reading, Then, with_front}
 use Rattle.hex_items.proofs.Readings.{gap_length-some, reading-token}
 use Rattle.std.specs.Prelude.{◌^◌}
 use Rattle.std.specs.Int.{w32, from_le_bytes, to_le_bytes}
 use Rattle.std.proofs.lemmas.Nat.{from_le_bytes-to_le_bytes_4}
-use Rattle.hex_writer.specs.Writable.{IsName, IsWritable}
+use Rattle.hex_writer.specs.Writable.{IsHexName, IsWritable}
 use Rattle.hex_writer.specs.Writing.{item_line, kind_sign}
 
 -- ---- blanks between tokens
@@ -88,7 +87,7 @@ reads-byte at byte left small =
     let value : 16 * (byte / 16) + byte % 16 ≡ byte = omega arith in
     let next : at + 1 + 1 ≡ at + 2 = omega arith in
     reading-token Hex2 at (slice_index upper_digits (byte / 16)) (slice_index upper_digits (byte % 16) ∷ left) (Byte (16 * (byte / 16) + byte % 16)) 1
-        (digit-code (slice_index upper_digits (byte / 16)) (byte / 16) first) (byte-token (slice_index upper_digits (byte / 16)) (slice_index upper_digits (byte % 16)) (byte / 16) (byte % 16) left first second)
+    (digit-code (slice_index upper_digits (byte / 16)) (byte / 16) first) (byte-token (slice_index upper_digits (byte / 16)) (slice_index upper_digits (byte % 16)) (byte / 16) (byte % 16) left first second)
     ∙ ap (λ (n : ℕ). Then at (Byte n) (reading Hex2 (at + 1 + 1) 0 left)) value
     ∙ ap (λ (n : ℕ). Then at (Byte byte) (reading Hex2 n 0 left)) next
 
@@ -109,14 +108,14 @@ name_length-is (first ∷ name) left byte whole ends =
     rw head (ap (λ (n : ℕ). 1 + n) (name_length-is name left byte parts.1 ends) ∙ more)
 
 -- behind a sign a whole name
-pub named-is : (make : List ℕ → Token) (name left : List ℕ) (byte : ℕ) → IsName name → ends_name byte ≡ true
+pub named-is : (make : List ℕ → Token) (name left : List ℕ) (byte : ℕ) → IsHexName name → ends_name byte ≡ true
     → named_by make (name_length Hex2 (name ++ byte ∷ left)) (name ++ byte ∷ left) ≡ Ok (make name, length name)
 named-is make name left byte is ends =
     let size = name_length-is name left byte is.whole ends in
     let some : length name == 0 ≡ false = grind (arith, nat_tests, is.some) in
     rw size (rw some (rw (take-append_seam name (byte ∷ left)) refl))
 
-pub reads-named : (at first : ℕ) (make : List ℕ → Token) (name left : List ℕ) (byte : ℕ) → IsName name → ends_name byte ≡ true → opens_gap first ≡ false
+pub reads-named : (at first : ℕ) (make : List ℕ → Token) (name left : List ℕ) (byte : ℕ) → IsHexName name → ends_name byte ≡ true → opens_gap first ≡ false
     → token_at Hex2 first (name ++ byte ∷ left) ≡ named_by make (name_length Hex2 (name ++ byte ∷ left)) (name ++ byte ∷ left)
     → reading Hex2 at 0 (first ∷ (name ++ byte ∷ left)) ≡ Then at (make name) (reading Hex2 (at + 1 + length name) 0 (byte ∷ left))
 reads-named at first make name left byte is ends code token =
@@ -143,7 +142,7 @@ unfolding token_at
 pad-token left = refl
 
 -- `%` and a name that no `>` follows, and one that it follows
-rel-token : (name left : List ℕ) → IsName name → token_at Hex2 37 (name ++ 10 ∷ left) ≡ Ok (Alone (item.Rel name), length name)
+rel-token : (name left : List ℕ) → IsHexName name → token_at Hex2 37 (name ++ 10 ∷ left) ≡ Ok (Alone (item.Rel name), length name)
 unfolding token_at
 rel-token name left is =
     let size = name_length-is name left 10 is.whole refl in
@@ -153,7 +152,7 @@ rel-token name left is =
 drop-past : (xs ys : List ℕ) (y : ℕ) → drop (length xs + 1) (xs ++ y ∷ ys) ≡ ys
 drop-past xs ys y = sym (drop-drop 1 (length xs) (xs ++ y ∷ ys)) ∙ ap (λ (l : List ℕ). drop 1 l) (drop-append_seam xs (y ∷ ys))
 
-gap-token : (name other left : List ℕ) → IsName name → IsName other
+gap-token : (name other left : List ℕ) → IsHexName name → IsHexName other
     → token_at Hex2 37 (name ++ 62 ∷ (other ++ 10 ∷ left)) ≡ Ok (Alone (item.Gap name other), length name + 1 + length other)
 unfolding token_at
 gap-token name other left is also =
@@ -180,52 +179,59 @@ sign-code U = refl
 
 pub line-byte : (byte : ℕ) → byte < 256 → ReadsLine (item.Byte byte)
 unfolding encode_with
-line-byte byte small at rest =
-    (at + 2 + 1, ap (formed None) (reads-byte at byte (10 ∷ rest) small)
-        ∙ ap (λ (r : Reading Fault). with_front (item.Byte byte ∷ []) (formed None r)) (line_feed (at + 2) rest))
+line-byte byte small at rest = (
+  at + 2 + 1,
+  ap (formed None) (reads-byte at byte (10 ∷ rest) small)
+      ∙ ap (λ (r : Reading Fault). with_front (item.Byte byte ∷ []) (formed None r)) (line_feed (at + 2) rest),
+)
 
-pub line-label : (name : List ℕ) → IsName name → ReadsLine (item.Label name)
-line-label name is at rest =
-    (at + 1 + length name + 1,
-     ap (λ (l : List ℕ). formed None (reading Hex2 at 0 (58 ∷ l))) (append_assoc name (10 ∷ []) rest)
-     ∙ ap (formed None) (reads-named at 58 (λ n. Alone (item.Label n)) name rest 10 is refl refl (label-token (name ++ 10 ∷ rest)))
-     ∙ ap (λ (r : Reading Fault). with_front (item.Label name ∷ []) (formed None r)) (line_feed (at + 1 + length name) rest))
+pub line-label : (name : List ℕ) → IsHexName name → ReadsLine (item.Label name)
+line-label name is at rest = (
+  at + 1 + length name + 1,
+  ap (λ (l : List ℕ). formed None (reading Hex2 at 0 (58 ∷ l))) (append_assoc name (10 ∷ []) rest)
+      ∙ ap (formed None) (reads-named at 58 (λ n. Alone (item.Label n)) name rest 10 is refl refl (label-token (name ++ 10 ∷ rest)))
+      ∙ ap (λ (r : Reading Fault). with_front (item.Label name ∷ []) (formed None r)) (line_feed (at + 1 + length name) rest),
+)
 
-pub line-abs : (name : List ℕ) → IsName name → ReadsLine (item.Abs name)
-line-abs name is at rest =
-    (at + 1 + length name + 1,
-     ap (λ (l : List ℕ). formed None (reading Hex2 at 0 (38 ∷ l))) (append_assoc name (10 ∷ []) rest)
-     ∙ ap (formed None) (reads-named at 38 (λ n. Alone (item.Abs n)) name rest 10 is refl refl (abs-token (name ++ 10 ∷ rest)))
-     ∙ ap (λ (r : Reading Fault). with_front (item.Abs name ∷ []) (formed None r)) (line_feed (at + 1 + length name) rest))
+pub line-abs : (name : List ℕ) → IsHexName name → ReadsLine (item.Abs name)
+line-abs name is at rest = (
+  at + 1 + length name + 1,
+  ap (λ (l : List ℕ). formed None (reading Hex2 at 0 (38 ∷ l))) (append_assoc name (10 ∷ []) rest)
+      ∙ ap (formed None) (reads-named at 38 (λ n. Alone (item.Abs n)) name rest 10 is refl refl (abs-token (name ++ 10 ∷ rest)))
+      ∙ ap (λ (r : Reading Fault). with_front (item.Abs name ∷ []) (formed None r)) (line_feed (at + 1 + length name) rest),
+)
 
 pub line-pad : ReadsLine item.Pad
-line-pad at rest =
-    (at + 1 + 0 + 1,
-     ap (formed None) (reading-token Hex2 at 60 (10 ∷ rest) (Alone item.Pad) 0 refl (pad-token (10 ∷ rest)))
-     ∙ ap (λ (r : Reading Fault). with_front (item.Pad ∷ []) (formed None r)) (line_feed (at + 1 + 0) rest))
+line-pad at rest = (
+  at + 1 + 0 + 1,
+  ap (formed None) (reading-token Hex2 at 60 (10 ∷ rest) (Alone item.Pad) 0 refl (pad-token (10 ∷ rest)))
+      ∙ ap (λ (r : Reading Fault). with_front (item.Pad ∷ []) (formed None r)) (line_feed (at + 1 + 0) rest),
+)
 
-pub line-rel : (name : List ℕ) → IsName name → ReadsLine (item.Rel name)
-line-rel name is at rest =
-    (at + 1 + length name + 1,
-     ap (λ (l : List ℕ). formed None (reading Hex2 at 0 (37 ∷ l))) (append_assoc name (10 ∷ []) rest)
-     ∙ ap (formed None) (reading-token Hex2 at 37 (name ++ 10 ∷ rest) (Alone (item.Rel name)) (length name) refl (rel-token name rest is))
-     ∙ ap (λ (l : List ℕ). with_front (item.Rel name ∷ []) (formed None (reading Hex2 (at + 1 + length name) 0 l))) (drop-append_seam name (10 ∷ rest))
-     ∙ ap (λ (r : Reading Fault). with_front (item.Rel name ∷ []) (formed None r)) (line_feed (at + 1 + length name) rest))
+pub line-rel : (name : List ℕ) → IsHexName name → ReadsLine (item.Rel name)
+line-rel name is at rest = (
+  at + 1 + length name + 1,
+  ap (λ (l : List ℕ). formed None (reading Hex2 at 0 (37 ∷ l))) (append_assoc name (10 ∷ []) rest)
+      ∙ ap (formed None) (reading-token Hex2 at 37 (name ++ 10 ∷ rest) (Alone (item.Rel name)) (length name) refl (rel-token name rest is))
+      ∙ ap (λ (l : List ℕ). with_front (item.Rel name ∷ []) (formed None (reading Hex2 (at + 1 + length name) 0 l))) (drop-append_seam name (10 ∷ rest))
+      ∙ ap (λ (r : Reading Fault). with_front (item.Rel name ∷ []) (formed None r)) (line_feed (at + 1 + length name) rest),
+)
 
 gap-left : (name other rest : List ℕ) → (name ++ 62 ∷ (other ++ 10 ∷ [])) ++ rest ≡ name ++ 62 ∷ (other ++ 10 ∷ rest)
 gap-left name other rest =
     append_assoc name (62 ∷ (other ++ 10 ∷ [])) rest ∙ ap (λ (l : List ℕ). name ++ 62 ∷ l) (append_assoc other (10 ∷ []) rest)
 
-pub line-gap : (name other : List ℕ) → IsName name → IsName other → ReadsLine (item.Gap name other)
+pub line-gap : (name other : List ℕ) → IsHexName name → IsHexName other → ReadsLine (item.Gap name other)
 line-gap name other is also at rest =
     let past : drop (length name + 1 + length other) (name ++ 62 ∷ (other ++ 10 ∷ rest)) ≡ 10 ∷ rest =
-        sym (drop-drop (length other) (length name + 1) (name ++ 62 ∷ (other ++ 10 ∷ rest)))
-        ∙ ap (drop (length other)) (drop-past name (other ++ 10 ∷ rest) 62) ∙ drop-append_seam other (10 ∷ rest) in
-    (at + 1 + (length name + 1 + length other) + 1,
-     ap (λ (l : List ℕ). formed None (reading Hex2 at 0 (37 ∷ l))) (gap-left name other rest)
-     ∙ ap (formed None) (reading-token Hex2 at 37 (name ++ 62 ∷ (other ++ 10 ∷ rest)) (Alone (item.Gap name other)) (length name + 1 + length other) refl (gap-token name other rest is also))
-     ∙ ap (λ (l : List ℕ). with_front (item.Gap name other ∷ []) (formed None (reading Hex2 (at + 1 + (length name + 1 + length other)) 0 l))) past
-     ∙ ap (λ (r : Reading Fault). with_front (item.Gap name other ∷ []) (formed None r)) (line_feed (at + 1 + (length name + 1 + length other)) rest))
+    sym (drop-drop (length other) (length name + 1) (name ++ 62 ∷ (other ++ 10 ∷ rest)))
+    ∙ ap (drop (length other)) (drop-past name (other ++ 10 ∷ rest) 62) ∙ drop-append_seam other (10 ∷ rest) in (
+      at + 1 + (length name + 1 + length other) + 1,
+      ap (λ (l : List ℕ). formed None (reading Hex2 at 0 (37 ∷ l))) (gap-left name other rest)
+          ∙ ap (formed None) (reading-token Hex2 at 37 (name ++ 62 ∷ (other ++ 10 ∷ rest)) (Alone (item.Gap name other)) (length name + 1 + length other) refl (gap-token name other rest is also))
+          ∙ ap (λ (l : List ℕ). with_front (item.Gap name other ∷ []) (formed None (reading Hex2 (at + 1 + (length name + 1 + length other)) 0 l))) past
+          ∙ ap (λ (r : Reading Fault). with_front (item.Gap name other ∷ []) (formed None r)) (line_feed (at + 1 + (length name + 1 + length other)) rest),
+    )
 
 -- the two digits of a byte
 abbrev pub digits : ℕ → List ℕ → List ℕ
@@ -233,7 +239,7 @@ digits byte left = slice_index upper_digits (byte / 16) ∷ slice_index upper_di
 
 four-bytes : (a b c d at : ℕ) (left : List ℕ) → a < 256 → b < 256 → c < 256 → d < 256
     → reading Hex2 at 0 (digits a (digits b (digits c (digits d left))))
-      ≡ Then at (Byte a) (Then (at + 2) (Byte b) (Then (at + 2 + 2) (Byte c) (Then (at + 2 + 2 + 2) (Byte d) (reading Hex2 (at + 2 + 2 + 2 + 2) 0 left))))
+    ≡ Then at (Byte a) (Then (at + 2) (Byte b) (Then (at + 2 + 2) (Byte c) (Then (at + 2 + 2 + 2) (Byte d) (reading Hex2 (at + 2 + 2 + 2 + 2) 0 left))))
 four-bytes a b c d at left fits_a fits_b fits_c fits_d =
     reads-byte at a (digits b (digits c (digits d left))) fits_a
     ∙ ap (Then at (Byte a)) (reads-byte (at + 2) b (digits c (digits d left)) fits_b
@@ -246,24 +252,25 @@ word-left name digits rest =
 
 word-bytes : (value at : ℕ) (rest : List ℕ)
     → reading Hex2 at 0 (encode_upper (to_le_bytes w32 value) ++ 10 ∷ rest)
-      ≡ Then at (Byte (value % 256)) (Then (at + 2) (Byte (value / 256 % 256)) (Then (at + 2 + 2) (Byte (value / 65536 % 256))
-          (Then (at + 2 + 2 + 2) (Byte (value / 16777216 % 256)) (reading Hex2 (at + 2 + 2 + 2 + 2) 0 (10 ∷ rest)))))
+    ≡ Then at (Byte (value % 256)) (Then (at + 2) (Byte (value / 256 % 256)) (Then (at + 2 + 2) (Byte (value / 65536 % 256))
+    (Then (at + 2 + 2 + 2) (Byte (value / 16777216 % 256)) (reading Hex2 (at + 2 + 2 + 2 + 2) 0 (10 ∷ rest)))))
 unfolding encode_with
 word-bytes value at rest =
     four-bytes (value % 256) (value / 256 % 256) (value / 65536 % 256) (value / 16777216 % 256) at (10 ∷ rest) (omega arith) (omega arith) (omega arith) (omega arith)
 
-pub line-word : (value : ℕ) (kind : Kind) (name : List ℕ) → value < 2 ^ 32 → IsName name → ReadsLine (item.Word value kind name)
+pub line-word : (value : ℕ) (kind : Kind) (name : List ℕ) → value < 2 ^ 32 → IsHexName name → ReadsLine (item.Word value kind name)
 line-word value kind name small is at rest =
     let E = encode_upper (to_le_bytes w32 value) in
     let place : ℕ = at + 1 + length name + 1 in
-    let back : from_le_bytes w32 (to_le_bytes w32 value) ≡ value = from_le_bytes-to_le_bytes_4 value small in
-    (place + 2 + 2 + 2 + 2 + 1,
-     ap (λ (l : List ℕ). formed None (reading Hex2 at 0 (kind_sign kind ∷ l))) (word-left name E rest)
-     ∙ ap (formed None) (reads-named at (kind_sign kind) (Reference kind) name (E ++ 10 ∷ rest) 32 is refl (sign-code kind) (reference-token kind (name ++ 32 ∷ (E ++ 10 ∷ rest))))
-     ∙ ap (λ (r : Reading Fault). formed None (Then at (Reference kind name) r)) (space (at + 1 + length name) (E ++ 10 ∷ rest))
-     ∙ ap (λ (r : Reading Fault). formed None (Then at (Reference kind name) r)) (word-bytes value place rest)
-     ∙ ap (λ (n : ℕ). with_front (item.Word n kind name ∷ []) (formed None (reading Hex2 (place + 2 + 2 + 2 + 2) 0 (10 ∷ rest)))) back
-     ∙ ap (λ (r : Reading Fault). with_front (item.Word value kind name ∷ []) (formed None r)) (line_feed (place + 2 + 2 + 2 + 2) rest))
+    let back : from_le_bytes w32 (to_le_bytes w32 value) ≡ value = from_le_bytes-to_le_bytes_4 value small in (
+      place + 2 + 2 + 2 + 2 + 1,
+      ap (λ (l : List ℕ). formed None (reading Hex2 at 0 (kind_sign kind ∷ l))) (word-left name E rest)
+          ∙ ap (formed None) (reads-named at (kind_sign kind) (Reference kind) name (E ++ 10 ∷ rest) 32 is refl (sign-code kind) (reference-token kind (name ++ 32 ∷ (E ++ 10 ∷ rest))))
+          ∙ ap (λ (r : Reading Fault). formed None (Then at (Reference kind name) r)) (space (at + 1 + length name) (E ++ 10 ∷ rest))
+          ∙ ap (λ (r : Reading Fault). formed None (Then at (Reference kind name) r)) (word-bytes value place rest)
+          ∙ ap (λ (n : ℕ). with_front (item.Word n kind name ∷ []) (formed None (reading Hex2 (place + 2 + 2 + 2 + 2) 0 (10 ∷ rest)))) back
+          ∙ ap (λ (r : Reading Fault). with_front (item.Word value kind name ∷ []) (formed None r)) (line_feed (place + 2 + 2 + 2 + 2) rest),
+    )
 
 pub line-reads : (it : Item) → IsWritable it → ReadsLine it
 line-reads (item.Byte byte) fits = line-byte byte fits

@@ -1,27 +1,22 @@
 -- Tokens with good names and small numbers give items that have lines.
-use Rattle.std.proofs.Common.{◌≡◌, ℕ, ◌+◌, ◌*◌, ◌/◌, ◌%◌, ◌<◌, ◌≤◌, ◌^◌, Bool, false, true, List, [], ◌∷◌, ◌++◌, length, map, take, refl, sym, ap, subst, ◌∙◌, arith, Option, Some, None, Result, Ok, Err, cond, not, suc, ◌||◌}
-use Rattle.std.specs.Prelude.{bit_xor}
-use Rattle.std.specs.Int.{w32, from_le_bytes, to_le_bytes}
-use Rattle.std.specs.List.{AllByRecursion, list_any, position_or_len}
+use Rattle.std.proofs.Common.{ℕ, ◌<◌, ◌^◌, List, [], ◌∷◌, ◌++◌, arith, Option, Some, None, Ok, Err}
+use Rattle.std.specs.Int.{w32, from_le_bytes}
 use Rattle.std.proofs.lemmas.Nat.{xor_of_32}
 use Rattle.hex_items.specs.declared.item.Kind.{Kind}
 use Rattle.hex_items.specs.declared.item.Item.{Item}
-use Rattle.hex_items.specs.declared.item.Item.TheVariants as item
 use Rattle.hex_items.specs.declared.token.Token.{Token}
 use Rattle.hex_items.specs.declared.token.Token.TheVariants.{Byte, Field, Reference, Alone}
 use Rattle.hex_items.specs.declared.words.Open.{Open}
 use Rattle.hex_items.specs.declared.words.Begun.{Begun}
 use Rattle.hex_items.specs.declared.words.Begun.TheVariants.{Nothing, One, Two, Three}
-use Rattle.hex_items.specs.declared.words.Halt.{Halt}
-use Rattle.hex_items.specs.declared.token.Fault.{Fault}
 use Rattle.hex_items.specs.Words.{byte_in, field_in, reference_in, Step, taken, word_items}
 use Rattle.hex_items.specs.Reading.{Ends, Faulty, formed, Formed, behind_step, Reading, Then}
-use Rattle.hex_writer.specs.Writable.{AreWritable, IsName, IsWritable}
+use Rattle.hex_writer.specs.Writable.{AreWritable, IsHexName, IsWritable}
 
 abbrev pub IsGood : Token → Type 0
 IsGood (Byte byte) = byte < 256
 IsGood (Field mask) = mask < 2 ^ 32
-IsGood (Reference kind name) = IsName name
+IsGood (Reference kind name) = IsHexName name
 IsGood (Alone it) = IsWritable it
 
 abbrev pub AreGood : {F : Type 0} → Reading F → Type 0
@@ -36,7 +31,7 @@ BytesFit (Three a b c) = (a < 256) × (b < 256) × (c < 256)
 
 abbrev pub NameFits : Option (Kind × List ℕ) → Type 0
 NameFits None = Unit {0}
-NameFits (Some reference) = IsName reference.1
+NameFits (Some reference) = IsHexName reference.1
 
 pub record WordFits (word : Open) : Type 0 where
   pub mask : word.mask < 2 ^ 32
@@ -69,7 +64,7 @@ field-fits word (One a) mask fits small bytes = tt
 field-fits word (Two a b) mask fits small bytes = tt
 field-fits word (Three a b c) mask fits small bytes = tt
 
-reference-fits : (word : Open) (reference : Option (Kind × List ℕ)) (begun : Begun) (at : ℕ) (kind : Kind) (name : List ℕ) → WordFits word → IsName name
+reference-fits : (word : Open) (reference : Option (Kind × List ℕ)) (begun : Begun) (at : ℕ) (kind : Kind) (name : List ℕ) → WordFits word → IsHexName name
     → StepFits (reference_in word reference begun at kind name)
 reference-fits word (Some other) begun at kind name fits is = tt
 reference-fits word None Nothing at kind name fits is = (tt, record { mask = fits.mask; bytes = fits.bytes; name = is })

@@ -6,18 +6,18 @@ use Rattle.hex_items.specs.declared.item.Item.TheVariants.{Byte, Label, Word, Re
 use Rattle.hex_items.specs.Tokens.{ends_name}
 
 -- at least one byte, none of which is a blank or `>`
-pub record IsName (name : List ℕ) : Type 0 where
+pub record IsHexName (name : List ℕ) : Type 0 where
   pub some : 0 < length name
   pub whole : list_any ends_name name ≡ false
 
 -- its numbers fit, and its names are names
 abbrev pub IsWritable : Item → Type 0
 IsWritable (Byte byte) = byte < 256
-IsWritable (Label name) = IsName name
-IsWritable (Word value kind name) = (value < 2 ^ 32) × IsName name
-IsWritable (Rel name) = IsName name
-IsWritable (Gap name other) = IsName name × IsName other
-IsWritable (Abs name) = IsName name
+IsWritable (Label name) = IsHexName name
+IsWritable (Word value kind name) = (value < 2 ^ 32) × IsHexName name
+IsWritable (Rel name) = IsHexName name
+IsWritable (Gap name other) = IsHexName name × IsHexName other
+IsWritable (Abs name) = IsHexName name
 IsWritable Pad = Unit {0}
 
 abbrev pub AreWritable : List Item → Type 0

@@ -27,5 +27,5 @@ item_line (Abs name) = 38 ∷ (name ++ 10 ∷ [])
 item_line Pad = 60 ∷ 10 ∷ []
 
 -- the text of items
-unfoldable pub written : List Item → List ℕ
-written items = flat_map item_line items
+unfoldable pub items_text : List Item → List ℕ
+items_text items = flat_map item_line items

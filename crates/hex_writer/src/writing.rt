@@ -3,7 +3,7 @@ ghost use Rattle.std.specs.Prelude.{◌≡◌, ◌<◌, ◌++◌, ◌∷◌, [],
 ghost use Rattle.hex_items.specs.declared.item.Item.TheVariants.{Pad};
 ghost use Rattle.std.specs.Int.{w32, to_le_bytes};
 ghost use Rattle.hex.specs.Hex.{encode_upper, upper_digits};
-ghost use Rattle.hex_writer.specs.Writing.{item_line, kind_sign, written};
+ghost use Rattle.hex_writer.specs.Writing.{item_line, kind_sign, items_text};
 
 use ddc_base::{Bytes, OutOfMemory};
 use hex_items::{Item, Items, Kind};
@@ -11,7 +11,7 @@ use std::alloc::Global;
 
 /// The text of hex2 that gives these items: one line an item, with upper-case digits.
 pub fn write_items(alloc: Global, items: &Items<'_>) -> Result<Bytes, OutOfMemory>
-    ensures { IfOk result (λ text. text ≡ written items.now) }
+    ensures { IfOk result (λ text. text ≡ items_text items.now) }
 {
     let mut text = Bytes::new(alloc);
     for index in 0..items.len() {

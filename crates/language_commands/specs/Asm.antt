@@ -7,7 +7,7 @@ use Rattle.hex_items.specs.Refusals.{refusal_number, refusal_place}
 use Rattle.hex_items.specs.declared.item.Item.{Item}
 use Rattle.hex_link.specs.declared.values.HexLanguage.TheVariants as hex
 use Rattle.hex_link.specs.Values.{value_of}
-use Rattle.hex_writer.specs.Writing.{written}
+use Rattle.hex_writer.specs.Writing.{items_text}
 use Rattle.languages.specs.declared.Language.{Language}
 use Rattle.languages.specs.declared.Language.TheVariants.{Hex0, Hex1, Hex2, M1}
 use Rattle.languages.specs.Words.{language_named}
@@ -45,7 +45,7 @@ saved out (Err refusal) = answers CheckFailed (refused_line (refusal_number refu
 
 -- of M1 the text of the items is saved, which is a source of hex2
 abbrev pub saved_items : List ℕ → Result (List Item) M1Refusal → Plan
-saved_items out (Ok items) = made out (written items)
+saved_items out (Ok items) = made out (items_text items)
 saved_items out (Err refusal) = answers CheckFailed (refused_line (m1_refusal_number refusal) (m1_refusal_place refusal))
 
 -- what a source comes to in a language, at a base, which hex0 and M1 don't know

@@ -6,7 +6,7 @@ ghost use Rattle.command_plan.specs.Performs.{Performs};
 ghost use Rattle.command_plan.specs.Plan.{answers};
 ghost use Rattle.command_plan.specs.Steps.{Says};
 ghost use Rattle.hex_link.specs.Values.{value_of};
-ghost use Rattle.hex_writer.specs.Writing.{written};
+ghost use Rattle.hex_writer.specs.Writing.{items_text};
 ghost use Rattle.m1_lang.specs.Expansion.{expansion_of};
 ghost use Rattle.language_commands.specs.Asm.{made_line, refused_line, as_base, made, saved, saved_items, assembled, asm_files, asm_plan};
 ghost use Rattle.language_commands.specs.Inside.Refusing.{Refuses, RefusesM1};
@@ -142,7 +142,7 @@ fn save_text<S: Shelf>(
     shelf: &mut S,
 ) -> Result<Answer, Stop>
     requires out { IsFileName out.now }
-    ensures { Performs (made out.now (written items.now)) (S.state shelf.old) (S.state shelf.new) result }
+    ensures { Performs (made out.now (items_text items.now)) (S.state shelf.old) (S.state shelf.new) result }
 {
     let text = write_items(alloc, items)?;
     save(alloc, text.as_slice(), out, shelf)
@@ -150,12 +150,7 @@ fn save_text<S: Shelf>(
 
 /// Saves a content that was made.
 #[tactic(auto, using(command_plan::proofs::Performing::performing))]
-fn save<S: Shelf>(
-    alloc: Global,
-    content: &[u8],
-    out: &str,
-    shelf: &mut S,
-) -> Result<Answer, Stop>
+fn save<S: Shelf>(alloc: Global, content: &[u8], out: &str, shelf: &mut S) -> Result<Answer, Stop>
     requires out { IsFileName out.now }
     ensures { Performs (made out.now content.now) (S.state shelf.old) (S.state shelf.new) result }
 {

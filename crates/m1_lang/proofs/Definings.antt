@@ -1,22 +1,22 @@
 -- What one definition does to the table.
-use Rattle.std.proofs.Common.{◌≡◌, ℕ, Bool, true, false, cond, not, List, [], ◌∷◌, ◌++◌, refl, sym, ap, ◌∙◌, Option, Some, None, is_some, Result, Ok, Err}
+use Rattle.std.proofs.Common.{◌≡◌, ℕ, Bool, true, cond, not, List, [], ◌∷◌, ◌++◌, sym, ap, ◌∙◌, Option, Some, None, is_some, Result, Ok, Err}
 use Rattle.indexmap.specs.IndexMap.{get, IndexMap, insert_entry}
 use Rattle.indexmap.proofs.CallerLemmas.{insert_entry-new}
 use Rattle.m1_words.specs.Words.{Found, open_quote, Word, Words, word_list, words_of}
-use Rattle.m1_words.specs.Representation.Next.{words_at}
+use Rattle.m1_words.specs.Representation.Ahead.{words_at}
 use Rattle.m1_lang.specs.declared.refusal.M1Refusal.{M1Refusal}
 use Rattle.m1_lang.specs.declared.refusal.M1Refusal.TheVariants as refusal
-use Rattle.m1_lang.specs.Definitions.{and_then, Defined, defined_with, definitions, definitions_in, is_value, parts, same_text, unless_open, value_in}
-use Rattle.m1_lang.specs.Representation.Passes.{behind_define, DefinesOne, first_refusal, open_at, parts_at, Tabulates}
+use Rattle.m1_lang.specs.Definitions.{with_defined, Defined, definitions, definitions_in, is_value, parts, same_text, unless_open, value_in}
+use Rattle.m1_lang.specs.Representation.Passes.{behind_define, DefinesOne, quote_or, open_at, parts_at, Tabulates}
 
 -- behind a good value the name decides
 behind-good : (seen : Defined) (start : ℕ) (name value : Word) (rest : List Word) (before : Option (List ℕ)) → is_value value.text ≡ true
     → value_in seen name.text ≡ before
     → behind_define seen start (name ∷ value ∷ rest)
-    ≡ and_then (cond (is_some before) (Err (refusal.DoubleDefine start)) (Ok (seen ++ (name.text, value.text) ∷ []))) (λ more. definitions more (parts rest))
+    ≡ with_defined (cond (is_some before) (Err (refusal.DoubleDefine start)) (Ok (seen ++ (name.text, value.text) ∷ []))) (λ more. definitions more (parts rest))
 behind-good seen start name value rest before good is =
-    ap (λ (b : Bool). and_then (cond (not b) (Err (refusal.BadDefine start)) (cond (is_some (value_in seen name.text)) (Err (refusal.DoubleDefine start)) (Ok (seen ++ (name.text, value.text) ∷ [])))) (λ more. definitions more (parts rest))) good
-    ∙ ap (λ (o : Option (List ℕ)). and_then (cond (is_some o) (Err (refusal.DoubleDefine start)) (Ok (seen ++ (name.text, value.text) ∷ []))) (λ more. definitions more (parts rest))) is
+    ap (λ (b : Bool). with_defined (cond (not b) (Err (refusal.BadDefine start)) (cond (is_some (value_in seen name.text)) (Err (refusal.DoubleDefine start)) (Ok (seen ++ (name.text, value.text) ∷ [])))) (λ more. definitions more (parts rest))) good
+    ∙ ap (λ (o : Option (List ℕ)). with_defined (cond (is_some o) (Err (refusal.DoubleDefine start)) (Ok (seen ++ (name.text, value.text) ∷ []))) (λ more. definitions more (parts rest))) is
 
 -- the two words behind a `DEFINE`
 two-words : (seen : Defined) (source : List ℕ) (start at next after : ℕ) (name value : Word)
@@ -32,8 +32,8 @@ pub defines-new : {S : Type 0} (old new : IndexMap (List ℕ) (List ℕ) S) (sou
     × (open_at source at ≡ open_at source after)
 defines-new old new source start at next after name value first second good none entries = (
   two-words old.entries source start at next after name value first second
-  ∙ behind-good old.entries start name value (word_list (words_at source after)) None good none
-  ∙ ap (λ (d : Defined). definitions d (parts_at source after)) (sym (entries ∙ insert_entry-new same_text old name.text value.text none)),
+      ∙ behind-good old.entries start name value (word_list (words_at source after)) None good none
+      ∙ ap (λ (d : Defined). definitions d (parts_at source after)) (sym (entries ∙ insert_entry-new same_text old name.text value.text none)),
   ap open_quote first ∙ ap open_quote second,
 )
 
@@ -57,7 +57,7 @@ meant-by seen source at words quote whole is =
 -- a definition is refused, unless a quote is open behind it
 pub refused : (S : Type 0) (quote : Option ℕ) (why : M1Refusal) (start at : ℕ) (source : List ℕ) (old new : IndexMap (List ℕ) (List ℕ) S)
     (meant : Result Defined M1Refusal) → meant ≡ unless_open quote (behind_define old.entries start (word_list (words_at source at)))
-    → DefinesOne (Err why) start source at old new → Tabulates {S = S} (Err (first_refusal quote why)) meant
+    → DefinesOne (Err why) start source at old new → Tabulates {S = S} (Err (quote_or quote why)) meant
 refused S (Some place) why start at source old new meant is one = is
 refused S None refusal.OutOfMemory start at source old new meant is one = tt
 refused S None (refusal.BadDefine place) start at source old new meant is one = is ∙ one

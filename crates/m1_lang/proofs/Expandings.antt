@@ -1,5 +1,5 @@
 -- One word of a source on, and the whole.
-use Rattle.std.proofs.Common.{◌≡◌, ◌≤◌, ◌<◌, ℕ, nat_lt, true, false, List, [], ◌∷◌, length, refl, ap, sym, subst, ◌∙◌, arith, Option, None, Some, Result, Ok, Err}
+use Rattle.std.proofs.Common.{◌≡◌, ◌≤◌, ◌<◌, ℕ, nat_lt, true, false, List, [], length, ap, sym, subst, ◌∙◌, arith, Option, None, Result, Ok, Err}
 use Rattle.std.proofs.lemmas.Bool.{cond-true, cond-false}
 use Rattle.std.proofs.lemmas.Bool.Decides.{nat_tests}
 use Rattle.indexmap.specs.IndexMap.{get, IndexMap}
@@ -7,13 +7,13 @@ use Rattle.hex_items.specs.declared.item.Item.{Item}
 use Rattle.hex_items.specs.declared.words.Open.{Open}
 use Rattle.hex_items.specs.Reading.{Ends, formed, Formed, Reading, with_front, word_end}
 use Rattle.m1_words.specs.declared.meaning.WordFault.{WordFault}
-use Rattle.m1_words.specs.Words.{Found, Over, Word, word_list, Words, words_of}
+use Rattle.m1_words.specs.Words.{Found, Word, word_list, Words, words_of}
 use Rattle.m1_words.specs.Forms.{tokens_of}
-use Rattle.m1_words.specs.Representation.Next.{words_at}
+use Rattle.m1_words.specs.Representation.Ahead.{words_at}
 use Rattle.m1_lang.specs.declared.refusal.M1Refusal.{M1Refusal}
 use Rattle.m1_lang.specs.declared.refusal.M1Refusal.TheVariants as refusal
-use Rattle.m1_lang.specs.Definitions.{Defined, definitions_in, is_define, parts, plain_words, same_text, value_in}
-use Rattle.m1_lang.specs.Expansion.{counted, Expands, expansion_by, expansion_of, then_read, unless_refused, words_reading}
+use Rattle.m1_lang.specs.Definitions.{definitions_in, is_define, parts, plain_words, same_text}
+use Rattle.m1_lang.specs.Expansion.{counted_items, Expands, expansion_by, expansion_of, then_read, unless_refused, words_reading}
 use Rattle.m1_lang.specs.Representation.Passes.{plain_behind, parts_at, reading_at, Tabulates, TakesWord}
 use Rattle.m1_lang.proofs.Passing.{define-plain, parts-plain, words-end}
 use Rattle.m1_lang.proofs.Takings.{counted-end}
@@ -38,23 +38,23 @@ reading-over values source at none = ap (λ (l : List Word). words_reading value
 
 -- the last word is taken
 pub reading-done : (values : List ℕ → Option (List ℕ)) (source : List ℕ) (at : ℕ) (word : Option Open) (items : List Item) (whole : Formed WordFault) → length source ≤ at
-    → length items ≤ 33554432 → whole ≡ with_front items (formed word (reading_at values source at)) → counted whole ≡ unless_refused items (word_end word)
+    → length items ≤ 33554432 → whole ≡ with_front items (formed word (reading_at values source at)) → counted_items whole ≡ unless_refused items (word_end word)
 reading-done values source at word items whole past few is =
-    ap counted is
-    ∙ ap (λ (r : Reading WordFault). counted (with_front items (formed word r))) (reading-over values source at (ap word_list (words-end source at past)))
+    ap counted_items is
+    ∙ ap (λ (r : Reading WordFault). counted_items (with_front items (formed word r))) (reading-over values source at (ap word_list (words-end source at past)))
     ∙ counted-end items (word_end word) few
 
 -- a word is refused
 pub refused-word : (why : M1Refusal) (values : List ℕ → Option (List ℕ)) (word : Option Open) (at : ℕ) (text : List ℕ) (old new : List Item) (later : Reading WordFault)
     (whole : Formed WordFault) → whole ≡ with_front old (formed word (then_read at (tokens_of values text) later))
-    → TakesWord (Err why) word at (tokens_of values text) old new → Expands (counted whole) (Err why)
-refused-word (refusal.BadDefine place) values word at text old new later whole is takes = ap counted is ∙ takes later
-refused-word (refusal.DoubleDefine place) values word at text old new later whole is takes = ap counted is ∙ takes later
-refused-word (refusal.OpenString place) values word at text old new later whole is takes = ap counted is ∙ takes later
-refused-word (refusal.UnknownWord place) values word at text old new later whole is takes = ap counted is ∙ takes later
-refused-word (refusal.NumberRange place) values word at text old new later whole is takes = ap counted is ∙ takes later
-refused-word (refusal.Dangling place) values word at text old new later whole is takes = ap counted is ∙ takes later
-refused-word refusal.TooLong values word at text old new later whole is takes = ap counted is ∙ takes later
+    → TakesWord (Err why) word at (tokens_of values text) old new → Expands (counted_items whole) (Err why)
+refused-word (refusal.BadDefine place) values word at text old new later whole is takes = ap counted_items is ∙ takes later
+refused-word (refusal.DoubleDefine place) values word at text old new later whole is takes = ap counted_items is ∙ takes later
+refused-word (refusal.OpenString place) values word at text old new later whole is takes = ap counted_items is ∙ takes later
+refused-word (refusal.UnknownWord place) values word at text old new later whole is takes = ap counted_items is ∙ takes later
+refused-word (refusal.NumberRange place) values word at text old new later whole is takes = ap counted_items is ∙ takes later
+refused-word (refusal.Dangling place) values word at text old new later whole is takes = ap counted_items is ∙ takes later
+refused-word refusal.TooLong values word at text old new later whole is takes = ap counted_items is ∙ takes later
 refused-word refusal.OutOfMemory values word at text old new later whole is takes = tt
 
 -- ---- the whole
@@ -83,7 +83,7 @@ refused-definitions S refusal.OutOfMemory source short is = tt
 -- by the table of the definitions
 pub expanded-by : {S : Type 0} (table : IndexMap (List ℕ) (List ℕ) S) (source : List ℕ) (result : Result (List Item) M1Refusal) → length source ≤ 67108864
     → definitions_in (words_of source) ≡ Ok table.entries
-    → Expands (counted (formed None (reading_at (λ name. get same_text table name) source 0))) result → Expands (expansion_of source) result
+    → Expands (counted_items (formed None (reading_at (λ name. get same_text table name) source 0))) result → Expands (expansion_of source) result
 expanded-by table source result short defined expands =
     let is = expansion-short source short ∙ ap (λ d. expansion_by d (plain_words (parts_at source 0))) defined in
     subst (λ (meant : Result (List Item) M1Refusal). Expands meant result) (sym is) expands

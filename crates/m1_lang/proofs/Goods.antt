@@ -1,8 +1,7 @@
 -- The words of an M1 source of bytes give good tokens, so that its items have lines.
-use Rattle.std.proofs.Common.{◌≡◌, ℕ, zero, suc, ◌+◌, ◌-◌, ◌*◌, ◌/◌, ◌%◌, ◌<◌, ◌≤◌, ◌==◌, nat_lt, Bool, true, false, cond, not, List, [], ◌∷◌, ◌++◌, length, take, drop, map, replicate, refl, sym, ap, subst, ◌∙◌, arith, Option, Some, None, Result, Ok, Err}
-use Rattle.std.proofs.lemmas.Bool.{cond-false}
+use Rattle.std.proofs.Common.{◌≡◌, ℕ, zero, suc, ◌+◌, ◌-◌, ◌%◌, ◌<◌, ◌≤◌, ◌==◌, nat_lt, Bool, true, false, cond, List, [], ◌∷◌, ◌++◌, length, take, map, replicate, refl, ap, subst, arith, Option, Some, None, Result, Ok, Err}
 use Rattle.std.proofs.lemmas.Bool.Decides.{nat_tests}
-use Rattle.std.specs.Prelude.{ℤ, pos, negsuc, neg_ℤ, ◌+ℤ◌, ◌^◌, slice_index}
+use Rattle.std.specs.Prelude.{ℤ, pos, negsuc, neg_ℤ, ◌+ℤ◌}
 use Rattle.std.specs.Int.{w32, to_le_bytes}
 use Rattle.std.specs.List.{AllByRecursion}
 use Rattle.hex.specs.Hex.{hex_digit_value}
@@ -12,23 +11,23 @@ use Rattle.hex_items.specs.declared.token.Fault.{Fault}
 use Rattle.hex_items.specs.declared.token.Token.{Token}
 use Rattle.hex_items.specs.declared.token.Token.TheVariants.{Byte, Field}
 use Rattle.hex_items.specs.Tokens.{byte_of, gap_length, opens_gap, token_at}
-use Rattle.hex_items.specs.Reading.{Ending, Ends, Faulted, Faulty, formed, Formed, Halted, items_of, Reading, Then, Whole}
+use Rattle.hex_items.specs.Reading.{Ending, Faulted, formed, Formed, Halted, items_of, Reading, Whole}
 use Rattle.hex_writer.specs.Writable.{AreWritable}
-use Rattle.hex_writer.specs.Writing.{written}
+use Rattle.hex_writer.specs.Writing.{items_text}
 use Rattle.hex_writer.proofs.GoodTokens.{byte-below, digit-below, IsBelow, IsGoodFound, token-good}
 use Rattle.hex_writer.proofs.Texts.{items_of-written}
 use Rattle.hex_writer.proofs.Writables.{AreGood, formed-writable, IsGood}
 use Rattle.m1_words.specs.declared.meaning.WordFault.{WordFault}
 use Rattle.m1_words.specs.declared.meaning.WordFault.TheVariants.{UnknownWord}
 use Rattle.m1_words.specs.Digits.{cons_byte, digit_bytes}
-use Rattle.m1_words.specs.Numbers.{number}
-use Rattle.m1_words.specs.Forms.{begins_with, between, byte_tokens, defined_tokens, Form, form_or, form_tokens, i_field, in_range, is_within, number_behind, number_tokens, numbered_or, numbered_tokens, one_token, padded, quoted_tokens, s_field, takes_number, token_over, Tokens, tokens_of, upper_field, value_tokens, whole_token, wrapped}
-use Rattle.m1_words.specs.Words.{Found, Over, Unclosed, Word, word_list, word_more, Words, words_from, words_of}
+use Rattle.m1_words.specs.Numbers.{number_in}
+use Rattle.m1_words.specs.Forms.{begins_with, between, byte_tokens, defined_tokens, FormTokens, form_or, form_tokens, immediate_field, ranged_tokens, is_within, number_behind, number_tokens, numbered_or, numbered_tokens, one_token, padded, quoted_tokens, store_field, takes_number, token_over, Tokens, tokens_of, rounded_field, value_tokens, whole_token, number_word}
+use Rattle.m1_words.specs.Words.{Found, Unclosed, Word, word_list, word_more, Words, words_from, words_of}
 use Rattle.m1_lang.specs.declared.refusal.M1Refusal.{M1Refusal}
 use Rattle.m1_lang.specs.declared.refusal.M1Refusal.TheVariants.{TooLong}
-use Rattle.m1_lang.specs.Laws.{AreBytes}
-use Rattle.m1_lang.specs.Definitions.{Defined, Defines, Cut, definitions_in, is_define, Part, parts, Plain, plain_words, value_in}
-use Rattle.m1_lang.specs.Expansion.{at_once, counted, expansion_by, expansion_of, then_read, unless_refused, words_reading}
+use Rattle.m1_lang.specs.Laws.{IsOfBytes}
+use Rattle.m1_lang.specs.Definitions.{Defined, Defines, Cut, definitions_in, is_define, parts, Plain, plain_words, value_in}
+use Rattle.m1_lang.specs.Expansion.{at_once, counted_items, expansion_by, expansion_of, then_read, unless_refused, words_reading}
 
 abbrev AreGoodTokens : List Token → Type 0
 AreGoodTokens tokens = AllByRecursion IsGood tokens
@@ -41,34 +40,34 @@ abbrev IsGoodResult : Tokens → Type 0
 IsGoodResult (Ok tokens) = AreGoodTokens tokens
 IsGoodResult (Err why) = Unit {0}
 
-abbrev IsGoodForm : Form → Type 0
+abbrev IsGoodForm : FormTokens → Type 0
 IsGoodForm (Some tokens) = IsGoodResult tokens
 IsGoodForm None = Unit {0}
 
 -- ---- bytes
 
-bytes-good : (bytes : List ℕ) → AreBytes bytes → AreGoodTokens (map Byte bytes)
+bytes-good : (bytes : List ℕ) → IsOfBytes bytes → AreGoodTokens (map Byte bytes)
 bytes-good [] are = tt
 bytes-good (byte ∷ bytes) are = (are.0, bytes-good bytes are.1)
 
-take-bytes : (n : ℕ) (bytes : List ℕ) → AreBytes bytes → AreBytes (take n bytes)
+take-bytes : (n : ℕ) (bytes : List ℕ) → IsOfBytes bytes → IsOfBytes (take n bytes)
 take-bytes zero [] are = tt
 take-bytes zero (byte ∷ bytes) are = tt
 take-bytes (suc n) [] are = tt
 take-bytes (suc n) (byte ∷ bytes) are = (are.0, take-bytes n bytes are.1)
 
-append-bytes : (xs ys : List ℕ) → AreBytes xs → AreBytes ys → AreBytes (xs ++ ys)
+append-bytes : (xs ys : List ℕ) → IsOfBytes xs → IsOfBytes ys → IsOfBytes (xs ++ ys)
 append-bytes [] ys first second = second
 append-bytes (x ∷ xs) ys first second = (first.0, append-bytes xs ys first.1 second)
 
-zeros-bytes : (count : ℕ) → AreBytes (replicate count 0)
+zeros-bytes : (count : ℕ) → IsOfBytes (replicate count 0)
 zeros-bytes zero = tt
 zeros-bytes (suc count) = (omega arith, zeros-bytes count)
 
 -- ---- digits
 
 abbrev IsBytesOption : Option (List ℕ) → Type 0
-IsBytesOption (Some bytes) = AreBytes bytes
+IsBytesOption (Some bytes) = IsOfBytes bytes
 IsBytesOption None = Unit {0}
 
 digits-bytes : (text : List ℕ) → IsBytesOption (digit_bytes text)
@@ -113,7 +112,7 @@ value-good text = by (begins_with 46 text)
 
 -- ---- quotes
 
-quoted-good : (text : List ℕ) → AreBytes text → IsGoodList (quoted_tokens text)
+quoted-good : (text : List ℕ) → IsOfBytes text → IsGoodList (quoted_tokens text)
 quoted-good [] are = tt
 quoted-good (quote ∷ rest) are = by (quote == 34) (quote == 39)
   where
@@ -125,18 +124,18 @@ quoted-good (quote ∷ rest) are = by (quote == 34) (quote == 39)
 
 -- ---- numbers
 
-wrapped-small : (n : ℤ) → wrapped n < 4294967296
+wrapped-small : (n : ℤ) → number_word n < 4294967296
 wrapped-small (pos n) = omega arith
 wrapped-small (negsuc n) = omega arith
 
-range-good : (fits : Bool) (tokens : List Token) → AreGoodTokens tokens → IsGoodResult (in_range fits tokens)
+range-good : (fits : Bool) (tokens : List Token) → AreGoodTokens tokens → IsGoodResult (ranged_tokens fits tokens)
 range-good true tokens good = good
 range-good false tokens good = tt
 
 field-good : (mask : ℕ) → mask < 4294967296 → AreGoodTokens (Field mask ∷ [])
 field-good mask small = (small, tt)
 
-s_field-small : (n : ℕ) → s_field n < 4294967296
+s_field-small : (n : ℕ) → store_field n < 4294967296
 s_field-small n = omega arith
 
 number-good : (sign : ℕ) (n : ℤ) → IsGoodResult (number_tokens sign n)
@@ -148,22 +147,22 @@ number-good sign n = by (sign == 33) (sign == 64) (sign == 126)
     word : Bool
     word = is_within n (neg_ℤ (pos 2147483648)) (pos 4294967296)
 
-    four : AreGoodTokens (map Byte (to_le_bytes w32 (wrapped n)))
+    four : AreGoodTokens (map Byte (to_le_bytes w32 (number_word n)))
     four = (omega arith, (omega arith, (omega arith, (omega arith, tt))))
 
-    by : (i s u : Bool) → IsGoodResult (cond i (in_range (is_within n (neg_ℤ (pos 2048)) (pos 2048)) (Field (i_field (wrapped n)) ∷ []))
-        (cond s (in_range (is_within n (neg_ℤ (pos 2048)) (pos 2048)) (Field (s_field (wrapped n)) ∷ []))
-        (cond u (in_range (is_within n (neg_ℤ (pos 2147483648)) (pos 4294967296)) (Field (upper_field n) ∷ []))
-        (in_range (is_within n (neg_ℤ (pos 2147483648)) (pos 4294967296)) (map Byte (to_le_bytes w32 (wrapped n)))))))
-    by true s u = range-good _ (Field (i_field (wrapped n)) ∷ []) (field-good (i_field (wrapped n)) (omega arith))
-    by false true u = range-good _ (Field (s_field (wrapped n)) ∷ []) (field-good (s_field (wrapped n)) (s_field-small (wrapped n)))
-    by false false true = range-good _ (Field (upper_field n) ∷ []) (field-good (upper_field n) (omega (arith, wrapped-small (n +ℤ pos 2048))))
-    by false false false = range-good _ (map Byte (to_le_bytes w32 (wrapped n))) four
+    by : (i s u : Bool) → IsGoodResult (cond i (ranged_tokens (is_within n (neg_ℤ (pos 2048)) (pos 2048)) (Field (immediate_field (number_word n)) ∷ []))
+        (cond s (ranged_tokens (is_within n (neg_ℤ (pos 2048)) (pos 2048)) (Field (store_field (number_word n)) ∷ []))
+        (cond u (ranged_tokens (is_within n (neg_ℤ (pos 2147483648)) (pos 4294967296)) (Field (rounded_field n) ∷ []))
+        (ranged_tokens (is_within n (neg_ℤ (pos 2147483648)) (pos 4294967296)) (map Byte (to_le_bytes w32 (number_word n)))))))
+    by true s u = range-good _ (Field (immediate_field (number_word n)) ∷ []) (field-good (immediate_field (number_word n)) (omega arith))
+    by false true u = range-good _ (Field (store_field (number_word n)) ∷ []) (field-good (store_field (number_word n)) (s_field-small (number_word n)))
+    by false false true = range-good _ (Field (rounded_field n) ∷ []) (field-good (rounded_field n) (omega (arith, wrapped-small (n +ℤ pos 2048))))
+    by false false false = range-good _ (map Byte (to_le_bytes w32 (number_word n))) four
 
 numbered-good : (text : List ℕ) → IsGoodForm (numbered_tokens text)
 unfolding numbered_tokens
 numbered-good [] = tt
-numbered-good (sign ∷ rest) = by (takes_number sign) (number rest)
+numbered-good (sign ∷ rest) = by (takes_number sign) (number_in rest)
   where
     by : (takes : Bool) (n : Option ℤ) → IsGoodForm (cond takes (number_behind sign n) None)
     by false n = tt
@@ -176,11 +175,11 @@ or-good : (tokens : Option (List Token)) (later : Tokens) → IsGoodList tokens 
 or-good None later here there = there
 or-good (Some tokens) later here there = here
 
-numbered-or-good : (form : Form) (later : Tokens) → IsGoodForm form → IsGoodResult later → IsGoodResult (numbered_or form later)
+numbered-or-good : (form : FormTokens) (later : Tokens) → IsGoodForm form → IsGoodResult later → IsGoodResult (numbered_or form later)
 numbered-or-good None later here there = there
 numbered-or-good (Some tokens) later here there = here
 
-form-good : (text : List ℕ) → AreBytes text → IsGoodResult (form_tokens text)
+form-good : (text : List ℕ) → IsOfBytes text → IsGoodResult (form_tokens text)
 unfolding form_tokens
 form-good text are =
     or-good (quoted_tokens text) _ (quoted-good text are)
@@ -192,7 +191,7 @@ defined-good : (value : Option (List ℕ)) → IsGoodList (defined_tokens value)
 defined-good None = tt
 defined-good (Some value) = value-good value
 
-word-good : (values : List ℕ → Option (List ℕ)) (text : List ℕ) → AreBytes text → IsGoodResult (tokens_of values text)
+word-good : (values : List ℕ → Option (List ℕ)) (text : List ℕ) → IsOfBytes text → IsGoodResult (tokens_of values text)
 word-good values text are = or-good (defined_tokens (values text)) (form_tokens text) (defined-good (values text)) (form-good text are)
 
 once-good : (at : ℕ) (tokens : List Token) (later : Reading WordFault) → AreGoodTokens tokens → AreGood later → AreGood (at_once at tokens later)
@@ -204,7 +203,7 @@ read-good at (Ok tokens) later good rest = once-good at tokens later good rest
 read-good at (Err why) later good rest = tt
 
 abbrev AreByteWords : List Word → Type 0
-AreByteWords words = AllByRecursion (λ (word : Word). AreBytes word.text) words
+AreByteWords words = AllByRecursion (λ (word : Word). IsOfBytes word.text) words
 
 reading-good : (values : List ℕ → Option (List ℕ)) (words : List Word) → AreByteWords words → AreGood (words_reading values words)
 reading-good values [] are = tt
@@ -213,7 +212,7 @@ reading-good values (word ∷ words) are =
 
 -- ---- the words of a source
 
-words-bytes : (at inside : ℕ) (left : List ℕ) → AreBytes left → AreByteWords (word_list (words_from at inside left))
+words-bytes : (at inside : ℕ) (left : List ℕ) → IsOfBytes left → AreByteWords (word_list (words_from at inside left))
 unfolding words_from
 words-bytes at inside [] are = tt
 words-bytes at (suc inside) (byte ∷ left) are = words-bytes (at + 1) inside left are.1
@@ -247,7 +246,7 @@ plain-bytes (word ∷ name ∷ value ∷ words) are = by (is_define word.text) (
 
 -- ---- the items
 
-counted-ok : (whole : Formed WordFault) (items : List Item) → counted whole ≡ Ok items → (whole.items ≡ items) × (length whole.items ≤ 33554432)
+counted-ok : (whole : Formed WordFault) (items : List Item) → counted_items whole ≡ Ok items → (whole.items ≡ items) × (length whole.items ≤ 33554432)
 counted-ok whole items is = by (nat_lt 33554432 (length whole.items)) refl whole.end is
   where
     by : (over : Bool) → nat_lt 33554432 (length whole.items) ≡ over → (end : Ending WordFault) → cond over (Err TooLong) (unless_refused whole.items end) ≡ Ok items
@@ -261,20 +260,21 @@ items-fit : (defined : Result Defined M1Refusal) (words : List Word) (items : Li
     → AreWritable items × (length items ≤ 33554432)
 items-fit (Err why) words items are is = absurd (cc)
 items-fit (Ok defined) words items are is =
-    let found = counted-ok (formed None (words_reading (value_in defined) words)) items is in
-    (subst AreWritable found.0 (formed-writable None (words_reading (value_in defined) words) tt (reading-good (value_in defined) words are)),
-     omega (arith, found.1, ap length found.0))
+    let found = counted-ok (formed None (words_reading (value_in defined) words)) items is in (
+      subst AreWritable found.0 (formed-writable None (words_reading (value_in defined) words) tt (reading-good (value_in defined) words are)),
+      omega (arith, found.1, ap length found.0),
+    )
 
 -- what a source of bytes expands to, if it is written, is read again
-pub written-again : (source : List ℕ) (items : List Item) → AreBytes source → expansion_of source ≡ Ok items → length (written items) ≤ 67108864
-    → items_of Hex2 (written items) ≡ Ok items
+pub written-again : (source : List ℕ) (items : List Item) → IsOfBytes source → expansion_of source ≡ Ok items → length (items_text items) ≤ 67108864
+    → items_of Hex2 (items_text items) ≡ Ok items
 unfolding expansion_of
 written-again source items are is short = by (nat_lt 67108864 (length source)) is
   where
     by : (long : Bool) → cond long (Err TooLong) (expansion_by (definitions_in (words_of source)) (plain_words (parts (word_list (words_of source))))) ≡ Ok items
-        → items_of Hex2 (written items) ≡ Ok items
+        → items_of Hex2 (items_text items) ≡ Ok items
     by true same = absurd (cc)
     by false same =
         let fit = items-fit (definitions_in (words_of source)) (plain_words (parts (word_list (words_of source)))) items
-            (plain-bytes (word_list (words_of source)) (words-bytes 0 0 source are)) same in
+        (plain-bytes (word_list (words_of source)) (words-bytes 0 0 source are)) same in
         items_of-written items fit.0 fit.1 short

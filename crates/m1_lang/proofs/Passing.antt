@@ -1,14 +1,12 @@
 -- What one word of a source does to what is left.
-use Rattle.std.proofs.Common.{◌≡◌, ℕ, ◌≤◌, Bool, true, false, cond, List, [], ◌∷◌, length, drop, refl, ap, arith, ◌∙◌, Result, Err, Ok}
+use Rattle.std.proofs.Common.{◌≡◌, ℕ, ◌≤◌, Bool, true, false, cond, List, [], ◌∷◌, length, refl, ap, arith}
 use denote.Bor.{Bor}
 use Rattle.std.proofs.lemmas.List.{drop_all}
-use Rattle.m1_words.specs.Words.{Over, Found, Word, Words, word_list, words_from}
-use Rattle.m1_words.specs.Representation.Next.{Nexts, words_at}
-use Rattle.m1_words.specs.declared.splitting.Next.{Next}
-use Rattle.m1_words.specs.declared.splitting.Next.TheVariants as next
-use Rattle.m1_lang.specs.declared.refusal.M1Refusal.{M1Refusal}
-use Rattle.m1_lang.specs.declared.refusal.M1Refusal.TheVariants as refusal
-use Rattle.m1_lang.specs.Definitions.{and_then, Cut, Defined, defined_with, Defines, definitions, is_define, Part, parts, Plain, plain_words}
+use Rattle.m1_words.specs.Words.{Over, Word, Words, word_list, words_from}
+use Rattle.m1_words.specs.Representation.Ahead.{FindsAhead, words_at}
+use Rattle.m1_words.specs.declared.splitting.Ahead.{Ahead}
+use Rattle.m1_words.specs.declared.splitting.Ahead.TheVariants as next
+use Rattle.m1_lang.specs.Definitions.{Cut, Defined, Defines, definitions, is_define, parts, Plain, plain_words}
 use Rattle.m1_lang.specs.Representation.Passes.{behind_define, parts_at, plain_behind}
 
 pub words-end : (source : List ℕ) (at : ℕ) → length source ≤ at → words_at source at ≡ Over
@@ -39,7 +37,7 @@ parts-plain word (name ∷ value ∷ rest) is =
 
 -- ---- no word
 
-pub no-word : (found : Next) (source : List ℕ) (at : ℕ) → Nexts found source at
+pub no-word : (found : Ahead) (source : List ℕ) (at : ℕ) → FindsAhead found source at
     → ((start : ℕ) (text : Bor (List ℕ)) (after : ℕ) → found ≡ next.Word start text after → ⊥) → word_list (words_at source at) ≡ []
 no-word next.End source at is none = ap word_list is
 no-word (next.Open place) source at is none = ap word_list is

@@ -1,5 +1,5 @@
 -- What taking one token after the other comes to.
-use Rattle.std.proofs.Common.{◌≡◌, ℕ, suc, ◌-◌, replicate, ◌+◌, ◌<◌, ◌≤◌, Bool, true, false, nat_lt, List, [], ◌∷◌, ◌++◌, length, map, refl, sym, ap, ◌∙◌, arith, Option, Result, Ok, Err, length-append}
+use Rattle.std.proofs.Common.{◌≡◌, ℕ, suc, ◌-◌, replicate, ◌+◌, ◌<◌, ◌≤◌, true, false, nat_lt, List, [], ◌∷◌, ◌++◌, length, map, refl, sym, ap, ◌∙◌, arith, Option, Some, None, Result, Ok, Err, length-append}
 use Rattle.std.proofs.lemmas.Bool.{cond-true, cond-false}
 use Rattle.std.proofs.lemmas.Bool.Decides.{nat_tests}
 use Rattle.std.proofs.lemmas.List.{append-nil}
@@ -14,47 +14,46 @@ use Rattle.hex_items.specs.Reading.{Ending, formed, Formed, Halted, Reading, The
 use Rattle.hex_items.specs.Words.{Step, taken, Takes}
 use Rattle.hex_items.proofs.Readings.{formed-halt, formed-token, takes-ok, with_front-twice}
 use Rattle.m1_words.specs.declared.meaning.WordFault.{WordFault}
-use Rattle.m1_lang.specs.declared.refusal.M1Refusal.{M1Refusal}
 use Rattle.m1_lang.specs.declared.refusal.M1Refusal.TheVariants.{TooLong}
-use Rattle.m1_lang.specs.Expansion.{at_once, counted, place_refusal, unless_refused}
-use Rattle.m1_lang.specs.Representation.Passes.{TakesAll}
+use Rattle.m1_lang.specs.Expansion.{at_once, counted_items, halt_refusal, unless_refused}
+use Rattle.m1_lang.specs.Representation.Passes.{TakesTokens}
 
-pub counted-few : (whole : Formed WordFault) → length whole.items ≤ 33554432 → counted whole ≡ unless_refused whole.items whole.end
+pub counted-few : (whole : Formed WordFault) → length whole.items ≤ 33554432 → counted_items whole ≡ unless_refused whole.items whole.end
 counted-few whole few = let fits : nat_lt 33554432 (length whole.items) ≡ false = grind (arith, nat_tests) in cond-false _ _ _ fits
 
-counted-many : (whole : Formed WordFault) → 33554432 < length whole.items → counted whole ≡ Err TooLong
+counted-many : (whole : Formed WordFault) → 33554432 < length whole.items → counted_items whole ≡ Err TooLong
 counted-many whole many = let over : nat_lt 33554432 (length whole.items) ≡ true = grind (arith, nat_tests) in cond-true _ _ _ over
 
 -- the items so far are few, and nothing comes behind them
 pub counted-end : (items : List Item) (end : Ending WordFault) → length items ≤ 33554432
-    → counted (with_front items (record { items = []; end = end })) ≡ unless_refused items end
+    → counted_items (with_front items (record { items = []; end = end })) ≡ unless_refused items end
 counted-end items end few =
-    ap (λ (all : List Item). counted (record { items = all; end = end })) (append-nil items) ∙ counted-few (record { items = items; end = end }) few
+    ap (λ (all : List Item). counted_items (record { items = all; end = end })) (append-nil items) ∙ counted-few (record { items = items; end = end }) few
 
 -- ---- one token
 
 one-ok : (word next : Option Open) (at : ℕ) (token : Token) (old new : List Item) → Takes (Ok next) (taken word at token) old new
-    → TakesAll (Ok next) word at (token ∷ []) old new
+    → TakesTokens (Ok next) word at (token ∷ []) old new
 one-ok word next at token old new takes later =
     let found = takes-ok (taken word at token) next old new takes in
     ap (with_front old) (formed-token word next at token later found.0 found.1) ∙ with_front-twice old found.0 (formed next later)
     ∙ ap (λ (items : List Item). with_front items (formed next later)) (sym found.2)
 
 one-halt : (word : Option Open) (at : ℕ) (token : Token) (old : List Item) (why : Halt) → length old ≤ 33554432 → taken word at token ≡ Err why
-    → (later : Reading WordFault) → counted (with_front old (formed word (Then at token later))) ≡ Err (place_refusal why)
+    → (later : Reading WordFault) → counted_items (with_front old (formed word (Then at token later))) ≡ Err (halt_refusal why)
 one-halt word at token old why few is later =
-    ap (λ (f : Formed WordFault). counted (with_front old f)) (formed-halt word at token later why is) ∙ counted-end old (Halted why) few
+    ap (λ (f : Formed WordFault). counted_items (with_front old f)) (formed-halt word at token later why is) ∙ counted-end old (Halted why) few
 
 one-long : (word : Option Open) (at : ℕ) (token : Token) (old new : List Item) (meant : Step) → length old ≤ 33554432 → taken word at token ≡ meant
-    → Takes (Err halt.TooLong) meant old new → (later : Reading WordFault) → counted (with_front old (formed word (Then at token later))) ≡ Err TooLong
+    → Takes (Err halt.TooLong) meant old new → (later : Reading WordFault) → counted_items (with_front old (formed word (Then at token later))) ≡ Err TooLong
 one-long word at token old new (Ok step) few is takes later =
-    ap (λ (f : Formed WordFault). counted (with_front old f)) (formed-token word step.1 at token later step.0 is)
+    ap (λ (f : Formed WordFault). counted_items (with_front old f)) (formed-token word step.1 at token later step.0 is)
     ∙ counted-many (with_front old (with_front step.0 (formed step.1 later)))
     (omega (arith, takes, length-append old (step.0 ++ (formed step.1 later).items), length-append step.0 (formed step.1 later).items))
 one-long word at token old new (Err why) few is takes later = one-halt word at token old halt.TooLong few (is ∙ takes) later
 
 pub takes-one : (result : Result (Option Open) Halt) (word : Option Open) (at : ℕ) (token : Token) (old new : List Item) → length old ≤ 33554432
-    → Takes result (taken word at token) old new → TakesAll result word at (token ∷ []) old new
+    → Takes result (taken word at token) old new → TakesTokens result word at (token ∷ []) old new
 takes-one (Ok next) word at token old new few takes = one-ok word next at token old new takes
 takes-one (Err (halt.Dangling first)) word at token old new few takes = one-halt word at token old (halt.Dangling first) few takes
 takes-one (Err (halt.Second place)) word at token old new few takes = one-halt word at token old (halt.Second place) few takes
@@ -69,15 +68,15 @@ Left word tokens old next left items =
     (at : ℕ) (later : Reading WordFault) → with_front old (formed word (at_once at tokens later)) ≡ with_front items (formed next (at_once at left later))
 
 pub left-more : (word next then : Option Open) (tokens left : List Token) (token : Token) (old items new : List Item)
-    → Left word tokens old next (token ∷ left) items → ((at : ℕ) → TakesAll (Ok then) next at (token ∷ []) items new) → Left word tokens old then left new
+    → Left word tokens old next (token ∷ left) items → ((at : ℕ) → TakesTokens (Ok then) next at (token ∷ []) items new) → Left word tokens old then left new
 left-more word next then tokens left token old items new so_far one at later = so_far at later ∙ one at (at_once at left later)
 
 pub left-refused : (why : Halt) (word next : Option Open) (tokens left : List Token) (token : Token) (old items new : List Item)
-    → Left word tokens old next (token ∷ left) items → ((at : ℕ) → TakesAll (Err why) next at (token ∷ []) items new)
-    → (at : ℕ) → TakesAll (Err why) word at tokens old new
-left-refused (halt.Dangling first) word next tokens left token old items new so_far one at = λ later. ap counted (so_far at later) ∙ one at (at_once at left later)
-left-refused (halt.Second place) word next tokens left token old items new so_far one at = λ later. ap counted (so_far at later) ∙ one at (at_once at left later)
-left-refused halt.TooLong word next tokens left token old items new so_far one at = λ later. ap counted (so_far at later) ∙ one at (at_once at left later)
+    → Left word tokens old next (token ∷ left) items → ((at : ℕ) → TakesTokens (Err why) next at (token ∷ []) items new)
+    → (at : ℕ) → TakesTokens (Err why) word at tokens old new
+left-refused (halt.Dangling first) word next tokens left token old items new so_far one at = λ later. ap counted_items (so_far at later) ∙ one at (at_once at left later)
+left-refused (halt.Second place) word next tokens left token old items new so_far one at = λ later. ap counted_items (so_far at later) ∙ one at (at_once at left later)
+left-refused halt.TooLong word next tokens left token old items new so_far one at = λ later. ap counted_items (so_far at later) ∙ one at (at_once at left later)
 left-refused halt.OutOfMemory word next tokens left token old items new so_far one at = tt
 
 -- ---- bytes
@@ -88,27 +87,27 @@ bytes-append at [] ys later = refl
 bytes-append at (x ∷ xs) ys later = ap (Then at (Byte x)) (bytes-append at xs ys later)
 
 pub append-refused : (why : Halt) (word : Option Open) (at : ℕ) (xs ys : List ℕ) (old new : List Item)
-    → TakesAll (Err why) word at (map Byte xs) old new → TakesAll (Err why) word at (map Byte (xs ++ ys)) old new
+    → TakesTokens (Err why) word at (map Byte xs) old new → TakesTokens (Err why) word at (map Byte (xs ++ ys)) old new
 append-refused (halt.Dangling first) word at xs ys old new one =
-    λ later. ap (λ (r : Reading WordFault). counted (with_front old (formed word r))) (bytes-append at xs ys later) ∙ one (at_once at (map Byte ys) later)
+    λ later. ap (λ (r : Reading WordFault). counted_items (with_front old (formed word r))) (bytes-append at xs ys later) ∙ one (at_once at (map Byte ys) later)
 append-refused (halt.Second place) word at xs ys old new one =
-    λ later. ap (λ (r : Reading WordFault). counted (with_front old (formed word r))) (bytes-append at xs ys later) ∙ one (at_once at (map Byte ys) later)
+    λ later. ap (λ (r : Reading WordFault). counted_items (with_front old (formed word r))) (bytes-append at xs ys later) ∙ one (at_once at (map Byte ys) later)
 append-refused halt.TooLong word at xs ys old new one =
-    λ later. ap (λ (r : Reading WordFault). counted (with_front old (formed word r))) (bytes-append at xs ys later) ∙ one (at_once at (map Byte ys) later)
+    λ later. ap (λ (r : Reading WordFault). counted_items (with_front old (formed word r))) (bytes-append at xs ys later) ∙ one (at_once at (map Byte ys) later)
 append-refused halt.OutOfMemory word at xs ys old new one = tt
 
 -- behind the first bytes
-both : (word next : Option Open) (at : ℕ) (xs ys : List ℕ) (old mid : List Item) → TakesAll (Ok next) word at (map Byte xs) old mid
+both : (word next : Option Open) (at : ℕ) (xs ys : List ℕ) (old mid : List Item) → TakesTokens (Ok next) word at (map Byte xs) old mid
     → (later : Reading WordFault) → with_front old (formed word (at_once at (map Byte (xs ++ ys)) later)) ≡ with_front mid (formed next (at_once at (map Byte ys) later))
 both word next at xs ys old mid one later =
     ap (λ (r : Reading WordFault). with_front old (formed word r)) (bytes-append at xs ys later) ∙ one (at_once at (map Byte ys) later)
 
 pub append-taken : (result : Result (Option Open) Halt) (word next : Option Open) (at : ℕ) (xs ys : List ℕ) (old mid new : List Item)
-    → TakesAll (Ok next) word at (map Byte xs) old mid → TakesAll result next at (map Byte ys) mid new → TakesAll result word at (map Byte (xs ++ ys)) old new
+    → TakesTokens (Ok next) word at (map Byte xs) old mid → TakesTokens result next at (map Byte ys) mid new → TakesTokens result word at (map Byte (xs ++ ys)) old new
 append-taken (Ok then) word next at xs ys old mid new one two = λ later. both word next at xs ys old mid one later ∙ two later
-append-taken (Err (halt.Dangling first)) word next at xs ys old mid new one two = λ later. ap counted (both word next at xs ys old mid one later) ∙ two later
-append-taken (Err (halt.Second place)) word next at xs ys old mid new one two = λ later. ap counted (both word next at xs ys old mid one later) ∙ two later
-append-taken (Err halt.TooLong) word next at xs ys old mid new one two = λ later. ap counted (both word next at xs ys old mid one later) ∙ two later
+append-taken (Err (halt.Dangling first)) word next at xs ys old mid new one two = λ later. ap counted_items (both word next at xs ys old mid one later) ∙ two later
+append-taken (Err (halt.Second place)) word next at xs ys old mid new one two = λ later. ap counted_items (both word next at xs ys old mid one later) ∙ two later
+append-taken (Err halt.TooLong) word next at xs ys old mid new one two = λ later. ap counted_items (both word next at xs ys old mid one later) ∙ two later
 append-taken (Err halt.OutOfMemory) word next at xs ys old mid new one two = tt
 
 pub zeros-more : (count done : ℕ) → done < count → replicate {A = ℕ} (count - done) 0 ≡ 0 ∷ replicate {A = ℕ} (count - (done + 1)) 0

@@ -54,14 +54,14 @@ defined_with seen at name value =
     else if is_some (value_in seen name) then Err (DoubleDefine at)
     else Ok (seen ++ (name, value) ∷ [])
 
-abbrev pub and_then : Result Defined M1Refusal → (Defined → Result Defined M1Refusal) → Result Defined M1Refusal
-and_then (Ok seen) rest = rest seen
-and_then (Err why) rest = Err why
+abbrev pub with_defined : Result Defined M1Refusal → (Defined → Result Defined M1Refusal) → Result Defined M1Refusal
+with_defined (Ok seen) rest = rest seen
+with_defined (Err why) rest = Err why
 
 -- the definitions of a source in order, behind those so far, or the first that is refused
 abbrev pub definitions : Defined → List Part → Result Defined M1Refusal
 definitions seen [] = Ok seen
-definitions seen (Defines at name value ∷ rest) = and_then (defined_with seen at name value) (λ more. definitions more rest)
+definitions seen (Defines at name value ∷ rest) = with_defined (defined_with seen at name value) (λ more. definitions more rest)
 definitions seen (Cut at ∷ rest) = Err (BadDefine at)
 definitions seen (Plain word ∷ rest) = definitions seen rest
 

@@ -29,11 +29,11 @@ words_reading values [] = Ends
 words_reading values (word ∷ rest) = then_read word.at (tokens_of values word.text) (words_reading values rest)
 
 -- the refusal of a token that has no place in a word of four bytes
-abbrev pub place_refusal : Halt → M1Refusal
-place_refusal (halt.Dangling first) = Dangling first
-place_refusal (halt.Second at) = UnknownWord at
-place_refusal halt.TooLong = TooLong
-place_refusal halt.OutOfMemory = OutOfMemory
+abbrev pub halt_refusal : Halt → M1Refusal
+halt_refusal (halt.Dangling first) = Dangling first
+halt_refusal (halt.Second at) = UnknownWord at
+halt_refusal halt.TooLong = TooLong
+halt_refusal halt.OutOfMemory = OutOfMemory
 
 -- the refusal of a word
 abbrev pub word_refusal : WordFault → ℕ → M1Refusal
@@ -43,16 +43,16 @@ word_refusal fault.NumberRange at = NumberRange at
 -- the items, unless the source is refused behind them
 abbrev pub unless_refused : List Item → Ending WordFault → Result (List Item) M1Refusal
 unless_refused items Whole = Ok items
-unless_refused items (Halted why) = Err (place_refusal why)
+unless_refused items (Halted why) = Err (halt_refusal why)
 unless_refused items (Faulted why at) = Err (word_refusal why at)
 
 -- more items than a list may have are refused where the first one too many would be formed
-abbrev pub counted : Formed WordFault → Result (List Item) M1Refusal
-counted formed = if nat_lt 33554432 (length formed.items) then Err TooLong else unless_refused formed.items formed.end
+abbrev pub counted_items : Formed WordFault → Result (List Item) M1Refusal
+counted_items formed = if nat_lt 33554432 (length formed.items) then Err TooLong else unless_refused formed.items formed.end
 
 -- the items of the words that belong to no definition; fields and bytes form words of four bytes as in hex2
 abbrev pub expansion_by : Result Defined M1Refusal → List Word → Result (List Item) M1Refusal
-expansion_by (Ok defined) words = counted (formed None (words_reading (value_in defined) words))
+expansion_by (Ok defined) words = counted_items (formed None (words_reading (value_in defined) words))
 expansion_by (Err why) words = Err why
 
 -- the items of a source, or its first refusal: its length, an open quote, its definitions in order, its other words in order

@@ -1,28 +1,19 @@
 //! The definitions of an M1 source.
 ghost use Rattle.std.specs.Prelude.{◌≡◌, ◌≤◌, length};
 ghost use Rattle.m1_words.specs.Words.{words_of};
-ghost use Rattle.m1_lang.specs.Definitions.{definitions_in, is_define, is_value};
-ghost use Rattle.m1_lang.specs.Representation.Passes.{first_refusal, open_at, DefinesOne, Tabulates};
+ghost use Rattle.m1_lang.specs.Definitions.{definitions_in, is_define};
+ghost use Rattle.m1_lang.specs.Representation.Passes.{quote_or, open_at, DefinesOne, Tabulates};
 
 use crate::refusal::M1Refusal;
 use hex_items::Name;
 use indexmap::IndexMap;
-use m1_words::{Next, next_word, value_of};
+use m1_words::{Ahead, Value, next_word};
 use std::alloc::Global;
 
 pub(crate) fn is_define(text: &[u8]) -> bool
     ensures { result ≡ is_define text.now }
 {
     text == b"DEFINE".as_slice()
-}
-
-fn is_value(text: &[u8]) -> bool
-    ensures { result ≡ is_value text.now }
-{
-    match value_of(text) {
-        Some(_) => true,
-        None => false,
-    }
 }
 
 /// Where a quote is open, from an offset on.
@@ -33,9 +24,9 @@ fn open_quote(source: &[u8], from: usize) -> Option<usize>
     let mut at = from;
     while at < source.len() {
         match next_word(source, at) {
-            Next::End => return None,
-            Next::Open(place) => return Some(place),
-            Next::Word(_, _, after) => at = after,
+            Ahead::End => return None,
+            Ahead::Open(place) => return Some(place),
+            Ahead::Word(_, _, after) => at = after,
         }
     }
     None
@@ -43,7 +34,7 @@ fn open_quote(source: &[u8], from: usize) -> Option<usize>
 
 /// One definition behind its `DEFINE`; the offset behind it.
 fn define<'s>(
-    table: &mut IndexMap<Name<'s>, Name<'s>>,
+    table: &mut IndexMap<Name<'s>, Value<'s>>,
     source: &'s [u8],
     start: usize,
     at: usize,
@@ -52,17 +43,15 @@ fn define<'s>(
     ensures { DefinesOne result start source.now at table.old table.new }
 {
     match next_word(source, at) {
-        Next::Word(_, name, behind) => match next_word(source, behind) {
-            Next::Word(_, value, after) => {
-                if !is_value(value) {
-                    return Err(M1Refusal::BadDefine(start as u64));
-                }
-                match table.insert(Name::new(name), Name::new(value)) {
+        Ahead::Word(_, name, behind) => match next_word(source, behind) {
+            Ahead::Word(_, value, after) => match Value::new(value) {
+                None => Err(M1Refusal::BadDefine(start as u64)),
+                Some(value) => match table.insert(Name::new(name), value) {
                     Err(_) => Err(M1Refusal::OutOfMemory),
                     Ok(Some(_)) => Err(M1Refusal::DoubleDefine(start as u64)),
                     Ok(None) => Ok(after),
-                }
-            }
+                },
+            },
             _ => Err(M1Refusal::BadDefine(start as u64)),
         },
         _ => Err(M1Refusal::BadDefine(start as u64)),
@@ -72,7 +61,7 @@ fn define<'s>(
 /// The refusal of a definition, unless a quote is open behind it.
 fn unless_open(source: &[u8], at: usize, refusal: M1Refusal) -> M1Refusal
     requires { at ≤ length source.now }
-    ensures { result ≡ first_refusal (open_at source.now at) refusal }
+    ensures { result ≡ quote_or (open_at source.now at) refusal }
 {
     match open_quote(source, at) {
         Some(place) => M1Refusal::OpenString(place as u64),
@@ -84,16 +73,16 @@ fn unless_open(source: &[u8], at: usize, refusal: M1Refusal) -> M1Refusal
 pub(crate) fn definitions_of<'s>(
     alloc: Global,
     source: &'s [u8],
-) -> Result<IndexMap<Name<'s>, Name<'s>>, M1Refusal>
+) -> Result<IndexMap<Name<'s>, Value<'s>>, M1Refusal>
     ensures { Tabulates result (definitions_in (words_of source.now)) }
 {
     let mut table = IndexMap::new(alloc);
     let mut at = 0;
     while at < source.len() {
         match next_word(source, at) {
-            Next::End => return Ok(table),
-            Next::Open(place) => return Err(M1Refusal::OpenString(place as u64)),
-            Next::Word(start, text, after) => {
+            Ahead::End => return Ok(table),
+            Ahead::Open(place) => return Err(M1Refusal::OpenString(place as u64)),
+            Ahead::Word(start, text, after) => {
                 if is_define(text) {
                     match define(&mut table, source, start, after) {
                         Err(why) => return Err(unless_open(source, after, why)),

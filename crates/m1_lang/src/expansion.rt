@@ -4,7 +4,7 @@ ghost use Rattle.indexmap.specs.IndexMap.{get};
 ghost use Rattle.hex_items.specs.Reading.{formed};
 ghost use Rattle.m1_words.specs.Forms.{tokens_of};
 ghost use Rattle.m1_lang.specs.Definitions.{same_text};
-ghost use Rattle.m1_lang.specs.Expansion.{counted, Expands, expansion_of, place_refusal, word_refusal};
+ghost use Rattle.m1_lang.specs.Expansion.{counted_items, Expands, expansion_of, halt_refusal, word_refusal};
 ghost use Rattle.m1_lang.specs.Representation.Passes.{reading_at, SkipsOne, TakesWord};
 
 use crate::definitions::{definitions_of, is_define};
@@ -12,7 +12,7 @@ use crate::refusal::M1Refusal;
 use crate::taking::{meaning_by, take_meaning};
 use hex_items::{Halt, Items, LONGEST_SOURCE, Name, Open};
 use indexmap::IndexMap;
-use m1_words::{Next, WordFault, next_word};
+use m1_words::{Ahead, Value, WordFault, next_word};
 use std::alloc::Global;
 
 /// The items that an M1 source of at most 67,108,864 bytes expands to, or its first refusal: a quote that isn't closed, then the
@@ -37,8 +37,8 @@ fn behind_definition(source: &[u8], at: usize) -> usize
     ensures { SkipsOne result source.now at }
 {
     match next_word(source, at) {
-        Next::Word(_, _, behind) => match next_word(source, behind) {
-            Next::Word(_, _, after) => after,
+        Ahead::Word(_, _, behind) => match next_word(source, behind) {
+            Ahead::Word(_, _, after) => after,
             _ => source.len(),
         },
         _ => source.len(),
@@ -48,7 +48,7 @@ fn behind_definition(source: &[u8], at: usize) -> usize
 /// Takes a word at an offset.
 fn take_word<'s>(
     items: &mut Items<'s>,
-    table: &IndexMap<Name<'s>, Name<'s>>,
+    table: &IndexMap<Name<'s>, Value<'s>>,
     word: Option<Open<'s>>,
     at: usize,
     text: &'s [u8],
@@ -60,7 +60,7 @@ fn take_word<'s>(
     match meaning_by(table, text) {
         Err(fault) => Err(word_refusal(fault, at)),
         Ok(meaning) => match take_meaning(items, word, at, meaning) {
-            Err(halt) => Err(place_refusal(halt)),
+            Err(halt) => Err(halt_refusal(halt)),
             Ok(next) => Ok(next),
         },
     }
@@ -69,17 +69,17 @@ fn take_word<'s>(
 /// The items of the words that belong to no definition.
 fn items_by<'s>(
     alloc: Global,
-    table: &IndexMap<Name<'s>, Name<'s>>,
+    table: &IndexMap<Name<'s>, Value<'s>>,
     source: &'s [u8],
 ) -> Result<Items<'s>, M1Refusal>
-    ensures { Expands (counted (formed None (reading_at (λ name. get same_text table.now name) source.now 0))) result }
+    ensures { Expands (counted_items (formed None (reading_at (λ name. get same_text table.now name) source.now 0))) result }
 {
     let mut items = Items::new(alloc);
     let mut word = None;
     let mut at = 0;
     while at < source.len() {
         match next_word(source, at) {
-            Next::Word(start, text, after) => {
+            Ahead::Word(start, text, after) => {
                 if is_define(text) {
                     at = behind_definition(source, after);
                 } else {
@@ -102,8 +102,8 @@ fn items_by<'s>(
 }
 
 /// The refusal of a token without a place.
-fn place_refusal(halt: Halt) -> M1Refusal
-    ensures { result ≡ place_refusal halt }
+fn halt_refusal(halt: Halt) -> M1Refusal
+    ensures { result ≡ halt_refusal halt }
 {
     match halt {
         Halt::Dangling(first) => M1Refusal::Dangling(first as u64),

@@ -1,16 +1,15 @@
 //! Taking what words give.
-ghost use Rattle.std.specs.Prelude.{◌≡◌, ◌≤◌, ℕ, length, map, replicate};
-ghost use Rattle.std.specs.Option.{option_map};
+ghost use Rattle.std.specs.Prelude.{◌≡◌, ◌≤◌, ℕ, [], ◌∷◌, IfSome, length, map, replicate};
 ghost use Rattle.indexmap.specs.IndexMap.{get};
 ghost use Rattle.hex_items.specs.declared.token.Token.TheVariants.{Byte};
-ghost use Rattle.m1_words.specs.Forms.{padded, tokens_of};
-ghost use Rattle.m1_words.specs.Representation.Meanings.{Gives, front_bytes, meaning_tokens};
+ghost use Rattle.m1_words.specs.Forms.{defined_tokens, padded, tokens_of};
+ghost use Rattle.m1_words.specs.Representation.Meanings.{MeansResult, MeansTokens, front_bytes, meaning_tokens};
 ghost use Rattle.m1_lang.specs.Definitions.{same_text};
-ghost use Rattle.m1_lang.specs.Representation.Passes.{TakesAll};
+ghost use Rattle.m1_lang.specs.Representation.Passes.{TakesTokens};
 
-use hex_items::{Halt, Items, Name, Open, byte_of, take, take_byte};
+use hex_items::{Begun, Halt, Items, Name, Open, byte_of, take, take_byte, take_four};
 use indexmap::IndexMap;
-use m1_words::{Meaning, WordFault, meaning_of, value_of};
+use m1_words::{Meaning, Value, WordFault, meaning_of};
 
 /// Takes bytes.
 fn take_bytes<'s>(
@@ -19,7 +18,7 @@ fn take_bytes<'s>(
     bytes: &[u8],
 ) -> Result<Option<Open<'s>>, Halt>
     requires { length items.old ≤ 33554432 }
-    ensures takes { (at : ℕ) → TakesAll result word.entry at (map Byte bytes.now) items.old items.new }
+    ensures takes { (at : ℕ) → TakesTokens result word.entry at (map Byte bytes.now) items.old items.new }
     ensures few { length items.new ≤ 33554432 }
 {
     for byte in bytes {
@@ -31,14 +30,56 @@ fn take_bytes<'s>(
     Ok(word)
 }
 
-/// Takes the bytes of digits two by two.
+/// The bytes of eight digits.
+fn four_bytes(digits: &[u8]) -> Option<(u8, u8, u8, u8)>
+    ensures { IfSome result (λ four. front_bytes digits.now ≡ four.0 ∷ four.1 ∷ four.2 ∷ four.3 ∷ []) }
+{
+    let [a, b, c, d, e, f, g, h] = digits else {
+        return None;
+    };
+    match (
+        byte_of(*a, *b),
+        byte_of(*c, *d),
+        byte_of(*e, *f),
+        byte_of(*g, *h),
+    ) {
+        (Some(first), Some(second), Some(third), Some(fourth)) => {
+            Some((first, second, third, fourth))
+        }
+        _ => None,
+    }
+}
+
+/// Takes the bytes of digits two by two. The eight digits behind the fields of a word, which are the most, are taken at once.
 fn take_digits<'s>(
+    items: &mut Items<'s>,
+    word: Option<Open<'s>>,
+    digits: &[u8],
+) -> Result<Option<Open<'s>>, Halt>
+    requires { length items.old ≤ 33554432 }
+    ensures takes { (at : ℕ) → TakesTokens result word.entry at (map Byte (front_bytes digits.now)) items.old items.new }
+    ensures few { length items.new ≤ 33554432 }
+{
+    match word {
+        None => take_pairs(items, None, digits),
+        Some(open) => match (open.begun, four_bytes(digits)) {
+            (Begun::Nothing, Some((a, b, c, d))) => match take_four(items, open, [a, b, c, d]) {
+                Err(halt) => Err(halt),
+                Ok(()) => Ok(None),
+            },
+            _ => take_pairs(items, Some(open), digits),
+        },
+    }
+}
+
+/// Takes the bytes of digits two by two, one after the other.
+fn take_pairs<'s>(
     items: &mut Items<'s>,
     mut word: Option<Open<'s>>,
     digits: &[u8],
 ) -> Result<Option<Open<'s>>, Halt>
     requires { length items.old ≤ 33554432 }
-    ensures takes { (at : ℕ) → TakesAll result word.entry at (map Byte (front_bytes digits.now)) items.old items.new }
+    ensures takes { (at : ℕ) → TakesTokens result word.entry at (map Byte (front_bytes digits.now)) items.old items.new }
     ensures few { length items.new ≤ 33554432 }
 {
     let mut at = 0;
@@ -64,7 +105,7 @@ fn take_text<'s>(
     text: &[u8],
 ) -> Result<Option<Open<'s>>, Halt>
     requires { length items.old ≤ 33554432 }
-    ensures takes { (at : ℕ) → TakesAll result word.entry at (map Byte (padded text.now)) items.old items.new }
+    ensures takes { (at : ℕ) → TakesTokens result word.entry at (map Byte (padded text.now)) items.old items.new }
     ensures few { length items.new ≤ 33554432 }
 {
     match take_bytes(items, word, text) {
@@ -80,7 +121,7 @@ fn take_zeros<'s>(
     count: usize,
 ) -> Result<Option<Open<'s>>, Halt>
     requires { length items.old ≤ 33554432 }
-    ensures takes { (at : ℕ) → TakesAll result word.entry at (map Byte (replicate count 0)) items.old items.new }
+    ensures takes { (at : ℕ) → TakesTokens result word.entry at (map Byte (replicate count 0)) items.old items.new }
     ensures few { length items.new ≤ 33554432 }
 {
     for i in 0..count {
@@ -100,7 +141,7 @@ pub(crate) fn take_meaning<'s>(
     meaning: Meaning<'s>,
 ) -> Result<Option<Open<'s>>, Halt>
     requires { length items.old ≤ 33554432 }
-    ensures takes { TakesAll result word.entry at (meaning_tokens meaning.entry) items.old items.new }
+    ensures takes { TakesTokens result word.entry at (meaning_tokens meaning.entry) items.old items.new }
     ensures few { length items.new ≤ 33554432 }
 {
     match meaning {
@@ -111,28 +152,25 @@ pub(crate) fn take_meaning<'s>(
     }
 }
 
-/// The value that a definition gives a word.
-fn value_in<'s>(table: &IndexMap<Name<'s>, Name<'s>>, text: &'s [u8]) -> Option<&'s [u8]>
-    ensures { option_map (λ v. v.now) result ≡ get same_text table.now text.now }
+/// What a word gives that a definition names.
+fn defined_meaning<'s>(table: &IndexMap<Name<'s>, Value<'s>>, text: &'s [u8]) -> Option<Meaning<'s>>
+    ensures { MeansTokens result (defined_tokens (get same_text table.now text.now)) }
 {
     match table.get(&Name::new(text)) {
         None => None,
-        Some(value) => Some(value.bytes()),
+        Some(value) => value.meaning(),
     }
 }
 
 /// What a word gives by the definitions.
 pub(crate) fn meaning_by<'s>(
-    table: &IndexMap<Name<'s>, Name<'s>>,
+    table: &IndexMap<Name<'s>, Value<'s>>,
     text: &'s [u8],
 ) -> Result<Meaning<'s>, WordFault>
-    ensures { Gives result (tokens_of (λ name. get same_text table.now name) text.now) }
+    ensures { MeansResult result (tokens_of (λ name. get same_text table.now name) text.now) }
 {
-    match value_in(table, text) {
+    match defined_meaning(table, text) {
+        Some(meaning) => Ok(meaning),
         None => meaning_of(text),
-        Some(value) => match value_of(value) {
-            Some(meaning) => Ok(meaning),
-            None => meaning_of(text),
-        },
     }
 }

@@ -1,6 +1,6 @@
 //! M1 sources with what the reference page says of them: the text of their items, or the refusal.
+use crate::blanks;
 use ddc_base::Bytes;
-use hex_items::items2;
 use m1_lang::{M1Refusal, expand, laws, write_items};
 use std::alloc::Global;
 use std::process::Abort;
@@ -145,7 +145,12 @@ fn expanded(alloc: Global, source: &str) -> Result<Bytes, M1Refusal> {
     }
 }
 
-fn compare(rt: &impl Abort, alloc: Global, source: &str, answer: &Result<&str, M1Refusal>) -> Result<(), Fail> {
+fn compare(
+    rt: &impl Abort,
+    alloc: Global,
+    source: &str,
+    answer: &Result<&str, M1Refusal>,
+) -> Result<(), Fail> {
     match (expanded(alloc, source), answer) {
         (Ok(text), Ok(wanted)) => assert_eq!(rt; text.as_slice(), wanted.as_bytes()),
         (Err(refusal), Err(wanted)) => assert_eq!(rt; refusal, *wanted),
@@ -160,5 +165,18 @@ fn sources_of_the_reference_page(rt: HostRuntime) -> Result<(), Fail> {
         compare(&rt, rt.alloc(), source, answer)?;
     }
     laws::expansions_are_read_again();
+    laws::words_are_those_laid_out();
+    laws::layout_does_not_matter();
+    laws::definitions_may_move();
+    hex_writer::laws::written_is_read_again();
     Ok(())
+}
+
+/// The longest source, and one of a byte more.
+#[test]
+fn sources_at_the_limit(rt: HostRuntime) -> Result<(), Fail> {
+    let longest = blanks(rt.alloc(), 67_108_864)?;
+    compare(&rt, rt.alloc(), longest.as_str(), &Ok(""))?;
+    let longer = blanks(rt.alloc(), 67_108_865)?;
+    compare(&rt, rt.alloc(), longer.as_str(), &Err(M1Refusal::TooLong))
 }

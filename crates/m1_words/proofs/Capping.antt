@@ -6,13 +6,13 @@ use Rattle.hex_items.specs.declared.token.Token.TheVariants.{Byte, Field}
 use Rattle.m1_words.specs.declared.meaning.WordFault.TheVariants.{NumberRange}
 use Rattle.m1_words.specs.declared.meaning.Meaning.{Meaning}
 use Rattle.m1_words.specs.declared.meaning.WordFault.{WordFault}
-use Rattle.m1_words.specs.Representation.Meanings.{FitsNumber, Gives}
-use Rattle.m1_words.specs.Forms.{Tokens, i_field, in_range, is_within, number_behind, number_tokens, s_field, upper_field, wrapped}
-use Rattle.std.proofs.Common.{Bool, true, false, cond, ◌==◌, map, Result, Ok, Err, zero, ◌≡◌, ℕ, suc, ◌+◌, ◌*◌, ◌-◌, ◌<◌, ◌≤◌, List, [], ◌∷◌, Option, Some, None, refl, sym, ap, subst, ◌∙◌, arith, get_or, drop, min, ◌⊎◌, inl, inr}
+use Rattle.m1_words.specs.Representation.Meanings.{MeansForm, MeansResult}
+use Rattle.m1_words.specs.Forms.{Tokens, immediate_field, ranged_tokens, is_within, number_behind, number_tokens, store_field, rounded_field, number_word}
+use Rattle.std.proofs.Common.{Bool, true, false, cond, ◌==◌, map, Result, Ok, Err, zero, ◌≡◌, ℕ, suc, ◌+◌, ◌*◌, ◌-◌, ◌<◌, ◌≤◌, List, [], ◌∷◌, Option, Some, None, refl, sym, ap, subst, ◌∙◌, arith, drop, ◌⊎◌, inl, inr}
 use Rattle.std.proofs.lemmas.Bool.{cases_lt}
 use Rattle.std.proofs.Math.Nat.{add-mul}
 use Rattle.hex.specs.Hex.{hex_digit_value}
-use Rattle.m1_words.specs.Numbers.{behind_digit, digit_below, magnitude, more_digits, number, signed_by}
+use Rattle.m1_words.specs.Numbers.{behind_digit, digit_below, magnitude, more_digits, number_in, signed_by}
 use Rattle.m1_words.specs.Representation.Capped.{capped, capped_number, capped_value}
 
 grown : (k v : ℕ) → v ≤ (1 + k) * v
@@ -45,7 +45,7 @@ digit-more base value digit next byte left low is next_is =
     let twice : capped (base * value + digit) ≡ capped next = omega arith in
     ap (λ (o : Option ℕ). capped_value (behind_digit o (λ (d : ℕ). more_digits base (base * value + d) left))) (sym is)
     ∙ subst (λ (b : ℕ). capped_value (more_digits b (base * value + digit) left) ≡ capped_value (more_digits b next left)) k_is
-        (capped-more (base - 1) (base * value + digit) next left twice)
+    (capped-more (base - 1) (base * value + digit) next left twice)
 
 -- ---- a number that is capped is out of every range, as the number itself is
 
@@ -53,14 +53,14 @@ tokens-far : (sign : ℕ) (n : ℤ) → is_within n (neg_ℤ (pos 2048)) (pos 20
     → number_tokens sign n ≡ Err NumberRange
 tokens-far sign n short word = by (sign == 33) (sign == 64) (sign == 126)
   where
-    by : (i s u : Bool) → cond i (in_range (is_within n (neg_ℤ (pos 2048)) (pos 2048)) (Field (i_field (wrapped n)) ∷ []))
-        (cond s (in_range (is_within n (neg_ℤ (pos 2048)) (pos 2048)) (Field (s_field (wrapped n)) ∷ []))
-        (cond u (in_range (is_within n (neg_ℤ (pos 2147483648)) (pos 4294967296)) (Field (upper_field n) ∷ []))
-        (in_range (is_within n (neg_ℤ (pos 2147483648)) (pos 4294967296)) (map Byte (to_le_bytes w32 (wrapped n)))))) ≡ Err NumberRange
-    by true s u = ap (λ (b : Bool). in_range b (Field (i_field (wrapped n)) ∷ [])) short
-    by false true u = ap (λ (b : Bool). in_range b (Field (s_field (wrapped n)) ∷ [])) short
-    by false false true = ap (λ (b : Bool). in_range b (Field (upper_field n) ∷ [])) word
-    by false false false = ap (λ (b : Bool). in_range b (map Byte (to_le_bytes w32 (wrapped n)))) word
+    by : (i s u : Bool) → cond i (ranged_tokens (is_within n (neg_ℤ (pos 2048)) (pos 2048)) (Field (immediate_field (number_word n)) ∷ []))
+        (cond s (ranged_tokens (is_within n (neg_ℤ (pos 2048)) (pos 2048)) (Field (store_field (number_word n)) ∷ []))
+        (cond u (ranged_tokens (is_within n (neg_ℤ (pos 2147483648)) (pos 4294967296)) (Field (rounded_field n) ∷ []))
+        (ranged_tokens (is_within n (neg_ℤ (pos 2147483648)) (pos 4294967296)) (map Byte (to_le_bytes w32 (number_word n)))))) ≡ Err NumberRange
+    by true s u = ap (λ (b : Bool). ranged_tokens b (Field (immediate_field (number_word n)) ∷ [])) short
+    by false true u = ap (λ (b : Bool). ranged_tokens b (Field (store_field (number_word n)) ∷ [])) short
+    by false false true = ap (λ (b : Bool). ranged_tokens b (Field (rounded_field n) ∷ [])) word
+    by false false false = ap (λ (b : Bool). ranged_tokens b (map Byte (to_le_bytes w32 (number_word n)))) word
 
 far-pos : (sign n : ℕ) → 1099511627776 ≤ n → number_tokens sign (pos n) ≡ Err NumberRange
 far-pos sign n far = tokens-far sign (pos n) (grind (arith, nat_tests)) (grind (arith, nat_tests))
@@ -83,8 +83,8 @@ capped-neg sign n = by (cases_lt n 1099511627776)
     by (inl near) = let same : capped n ≡ n = omega arith in ap (λ (m : ℕ). number_tokens sign (neg_ℤ (pos m))) same
     by (inr far) = far-neg sign (capped n) (omega arith) ∙ sym (far-neg sign n far)
 
-pub number_behind-capped : (sign : ℕ) (text : List ℕ) → number_behind sign (capped_number text) ≡ number_behind sign (number text)
-unfolding capped_number number
+pub number_behind-capped : (sign : ℕ) (text : List ℕ) → number_behind sign (capped_number text) ≡ number_behind sign (number_in text)
+unfolding capped_number number_in
 number_behind-capped sign text = by (slice_index text 0 == 45) (magnitude (drop 1 text)) (magnitude text)
   where
     by : (minus : Bool) (behind whole : Option ℕ)
@@ -95,6 +95,6 @@ number_behind-capped sign text = by (slice_index text 0 == 45) (magnitude (drop 
     by false behind None = refl
     by false behind (Some n) = ap Some (capped-pos sign n)
 
-pub fits-given : (result : Result Meaning WordFault) (tokens : Tokens) → Gives result tokens → FitsNumber (Some result) (Some tokens)
+pub fits-given : (result : Result Meaning WordFault) (tokens : Tokens) → MeansResult result tokens → MeansForm (Some result) (Some tokens)
 fits-given (Ok meaning) tokens is = ap Some is
 fits-given (Err why) tokens is = ap Some is

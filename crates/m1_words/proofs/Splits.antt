@@ -1,11 +1,11 @@
 -- From one offset to the next word.
-use Rattle.std.proofs.Common.{◌≡◌, ℕ, zero, suc, ◌+◌, ◌-◌, ◌<◌, ◌≤◌, ◌==◌, Bool, true, false, cond, not, ◌||◌, List, [], ◌∷◌, length, drop, take, get_or, refl, sym, ap, ◌∙◌, arith, Option, Some, None}
-use Rattle.std.proofs.lemmas.List.{drop-drop, length-drop}
+use Rattle.std.proofs.Common.{◌≡◌, ℕ, zero, suc, ◌+◌, ◌-◌, ◌<◌, ◌==◌, Bool, true, false, cond, not, ◌||◌, List, [], ◌∷◌, length, drop, take, get_or, refl, sym, ap, ◌∙◌, arith, Some, None}
+use Rattle.std.proofs.lemmas.List.{drop-drop}
 use Rattle.hex_items.specs.Tokens.{gap_from, gap_length, is_blank, opens_gap}
 use Rattle.hex_langs.specs.Hex0.{begins_comment}
-use Rattle.hex_items.proofs.Readings.{front_is, gap_length-some, rest_is}
-use Rattle.m1_words.specs.Words.{Found, Over, Unclosed, Word, word_more, Words, words_from}
-use Rattle.m1_words.specs.Representation.Next.{words_at}
+use Rattle.hex_items.proofs.Readings.{front_is, gap_length-some}
+use Rattle.m1_words.specs.Words.{Found, Unclosed, word_more, words_from}
+use Rattle.m1_words.specs.Representation.Ahead.{words_at}
 
 pub split-inside : (at inside : ℕ) (left : List ℕ) → words_from at inside left ≡ words_from (at + inside) 0 (drop inside left)
 unfolding words_from
@@ -25,7 +25,8 @@ gap_length-none : (byte : ℕ) (left : List ℕ) → opens_gap byte ≡ false �
 unfolding gap_length
 gap_length-none byte left code = no-gap (begins_comment byte) (is_blank byte) (gap_from true left) (gap_from false left) code
 
-passed : (at : ℕ) (left : List ℕ) → words_from at (gap_length left) left ≡ words_from at 0 left
+-- blanks and comments that are passed over are as those that were not
+pub passed : (at : ℕ) (left : List ℕ) → words_from at (gap_length left) left ≡ words_from at 0 left
 unfolding words_from gap_length
 passed at [] = refl
 passed at (byte ∷ left) = by (opens_gap byte) refl
@@ -65,7 +66,7 @@ pub no-gap-behind : (source : List ℕ) (at gap : ℕ) → gap ≡ gap_length (d
 unfolding gap_length
 no-gap-behind source at gap is within =
     stops false (drop at source) (get_or source (at + gap) 0) (drop (at + gap + 1) source)
-        (ap (λ (n : ℕ). drop n (drop at source)) (sym is) ∙ drop-drop gap at source ∙ front_is source (at + gap) within)
+    (ap (λ (n : ℕ). drop n (drop at source)) (sym is) ∙ drop-drop gap at source ∙ front_is source (at + gap) within)
 
 pub split-unclosed : (source : List ℕ) (at : ℕ) → at < length source → opens_gap (get_or source at 0) ≡ false
     → word_more (get_or source at 0) (drop (at + 1) source) ≡ None → words_at source at ≡ Unclosed at
@@ -80,6 +81,6 @@ unfolding words_from
 split-word source text at more after within code found is text_is =
     let left_is : drop more (drop (at + 1) source) ≡ drop after source = drop-drop more (at + 1) source ∙ ap (λ (n : ℕ). drop n source) (sym is) in
     rw (front_is source at within) (rw code (rw found (
-      ap (Found (record { at = at; text = get_or source at 0 ∷ take more (drop (at + 1) source) }))
-          (split-inside (at + 1) more (drop (at + 1) source) ∙ ap (λ (n : ℕ). words_from n 0 (drop more (drop (at + 1) source))) (sym is) ∙ ap (words_from after 0) left_is)
-      ∙ ap (λ (t : List ℕ). Found (record { at = at; text = t }) (words_at source after)) (sym text_is))))
+    ap (Found (record { at = at; text = get_or source at 0 ∷ take more (drop (at + 1) source) }))
+    (split-inside (at + 1) more (drop (at + 1) source) ∙ ap (λ (n : ℕ). words_from n 0 (drop more (drop (at + 1) source))) (sym is) ∙ ap (words_from after 0) left_is)
+    ∙ ap (λ (t : List ℕ). Found (record { at = at; text = t }) (words_at source after)) (sym text_is))))

@@ -1,7 +1,7 @@
 -- The forms of an M1 word, and the tokens that it gives. Public source: the language M1 of stage0-posix and mescc-tools, whose exact rules
 -- here are this project's profile; the fields are those of the RISC-V Unprivileged ISA, "Immediate Encoding Variants".
 -- docs/reference/m1.md says the same for people.
-use Rattle.std.specs.Prelude.{ℕ, ◌+◌, ◌-◌, ◌*◌, ◌/◌, ◌%◌, ◌==◌, Bool, false, not, ◌&&◌, ◌||◌, if◌then◌else◌, List, [], ◌∷◌, ◌++◌, length, take, map, replicate, Option, Some, None, is_some, Result, Ok, Err, ℤ, pos, neg_ℤ, ◌+ℤ◌, int_le, int_lt, unsigned_abs}
+use Rattle.std.specs.Prelude.{ℕ, ◌+◌, ◌-◌, ◌*◌, ◌/◌, ◌%◌, ◌==◌, Bool, false, ◌&&◌, ◌||◌, if◌then◌else◌, List, [], ◌∷◌, ◌++◌, length, take, map, replicate, Option, Some, None, Result, Ok, Err, ℤ, pos, neg_ℤ, ◌+ℤ◌, int_le, int_lt, unsigned_abs}
 use Rattle.std.specs.Int.{w32, to_le_bytes, int_rem_euclid}
 use Rattle.hex_items.specs.declared.token.Dialect.TheVariants.{Hex2}
 use Rattle.hex_items.specs.declared.token.Fault.{Fault}
@@ -11,15 +11,15 @@ use Rattle.hex_items.specs.Tokens.{token_at}
 use Rattle.m1_words.specs.declared.meaning.WordFault.{WordFault}
 use Rattle.m1_words.specs.declared.meaning.WordFault.TheVariants.{UnknownWord, NumberRange}
 use Rattle.m1_words.specs.Digits.{digit_bytes}
-use Rattle.m1_words.specs.Numbers.{number}
+use Rattle.m1_words.specs.Numbers.{number_in}
 
 -- what a word gives: tokens of hex2, or a refusal
 abbrev pub Tokens : Type 0
 Tokens = Result (List Token) WordFault
 
 -- what a word of a form gives; none: the word is not of this form
-abbrev pub Form : Type 0
-Form = Option Tokens
+abbrev pub FormTokens : Type 0
+FormTokens = Option Tokens
 
 -- ---- values: digits alone, or `.` and 8 digits
 
@@ -72,55 +72,55 @@ quoted_tokens (quote ∷ rest) =
 -- ---- numbers behind a sign
 
 -- modulo 2^32
-abbrev pub wrapped : ℤ → ℕ
-wrapped n = unsigned_abs (int_rem_euclid n (pos 4294967296))
+abbrev pub number_word : ℤ → ℕ
+number_word n = unsigned_abs (int_rem_euclid n (pos 4294967296))
 
 -- bits 11..0 of a number in bits 31..20
-abbrev pub i_field : ℕ → ℕ
-i_field n = n % 4096 * 1048576
+abbrev pub immediate_field : ℕ → ℕ
+immediate_field n = n % 4096 * 1048576
 
 -- bits 11..5 of a number in bits 31..25, and bits 4..0 in 11..7
-abbrev pub s_field : ℕ → ℕ
-s_field n = n / 32 % 128 * 33554432 + n % 32 * 128
+abbrev pub store_field : ℕ → ℕ
+store_field n = n / 32 % 128 * 33554432 + n % 32 * 128
 
 -- bits 31..12 of a number stay, rounded, since a signed lower part is added to it
-abbrev pub upper_field : ℤ → ℕ
-upper_field n = wrapped (n +ℤ pos 2048) / 4096 * 4096
+abbrev pub rounded_field : ℤ → ℕ
+rounded_field n = number_word (n +ℤ pos 2048) / 4096 * 4096
 
 -- low <= n < high
 abbrev pub is_within : ℤ → ℤ → ℤ → Bool
 is_within n low high = int_le low n && int_lt n high
 
 -- the tokens of a number in range
-abbrev pub in_range : Bool → List Token → Tokens
-in_range fits tokens = if fits then Ok tokens else Err NumberRange
+abbrev pub ranged_tokens : Bool → List Token → Tokens
+ranged_tokens fits tokens = if fits then Ok tokens else Err NumberRange
 
 -- -2048 <= n <= 2047
 abbrev pub as_short : ℤ → List Token → Tokens
-as_short n = in_range (is_within n (neg_ℤ (pos 2048)) (pos 2048))
+as_short n = ranged_tokens (is_within n (neg_ℤ (pos 2048)) (pos 2048))
 
 -- -2^31 <= n < 2^32
 abbrev pub as_word : ℤ → List Token → Tokens
-as_word n = in_range (is_within n (neg_ℤ (pos 2147483648)) (pos 4294967296))
+as_word n = ranged_tokens (is_within n (neg_ℤ (pos 2147483648)) (pos 4294967296))
 
 -- `!` the I field, `@` the S field, `~` the upper field, `%` four bytes, the low one first
 abbrev pub number_tokens : ℕ → ℤ → Tokens
 number_tokens sign n =
-    if sign == 33 then as_short n (Field (i_field (wrapped n)) ∷ [])
-    else if sign == 64 then as_short n (Field (s_field (wrapped n)) ∷ [])
-    else if sign == 126 then as_word n (Field (upper_field n) ∷ [])
-    else as_word n (map Byte (to_le_bytes w32 (wrapped n)))
+    if sign == 33 then as_short n (Field (immediate_field (number_word n)) ∷ [])
+    else if sign == 64 then as_short n (Field (store_field (number_word n)) ∷ [])
+    else if sign == 126 then as_word n (Field (rounded_field n) ∷ [])
+    else as_word n (map Byte (to_le_bytes w32 (number_word n)))
 
 abbrev pub takes_number : ℕ → Bool
 takes_number sign = sign == 33 || sign == 64 || sign == 126 || sign == 37
 
-abbrev pub number_behind : ℕ → Option ℤ → Form
+abbrev pub number_behind : ℕ → Option ℤ → FormTokens
 number_behind sign (Some n) = Some (number_tokens sign n)
 number_behind sign None = None
 
-unfoldable pub numbered_tokens : List ℕ → Form
+unfoldable pub numbered_tokens : List ℕ → FormTokens
 numbered_tokens [] = None
-numbered_tokens (sign ∷ rest) = if takes_number sign then number_behind sign (number rest) else None
+numbered_tokens (sign ∷ rest) = if takes_number sign then number_behind sign (number_in rest) else None
 
 -- ---- the table
 
@@ -130,7 +130,7 @@ form_or (Some tokens) later = Ok tokens
 form_or None later = later
 
 -- a numbered form's tokens or refusal, or else what comes later
-abbrev pub numbered_or : Form → Tokens → Tokens
+abbrev pub numbered_or : FormTokens → Tokens → Tokens
 numbered_or (Some tokens) later = tokens
 numbered_or None later = later
 

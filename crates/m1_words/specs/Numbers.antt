@@ -37,7 +37,7 @@ signed_by true (Some n) = Some (neg_ℤ (pos n))
 signed_by false (Some n) = Some (pos n)
 
 -- with `-` in front, or without
-unfoldable pub number : List ℕ → Option ℤ
-number text =
+unfoldable pub number_in : List ℕ → Option ℤ
+number_in text =
     if slice_index text 0 == 45 then signed_by true (magnitude (drop 1 text))
     else signed_by false (magnitude text)

@@ -20,14 +20,14 @@ abbrev pub is_quote : ℕ → Bool
 is_quote byte = byte == 34 || byte == 39
 
 -- up to the next same quote, which belongs to the word
-abbrev pub closed_at : ℕ → List ℕ → Option ℕ
-closed_at size left = if nat_lt size (length left) then Some (size + 1) else None
+abbrev pub until_closed : ℕ → List ℕ → Option ℕ
+until_closed size left = if nat_lt size (length left) then Some (size + 1) else None
 
 -- how many bytes a word has behind its first one: a quoted word runs over blanks, every other one up to a blank or the end; none: its quote
 -- isn't closed
 unfoldable pub word_more : ℕ → List ℕ → Option ℕ
 word_more byte left =
-    if is_quote byte then closed_at (position_or_len (λ b. b == byte) left) left
+    if is_quote byte then until_closed (position_or_len (λ b. b == byte) left) left
     else Some (position_or_len is_blank left)
 
 -- what stands from an offset on, of which the first bytes belong to a word, or to blanks and comments, already read

@@ -6,6 +6,8 @@
 mod meaning;
 mod numbers;
 mod splitting;
+mod value;
 
-pub use meaning::{Meaning, WordFault, meaning_of, value_of};
-pub use splitting::{Next, next_word};
+pub use meaning::{Meaning, WordFault, meaning_of};
+pub use splitting::{Ahead, next_word};
+pub use value::Value;

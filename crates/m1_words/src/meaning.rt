@@ -1,11 +1,11 @@
 //! What a word gives.
 ghost use Rattle.std.specs.Prelude.{◌≡◌, ◌≤◌, is_some, pos, neg_ℤ, ◌≤ℤ◌};
 ghost use Rattle.m1_words.specs.Digits.{digit_bytes};
-ghost use Rattle.m1_words.specs.Forms.{between, byte_tokens, i_field, s_field, upper_field, wrapped, in_range, is_within, whole_token, value_tokens, quoted_tokens, number_tokens, number_behind, numbered_tokens, takes_number, form_tokens};
-ghost use Rattle.m1_words.specs.Numbers.{number};
-ghost use Rattle.m1_words.specs.Representation.Meanings.{Fits, Gives, FitsNumber, meaning_tokens};
+ghost use Rattle.m1_words.specs.Forms.{between, byte_tokens, immediate_field, store_field, rounded_field, number_word, ranged_tokens, is_within, whole_token, value_tokens, quoted_tokens, number_tokens, number_behind, numbered_tokens, takes_number, form_tokens};
+ghost use Rattle.m1_words.specs.Numbers.{number_in};
+ghost use Rattle.m1_words.specs.Representation.Meanings.{MeansTokens, MeansResult, MeansForm, meaning_tokens};
 
-use crate::numbers::number;
+use crate::numbers::number_in;
 use hex_items::{Dialect, Token, byte_of, token_at};
 
 /// What a word gives, as text of the source where it gives many bytes.
@@ -49,7 +49,7 @@ fn are_pairs(text: &[u8]) -> bool
 
 /// A positive even number of digits.
 fn digits<'s>(text: &'s [u8]) -> Option<Meaning<'s>>
-    ensures { Fits result (byte_tokens (digit_bytes text.now)) }
+    ensures { MeansTokens result (byte_tokens (digit_bytes text.now)) }
 {
     if text.len() == 0 || !are_pairs(text) {
         return None;
@@ -77,8 +77,8 @@ fn whole_token<'s>(text: &'s [u8]) -> Option<Token<'s>>
 
 /// A value: digits alone, or `.` and 8 digits.
 #[tactic(auto, unfolding(crate::specs::Forms::value_tokens))]
-pub fn value_of<'s>(text: &'s [u8]) -> Option<Meaning<'s>>
-    ensures { Fits result (value_tokens text.now) }
+pub(crate) fn value_meaning<'s>(text: &'s [u8]) -> Option<Meaning<'s>>
+    ensures { MeansTokens result (value_tokens text.now) }
 {
     match text.first() {
         Some(b'.') => Some(Meaning::One(whole_token(text)?)),
@@ -95,7 +95,7 @@ fn between<'s>(rest: &'s [u8]) -> &'s [u8]
 
 /// A text or digits in quotes.
 fn quoted<'s>(text: &'s [u8]) -> Option<Meaning<'s>>
-    ensures { Fits result (quoted_tokens text.now) }
+    ensures { MeansTokens result (quoted_tokens text.now) }
 {
     match text.split_first() {
         Some((b'"', rest)) => Some(Meaning::Text(between(rest))),
@@ -105,33 +105,33 @@ fn quoted<'s>(text: &'s [u8]) -> Option<Meaning<'s>>
 }
 
 /// A number modulo 2^32.
-fn wrapped(n: i64) -> u32
-    ensures { result ≡ wrapped n }
+fn number_word(n: i64) -> u32
+    ensures { result ≡ number_word n }
 {
     n.rem_euclid(4_294_967_296) as u32
 }
 
 /// Bits 11..0 of a number in bits 31..20.
-fn i_field(n: u32) -> u32
-    ensures { result ≡ i_field n }
+fn immediate_field(n: u32) -> u32
+    ensures { result ≡ immediate_field n }
 {
     n % 4096 * 1_048_576
 }
 
 /// Bits 11..5 of a number in bits 31..25, and bits 4..0 in 11..7.
-fn s_field(n: u32) -> u32
-    ensures { result ≡ s_field n }
+fn store_field(n: u32) -> u32
+    ensures { result ≡ store_field n }
 {
     n / 32 % 128 * 33_554_432 + n % 32 * 128
 }
 
 /// Bits 31..12 of a number, rounded.
-fn upper_field(n: i64) -> u32
+fn rounded_field(n: i64) -> u32
     requires low { neg_ℤ (pos 1099511627776) ≤ℤ n }
     requires high { n ≤ℤ pos 1099511627776 }
-    ensures { result ≡ upper_field n }
+    ensures { result ≡ rounded_field n }
 {
-    wrapped(n + 2048) / 4096 * 4096
+    number_word(n + 2048) / 4096 * 4096
 }
 
 /// low <= n < high
@@ -143,7 +143,7 @@ fn is_within(n: i64, low: i64, high: i64) -> bool
 
 /// A number's meaning, if the number is in range.
 fn ranged<'s>(fits: bool, meaning: Meaning<'s>) -> Result<Meaning<'s>, WordFault>
-    ensures { Gives result (in_range fits (meaning_tokens meaning.entry)) }
+    ensures { MeansResult result (ranged_tokens fits (meaning_tokens meaning.entry)) }
 {
     if fits {
         Ok(meaning)
@@ -156,18 +156,24 @@ fn ranged<'s>(fits: bool, meaning: Meaning<'s>) -> Result<Meaning<'s>, WordFault
 fn number_behind<'s>(sign: u8, n: i64) -> Result<Meaning<'s>, WordFault>
     requires low { neg_ℤ (pos 1099511627776) ≤ℤ n }
     requires high { n ≤ℤ pos 1099511627776 }
-    ensures { Gives result (number_tokens sign n) }
+    ensures { MeansResult result (number_tokens sign n) }
 {
     let is_short = is_within(n, -2048, 2048);
     let is_word = is_within(n, -2_147_483_648, 4_294_967_296);
     if sign == b'!' {
-        ranged(is_short, Meaning::One(Token::Field(i_field(wrapped(n)))))
+        ranged(
+            is_short,
+            Meaning::One(Token::Field(immediate_field(number_word(n)))),
+        )
     } else if sign == b'@' {
-        ranged(is_short, Meaning::One(Token::Field(s_field(wrapped(n)))))
+        ranged(
+            is_short,
+            Meaning::One(Token::Field(store_field(number_word(n)))),
+        )
     } else if sign == b'~' {
-        ranged(is_word, Meaning::One(Token::Field(upper_field(n))))
+        ranged(is_word, Meaning::One(Token::Field(rounded_field(n))))
     } else {
-        ranged(is_word, Meaning::Number(wrapped(n)))
+        ranged(is_word, Meaning::Number(number_word(n)))
     }
 }
 
@@ -180,9 +186,9 @@ fn takes_number(sign: u8) -> bool
 
 /// A sign that takes a number, and what may be one.
 fn signed<'s>(sign: u8, rest: &[u8]) -> Option<Result<Meaning<'s>, WordFault>>
-    ensures { FitsNumber result (number_behind sign (number rest.now)) }
+    ensures { MeansForm result (number_behind sign (number_in rest.now)) }
 {
-    match number(rest) {
+    match number_in(rest) {
         None => None,
         Some(n) => Some(number_behind(sign, n)),
     }
@@ -191,7 +197,7 @@ fn signed<'s>(sign: u8, rest: &[u8]) -> Option<Result<Meaning<'s>, WordFault>>
 /// A sign that takes a number, and a number.
 #[tactic(auto, unfolding(crate::specs::Forms::numbered_tokens))]
 fn numbered<'s>(text: &'s [u8]) -> Option<Result<Meaning<'s>, WordFault>>
-    ensures { FitsNumber result (numbered_tokens text.now) }
+    ensures { MeansForm result (numbered_tokens text.now) }
 {
     let (sign, rest) = text.split_first()?;
     if takes_number(*sign) {
@@ -204,12 +210,12 @@ fn numbered<'s>(text: &'s [u8]) -> Option<Result<Meaning<'s>, WordFault>>
 /// What a word gives that no definition names.
 #[tactic(auto, unfolding(crate::specs::Forms::form_tokens))]
 pub fn meaning_of<'s>(text: &'s [u8]) -> Result<Meaning<'s>, WordFault>
-    ensures { Gives result (form_tokens text.now) }
+    ensures { MeansResult result (form_tokens text.now) }
 {
     if let Some(meaning) = quoted(text) {
         return Ok(meaning);
     }
-    if let Some(meaning) = value_of(text) {
+    if let Some(meaning) = value_meaning(text) {
         return Ok(meaning);
     }
     if let Some(found) = numbered(text) {

@@ -58,7 +58,7 @@ fn magnitude(text: &[u8]) -> Option<u64>
 
 /// The number that a text is, with 2^40 or -2^40 in place of one that is further from 0.
 #[tactic(auto, unfolding(crate::specs::Representation::Capped::capped_number))]
-pub(crate) fn number(text: &[u8]) -> Option<i64>
+pub(crate) fn number_in(text: &[u8]) -> Option<i64>
     ensures value { result ≡ capped_number text.now }
     ensures low { IfSome result (λ n. neg_ℤ (pos 1099511627776) ≤ℤ n) }
     ensures high { IfSome result (λ n. n ≤ℤ pos 1099511627776) }

@@ -3,7 +3,7 @@ ghost use Rattle.std.specs.Prelude.{◌≡◌, ◌≤◌, ◌==◌, length, IfSo
 ghost use Rattle.std.specs.List.{position_or_len};
 ghost use Rattle.hex_items.specs.Tokens.{is_blank};
 ghost use Rattle.m1_words.specs.Words.{word_more};
-ghost use Rattle.m1_words.specs.Representation.Next.{Nexts};
+ghost use Rattle.m1_words.specs.Representation.Ahead.{FindsAhead};
 
 use hex_items::{gap_length, is_blank};
 
@@ -53,7 +53,7 @@ fn word_more(byte: u8, rest: &[u8]) -> Option<usize>
 
 /// What stands from an offset on, past blanks and comments.
 #[derive(Debug, Drop)]
-pub enum Next<'s> {
+pub enum Ahead<'s> {
     End,
     /// A quote that isn't closed, at its offset.
     Open(usize),
@@ -62,19 +62,19 @@ pub enum Next<'s> {
 }
 
 /// The next word from an offset on.
-pub fn next_word<'s>(source: &'s [u8], at: usize) -> Next<'s>
+pub fn next_word<'s>(source: &'s [u8], at: usize) -> Ahead<'s>
     requires { at ≤ length source.now }
-    ensures { Nexts result source.now at }
+    ensures { FindsAhead result source.now at }
 {
     let start = at + gap_length(&source[at..]);
     if start >= source.len() {
-        return Next::End;
+        return Ahead::End;
     }
     match word_more(source[start], &source[start + 1..]) {
-        None => Next::Open(start),
+        None => Ahead::Open(start),
         Some(more) => {
             let after = start + 1 + more;
-            Next::Word(start, &source[start..after], after)
+            Ahead::Word(start, &source[start..after], after)
         }
     }
 }

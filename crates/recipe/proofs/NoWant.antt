@@ -32,11 +32,11 @@ sated_top table =
     sated_bind (required (a_number 1 1) top_place key.Format table) _ (sated_required (a_number 1 1) top_place key.Format table (sated_number 1 1 top_place key.Format)) (λ format.
     sated_bind (required (a_list a_table 1 256) top_place key.Input table) _ (sated_tables 1 key.Input table) (λ inputs.
     sated_bind (optional (a_list a_table 0 256) top_place key.Source table) _
-      (sated_optional (a_list a_table 0 256) top_place key.Source table (λ value. sated_list a_table 0 256 top_place key.Source value (sated_table top_place key.Source))) (λ sources.
+    (sated_optional (a_list a_table 0 256) top_place key.Source table (λ value. sated_list a_table 0 256 top_place key.Source value (sated_table top_place key.Source))) (λ sources.
     sated_bind (required (a_list a_table 1 256) top_place key.Stage table) _ (sated_tables 1 key.Stage table) (λ stages.
     sated_bind (required a_table top_place key.Compare table) _ (sated_required a_table top_place key.Compare table (sated_table top_place key.Compare)) (λ compare.
     sated_bind (closed top_place (key.Format ∷ key.Input ∷ key.Source ∷ key.Stage ∷ key.Compare ∷ []) table) _
-      (sated_closed top_place (key.Format ∷ key.Input ∷ key.Source ∷ key.Stage ∷ key.Compare ∷ []) table) (λ other. sated_ok _))))))
+    (sated_closed top_place (key.Format ∷ key.Input ∷ key.Source ∷ key.Stage ∷ key.Compare ∷ []) table) (λ other. sated_ok _))))))
   where
     sated_tables : (least : ℕ) (k : Key) (table : Members) → Sated (required (a_list a_table least 256) top_place k table)
     sated_tables least k table = sated_required (a_list a_table least 256) top_place k table (λ value. sated_list a_table least 256 top_place k value (sated_table top_place k))
@@ -48,7 +48,7 @@ sated_new_name inputs sources stages place table =
     sated_required (a_new_name inputs sources stages) place key.Name table (λ value.
     sated_bind (a_name place key.Name value) _ (sated_name place key.Name value) (λ name.
     sated_bind (refused_unless (DoubleName place key.Name) (not (is_taken inputs sources stages name))) _
-      (sated_unless (DoubleName place key.Name) (not (is_taken inputs sources stages name)) (λ is. absurd cc)) (λ u. sated_ok name)))
+    (sated_unless (DoubleName place key.Name) (not (is_taken inputs sources stages name)) (λ is. absurd cc)) (λ u. sated_ok name)))
 
 sated_input : (inputs : List Input) (place : Place) (table : Members) → Sated (input_table inputs place table)
 unfolding input_table
@@ -69,7 +69,7 @@ sated_source inputs sources place table =
     sated_bind (required a_language place key.Lang table) _ (sated_required a_language place key.Lang table (sated_language place key.Lang)) (λ lang.
     sated_bind (optional (a_number 0 (2 ^ 37)) place key.Base table) _ (sated_optional (a_number 0 (2 ^ 37)) place key.Base table (sated_number 0 (2 ^ 37) place key.Base)) (λ base.
     sated_bind (required (a_list a_name 1 64) place key.Files table) _
-      (sated_required (a_list a_name 1 64) place key.Files table (λ value. sated_list a_name 1 64 place key.Files value (sated_name place key.Files))) (λ files.
+    (sated_required (a_list a_name 1 64) place key.Files table (λ value. sated_list a_name 1 64 place key.Files value (sated_name place key.Files))) (λ files.
     sated_bind (closed place (key.Name ∷ key.Lang ∷ key.Base ∷ key.Files ∷ []) table) _ (sated_closed place (key.Name ∷ key.Lang ∷ key.Base ∷ key.Files ∷ []) table) (λ other. sated_ok _)))))
 
 sated_entry : (place : Place) (k entry_key : Key) (entry : Members) → Sated (entry_text place k entry_key entry)
@@ -103,9 +103,9 @@ sated_stage inputs sources stages place table =
     sated_bind (required (a_new_name inputs sources stages) place key.Name table) _ (sated_new_name inputs sources stages place table) (λ name.
     sated_bind (required a_name place key.Program table) _ (sated_required a_name place key.Program table (sated_name place key.Program)) (λ program.
     sated_bind (required (a_list a_word 1 64) place key.Args table) _
-      (sated_required (a_list a_word 1 64) place key.Args table (λ value. sated_list a_word 1 64 place key.Args value (sated_word place key.Args))) (λ args.
+    (sated_required (a_list a_word 1 64) place key.Args table (λ value. sated_list a_word 1 64 place key.Args value (sated_word place key.Args))) (λ args.
     sated_bind (optional (a_list a_word 0 64) place key.Env table) _
-      (sated_optional (a_list a_word 0 64) place key.Env table (λ value. sated_list a_word 0 64 place key.Env value (sated_word place key.Env))) (λ env.
+    (sated_optional (a_list a_word 0 64) place key.Env table (λ value. sated_list a_word 0 64 place key.Env value (sated_word place key.Env))) (λ env.
     sated_bind (optional some_files place key.Files table) _ (sated_optional some_files place key.Files table (sated_files place key.Files)) (λ files.
     sated_bind (required an_output place key.Output table) _ (sated_required an_output place key.Output table (sated_output place key.Output)) (λ output.
     sated_bind (required (a_number 1 (2 ^ 48)) place key.Steps table) _ (sated_required (a_number 1 (2 ^ 48)) place key.Steps table (sated_number 1 (2 ^ 48) place key.Steps)) (λ steps.
@@ -128,9 +128,9 @@ sated_first bytes =
     sated_bind (top_table document) _ (sated_top document) (λ top.
     sated_bind (gathered next_input [] top.inputs) _ (sated_gathered next_input [] top.inputs (λ before. sated_input before (input_place (length before + 1)))) (λ inputs.
     sated_bind (gathered (next_source inputs) [] top.sources) _
-      (sated_gathered (next_source inputs) [] top.sources (λ before. sated_source inputs before (source_place (length before + 1)))) (λ sources.
+    (sated_gathered (next_source inputs) [] top.sources (λ before. sated_source inputs before (source_place (length before + 1)))) (λ sources.
     sated_bind (gathered (next_stage inputs sources) [] top.stages) _
-      (sated_gathered (next_stage inputs sources) [] top.stages (λ before. sated_stage inputs sources before (stage_place (length before + 1)))) (λ stages.
+    (sated_gathered (next_stage inputs sources) [] top.stages (λ before. sated_stage inputs sources before (stage_place (length before + 1)))) (λ stages.
     sated_bind (compare_table top.compare) _ (sated_compare top.compare) (λ compare. sated_ok _))))))
 
 -- ---- the second walk
@@ -143,7 +143,7 @@ sated_checks : (said : Said) (earlier : List Stage) (place : Place) (found : Opt
 sated_checks said earlier place None = sated_or {A = Unit {0}} (NotMadeYet place key.Check) None (λ is. absurd cc)
 sated_checks said earlier place (Some source) =
     sated_bind (refused_unless (NotMadeYet place key.Check) (list_all (is_content said.inputs earlier) source.files)) (λ _. refused_unless (BadName place key.Check) (is_defined source.lang))
-      (sated_unless (NotMadeYet place key.Check) (list_all (is_content said.inputs earlier) source.files) (λ is. absurd cc)) (λ u.
+    (sated_unless (NotMadeYet place key.Check) (list_all (is_content said.inputs earlier) source.files) (λ is. absurd cc)) (λ u.
     sated_unless (BadName place key.Check) (is_defined source.lang) (λ is. absurd cc))
 
 sated_check : (said : Said) (earlier : List Stage) (place : Place) (check : Option (List ℕ)) → Sated (check_refers said earlier place check)
@@ -155,9 +155,9 @@ sated_after : (said : Said) (earlier : List Stage) (place : Place) (stage : Stag
 unfolding stage_refers_after
 sated_after said earlier place stage =
     sated_bind (refused_unless (NotMadeYet place key.Program) (is_content said.inputs earlier stage.program)) _
-      (sated_unless (NotMadeYet place key.Program) (is_content said.inputs earlier stage.program) (λ is. absurd cc)) (λ u.
+    (sated_unless (NotMadeYet place key.Program) (is_content said.inputs earlier stage.program) (λ is. absurd cc)) (λ u.
     sated_bind (refused_unless (NotMadeYet place key.Files) (list_all (λ file. is_content said.inputs earlier file.from) stage.files)) _
-      (sated_unless (NotMadeYet place key.Files) (list_all (λ file. is_content said.inputs earlier file.from) stage.files) (λ is. absurd cc)) (λ v.
+    (sated_unless (NotMadeYet place key.Files) (list_all (λ file. is_content said.inputs earlier file.from) stage.files) (λ is. absurd cc)) (λ v.
     sated_bind (check_refers said earlier place stage.check) (λ _. refers_to_source said.sources place key.Becomes stage.becomes) (sated_check said earlier place stage.check) (λ w.
     sated_reference said.sources place key.Becomes stage.becomes)))
 
@@ -165,8 +165,8 @@ sated_comparison : (said : Said) → Sated (compare_refers said)
 unfolding compare_refers
 sated_comparison said =
     sated_bind (refused_unless (NotMadeYet compare_place key.Stage) (is_some (stage_at said.stages said.compare.stage)))
-      (λ _. refused_unless (NotMadeYet compare_place key.Binary) (is_some (input_at said.inputs said.compare.binary)))
-      (sated_unless (NotMadeYet compare_place key.Stage) (is_some (stage_at said.stages said.compare.stage)) (λ is. absurd cc)) (λ u.
+    (λ _. refused_unless (NotMadeYet compare_place key.Binary) (is_some (input_at said.inputs said.compare.binary)))
+    (sated_unless (NotMadeYet compare_place key.Stage) (is_some (stage_at said.stages said.compare.stage)) (λ is. absurd cc)) (λ u.
     sated_unless (NotMadeYet compare_place key.Binary) (is_some (input_at said.inputs said.compare.binary)) (λ is. absurd cc))
 
 sated_program : (said : Said) (found : Option Content) → Sated (has_source said found)
@@ -182,11 +182,11 @@ sated_second : (said : Said) → Sated (second_walk said)
 unfolding second_walk
 sated_second said =
     sated_bind (each_passes (input_refers said) 1 said.inputs) _
-      (sated_passes (input_refers said) 1 said.inputs (λ number input. sated_reference said.sources (input_place number) key.Implements input.implements)) (λ a.
+    (sated_passes (input_refers said) 1 said.inputs (λ number input. sated_reference said.sources (input_place number) key.Implements input.implements)) (λ a.
     sated_bind (each_passes (source_refers said) 1 said.sources) _
-      (sated_passes (source_refers said) 1 said.sources (λ number source. sated_unless (NotMadeYet (source_place number) key.Files) (list_all (is_content said.inputs said.stages) source.files) (λ is. absurd cc))) (λ b.
+    (sated_passes (source_refers said) 1 said.sources (λ number source. sated_unless (NotMadeYet (source_place number) key.Files) (list_all (is_content said.inputs said.stages) source.files) (λ is. absurd cc))) (λ b.
     sated_bind (each_passes (stage_refers said) 1 said.stages) _
-      (sated_passes (stage_refers said) 1 said.stages (λ number stage. sated_after said (take (number - 1) said.stages) (stage_place number) stage)) (λ d.
+    (sated_passes (stage_refers said) 1 said.stages (λ number stage. sated_after said (take (number - 1) said.stages) (stage_place number) stage)) (λ d.
     sated_bind (compare_refers said) (λ _. each_passes (program_has_source said) 1 said.stages) (sated_comparison said) (λ f.
     sated_passes (program_has_source said) 1 said.stages (λ number stage. sated_argued said stage.check stage.program)))))
 

@@ -10,6 +10,8 @@ use std::alloc::Global;
 #[cfg(test)]
 mod changes;
 #[cfg(test)]
+mod document;
+#[cfg(test)]
 mod limits;
 #[cfg(test)]
 mod orders;

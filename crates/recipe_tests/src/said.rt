@@ -1,48 +1,10 @@
 //! What recipes say, in words, and the sources of programs.
-use crate::texts::{GOOD, answer, with};
+use crate::texts::GOOD;
 use ddc_base::{Bytes, ListOf, Name, OutOfMemory};
 use recipe::{Content, Output, Recipe, Source, SourceLanguage, Stage, read};
 use std::alloc::Global;
 use std::process::Abort;
 use std::test::Fail;
-
-/// The example of docs/reference/recipe.md.
-const EXAMPLE: &str = r#"format = 1
-[[input]]
-name = "prog"
-path = "copy.elf"
-[[input]]
-name = "text"
-path = "copy.hex0"
-[[input]]
-name = "src"
-path = "a.bin"
-[[input]]
-name = "bin"
-path = "b.bin"
-[[source]]
-name = "copy_src"
-lang = "hex0"
-files = ["text"]
-[[stage]]
-name = "one"
-program = "prog"
-args = ["copy"]
-files = [{ path = "in", from = "prog" }]
-output = "out"
-steps = 100000
-check = "copy_src"
-[[stage]]
-name = "two"
-program = "one"
-args = ["copy"]
-files = [{ path = "in", from = "src" }]
-output = "out"
-steps = 100000
-[compare]
-stage = "two"
-binary = "bin"
-"#;
 
 /// In the manner of a bootstrap chain: programs that go on under `./` names.
 const CHAIN: &str = r#"format = 1
@@ -201,59 +163,6 @@ source hex0_src hex0 6291456 hex0_text\nsource hex1_src hex1 0 hex0_text hex1_te
 stage hex0 seed 281474976710656 536870912 ./hex0 ./hex0.hex0 ././artifact/hex0 | hex0.hex0=hex0_text x=seed > artifact/hex0 hex0_src none\n\
 stage hex1 hex0 1 0 ./artifact/hex0 | ARCH=riscv64  > the stream none hex1_src\ncompare hex1 want\n",
     )?;
-    Ok(())
-}
-
-/// What is changed, and into what.
-type Change = (&'static str, &'static str);
-
-/// An input that implements the source.
-const IMPLEMENTS: Change = (
-    "path = \"copy.elf\"",
-    "path = \"copy.elf\"\nimplements = \"copy_src\"",
-);
-
-/// Nothing is changed.
-const NOTHING: Change = ("", "");
-
-/// Two changes of the example, and the answer.
-static EXAMPLES: [(Change, Change, &str); 6] = [
-    (NOTHING, NOTHING, "accepted"),
-    (
-        IMPLEMENTS,
-        ("program = \"one\"", "program = \"prog\""),
-        "accepted",
-    ),
-    (IMPLEMENTS, ("check =", "becomes ="), "accepted"),
-    (
-        ("check = \"copy_src\"", ""),
-        NOTHING,
-        "2 input 1 implements",
-    ),
-    (
-        ("check = \"copy_src\"", ""),
-        IMPLEMENTS,
-        "2 stage 1 becomes",
-    ),
-    (
-        ("lang = \"hex0\"", "lang = \"m1\""),
-        NOTHING,
-        "2 stage 1 becomes",
-    ),
-];
-
-#[test]
-fn the_example(rt: HostRuntime) -> Result<(), Fail> {
-    for (first, second, wanted) in &EXAMPLES {
-        let once = with(rt.alloc(), EXAMPLE, first.0, first.1)?;
-        let twice = with(rt.alloc(), once.as_str(), second.0, second.1)?;
-        let answer = answer(rt.alloc(), twice.as_bytes())?;
-        assert_eq!(rt; answer.as_str(), *wanted);
-    }
-    let cut = answer(rt.alloc(), b"format = 1 # \xff")?;
-    assert_eq!(rt; cut.as_str(), "1");
-    let empty = answer(rt.alloc(), b"")?;
-    assert_eq!(rt; empty.as_str(), "2 top 0 format");
     Ok(())
 }
 

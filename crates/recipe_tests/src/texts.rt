@@ -51,6 +51,44 @@ stage = "three"
 binary = "bin"
 "#;
 
+/// The example of docs/reference/recipe.md.
+pub(crate) const EXAMPLE: &str = r#"format = 1
+[[input]]
+name = "prog"
+path = "copy.elf"
+[[input]]
+name = "text"
+path = "copy.hex0"
+[[input]]
+name = "src"
+path = "a.bin"
+[[input]]
+name = "bin"
+path = "b.bin"
+[[source]]
+name = "copy_src"
+lang = "hex0"
+files = ["text"]
+[[stage]]
+name = "one"
+program = "prog"
+args = ["copy"]
+files = [{ path = "in", from = "prog" }]
+output = "out"
+steps = 100000
+check = "copy_src"
+[[stage]]
+name = "two"
+program = "one"
+args = ["copy"]
+files = [{ path = "in", from = "src" }]
+output = "out"
+steps = 100000
+[compare]
+stage = "two"
+binary = "bin"
+"#;
+
 /// A text with another in place of the first piece that is `old`. Where there is none it is no recipe.
 pub(crate) fn with(alloc: Global, text: &str, old: &str, new: &str) -> Result<String, OutOfMemory> {
     match text.split_once(old) {

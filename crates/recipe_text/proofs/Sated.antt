@@ -75,7 +75,7 @@ pub sated_number : (least most : ℕ) (place : Place) (key : Key) (value : Data)
 unfolding a_number
 sated_number least most place key value =
     sated_bind (or_refused (Missing place key) (as_integer value)) (λ number. or_refused (BadNumber place key) (in_range least most number))
-      (sated_or (Missing place key) (as_integer value) (λ is. absurd cc)) (λ number. sated_or (BadNumber place key) (in_range least most number) (λ is. absurd cc))
+    (sated_or (Missing place key) (as_integer value) (λ is. absurd cc)) (λ number. sated_or (BadNumber place key) (in_range least most number) (λ is. absurd cc))
 
 pub sated_table : (place : Place) (key : Key) (value : Data) → Sated (a_table place key value)
 unfolding a_table
@@ -85,19 +85,19 @@ pub sated_array : (least most : ℕ) (place : Place) (key : Key) (value : Data) 
 unfolding an_array
 sated_array least most place key value =
     sated_bind (or_refused (Missing place key) (option_map values_of (as_array value)))
-      (λ values. refused_unless (TooMany place key) (nat_le (length values) most) >> (refused_unless (Missing place key) (nat_le least (length values)) >> fine values))
-      (sated_or (Missing place key) (option_map values_of (as_array value)) (λ is. absurd cc)) (λ values.
+    (λ values. refused_unless (TooMany place key) (nat_le (length values) most) >> (refused_unless (Missing place key) (nat_le least (length values)) >> fine values))
+    (sated_or (Missing place key) (option_map values_of (as_array value)) (λ is. absurd cc)) (λ values.
     sated_bind (refused_unless (TooMany place key) (nat_le (length values) most)) (λ _. refused_unless (Missing place key) (nat_le least (length values)) >> fine values)
-      (sated_unless (TooMany place key) (nat_le (length values) most) (λ is. absurd cc)) (λ _.
+    (sated_unless (TooMany place key) (nat_le (length values) most) (λ is. absurd cc)) (λ _.
     sated_bind (refused_unless (Missing place key) (nat_le least (length values))) (λ _. fine values)
-      (sated_unless (Missing place key) (nat_le least (length values)) (λ is. absurd cc)) (λ _. sated_ok values)))
+    (sated_unless (Missing place key) (nat_le least (length values)) (λ is. absurd cc)) (λ _. sated_ok values)))
 
 pub sated_list : {A : Type 0} (read : Place → Key → Data → Result A RecipeRefusal) (least most : ℕ) (place : Place) (key : Key) (value : Data)
     → ((element : Data) → Sated (read place key element)) → Sated (a_list read least most place key value)
 unfolding a_list
 sated_list read least most place key value each =
     sated_bind (an_array least most place key value) (λ values. gathered (λ _ element. read place key element) [] values) (sated_array least most place key value)
-      (λ values. sated_gathered (λ _ element. read place key element) [] values (λ _ element. each element))
+    (λ values. sated_gathered (λ _ element. read place key element) [] values (λ _ element. each element))
 
 -- ---- at a key
 

@@ -1,9 +1,9 @@
 //! The fields of a line, each by itself.
-ghost use Rattle.std.specs.Prelude.{◌≡◌, ◌<◌, ◌+◌, ◌==◌, length, drop, IfOk, IfSome, option_map};
+ghost use Rattle.std.specs.Prelude.{◌≡◌, ◌<◌, IsTrue, ◌+◌, ◌==◌, length, drop, IfOk, IfSome, option_map};
 ghost use Rattle.std.specs.List.{position, list_all};
 ghost use Rattle.ddc_base.specs.Inside.HexTests as test;
 ghost use Rattle.report.specs.Inside.Cuts.{cut_at};
-ghost use Rattle.report.specs.Inside.Fields.{file_name_of, hex_of, digest_of, mark_of, lengths_of, is_difference, difference_of, compared_of};
+ghost use Rattle.report.specs.Inside.Fields.{file_name_of, hex_of, digit_value, pairs_of, digest_of, mark_of, lengths_of, is_difference, difference_of, compared_of};
 
 use crate::types::{Compared, Mark};
 use ddc_base::digests::Digest;
@@ -64,22 +64,39 @@ fn hex_of(alloc: Global, word: &[u8]) -> Result<Option<Bytes>, OutOfMemory>
 pub(crate) fn digest_of(word: &[u8]) -> Option<Digest>
     ensures { result ≡ digest_of word.now }
 {
-    if is_lower_hex(word) {
-        let mut bytes = [0; 32];
-        match hex::decode_to_slice(word, &mut bytes) {
-            Ok(()) => Some(Digest(bytes)),
-            Err(_) => None,
-        }
+    if word.len() == 64 && are_lower_digits(word) {
+        Some(Digest(bytes_of(word)))
     } else {
         None
     }
 }
 
-/// Whether a text is an even number of lower-case digits.
-fn is_lower_hex(text: &[u8]) -> bool
-    ensures { result ≡ test.is_lower_hex text.now }
+/// The bytes of 64 lower-case digits.
+///
+/// The value of a digit is computed without a branch that depends on the digit, since the digits of a digest are as good as random.
+fn bytes_of(word: &[u8]) -> [u8; 32]
+    requires count { length word.now ≡ 64 }
+    requires digits { IsTrue (list_all test.is_lower_digit word.now) }
+    ensures { result ≡ pairs_of word.now }
 {
-    text.len() % 2 == 0 && are_lower_digits(text)
+    let mut bytes = [0; 32];
+    for (index, byte) in bytes.iter_mut().enumerate() {
+        *byte = 16 * digit_value(word[2 * index]) + digit_value(word[2 * index + 1]);
+    }
+    bytes
+}
+
+/// The value of a lower-case digit.
+fn digit_value(digit: u8) -> u8
+    requires { IsTrue (test.is_lower_digit digit) }
+    ensures value { result ≡ digit_value digit }
+    ensures small { result < 16 }
+{
+    if digit < b'a' {
+        digit - b'0'
+    } else {
+        digit - b'a' + 10
+    }
 }
 
 fn are_lower_digits(text: &[u8]) -> bool

@@ -1,7 +1,12 @@
 //! Laws of a report's text.
-ghost use Rattle.std.specs.Prelude.{◌≡◌, ◌<◌, ℕ, List, Ok, Err, length, IfSome};
+ghost use Rattle.std.specs.Prelude.{◌≡◌, ◌<◌, ◌^◌, ℕ, List, Ok, Err, IsTrue, length, map, IfSome};
+ghost use Rattle.std.specs.Ordering.{nat_cmp};
+ghost use Rattle.std.specs.Cmp.Lexicographic.{slice_cmp};
+ghost use Rattle.std.specs.List.Sorted.{IsStrictlySortedBy};
+ghost use Rattle.sha2.specs.Sha256.{sha256};
 ghost use Rattle.report.specs.Reading.{report_of};
-ghost use Rattle.report.specs.Reports.{IsReport, IsFirstFault, report_text};
+ghost use Rattle.report.specs.Reports.{IsMark, IsReport, IsFirstFault, ascend, report_text};
+ghost use Rattle.report.specs.declared.types.LeftLine.{LeftLine};
 ghost use Rattle.report.specs.declared.types.Report.{Report as ReportValue};
 
 use crate::reading::read;
@@ -42,3 +47,14 @@ pub fn read_back(alloc: Global, report: &Report) -> Option<Report>
     let text = write(alloc, report).ok()?;
     read(alloc, text.as_slice()).ok()
 }
+
+/// The length and the digest of fewer than 2^64 bytes are a mark.
+pub fn marks_are_marks()
+    ensures { (bytes : List ℕ) → length bytes < 2 ^ 64
+        → IsMark (record { length = length bytes; digest = record { 0 = sha256 bytes } }) }
+{}
+
+/// Files whose names are sorted, as those of a map are, ascend.
+pub fn sorted_names_ascend()
+    ensures { (files : List LeftLine) → IsStrictlySortedBy (slice_cmp nat_cmp) (map (λ file. file.name) files) → IsTrue (ascend files) }
+{}

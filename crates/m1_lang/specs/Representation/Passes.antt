@@ -9,12 +9,12 @@ use Rattle.hex_items.specs.declared.words.Halt.TheVariants as halt
 use Rattle.hex_items.specs.Reading.{formed, Reading, with_front}
 use Rattle.m1_words.specs.declared.meaning.WordFault.{WordFault}
 use Rattle.m1_words.specs.Words.{open_quote, Word, word_list}
-use Rattle.m1_words.specs.Representation.Next.{words_at}
+use Rattle.m1_words.specs.Representation.Ahead.{words_at}
 use Rattle.m1_words.specs.Forms.{Tokens}
 use Rattle.m1_lang.specs.declared.refusal.M1Refusal.{M1Refusal}
 use Rattle.m1_lang.specs.declared.refusal.M1Refusal.TheVariants as refusal
-use Rattle.m1_lang.specs.Definitions.{Defined, defined_with, definitions, and_then, parts, plain_words, Part}
-use Rattle.m1_lang.specs.Expansion.{at_once, counted, place_refusal, then_read, words_reading}
+use Rattle.m1_lang.specs.Definitions.{Defined, defined_with, definitions, with_defined, parts, plain_words, Part}
+use Rattle.m1_lang.specs.Expansion.{at_once, counted_items, halt_refusal, then_read, words_reading}
 
 -- the parts of a source from an offset on
 abbrev pub parts_at : List ℕ → ℕ → List Part
@@ -34,7 +34,7 @@ Tabulates (Err why) meant = meant ≡ Err why
 abbrev pub behind_define : Defined → ℕ → List Word → Result Defined M1Refusal
 behind_define seen at [] = Err (refusal.BadDefine at)
 behind_define seen at (name ∷ []) = Err (refusal.BadDefine at)
-behind_define seen at (name ∷ value ∷ rest) = and_then (defined_with seen at name.text value.text) (λ more. definitions more (parts rest))
+behind_define seen at (name ∷ value ∷ rest) = with_defined (defined_with seen at name.text value.text) (λ more. definitions more (parts rest))
 
 -- what one definition does: `DEFINE` stood at start, and its name and value stand from at on
 abbrev pub DefinesOne : {S : Type 0} → Result ℕ M1Refusal → ℕ → List ℕ → ℕ → IndexMap (List ℕ) (List ℕ) S → IndexMap (List ℕ) (List ℕ) S → Type 0
@@ -45,9 +45,9 @@ DefinesOne (Err refusal.OutOfMemory) start source at old new = Unit {0}
 DefinesOne (Err why) start source at old new = behind_define old.entries start (word_list (words_at source at)) ≡ Err why
 
 -- a refusal of a definition, unless a quote is open
-abbrev pub first_refusal : Option ℕ → M1Refusal → M1Refusal
-first_refusal (Some place) why = refusal.OpenString place
-first_refusal None why = why
+abbrev pub quote_or : Option ℕ → M1Refusal → M1Refusal
+quote_or (Some place) why = refusal.OpenString place
+quote_or None why = why
 
 -- the plain words behind a `DEFINE`
 abbrev pub plain_behind : List Word → List Word
@@ -65,16 +65,16 @@ abbrev pub reading_at : (List ℕ → Option (List ℕ)) → List ℕ → ℕ �
 reading_at values source at = words_reading values (plain_words (parts_at source at))
 
 -- taking tokens one after the other: the items so far and what is formed later are the whole; or it is refused
-abbrev pub TakesAll : Result (Option Open) Halt → Option Open → ℕ → List Token → List Item → List Item → Type 0
-TakesAll (Ok next) word at tokens old new =
+abbrev pub TakesTokens : Result (Option Open) Halt → Option Open → ℕ → List Token → List Item → List Item → Type 0
+TakesTokens (Ok next) word at tokens old new =
     (later : Reading WordFault) → with_front old (formed word (at_once at tokens later)) ≡ with_front new (formed next later)
-TakesAll (Err halt.OutOfMemory) word at tokens old new = Unit {0}
-TakesAll (Err why) word at tokens old new =
-    (later : Reading WordFault) → counted (with_front old (formed word (at_once at tokens later))) ≡ Err (place_refusal why)
+TakesTokens (Err halt.OutOfMemory) word at tokens old new = Unit {0}
+TakesTokens (Err why) word at tokens old new =
+    (later : Reading WordFault) → counted_items (with_front old (formed word (at_once at tokens later))) ≡ Err (halt_refusal why)
 
 -- taking a word
 abbrev pub TakesWord : Result (Option Open) M1Refusal → Option Open → ℕ → Tokens → List Item → List Item → Type 0
 TakesWord (Ok next) word at tokens old new =
     (later : Reading WordFault) → with_front old (formed word (then_read at tokens later)) ≡ with_front new (formed next later)
 TakesWord (Err refusal.OutOfMemory) word at tokens old new = Unit {0}
-TakesWord (Err why) word at tokens old new = (later : Reading WordFault) → counted (with_front old (formed word (then_read at tokens later))) ≡ Err why
+TakesWord (Err why) word at tokens old new = (later : Reading WordFault) → counted_items (with_front old (formed word (then_read at tokens later))) ≡ Err why

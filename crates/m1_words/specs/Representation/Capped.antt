@@ -1,5 +1,5 @@
 -- Numbers as the code keeps them: 2^40 stands for everything that is more, since it is in no range. No promise rests on its being read.
-use Rattle.std.specs.Prelude.{ℕ, min, Option, Some, None, ℤ, pos, neg_ℤ}
+use Rattle.std.specs.Prelude.{ℕ, min, Option, Some, None, ℤ}
 use Rattle.m1_words.specs.Numbers.{magnitude, signed_by}
 use Rattle.std.specs.Prelude.{◌==◌, List, drop, slice_index, if◌then◌else◌, true, false}
 

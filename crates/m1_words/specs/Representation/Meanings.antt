@@ -4,11 +4,11 @@ use Rattle.std.specs.Int.{w32, to_le_bytes}
 use Rattle.hex.specs.Hex.{hex_digit_value}
 use Rattle.hex_items.specs.Tokens.{byte_of}
 use Rattle.hex_items.specs.declared.token.Token.{Token}
-use Rattle.hex_items.specs.declared.token.Token.TheVariants.{Byte}
+use Rattle.hex_items.specs.declared.token.Token.TheVariants.{Byte, Field}
 use Rattle.m1_words.specs.declared.meaning.Meaning.{Meaning}
 use Rattle.m1_words.specs.declared.meaning.Meaning.TheVariants.{Digits, Text, Number, One}
 use Rattle.m1_words.specs.declared.meaning.WordFault.{WordFault}
-use Rattle.m1_words.specs.Forms.{Form, Tokens, padded}
+use Rattle.m1_words.specs.Forms.{FormTokens, Tokens, padded, value_tokens}
 
 -- in front of bytes; where it is none, nothing follows
 abbrev pub before_bytes : Option ℕ → List ℕ → List ℕ
@@ -29,16 +29,21 @@ meaning_tokens (Number n) = map Byte (to_le_bytes w32 n)
 meaning_tokens (One token) = token ∷ []
 
 -- a meaning of these tokens, or none
-abbrev pub Fits : Option Meaning → Option (List Token) → Type 0
-Fits (Some meaning) tokens = tokens ≡ Some (meaning_tokens meaning)
-Fits None tokens = tokens ≡ None
+abbrev pub MeansTokens : Option Meaning → Option (List Token) → Type 0
+MeansTokens (Some meaning) tokens = tokens ≡ Some (meaning_tokens meaning)
+MeansTokens None tokens = tokens ≡ None
 
 -- a meaning of these tokens, or the same refusal
-abbrev pub Gives : Result Meaning WordFault → Tokens → Type 0
-Gives (Ok meaning) tokens = tokens ≡ Ok (meaning_tokens meaning)
-Gives (Err why) tokens = tokens ≡ Err why
+abbrev pub MeansResult : Result Meaning WordFault → Tokens → Type 0
+MeansResult (Ok meaning) tokens = tokens ≡ Ok (meaning_tokens meaning)
+MeansResult (Err why) tokens = tokens ≡ Err why
 
-abbrev pub FitsNumber : Option (Result Meaning WordFault) → Form → Type 0
-FitsNumber (Some (Ok meaning)) form = form ≡ Some (Ok (meaning_tokens meaning))
-FitsNumber (Some (Err why)) form = form ≡ Some (Err why)
-FitsNumber None form = form ≡ None
+abbrev pub MeansForm : Option (Result Meaning WordFault) → FormTokens → Type 0
+MeansForm (Some (Ok meaning)) form = form ≡ Some (Ok (meaning_tokens meaning))
+MeansForm (Some (Err why)) form = form ≡ Some (Err why)
+MeansForm None form = form ≡ None
+
+-- a field that was read of a value, or none
+abbrev pub IsFieldOf : List ℕ → Option ℕ → Type 0
+IsFieldOf text (Some mask) = value_tokens text ≡ Some (Field mask ∷ [])
+IsFieldOf text None = Unit {0}

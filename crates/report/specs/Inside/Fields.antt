@@ -1,9 +1,10 @@
 -- No promise rests on this file being read: the fields of a line, each by itself.
-use Rattle.std.specs.Prelude.{ℕ, Bool, ◌&&◌, ◌||◌, nat_le, nat_lt, List, length, Option, Some, None, codes, bytes_eq, if◌then◌else◌}
+use Rattle.std.specs.Prelude.{ℕ, ◌+◌, ◌-◌, ◌*◌, ◌==◌, Bool, ◌&&◌, ◌||◌, nat_le, nat_lt, List, [], ◌∷◌, length, Option, Some, None, codes, bytes_eq, if◌then◌else◌}
+use Rattle.std.specs.List.{list_all}
 use Rattle.std.specs.Result.{result_ok}
-use Rattle.hex.specs.Hex.{decode_of, decode_sized}
+use Rattle.hex.specs.Hex.{decode_of}
 use Rattle.ddc_base.specs.Decimals.{as_decimal}
-use Rattle.ddc_base.specs.Inside.HexTests.{is_lower_hex}
+use Rattle.ddc_base.specs.Inside.HexTests.{is_lower_digit, is_lower_hex}
 use Rattle.ddc_base.specs.declared.digests.Digest.{Digest}
 use Rattle.report.specs.declared.types.Mark.{Mark}
 use Rattle.report.specs.declared.types.Compared.{Compared}
@@ -18,10 +19,19 @@ hex_of word = if is_lower_hex word then result_ok (decode_of word) else None
 unfoldable pub file_name_of : List ℕ → Option (List ℕ)
 file_name_of word = if nat_le 1 (length word) && nat_le (length word) 510 then hex_of word else None
 
+-- the value of a lower-case digit
+abbrev pub digit_value : ℕ → ℕ
+digit_value digit = if nat_lt digit 97 then digit - 48 else digit - 87
+
+-- the bytes of a text's pairs of digits
+abbrev pub pairs_of : List ℕ → List ℕ
+pairs_of (high ∷ low ∷ rest) = (16 * digit_value high + digit_value low) ∷ pairs_of rest
+pairs_of _ = []
+
 -- the 32 bytes whose hexadecimal text a word is
 unfoldable pub digest_of : List ℕ → Option Digest
 digest_of word =
-    if is_lower_hex word then (result_ok (decode_sized word 32) >>= λ bytes. Some (record { 0 = bytes })) else None
+    if length word == 64 && list_all is_lower_digit word then Some (record { 0 = pairs_of word }) else None
 
 -- a length and a digest
 unfoldable pub mark_of : List ℕ → Option Mark

@@ -2,15 +2,15 @@ use Rattle.std.proofs.Common.{◌≡◌, ◌∙◌, ◌++◌, ◌+◌, ◌<◌, 
 use Rattle.std.proofs.lemmas.List.{flat_map_more, take_more}
 use Rattle.hex_items.specs.declared.item.Item.{Item}
 use Rattle.hex_items.specs.declared.item.Item.TheVariants.{Pad}
-use Rattle.hex_writer.specs.Writing.{item_line, written}
+use Rattle.hex_writer.specs.Writing.{item_line, items_text}
 use Rattle.hex_writer.proofs.writing.write_items.Goals as goal
 
-one-more : (items : List Item) (index : ℕ) → index < length items → written (take index items) ++ item_line (get_or items index Pad) ≡ written (take (index + 1) items)
-unfolding written
-one-more items index within = flat_map_more item_line [] (take index items) (get_or items index Pad) ∙ ap written (sym (take_more items index Pad within))
+one-more : (items : List Item) (index : ℕ) → index < length items → items_text (take index items) ++ item_line (get_or items index Pad) ≡ items_text (take (index + 1) items)
+unfolding items_text
+one-more items index within = flat_map_more item_line [] (take index items) (get_or items index Pad) ∙ ap items_text (sym (take_more items index Pad within))
 
 pub loop-index-init : goal.loop-index-init
-unfolding written
+unfolding items_text
 loop-index-init c = c.new-text.ensures
 
 pub loop-index-preserved : goal.loop-index-preserved

@@ -1,8 +1,8 @@
-use Rattle.std.proofs.Common.{arith, ap, sym, ◌∙◌, ◌≡◌, true, false, BuildHasherDefault, FoldHasher, ◌∷◌}
+use Rattle.std.proofs.Common.{arith, ap, sym, ◌∙◌, BuildHasherDefault, FoldHasher}
 use Rattle.m1_words.specs.Words.{open_quote, Over, Word, word_list, Words}
-use Rattle.m1_words.specs.Representation.Next.{words_at}
-use Rattle.m1_lang.specs.Definitions.{definitions, is_define, parts, unless_open}
-use Rattle.m1_lang.specs.Representation.Passes.{open_at, parts_at}
+use Rattle.m1_words.specs.Representation.Ahead.{words_at}
+use Rattle.m1_lang.specs.Definitions.{definitions, parts, unless_open}
+use Rattle.m1_lang.specs.Representation.Passes.{open_at}
 use Rattle.m1_lang.proofs.Definings.{meant-by, refused}
 use Rattle.m1_lang.proofs.Passing.{define-word, parts-plain, words-end}
 use Rattle.m1_lang.proofs.definitions.definitions_of.Goals as goal
@@ -36,9 +36,9 @@ returns-in-Err c =
     let seen = c.loop-at.table.entries in
     let left = word_list (words_at source c.in-Word.after) in
     let meant = meant-by seen source c.loop-at.at _ c.loop-at.invariant.quote c.loop-at.invariant.whole c.in-Word.ensures.0
-        ∙ ap (unless_open (open_at source c.in-Word.after)) (define-word seen word left (sym c.if-is_define.ensures)) in
+    ∙ ap (unless_open (open_at source c.in-Word.after)) (define-word seen word left (sym c.if-is_define.ensures)) in
     rw c.unless_open.ensures (refused (BuildHasherDefault FoldHasher) (open_at source c.in-Word.after) c.in-Err.why c.in-Word.start c.in-Word.after source
-        c.loop-at.table c.define.new.table _ meant c.in-Err.ensures)
+    c.loop-at.table c.define.new.table _ meant c.in-Err.ensures)
 
 pub returns : goal.returns
 returns c = meant-by c.loop-at.table.entries c.args.source.now c.loop-at.at Over c.loop-at.invariant.quote c.loop-at.invariant.whole (words-end c.args.source.now c.loop-at.at (omega arith))

@@ -1,12 +1,12 @@
-use Rattle.std.proofs.Common.{◌≡◌, ◌∷◌, ◌∙◌, ◌≤◌, [], ap, sym, arith, List, ℕ, Option, None, Some, length}
+use Rattle.std.proofs.Common.{◌∙◌, ap, sym, arith, List, ℕ, Option, length}
 use Rattle.indexmap.specs.IndexMap.{get}
-use Rattle.hex_items.specs.Reading.{Ends, formed, Reading, with_front, word_end}
+use Rattle.hex_items.specs.Reading.{formed, Reading, with_front, word_end}
 use Rattle.m1_words.specs.declared.meaning.WordFault.{WordFault}
 use Rattle.m1_words.specs.Words.{Word, word_list}
 use Rattle.m1_lang.specs.Definitions.{same_text}
-use Rattle.m1_lang.specs.Expansion.{counted, unless_refused}
+use Rattle.m1_lang.specs.Expansion.{unless_refused}
 use Rattle.m1_lang.specs.Representation.Passes.{reading_at}
-use Rattle.m1_lang.proofs.Passing.{no-word, nothing-left, words-end}
+use Rattle.m1_lang.proofs.Passing.{no-word, words-end}
 use Rattle.m1_lang.proofs.Expandings.{reading-define, reading-done, reading-over, reading-word, refused-word}
 use Rattle.m1_lang.proofs.expansion.items_by.Goals as goal
 
@@ -15,7 +15,7 @@ loop-at-preserved-then-is_define c =
     let values : List ℕ → Option (List ℕ) = λ name. get same_text c.args.table.now name in
     let word : Word = record { at = c.in-Word.start; text = c.in-Word.text.now } in
     let step = reading-define values c.args.source.now c.loop-at.at c.in-Word.after c.behind_definition-at.result word c.in-Word.ensures.0 (sym c.if-is_define.ensures)
-        c.behind_definition-at.ensures.0 in
+    c.behind_definition-at.ensures.0 in
     record {
       whole = c.loop-at.invariant.whole ∙ ap (λ (r : Reading WordFault). with_front c.loop-at.items (formed c.loop-at.word r)) step;
       few = c.loop-at.invariant.few;
@@ -40,7 +40,7 @@ returns-in-Err c =
     let word : Word = record { at = c.in-Word.start; text = c.in-Word.text.now } in
     let step = reading-word values c.args.source.now c.loop-at.at c.in-Word.after word c.in-Word.ensures.0 (sym c.if-is_define.ensures) in
     refused-word c.in-Err.why values c.loop-at.word c.in-Word.start c.in-Word.text.now c.loop-at.items c.take_word.new.items (reading_at values c.args.source.now c.in-Word.after) _
-        (c.loop-at.invariant.whole ∙ ap (λ (r : Reading WordFault). with_front c.loop-at.items (formed c.loop-at.word r)) step) c.in-Err.ensures.takes
+    (c.loop-at.invariant.whole ∙ ap (λ (r : Reading WordFault). with_front c.loop-at.items (formed c.loop-at.word r)) step) c.in-Err.ensures.takes
 
 pub loop-at-preserved : goal.loop-at-preserved
 loop-at-preserved c =

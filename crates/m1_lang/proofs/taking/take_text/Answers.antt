@@ -1,4 +1,4 @@
-use Rattle.std.proofs.Common.{ℕ, replicate, ◌-◌, ◌%◌, length}
+use Rattle.std.proofs.Common.{replicate, ◌-◌, ◌%◌, length}
 use Rattle.m1_lang.proofs.Takings.{append-refused, append-taken}
 use Rattle.m1_lang.proofs.taking.take_text.Goals as goal
 

@@ -1,4 +1,4 @@
-use Rattle.std.proofs.Common.{arith, ap, sym, ◌∙◌, ◌≡◌, ◌+◌, drop, get_or, is_some, ◌∷◌, []}
+use Rattle.std.proofs.Common.{arith, ap, sym, ◌∙◌, ◌≡◌, ◌+◌, drop, get_or, is_some, ◌∷◌}
 use Rattle.std.proofs.lemmas.List.{at_drop_more, drop_all}
 use Rattle.m1_words.specs.Digits.{digit_bytes}
 use Rattle.m1_words.proofs.Pairs.{pairs-more}

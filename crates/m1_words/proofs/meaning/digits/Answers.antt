@@ -1,4 +1,4 @@
-use Rattle.std.proofs.Common.{◌≡◌, ◌≤◌, ap, sym, ◌∙◌, arith, length, List, ℕ}
+use Rattle.std.proofs.Common.{◌≤◌, ap, sym, arith, length, List, ℕ}
 use Rattle.std.proofs.lemmas.List.{drop_all}
 use Rattle.m1_words.specs.Digits.{digit_bytes}
 use Rattle.m1_words.specs.Forms.{byte_tokens}

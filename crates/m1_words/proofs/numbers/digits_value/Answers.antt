@@ -1,7 +1,7 @@
-use Rattle.std.proofs.Common.{arith, get_or, drop, ◌+◌, ◌∙◌, ◌≡◌, ◌≤◌}
+use Rattle.std.proofs.Common.{arith, get_or, drop, ◌+◌, ◌∙◌}
 use Rattle.std.proofs.lemmas.List.{at_drop_more}
 use Rattle.m1_words.specs.Numbers.{more_digits}
-use Rattle.m1_words.specs.Representation.Capped.{capped, capped_value}
+use Rattle.m1_words.specs.Representation.Capped.{capped_value}
 use Rattle.m1_words.proofs.Capping.{digit-more}
 use Rattle.m1_words.proofs.numbers.digits_value.Goals as goal
 

@@ -2,7 +2,7 @@ use Rattle.std.proofs.Common.{◌≤◌, ◌-◌, length, map, drop}
 use Rattle.hex_items.specs.declared.token.Token.TheVariants.{Byte}
 use Rattle.m1_words.specs.Representation.Meanings.{front_bytes}
 use Rattle.m1_lang.proofs.Takings.{Left}
-use Rattle.m1_lang.proofs.taking.take_digits.Given as goal
+use Rattle.m1_lang.proofs.taking.take_pairs.Given as goal
 
 abbrev pub invariant-loop-at : goal.invariant-loop-at
 invariant-loop-at l = record {
