@@ -1,6 +1,37 @@
 //! Where an audit stands.
+use audit_stage::Done;
+use guest_run::{Guest, RunRam};
 use source_check::CheckCause;
-use wheeler::RunCause;
+use wheeler::{Answer, Fault, RunCause};
+
+/// Where an audit stands.
+#[derive(Debug, Drop)]
+pub(crate) enum Place {
+    /// No advance was made: the first stage has not started.
+    Ready,
+    /// A stage runs.
+    Running(Guest<RunRam>),
+    /// The audit is over.
+    Over(Answer),
+}
+
+/// What entering the next stage comes to.
+#[derive(Debug, Drop)]
+pub(crate) enum Entry {
+    /// Its program has started.
+    Started(Guest<RunRam>),
+    /// The audit is over.
+    Over(Answer),
+}
+
+/// What some steps come to.
+#[derive(Debug, Drop)]
+pub(crate) enum Moved {
+    /// The stage goes on.
+    Goes,
+    /// The stage's run has ended.
+    Ended(Result<Done, Fault>),
+}
 
 /// What an advance answers.
 #[derive(Clone, Copy, Debug, PartialEq, Eq)]

@@ -9,7 +9,7 @@ use Rattle.recipe_text.specs.declared.keys.Key.{Key}
 use Rattle.recipe_text.specs.declared.keys.Key.TheVariants as key
 use Rattle.recipe_text.specs.declared.keys.Place.{Place}
 use Rattle.recipe_text.specs.declared.refusal.RecipeRefusal.TheVariants.{BadName, BadPath, DoubleName}
-use Rattle.recipe_text.specs.Reading.{or_refused, refused_unless, is_path, a_text, a_name, a_path, is_word, a_word, a_number, a_table, an_array, a_list, required, optional, closed}
+use Rattle.recipe_text.specs.Reading.{or_refused, refused_unless, is_path, a_text, a_name, a_path, is_word, a_word, a_number, a_table, an_array, a_list, required, optional, no_other_key}
 use Rattle.recipe_text.proofs.Accepted.{bound, ok_same, or_ok, unless_ok, bind_unless, required_ok, optional_ok, name_ok, path_ok, word_ok, number_ok, list_ok, array_ok, gathered_each, gathered_keeps, gathered_length, Few, At, Read}
 use Rattle.recipe.specs.declared.parts.Input.{Input}
 use Rattle.recipe.specs.declared.parts.Output.{Output}
@@ -47,7 +47,7 @@ input_said inputs place table input e =
     bound _ (required (a_new_name inputs [] []) place key.Name table) _ input e (λ name name_is rest1.
     bound _ (required a_path place key.Path table) _ input rest1 (λ path path_is rest2.
     bound _ (optional a_name place key.Implements table) _ input rest2 (λ implements implements_is rest3.
-    bound _ (closed place (key.Name ∷ key.Path ∷ key.Implements ∷ []) table) _ input rest3 (λ other closed_is rest4.
+    bound _ (no_other_key place (key.Name ∷ key.Path ∷ key.Implements ∷ []) table) _ input rest3 (λ other closed_is rest4.
     let path_at = required_ok a_path place key.Path table path path_is in
     subst (InputSaid inputs) (ok_same (record { name = name; path = path; implements = implements }) input rest4)
     (record { name = new_name_ok inputs [] [] place table name name_is; path = path_ok place key.Path path_at.0 path path_at.1 })))))
@@ -71,7 +71,7 @@ source_said inputs sources place table source e =
     bound _ (required a_language place key.Lang table) _ source rest1 (λ lang lang_is rest2.
     bound _ (optional (a_number 0 (2 ^ 37)) place key.Base table) _ source rest2 (λ base base_is rest3.
     bound _ (required (a_list a_name 1 64) place key.Files table) _ source rest3 (λ files files_is rest4.
-    bound _ (closed place (key.Name ∷ key.Lang ∷ key.Base ∷ key.Files ∷ []) table) _ source rest4 (λ other closed_is rest5.
+    bound _ (no_other_key place (key.Name ∷ key.Lang ∷ key.Base ∷ key.Files ∷ []) table) _ source rest4 (λ other closed_is rest5.
     let files_at = required_ok (a_list a_name 1 64) place key.Files table files files_is in
     subst (SourceSaid inputs sources) (ok_same (record { name = name; lang = lang; base = unwrap_or base 6291456; files = files }) source rest5)
     (record {
@@ -92,7 +92,7 @@ file_said place files value file e =
     bound _ (a_table place key.Files value) _ file e (λ entry entry_is rest1.
     bound _ (entry_text place key.Files key.Path entry) _ file rest1 (λ path_text path_text_is rest2.
     bound _ (entry_text place key.Files key.From entry) _ file rest2 (λ from_text from_text_is rest3.
-    bound _ (closed place (key.Path ∷ key.From ∷ []) entry) _ file rest3 (λ other closed_is rest4.
+    bound _ (no_other_key place (key.Path ∷ key.From ∷ []) entry) _ file rest3 (λ other closed_is rest4.
     bound _ (or_refused (BadName place key.Files) (name_of from_text)) _ file rest4 (λ from from_is rest5.
     bound _ (or_refused (BadPath place key.Files) (guest_path path_text)) _ file rest5 (λ path path_is rest6.
     bound _ (refused_unless (DoubleName place key.Files) (not (is_file_path files path))) _ file rest6 (λ new new_is rest7.
@@ -181,7 +181,7 @@ stage_said inputs sources stages place table stage e =
     bound _ (optional (a_number 0 (2 ^ 30)) place key.Heap table) _ stage rest7 (λ heap heap_is rest8.
     bound _ (optional a_name place key.Check table) _ stage rest8 (λ check check_is rest9.
     bound _ (optional a_name place key.Becomes table) _ stage rest9 (λ becomes becomes_is rest10.
-    bound _ (closed place (key.Name ∷ key.Program ∷ key.Args ∷ key.Env ∷ key.Files ∷ key.Output ∷ key.Steps ∷ key.Heap ∷ key.Check ∷ key.Becomes ∷ []) table) _ stage rest10 (λ other closed_is rest11.
+    bound _ (no_other_key place (key.Name ∷ key.Program ∷ key.Args ∷ key.Env ∷ key.Files ∷ key.Output ∷ key.Steps ∷ key.Heap ∷ key.Check ∷ key.Becomes ∷ []) table) _ stage rest10 (λ other closed_is rest11.
     let args_at = required_ok (a_list a_word 1 64) place key.Args table args args_is in
     let words = words_ok 1 64 place key.Args args_at.0 args args_at.1 in
     let texts = env_ok place env (optional_ok (a_list a_word 0 64) place key.Env table env env_is) in

@@ -5,7 +5,7 @@ use Rattle.std.specs.List.{IsDistinct}
 use Rattle.sha2.specs.Sha256.{sha256}
 use Rattle.toml.specs.Data.{Members}
 use Rattle.recipe_text.specs.declared.keys.Key.TheVariants as key
-use Rattle.recipe_text.specs.Reading.{a_list, a_number, a_table, closed, document_of, gathered, optional, required}
+use Rattle.recipe_text.specs.Reading.{a_list, a_number, a_table, no_other_key, document_of, gathered, optional, required}
 use Rattle.recipe_text.proofs.Accepted.{bound, ok_same, required_ok, optional_ok, list_ok, gathered_each, gathered_keeps, gathered_length, passes_at, unless_ok, Few, Read}
 use Rattle.recipe.specs.declared.contents.Said.{Said}
 use Rattle.recipe.specs.declared.parts.Input.{Input}
@@ -38,7 +38,7 @@ top_said table top e =
     bound _ (optional (a_list a_table 0 256) top_place key.Source table) _ top rest2 (λ sources sources_is rest3.
     bound _ (required (a_list a_table 1 256) top_place key.Stage table) _ top rest3 (λ stages stages_is rest4.
     bound _ (required a_table top_place key.Compare table) _ top rest4 (λ compare compare_is rest5.
-    bound _ (closed top_place (key.Format ∷ key.Input ∷ key.Source ∷ key.Stage ∷ key.Compare ∷ []) table) _ top rest5 (λ other closed_is rest6.
+    bound _ (no_other_key top_place (key.Format ∷ key.Input ∷ key.Source ∷ key.Stage ∷ key.Compare ∷ []) table) _ top rest5 (λ other closed_is rest6.
     let inputs_at = required_ok (a_list a_table 1 256) top_place key.Input table inputs inputs_is in
     let stages_at = required_ok (a_list a_table 1 256) top_place key.Stage table stages stages_is in
     subst TopSaid (ok_same (record { inputs = inputs; sources = unwrap_or sources []; stages = stages; compare = compare }) top rest6)

@@ -2,11 +2,12 @@
 use Rattle.std.proofs.Common.{◌≡◌, ℕ, zero, suc, ◌+◌, ◌<◌, Bool, true, false, cond, ltb, not, List, [], ◌∷◌, length, take, Option, Some, None, option_map, refl, ap, arith}
 use Rattle.std.specs.Prelude.{bytes_eq, is_some, IsSome}
 use Rattle.std.specs.List.{position, position_or_len}
+use Rattle.std.specs.Option.{option_or}
 use Rattle.std.proofs.lemmas.Bool.{lt-ltb, ltb-true}
 use Rattle.recipe.specs.declared.parts.Content.TheVariants as content
 use Rattle.recipe.specs.declared.parts.Input.{Input}
 use Rattle.recipe.specs.declared.parts.Stage.{Stage}
-use Rattle.recipe.specs.Lookups.{or_else, input_at, stage_at, content_of}
+use Rattle.recipe.specs.Lookups.{input_at, stage_at, content_of}
 
 first_of : (here : Bool) (n m k l : ℕ) → cond (not here) (1 + n) 0 < suc k → (n < k → (m ≡ n) × (m < l)) → (cond (not here) (1 + m) 0 ≡ cond (not here) (1 + n) 0) × (cond (not here) (1 + m) 0 < suc l)
 first_of true n m k l within more = (refl, omega arith)
@@ -35,8 +36,8 @@ position_more p xs i is =
     same_found (position_or_len p xs) (position_or_len p (take i xs)) (length (take i xs)) (length xs) many.0 few many.1
 
 -- what stands for the name in an input or a front part of the stages
-either_more : (input : Option ℕ) (few many : Option ℕ) → (IsSome few → many ≡ few) → IsSome (or_else (option_map content.Input input) (option_map content.Stage few))
-    → or_else (option_map content.Input input) (option_map content.Stage many) ≡ or_else (option_map content.Input input) (option_map content.Stage few)
+either_more : (input : Option ℕ) (few many : Option ℕ) → (IsSome few → many ≡ few) → IsSome (option_or (option_map content.Input input) (option_map content.Stage few))
+    → option_or (option_map content.Input input) (option_map content.Stage many) ≡ option_or (option_map content.Input input) (option_map content.Stage few)
 either_more (Some index) few many more is = refl
 either_more None (Some index) many more is = ap (option_map content.Stage) (more refl)
 either_more None None many more is = absurd cc

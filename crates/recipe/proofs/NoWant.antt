@@ -1,5 +1,5 @@
 -- What the bytes of a recipe say is never want of memory.
-use Rattle.std.proofs.Common.{◌≡◌, ℕ, ◌+◌, ◌-◌, ◌^◌, take, List, [], ◌∷◌, Option, Some, None, Result, Ok, Err, length}
+use Rattle.std.proofs.Common.{◌≡◌, ℕ, ◌+◌, ◌-◌, ◌^◌, take, List, [], ◌∷◌, Option, Some, None, Err, length}
 use Rattle.std.specs.Prelude.{is_some, not, option_and_then}
 use Rattle.std.specs.List.{list_all}
 use Rattle.toml.specs.Data.{Data, Members, get_member, as_str}
@@ -7,11 +7,10 @@ use Rattle.ddc_base.specs.Names.{name_of}
 use Rattle.recipe_text.specs.declared.keys.Key.{Key}
 use Rattle.recipe_text.specs.declared.keys.Key.TheVariants as key
 use Rattle.recipe_text.specs.declared.keys.Place.{Place}
-use Rattle.recipe_text.specs.declared.refusal.RecipeRefusal.{RecipeRefusal}
 use Rattle.recipe_text.specs.declared.refusal.RecipeRefusal.TheVariants.{Missing, BadName, DoubleName, NotMadeYet, BadPath, OutOfMemory}
 use Rattle.recipe_text.specs.Keys.{key_word}
-use Rattle.recipe_text.specs.Reading.{or_refused, refused_unless, gathered, each_passes, a_text, a_name, a_path, a_word, a_number, a_table, an_array, a_list, required, optional, closed, document_of}
-use Rattle.recipe_text.proofs.Sated.{Sated, fine, sated_bind, sated_ok, sated_or, sated_unless, sated_gathered, sated_passes, sated_text, sated_name, sated_path, sated_word, sated_number, sated_table, sated_array, sated_list, sated_required, sated_optional, sated_closed, sated_document}
+use Rattle.recipe_text.specs.Reading.{or_refused, refused_unless, gathered, each_passes, a_text, a_name, a_path, a_word, a_number, a_table, an_array, a_list, required, optional, no_other_key, document_of}
+use Rattle.recipe_text.proofs.Sated.{Sated, fine, sated_bind, sated_ok, sated_or, sated_unless, sated_gathered, sated_passes, sated_text, sated_name, sated_path, sated_word, sated_number, sated_table, sated_array, sated_list, sated_required, sated_optional, sated_no_other_key, sated_document}
 use Rattle.recipe.specs.declared.contents.Said.{Said}
 use Rattle.recipe.specs.declared.parts.Content.{Content}
 use Rattle.recipe.specs.declared.parts.Content.TheVariants as content
@@ -35,8 +34,8 @@ sated_top table =
     (sated_optional (a_list a_table 0 256) top_place key.Source table (λ value. sated_list a_table 0 256 top_place key.Source value (sated_table top_place key.Source))) (λ sources.
     sated_bind (required (a_list a_table 1 256) top_place key.Stage table) _ (sated_tables 1 key.Stage table) (λ stages.
     sated_bind (required a_table top_place key.Compare table) _ (sated_required a_table top_place key.Compare table (sated_table top_place key.Compare)) (λ compare.
-    sated_bind (closed top_place (key.Format ∷ key.Input ∷ key.Source ∷ key.Stage ∷ key.Compare ∷ []) table) _
-    (sated_closed top_place (key.Format ∷ key.Input ∷ key.Source ∷ key.Stage ∷ key.Compare ∷ []) table) (λ other. sated_ok _))))))
+    sated_bind (no_other_key top_place (key.Format ∷ key.Input ∷ key.Source ∷ key.Stage ∷ key.Compare ∷ []) table) _
+    (sated_no_other_key top_place (key.Format ∷ key.Input ∷ key.Source ∷ key.Stage ∷ key.Compare ∷ []) table) (λ other. sated_ok _))))))
   where
     sated_tables : (least : ℕ) (k : Key) (table : Members) → Sated (required (a_list a_table least 256) top_place k table)
     sated_tables least k table = sated_required (a_list a_table least 256) top_place k table (λ value. sated_list a_table least 256 top_place k value (sated_table top_place k))
@@ -56,7 +55,7 @@ sated_input inputs place table =
     sated_bind (required (a_new_name inputs [] []) place key.Name table) _ (sated_new_name inputs [] [] place table) (λ name.
     sated_bind (required a_path place key.Path table) _ (sated_required a_path place key.Path table (sated_path place key.Path)) (λ path.
     sated_bind (optional a_name place key.Implements table) _ (sated_optional a_name place key.Implements table (sated_name place key.Implements)) (λ implements.
-    sated_bind (closed place (key.Name ∷ key.Path ∷ key.Implements ∷ []) table) _ (sated_closed place (key.Name ∷ key.Path ∷ key.Implements ∷ []) table) (λ other. sated_ok _))))
+    sated_bind (no_other_key place (key.Name ∷ key.Path ∷ key.Implements ∷ []) table) _ (sated_no_other_key place (key.Name ∷ key.Path ∷ key.Implements ∷ []) table) (λ other. sated_ok _))))
 
 sated_language : (place : Place) (k : Key) (value : Data) → Sated (a_language place k value)
 unfolding a_language
@@ -70,7 +69,7 @@ sated_source inputs sources place table =
     sated_bind (optional (a_number 0 (2 ^ 37)) place key.Base table) _ (sated_optional (a_number 0 (2 ^ 37)) place key.Base table (sated_number 0 (2 ^ 37) place key.Base)) (λ base.
     sated_bind (required (a_list a_name 1 64) place key.Files table) _
     (sated_required (a_list a_name 1 64) place key.Files table (λ value. sated_list a_name 1 64 place key.Files value (sated_name place key.Files))) (λ files.
-    sated_bind (closed place (key.Name ∷ key.Lang ∷ key.Base ∷ key.Files ∷ []) table) _ (sated_closed place (key.Name ∷ key.Lang ∷ key.Base ∷ key.Files ∷ []) table) (λ other. sated_ok _)))))
+    sated_bind (no_other_key place (key.Name ∷ key.Lang ∷ key.Base ∷ key.Files ∷ []) table) _ (sated_no_other_key place (key.Name ∷ key.Lang ∷ key.Base ∷ key.Files ∷ []) table) (λ other. sated_ok _)))))
 
 sated_entry : (place : Place) (k entry_key : Key) (entry : Members) → Sated (entry_text place k entry_key entry)
 sated_entry place k entry_key entry = sated_or (Missing place k) (option_and_then as_str (get_member (key_word entry_key) entry)) (λ is. absurd cc)
@@ -81,7 +80,7 @@ sated_file place k files value =
     sated_bind (a_table place k value) _ (sated_table place k value) (λ entry.
     sated_bind (entry_text place k key.Path entry) _ (sated_entry place k key.Path entry) (λ path_text.
     sated_bind (entry_text place k key.From entry) _ (sated_entry place k key.From entry) (λ from_text.
-    sated_bind (closed place (key.Path ∷ key.From ∷ []) entry) _ (sated_closed place (key.Path ∷ key.From ∷ []) entry) (λ other.
+    sated_bind (no_other_key place (key.Path ∷ key.From ∷ []) entry) _ (sated_no_other_key place (key.Path ∷ key.From ∷ []) entry) (λ other.
     sated_bind (or_refused (BadName place k) (name_of from_text)) _ (sated_or (BadName place k) (name_of from_text) (λ is. absurd cc)) (λ from.
     sated_bind (or_refused (BadPath place k) (guest_path path_text)) _ (sated_or (BadPath place k) (guest_path path_text) (λ is. absurd cc)) (λ path.
     sated_bind (refused_unless (DoubleName place k) (not (is_file_path files path))) _ (sated_unless (DoubleName place k) (not (is_file_path files path)) (λ is. absurd cc)) (λ new. sated_ok _)))))))
@@ -112,14 +111,14 @@ sated_stage inputs sources stages place table =
     sated_bind (optional (a_number 0 (2 ^ 30)) place key.Heap table) _ (sated_optional (a_number 0 (2 ^ 30)) place key.Heap table (sated_number 0 (2 ^ 30) place key.Heap)) (λ heap.
     sated_bind (optional a_name place key.Check table) _ (sated_optional a_name place key.Check table (sated_name place key.Check)) (λ check.
     sated_bind (optional a_name place key.Becomes table) _ (sated_optional a_name place key.Becomes table (sated_name place key.Becomes)) (λ becomes.
-    sated_bind (closed place stage_keys table) _ (sated_closed place stage_keys table) (λ other. sated_ok _)))))))))))
+    sated_bind (no_other_key place stage_keys table) _ (sated_no_other_key place stage_keys table) (λ other. sated_ok _)))))))))))
 
 sated_compare : (table : Members) → Sated (compare_table table)
 unfolding compare_table
 sated_compare table =
     sated_bind (required a_name compare_place key.Stage table) _ (sated_required a_name compare_place key.Stage table (sated_name compare_place key.Stage)) (λ stage.
     sated_bind (required a_name compare_place key.Binary table) _ (sated_required a_name compare_place key.Binary table (sated_name compare_place key.Binary)) (λ binary.
-    sated_bind (closed compare_place (key.Stage ∷ key.Binary ∷ []) table) _ (sated_closed compare_place (key.Stage ∷ key.Binary ∷ []) table) (λ other. sated_ok _)))
+    sated_bind (no_other_key compare_place (key.Stage ∷ key.Binary ∷ []) table) _ (sated_no_other_key compare_place (key.Stage ∷ key.Binary ∷ []) table) (λ other. sated_ok _)))
 
 sated_first : (bytes : List ℕ) → Sated (first_walk bytes)
 unfolding first_walk

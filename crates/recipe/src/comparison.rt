@@ -4,7 +4,7 @@ ghost use Rattle.recipe_text.specs.Reading.{Gives};
 ghost use Rattle.recipe.specs.Tables.{compare_table};
 
 use crate::parts::Compare;
-use recipe_text::{Key, Place, RecipeRefusal, closed, required_name};
+use recipe_text::{Key, Place, RecipeRefusal, no_other_key, required_name};
 use toml::Table;
 
 /// The place of the one table `compare`.
@@ -20,6 +20,6 @@ pub(crate) fn compare_of(table: &Table) -> Result<Compare, RecipeRefusal>
 {
     let stage = required_name(COMPARE, Key::Stage, table)?;
     let binary = required_name(COMPARE, Key::Binary, table)?;
-    closed(COMPARE, &[Key::Stage, Key::Binary], table)?;
+    no_other_key(COMPARE, &[Key::Stage, Key::Binary], table)?;
     Ok(Compare { stage, binary })
 }

@@ -7,7 +7,7 @@ ghost use Rattle.recipe.specs.Tables.{top_table};
 
 use crate::top_tables::Top;
 use recipe_text::{
-    Key, Place, RecipeRefusal, closed, find, required, required_number, table, tables,
+    Key, Place, RecipeRefusal, find, no_other_key, required, required_number, table, tables,
 };
 use std::alloc::Global;
 use toml::Table;
@@ -28,7 +28,7 @@ pub(crate) fn top_of<'a>(alloc: Global, top: &'a Table) -> Result<Top<'a>, Recip
     let sources = optional_tables(alloc, Key::Source, top)?.unwrap_or(Vec::new(alloc));
     let stages = required_tables(alloc, Key::Stage, top)?;
     let compare = required_table(Key::Compare, top)?;
-    closed(
+    no_other_key(
         TOP,
         &[
             Key::Format,

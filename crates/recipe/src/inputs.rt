@@ -7,7 +7,7 @@ ghost use Rattle.recipe.specs.Tables.{input_table, next_input};
 use crate::names::required_new_name;
 use crate::parts::Input;
 use ddc_base::ListOf;
-use recipe_text::{Key, Path, Place, RecipeRefusal, closed, optional_name, path, required};
+use recipe_text::{Key, Path, Place, RecipeRefusal, no_other_key, optional_name, path, required};
 use std::alloc::Global;
 use toml::Table;
 
@@ -50,7 +50,7 @@ fn input_of(
     let name = required_new_name(inputs, &[], &[], place, table)?;
     let path = required_path(alloc, place, table)?;
     let implements = optional_name(place, Key::Implements, table)?;
-    closed(place, &[Key::Name, Key::Path, Key::Implements], table)?;
+    no_other_key(place, &[Key::Name, Key::Path, Key::Implements], table)?;
     Ok(Input {
         name,
         path,

@@ -1,6 +1,6 @@
 //! What the names of a recipe stand for.
 ghost use Rattle.std.specs.Prelude.{◌≡◌, ◌<◌, IfSome, length, option_and_then, option_map, slice_get};
-ghost use Rattle.recipe.specs.Inside.Indices.{IsIndex};
+ghost use Rattle.recipe.specs.Lookups.{IsIndex};
 ghost use Rattle.recipe.specs.Lookups.{content_of, content_source, hex_check, input_at, is_hex, source_named, stage_at, stage_source};
 
 use crate::contents::Said;

@@ -4,7 +4,7 @@ ghost use Rattle.std.specs.List.{list_all};
 ghost use Rattle.recipe_text.specs.Reading.{Gives, each_passes, refused_unless};
 ghost use Rattle.recipe_text.specs.declared.refusal.RecipeRefusal.TheVariants.{NotMadeYet as NotYet};
 ghost use Rattle.recipe.specs.Lookups as spec;
-ghost use Rattle.recipe.specs.Inside.Indices.{IsIndex};
+ghost use Rattle.recipe.specs.Lookups.{IsIndex};
 ghost use Rattle.recipe.specs.SecondWalk.{check_refers, checks_source, compare_refers, has_source, input_refers, is_argued, is_content, is_defined, program_has_source, refers_to_source, second_walk, source_refers, stage_refers, stage_refers_after};
 
 use crate::comparison::COMPARE;

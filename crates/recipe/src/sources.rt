@@ -8,7 +8,9 @@ use crate::names::required_new_name;
 use crate::parts::{Input, Source, SourceLanguage};
 use ddc_base::{ListOf, Name};
 use languages::Language;
-use recipe_text::{Key, Place, RecipeRefusal, closed, names, optional_number, required, text};
+use recipe_text::{
+    Key, Place, RecipeRefusal, names, no_other_key, optional_number, required, text,
+};
 use std::alloc::Global;
 use toml::{Table, Value};
 
@@ -65,7 +67,7 @@ fn source_of(
     let lang = required_language(place, table)?;
     let base = optional_number(0, 1 << 37, place, Key::Base, table)?.unwrap_or(DEFAULT_BASE);
     let files = required_names(alloc, place, table)?;
-    closed(place, &[Key::Name, Key::Lang, Key::Base, Key::Files], table)?;
+    no_other_key(place, &[Key::Name, Key::Lang, Key::Base, Key::Files], table)?;
     Ok(Source {
         name,
         lang,

@@ -7,7 +7,9 @@ ghost use Rattle.recipe.specs.Tables.{an_output, entry_text, guest_path, is_file
 use crate::parts::{Output, StageFile};
 use ddc_base::{Bytes, ListOf, Name, OutOfMemory};
 use mem_files::strip;
-use recipe_text::{Key, Place, RecipeRefusal, array, closed, find, is_path, required, table, text};
+use recipe_text::{
+    Key, Place, RecipeRefusal, array, find, is_path, no_other_key, required, table, text,
+};
 use std::alloc::Global;
 use toml::{Table, Value};
 
@@ -67,7 +69,7 @@ fn next_file(
     let entry = table(place, Key::Files, value)?;
     let path_text = entry_text(place, Key::Path, entry)?;
     let from_text = entry_text(place, Key::From, entry)?;
-    closed(place, &[Key::Path, Key::From], entry)?;
+    no_other_key(place, &[Key::Path, Key::From], entry)?;
     let from = match Name::read(from_text.as_bytes()) {
         Some(from) => from,
         None => return Err(RecipeRefusal::BadName(place, Key::Files)),

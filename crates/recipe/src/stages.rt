@@ -9,7 +9,7 @@ use crate::parts::{Input, Source, Stage};
 use crate::stage_files::{optional_files, required_output};
 use ddc_base::{Bytes, ListOf};
 use recipe_text::{
-    Key, Place, RecipeRefusal, closed, find, optional_name, optional_number, required,
+    Key, Place, RecipeRefusal, find, no_other_key, optional_name, optional_number, required,
     required_name, required_number, words,
 };
 use std::alloc::Global;
@@ -91,7 +91,7 @@ fn stage_of(
     let heap = optional_number(0, 1 << 30, place, Key::Heap, table)?.unwrap_or(DEFAULT_HEAP);
     let check = optional_name(place, Key::Check, table)?;
     let becomes = optional_name(place, Key::Becomes, table)?;
-    closed(place, &KEYS, table)?;
+    no_other_key(place, &KEYS, table)?;
     Ok(Stage {
         name,
         program,

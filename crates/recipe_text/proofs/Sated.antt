@@ -8,7 +8,7 @@ use Rattle.recipe_text.specs.declared.keys.Place.{Place}
 use Rattle.recipe_text.specs.declared.refusal.RecipeRefusal.{RecipeRefusal}
 use Rattle.recipe_text.specs.declared.refusal.RecipeRefusal.TheVariants.{NotToml, Missing, Unknown, BadName, BadPath, BadNumber, TooMany, OutOfMemory}
 use Rattle.recipe_text.specs.Keys.{key_word, are_listed}
-use Rattle.recipe_text.specs.Reading.{◌>>=◌, ◌>>◌, or_refused, refused_unless, where_there, gathered, each_passes, a_text, a_name, path_of, a_path, is_word, a_word, in_range, a_number, a_table, an_array, values_of, a_list, required, optional, closed, document_of}
+use Rattle.recipe_text.specs.Reading.{◌>>=◌, ◌>>◌, or_refused, refused_unless, where_there, gathered, each_passes, a_text, a_name, path_of, a_path, is_word, a_word, in_range, a_number, a_table, an_array, values_of, a_list, required, optional, no_other_key, document_of}
 
 pub record Sated {A : Type 0} (reading : Result A RecipeRefusal) : Type 0 where
   pub isnt : reading ≡ Err OutOfMemory → ⊥
@@ -116,9 +116,9 @@ pub sated_optional : {A : Type 0} (read : Place → Key → Data → Result A Re
 unfolding optional
 sated_optional read place key table each = sated_there (read place key) (get_member (key_word key) table) each
 
-pub sated_closed : (place : Place) (keys : List Key) (table : Members) → Sated (closed place keys table)
-unfolding closed
-sated_closed place keys table = sated_unless (Unknown place) (are_listed keys table) (λ is. absurd cc)
+pub sated_no_other_key : (place : Place) (keys : List Key) (table : Members) → Sated (no_other_key place keys table)
+unfolding no_other_key
+sated_no_other_key place keys table = sated_unless (Unknown place) (are_listed keys table) (λ is. absurd cc)
 
 pub sated_document : (bytes : List ℕ) → Sated (document_of bytes)
 unfolding document_of

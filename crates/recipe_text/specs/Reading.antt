@@ -47,13 +47,13 @@ each_passes test number (x ∷ xs) = do
 
 -- ---- what a call answered: the reading, with what was read seen by `view`, unless memory was wanting
 
-abbrev pub Fails : {Y : Type 0} → RecipeRefusal → Result Y RecipeRefusal → Type 0
-Fails OutOfMemory reading = Unit {0}
-Fails refusal reading = reading ≡ Err refusal
+abbrev pub IsRefused : {Y : Type 0} → RecipeRefusal → Result Y RecipeRefusal → Type 0
+IsRefused OutOfMemory reading = Unit {0}
+IsRefused refusal reading = reading ≡ Err refusal
 
 abbrev pub Gives : {X Y : Type 0} → (X → Y) → Result X RecipeRefusal → Result Y RecipeRefusal → Type 0
 Gives view (Ok x) reading = reading ≡ Ok (view x)
-Gives view (Err refusal) reading = Fails refusal reading
+Gives view (Err refusal) reading = IsRefused refusal reading
 
 -- ---- the readers of a value: each takes the place of the table and the key, which its refusals name
 
@@ -146,8 +146,8 @@ unfoldable pub optional : {A : Type 0} → (Place → Key → Data → Result A 
 optional read place key table = where_there (read place key) (get_member (key_word key) table)
 
 -- no other key is there
-unfoldable pub closed : Place → List Key → Members → Result (Unit {0}) RecipeRefusal
-closed place keys table = refused_unless (Unknown place) (are_listed keys table)
+unfoldable pub no_other_key : Place → List Key → Members → Result (Unit {0}) RecipeRefusal
+no_other_key place keys table = refused_unless (Unknown place) (are_listed keys table)
 
 -- ---- the whole text
 

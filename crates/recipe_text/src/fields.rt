@@ -5,7 +5,7 @@ ghost use Rattle.std.specs.BTreeMap.{keys as map_keys};
 ghost use Rattle.toml.specs.Data.{get_member};
 ghost use Rattle.toml.specs.View.{view, table_view};
 ghost use Rattle.recipe_text.specs.Keys.{key_word, is_listed, are_listed};
-ghost use Rattle.recipe_text.specs.Reading.{Gives, or_refused, required, optional, a_name, a_number, closed};
+ghost use Rattle.recipe_text.specs.Reading.{Gives, or_refused, required, optional, a_name, a_number, no_other_key};
 ghost use Rattle.recipe_text.specs.declared.refusal.RecipeRefusal.TheVariants.{Missing as Absent};
 
 use crate::keys::{Key, Place};
@@ -89,9 +89,9 @@ pub fn optional_number(
 }
 
 /// Refuses a table that has a key beside these.
-#[tactic(auto, unfolding(crate::specs::Reading::closed))]
-pub fn closed(place: Place, keys: &[Key], table: &Table) -> Result<(), RecipeRefusal>
-    ensures { Gives (λ x. x) result (closed place keys.now (table_view table.now)) }
+#[tactic(auto, unfolding(crate::specs::Reading::no_other_key))]
+pub fn no_other_key(place: Place, keys: &[Key], table: &Table) -> Result<(), RecipeRefusal>
+    ensures { Gives (λ x. x) result (no_other_key place keys.now (table_view table.now)) }
 {
     if are_listed(keys, table) {
         Ok(())
