@@ -1,0 +1,2 @@
+-- Words of the contracts of private functions. No promise rests on their being read.
+pub mod Holdings
