@@ -4,9 +4,15 @@
 //! of `wheeler` and stand on the layers below (docs/ARCHITECTURE.md).
 #![tactic(auto)]
 
+mod checking;
+mod given;
 mod header;
 mod held;
+pub mod laws;
+mod left;
 mod marks;
 mod part;
+mod replay;
+mod stop;
 
 pub use part::{Part, Verdict};

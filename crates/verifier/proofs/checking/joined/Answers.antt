@@ -1,0 +1,1 @@
+use Rattle.verifier.proofs.checking.joined.Goals as goal
