@@ -1,14 +1,18 @@
 -- A stage that is done, as a relation: what the bench finds and what a replay judges are both this.
 use Rattle.std.proofs.Common.{◌≡◌, ℕ, zero, suc, ◌+◌, ◌<◌, ◌≤◌, ◌==◌, ◌&&◌, Bool, true, false, nat_lt, nat_le, if◌then◌else◌, Option, None, Some, Result, Ok, Err, List, [], ◌∷◌, ◌++◌, length, map, refl, sym, ap, ◌∙◌, arith}
 use Rattle.std.specs.List.{fold}
+use Rattle.std.specs.Prelude.{Contains}
 use Rattle.std.proofs.lemmas.Bool.{and_parts, and_from, eqb-true, le-leb, leb-true, le-ltb}
 use Rattle.std.proofs.lemmas.Option.{same_Some}
 use Rattle.mem_files.specs.World.{World}
-use Rattle.mem_files.specs.Outputs.{out}
+use Rattle.mem_files.specs.Outputs.{IsContent, out}
+use Rattle.mem_files.proofs.Leftovers.{output-is}
 use Rattle.guest_run.specs.State.{GuestState}
-use Rattle.guest_run.specs.Start.{Refusal}
+use Rattle.guest_run.specs.Setting.{Setting}
+use Rattle.guest_run.specs.Start.{Refusal, start_of}
 use Rattle.guest_run.specs.Run.{End, Exited, Trapped, UnknownCall, end_at, end_of, first_end}
-use Rattle.guest_run.proofs.Endings.{end-counted}
+use Rattle.guest_run.specs.Program.{Run}
+use Rattle.guest_run.proofs.Endings.{end-counted, run-sound}
 use Rattle.guest_run.proofs.Running.{after-counted, end_at-next}
 use Rattle.guest_run.proofs.RunLaws.{first_end-found, no_end_at-zero}
 use Rattle.recipe.specs.declared.contents.Said.{Said}
@@ -19,11 +23,14 @@ use Rattle.wheeler.specs.declared.answer.Fault.{Fault}
 use Rattle.wheeler.specs.declared.answer.Fault.TheVariants.{Runs}
 use Rattle.wheeler.specs.declared.answer.Finished.{Finished}
 use Rattle.wheeler.specs.declared.cause.RunCause.TheVariants as run
-use Rattle.wheeler.specs.Contents.{check_of}
+use Rattle.recipe.specs.Kept.{IsRecipe}
+use Rattle.wheeler.specs.Contents.{Contents, box_of, check_of, program_of}
 use Rattle.wheeler.specs.Stages.{artefact_bytes, by_end, by_start, checked_by, contents, finished, made_by, output_of, stage_result, start_stage}
 use Rattle.wheeler.proofs.Continues.{fresh}
 use Rattle.wheeler.proofs.Endings.{ended}
+use Rattle.wheeler.proofs.GivenBoxes.{AreContents, box-is, content-is}
 use Rattle.wheeler.proofs.Slices.{end-place}
+use Rattle.verifier.proofs.StageRules.{rules-of}
 use Rattle.verifier.specs.declared.part.Part.{Part}
 use Rattle.verifier.specs.declared.part.Part.TheVariants as part
 use Rattle.verifier.specs.Faults.{◌>>=◌, assembled, exit_of, has_left, is_mark_of, left_at, made_as, or_fails, recorded, replayed, size_of}
@@ -148,39 +155,35 @@ ran (Ok guest) limit step world is = by_limits (nat_le 1 step && nat_le step lim
       by_end_at (end_at guest step) refl (leb-true step limit (and_parts (nat_le 1 step) (nat_le step limit) limits).1) is
 
 -- an artefact that is as recorded
-record Made (so_far : List (List ℕ) × List Finished) (stage : Stage) (line : StageLine) (world : World) (made : List ℕ) : Type 0 where
+record Made (so_far : Contents) (stage : Stage) (line : StageLine) (world : World) (made : List ℕ) : Type 0 where
   left : has_left line world ≡ true
   there : out world (output_of stage.output) ≡ Some made
   mark : is_mark_of line.made made ≡ true
-  small : artefact_bytes so_far.1 + length made ≤ 1073741824
+  small : size_of so_far + length made ≤ 1073741824
 
-made-is : (inputs : List (List ℕ)) (done : List Finished) (stage : Stage) (line : StageLine) (world : World) (made : List ℕ)
-    → recorded (contents inputs done) stage line world ≡ Some made → Made (inputs, done) stage line world made
-made-is inputs done stage line world made is = by_left (has_left line world) refl is where
-  by_tests : (found : List ℕ) (b : Bool) → (is_mark_of line.made found && nat_le (size_of (contents inputs done) + length found) 1_073_741_824) ≡ b
-      → has_left line world ≡ true → out world (output_of stage.output) ≡ Some found → (if b then Some found else None) ≡ Some made → Made (inputs, done) stage line world made
+made-is : (so_far : Contents) (stage : Stage) (line : StageLine) (world : World) (made : List ℕ)
+    → recorded so_far stage line world ≡ Some made → Made so_far stage line world made
+made-is so_far stage line world made is = by_left (has_left line world) refl is where
+  by_tests : (found : List ℕ) (b : Bool) → (is_mark_of line.made found && nat_le (size_of so_far + length found) 1_073_741_824) ≡ b
+      → has_left line world ≡ true → out world (output_of stage.output) ≡ Some found → (if b then Some found else None) ≡ Some made → Made so_far stage line world made
   by_tests found false tests left there is = absurd cc
   by_tests found true tests left there is =
-      let parts = and_parts (is_mark_of line.made found) (nat_le (size_of (contents inputs done) + length found) 1_073_741_824) tests in
+      let parts = and_parts (is_mark_of line.made found) (nat_le (size_of so_far + length found) 1_073_741_824) tests in
       let same : found ≡ made = same_Some found made is in
-      let small = leb-true (size_of (contents inputs done) + length found) 1_073_741_824 parts.1 in
-      let size = size-of inputs done in
+      let small = leb-true (size_of so_far + length found) 1_073_741_824 parts.1 in
       let lengths : length found ≡ length made = ap length same in
       record {
         left = left;
         there = there ∙ ap Some same;
         mark = ap (is_mark_of line.made) (sym same) ∙ parts.0;
-        small = omega (arith, small, size, lengths);
+        small = omega (arith, small, lengths);
       }
 
-  by_output : (o : Option (List ℕ)) → out world (output_of stage.output) ≡ o → has_left line world ≡ true → made_as (contents inputs done) line o ≡ Some made
-      → Made (inputs, done) stage line world made
+  by_output : (o : Option (List ℕ)) → out world (output_of stage.output) ≡ o → has_left line world ≡ true → made_as so_far line o ≡ Some made → Made so_far stage line world made
   by_output None there left is = absurd cc
-  by_output (Some found) there left is =
-      by_tests found (is_mark_of line.made found && nat_le (size_of (contents inputs done) + length found) 1_073_741_824) refl left there is
+  by_output (Some found) there left is = by_tests found (is_mark_of line.made found && nat_le (size_of so_far + length found) 1_073_741_824) refl left there is
 
-  by_left : (b : Bool) → has_left line world ≡ b → (if b then made_as (contents inputs done) line (out world (output_of stage.output)) else None) ≡ Some made
-      → Made (inputs, done) stage line world made
+  by_left : (b : Bool) → has_left line world ≡ b → (if b then made_as so_far line (out world (output_of stage.output)) else None) ≡ Some made → Made so_far stage line world made
   by_left false left is = absurd cc
   by_left true left is = by_output (out world (output_of stage.output)) refl left is
 
@@ -192,35 +195,63 @@ right-is found made None is = (refl, ap (λ (r : Result (List ℕ) Part). value_
   value_of (Err e) = found
 right-is found made (Some why) is = absurd cc
 
+-- what stands behind a line that is right
+record Judged (recipe : Said) (so_far : Contents) (stage : Stage) (line : StageLine) (made : List ℕ) : Type 0 where
+  world : World
+  run : Ran (start_stage recipe so_far stage) stage.steps line.steps world
+  artefact : Made so_far stage line world made
+  right : check_of recipe so_far stage made ≡ None
+
+judged : (recipe : Said) (so_far : Contents) (stage : Stage) (line : StageLine) (made : List ℕ) → replayed recipe so_far stage line ≡ Ok made
+    → Judged recipe so_far stage line made
+unfolding replayed
+judged recipe so_far stage line made is =
+    let start = start_stage recipe so_far stage in
+    let first = chained (or_fails part.Run (left_at start stage.steps line.steps))
+    (λ world. or_fails part.Files (recorded so_far stage line world) >>= (λ found. assembled found (check_of recipe so_far stage found))) made is in
+    let world = first.0 in
+    let second = chained (or_fails part.Files (recorded so_far stage line world)) (λ found. assembled found (check_of recipe so_far stage found)) made first.2 in
+    let third = right-is second.0 made (check_of recipe so_far stage second.0) second.2 in
+    record {
+      world = world;
+      run = ran start stage.steps line.steps world (there-is part.Run (left_at start stage.steps line.steps) world first.1);
+      artefact = made-is so_far stage line world made (there-is part.Files (recorded so_far stage line world) second.0 second.1 ∙ ap Some third.1);
+      right = ap (check_of recipe so_far stage) (sym third.1) ∙ third.0;
+    }
+
 pub replayed-done : (recipe : Said) (inputs : List (List ℕ)) (done : List Finished) (stage : Stage) (line : StageLine) (made : List ℕ)
     → replayed recipe (contents inputs done) stage line ≡ Ok made
     → (world : World) × IsDone recipe inputs done stage line.steps world made × (has_left line world ≡ true) × (is_mark_of line.made made ≡ true)
-unfolding replayed
 replayed-done recipe inputs done stage line made is =
-    let start = start_stage recipe (contents inputs done) stage in
-    let first = chained (or_fails part.Run (left_at start stage.steps line.steps))
-    (λ world. or_fails part.Files (recorded (contents inputs done) stage line world) >>= (λ found. assembled found (check_of recipe (contents inputs done) stage found))) made is in
-    let world = first.0 in
-    let second = chained (or_fails part.Files (recorded (contents inputs done) stage line world))
-    (λ found. assembled found (check_of recipe (contents inputs done) stage found)) made first.2 in
-    let run = ran start stage.steps line.steps world (there-is part.Run (left_at start stage.steps line.steps) world first.1) in
-    let third = right-is second.0 made (check_of recipe (contents inputs done) stage second.0) second.2 in
-    let artefact = made-is inputs done stage line world made (there-is part.Files (recorded (contents inputs done) stage line world) second.0 second.1 ∙ ap Some third.1) in (
-      world,
+    let j = judged recipe (contents inputs done) stage line made is in
+    let small = j.artefact.small in
+    let size = size-of inputs done in (
+      j.world,
       record {
-        guest = run.guest;
-        last = run.last;
-        started = run.started;
-        ended = run.ended;
-        leaves = run.leaves;
-        within = run.within;
-        there = artefact.there;
-        small = artefact.small;
-        right = ap (check_of recipe (contents inputs done) stage) (sym third.1) ∙ third.0;
+        guest = j.run.guest;
+        last = j.run.last;
+        started = j.run.started;
+        ended = j.run.ended;
+        leaves = j.run.leaves;
+        within = j.run.within;
+        there = j.artefact.there;
+        small = omega (arith, small, size);
+        right = j.right;
       },
-      artefact.left,
-      artefact.mark,
+      j.artefact.left,
+      j.artefact.mark,
     )
+
+-- the artefact of a stage that is right is a content, and within the limit of all artefacts
+pub replayed-content : (recipe : Said) (so_far : Contents) (stage : Stage) (line : StageLine) (made : List ℕ) → IsRecipe recipe → Contains recipe.stages stage
+    → AreContents so_far → replayed recipe so_far stage line ≡ Ok made → IsContent made × (size_of so_far + length made ≤ 1073741824)
+replayed-content recipe so_far stage line made is known are right =
+    let j = judged recipe so_far stage line made right in
+    let run : Run (program_of recipe so_far stage) (box_of recipe so_far stage) line.steps 0 j.world =
+    record { start = j.run.guest; last = j.run.last; starts = j.run.started; ends = j.run.ended; leaves = j.run.leaves } in
+    let sound = run-sound (program_of recipe so_far stage) (box_of recipe so_far stage) line.steps 0 j.world (content-is recipe so_far stage.program are).bytes
+    (box-is recipe so_far stage are (rules-of recipe stage is known)) run in
+    (output-is j.world (output_of stage.output) made sound j.artefact.there, j.artefact.small)
 
 some-step : (guest : GuestState) (end : End × GuestState) (steps : ℕ) → end_at guest steps ≡ Some end → 1 ≤ steps
 some-step guest end zero is = absurd (no_end_at-zero guest end is)
@@ -246,3 +277,18 @@ done-replayed recipe inputs done stage line world made ok left mark =
     ∙ ap (λ b. check (or_fails part.Files (if b then Some made else None)))
       (and_from (is_mark_of line.made made) (nat_le (size_of (contents inputs done) + length made) 1_073_741_824) mark (le-leb (size_of (contents inputs done) + length made) 1_073_741_824 small))
     ∙ ap (assembled made) ok.right
+
+-- ---- a judged run
+
+pub judged-run : (program : List ℕ) (setting : Setting) (limit step : ℕ) (world : World) → left_at (start_of program setting) limit step ≡ Some world
+    → (1 ≤ step) × (step ≤ limit) × Run program setting step 0 world
+judged-run program setting limit step world is =
+    let r = ran (start_of program setting) limit step world is in
+    (some-step r.guest (Exited 0, r.last) step r.ended, r.within, record { start = r.guest; last = r.last; starts = r.started; ends = r.ended; leaves = r.leaves })
+
+pub run-judged : (program : List ℕ) (setting : Setting) (limit step : ℕ) (world : World) → 1 ≤ step → step ≤ limit → Run program setting step 0 world
+    → left_at (start_of program setting) limit step ≡ Some world
+run-judged program setting limit step world some within run =
+    ap (λ s. left_at s limit step) run.starts
+    ∙ ap (λ b. if b then exit_of (end_at run.start step) else None) (and_from (nat_le 1 step) (nat_le step limit) (le-leb 1 step some) (le-leb step limit within))
+    ∙ ap exit_of run.ends ∙ ap Some run.leaves

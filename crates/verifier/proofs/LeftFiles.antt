@@ -1,5 +1,5 @@
 -- A walk over the files that are left, by "the first name after".
-use Rattle.std.proofs.Common.{◌≡◌, ℕ, Bool, true, false, cond, ◌&&◌, ◌||◌, T, IsTrue, is_some, unwrap_or, Option, Some, None, List, [], ◌∷◌, ◌+◌, ◌<◌, ◌≤◌, length, drop, get_or, is_none, map, filter, find, refl, sym, ap, subst, ◌∙◌}
+use Rattle.std.proofs.Common.{◌≡◌, ℕ, Bool, true, false, cond, ◌&&◌, ◌||◌, T, IsTrue, is_some, unwrap_or, Option, Some, None, List, [], ◌∷◌, ◌+◌, ◌<◌, ◌≤◌, length, drop, get_or, is_none, Bor, not, map, filter, find, refl, sym, ap, subst, ◌∙◌}
 use Rattle.std.specs.Ordering.{is_lt, is_eq, eq_by_cmp}
 use Rattle.std.specs.declared.cmp.Ordering.{Ordering}
 use Rattle.std.specs.declared.cmp.Ordering.TheVariants.{Less, Equal, Greater}
@@ -229,3 +229,15 @@ line-end lines index w given past =
   by_next : (next : Option (List ℕ)) → find (is_after given) (finite.keys w.names) ≡ next → names_left [] (left_after w given) ≡ is_none next
   by_next None none = ap (names_left []) (left-end w given none)
   by_next (Some name) found = ap (names_left []) (left-turn w given name found)
+
+pub not-true : (b : Bool) → true ≡ not b → b ≡ false
+not-true true is = absurd cc
+not-true false is = refl
+
+pub not-false : (b : Bool) → false ≡ not b → b ≡ true
+not-false true is = refl
+not-false false is = absurd cc
+
+pub none-told : {X : Type 0} (found : Option (Bor X)) (told : Bool) → is_some found ≡ not told → told ≡ is_none (option_copied found)
+none-told None told is = not-false told is
+none-told (Some x) told is = not-true told is

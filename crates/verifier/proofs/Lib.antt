@@ -1,6 +1,7 @@
 mod DoneStages
 mod Ends
 mod LeftFiles
+mod Looping
 mod MarkTests
 mod OneReport
 mod Placing

@@ -33,12 +33,12 @@ inputs-are number [] inputs (line ∷ lines) named none counted = absurd cc
 inputs-are number (row ∷ rows) inputs [] named none counted = absurd cc
 inputs-are number (row ∷ rows) [] (line ∷ lines) named none counted = absurd (omega (arith, counted))
 inputs-are number (row ∷ rows) (bytes ∷ inputs) (line ∷ lines) named none counted =
-    by_test (is_mark_of line.mark bytes) refl none (λ later. inputs-are (suc number) rows inputs lines parts.1 later (omega (arith, counted))) where
+    by_test (is_mark_of line.mark bytes) refl none (λ later. inputs-are (number + 1) rows inputs lines parts.1 later (omega (arith, counted))) where
   parts : (bytes_eq row.name line.name ≡ true) × (names_inputs rows lines ≡ true)
   parts = and_parts (bytes_eq row.name line.name) (names_inputs rows lines) named
 
-  by_test : (b : Bool) → is_mark_of line.mark bytes ≡ b → (if b then inputs_fault (suc number) inputs lines else Some (part.Input, number)) ≡ None
-      → (inputs_fault (suc number) inputs lines ≡ None → lines ≡ input_lines rows inputs) → line ∷ lines ≡ input_lines (row ∷ rows) (bytes ∷ inputs)
+  by_test : (b : Bool) → is_mark_of line.mark bytes ≡ b → (if b then inputs_fault (number + 1) inputs lines else Some (part.Input, number)) ≡ None
+      → (inputs_fault (number + 1) inputs lines ≡ None → lines ≡ input_lines rows inputs) → line ∷ lines ≡ input_lines (row ∷ rows) (bytes ∷ inputs)
   by_test true mark none later =
       λ i. record { name = sym ((bytes_eq-Decides row.name line.name).0 parts.0) i; mark = (mark-Decides line.mark bytes).0 mark i } ∷ later none i
   by_test false mark none later = absurd cc
@@ -54,8 +54,8 @@ right-inputs number [] [] = refl
 right-inputs number [] (bytes ∷ inputs) = refl
 right-inputs number (row ∷ rows) [] = refl
 right-inputs number (row ∷ rows) (bytes ∷ inputs) =
-    ap (λ b. if b then inputs_fault (suc number) inputs (input_lines rows inputs) else Some (part.Input, number)) ((mark-Decides (mark_of bytes) bytes).1 refl)
-    ∙ right-inputs (suc number) rows inputs
+    ap (λ b. if b then inputs_fault (number + 1) inputs (input_lines rows inputs) else Some (part.Input, number)) ((mark-Decides (mark_of bytes) bytes).1 refl)
+    ∙ right-inputs (number + 1) rows inputs
 
 -- ---- the comparison
 
@@ -156,7 +156,7 @@ none-stands recipe inputs line done (stage ∷ stages) (first ∷ lines) named i
   here = and_parts (bytes_eq stage.name first.name) (same_language (check_language recipe stage) first.checked) rest.0
 
   by_replay : (r : Result (List ℕ) Part) → replayed recipe (contents inputs done) stage first ≡ r
-      → after_stage (suc (length (contents inputs done).artefacts)) r (λ made. stages_fault recipe line (with_artefact (contents inputs done) made) stages lines) ≡ None
+      → after_stage (length (contents inputs done).artefacts + 1) r (λ made. stages_fault recipe line (with_artefact (contents inputs done) made) stages lines) ≡ None
       → ((d : List Finished) → stages_fault recipe line (contents inputs d) stages lines ≡ None → Stands recipe inputs line d stages lines)
       → Stands recipe inputs line done (stage ∷ stages) (first ∷ lines)
   by_replay (Err why) at is later = absurd cc
@@ -206,7 +206,7 @@ reaches recipe inputs done (stage ∷ stages) report is = by_result (stage_resul
           ((bytes_eq-Decides stage.name stage.name).1 refl) ((language-Decides (check_language recipe stage) (check_language recipe stage)).1 refl))
         more.2,
         λ line same.
-            ap (λ r. after_stage (suc (length (contents inputs done).artefacts)) r (λ made. stages_fault recipe line (with_artefact (contents inputs done) made) stages (stage_lines recipe stages more.0)))
+            ap (λ r. after_stage (length (contents inputs done).artefacts + 1) r (λ made. stages_fault recipe line (with_artefact (contents inputs done) made) stages (stage_lines recipe stages more.0)))
             (own-line recipe inputs done stage f at)
             ∙ ap (λ all. stages_fault recipe line all stages (stage_lines recipe stages more.0)) (more-contents inputs done f f.made refl)
             ∙ more.3 line (ap (λ d. comes_to recipe (contents inputs d)) (one_more done more.0 f) ∙ same),

@@ -1,9 +1,9 @@
 -- When a check finds nothing wrong.
-use Rattle.std.proofs.Common.{◌≡◌, ℕ, zero, suc, ◌+◌, ◌<◌, ◌==◌, ◌&&◌, Bool, true, false, cond, Option, None, Some, Result, Ok, Err, List, [], ◌∷◌, ◌++◌, length, drop, map, refl, sym, ap, ◌∙◌, arith}
+use Rattle.std.proofs.Common.{◌≡◌, ℕ, zero, suc, ◌+◌, ◌<◌, ◌≤◌, ◌==◌, ◌&&◌, Bool, true, false, cond, Option, None, Some, Result, Ok, Err, List, [], ◌∷◌, ◌++◌, length, drop, take, get_or, map, refl, sym, ap, ◌∙◌, arith}
 use Rattle.std.specs.Prelude.{bytes_eq, is_none, option_and_then, slice_get}
 use Rattle.std.specs.List.{flat_map, join_with_byte}
 use Rattle.std.specs.Option.{option_map}
-use Rattle.std.proofs.lemmas.List.{append-nil}
+use Rattle.std.proofs.lemmas.List.{append-nil, take_all}
 use Rattle.std.proofs.lemmas.Option.{same_Some}
 use Rattle.ddc_base.specs.Difference.{first_difference}
 use Rattle.hex_items.specs.declared.item.Item.{Item}
@@ -62,6 +62,14 @@ pub joined-first : {A : Type 0} (bytes : A → List ℕ) (first : A) (others : L
     → join_with_byte 10 (map bytes (first ∷ others)) ≡ bytes first ++ flat_map (λ name. 10 ∷ bytes name) others
 joined-first bytes first [] = sym (append-nil (bytes first))
 joined-first bytes first (next ∷ others) = ap (λ rest. bytes first ++ 10 ∷ rest) (joined-first bytes next others)
+
+-- the text so far, of all files
+pub joined-whole : {A : Type 0} (bytes : A → List ℕ) (files others : List A) (first : A) (text head : List ℕ) (index : ℕ) → 1 ≤ length files
+    → others ≡ drop 1 files → first ≡ get_or files 0 first → head ≡ bytes first → length others ≤ index
+    → text ≡ head ++ flat_map (λ name. 10 ∷ bytes name) (take index others) → text ≡ join_with_byte 10 (map bytes files)
+joined-whole bytes [] others first text head index some rest is head_is past text_is = absurd (omega (arith, some))
+joined-whole bytes (file ∷ files) others first text head index some rest is head_is past text_is =
+    text_is ∙ (λ i. (head_is ∙ ap bytes is) i ++ flat_map (λ name. 10 ∷ bytes name) ((take_all index others past ∙ rest) i)) ∙ sym (joined-first bytes file files)
 
 pub joined-none : {A : Type 0} (bytes : A → List ℕ) (files : List A) → length files < 1 → join_with_byte 10 (map bytes files) ≡ []
 joined-none bytes [] few = refl

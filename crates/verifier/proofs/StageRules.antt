@@ -20,7 +20,7 @@ use Rattle.verifier.specs.Inside.Holdings.{CanPlace, IsOutputName}
 kept : (recipe : Said) (stage : Stage) → IsRecipe recipe → (known : Contains recipe.stages stage) → IsStage recipe (take known.0 recipe.stages) stage
 kept recipe stage is known = is.stages known.0 stage (slice_get-get_or recipe.stages known.0 stage known.1 ∙ ap Some known.2)
 
-rules-of : (recipe : Said) (stage : Stage) → IsRecipe recipe → Contains recipe.stages stage → rules.IsStage stage
+pub rules-of : (recipe : Said) (stage : Stage) → IsRecipe recipe → Contains recipe.stages stage → rules.IsStage stage
 rules-of recipe stage is known = All-contains rules.IsStage recipe.stages stage (rules.rules recipe is).stages known
 
 pub args-are : (recipe : Said) (stage : Stage) → IsRecipe recipe → Contains recipe.stages stage → All IsText stage.args

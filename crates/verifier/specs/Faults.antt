@@ -1,6 +1,6 @@
 -- The first fault of a report, part by part in the order of docs/reference/verify.md, which says the same for people.
 -- A stage's recorded step is judged and not searched for, and programs and files are the bytes that the earlier runs left.
-use Rattle.std.specs.Prelude.{ℕ, suc, ◌+◌, ◌==◌, Bool, true, false, ◌&&◌, if◌then◌else◌, nat_le, bytes_eq, Option, None, Some, Result, Ok, Err, List, [], ◌∷◌, ◌++◌, length, sum_by}
+use Rattle.std.specs.Prelude.{ℕ, ◌+◌, ◌==◌, Bool, true, false, ◌&&◌, if◌then◌else◌, nat_le, bytes_eq, Option, None, Some, Result, Ok, Err, List, [], ◌∷◌, ◌++◌, length, sum_by}
 use Rattle.sha2.specs.Sha256.{sha256}
 use Rattle.ddc_base.specs.Difference.{first_difference}
 use Rattle.languages.specs.declared.Language.{Language}
@@ -68,7 +68,7 @@ is_header recipe report =
 -- the first that has not, of those from this number on
 abbrev pub inputs_fault : ℕ → List (List ℕ) → List InputLine → Option (Part × ℕ)
 inputs_fault number (bytes ∷ inputs) (line ∷ lines) =
-    if is_mark_of line.mark bytes then inputs_fault (suc number) inputs lines else Some (part.Input, number)
+    if is_mark_of line.mark bytes then inputs_fault (number + 1) inputs lines else Some (part.Input, number)
 inputs_fault number _ _ = None
 
 -- ---- stages, each after those whose artefacts are there
@@ -160,7 +160,7 @@ after_stage number (Ok made) rest = rest made
 -- the first fault of the stages that are left, and of the comparison after them
 abbrev pub stages_fault : Said → Compared → Contents → List Stage → List StageLine → Option (Part × ℕ)
 stages_fault recipe compare so_far (stage ∷ stages) (line ∷ lines) =
-    after_stage (suc (length so_far.artefacts)) (replayed recipe so_far stage line) (λ made. stages_fault recipe compare (with_artefact so_far made) stages lines)
+    after_stage (length so_far.artefacts + 1) (replayed recipe so_far stage line) (λ made. stages_fault recipe compare (with_artefact so_far made) stages lines)
 stages_fault recipe compare so_far _ _ = compare_fault recipe so_far compare
 
 -- the former fault, where there is one, else the latter

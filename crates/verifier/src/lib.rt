@@ -8,6 +8,7 @@ mod checking;
 mod given;
 mod header;
 mod held;
+mod judging;
 pub mod laws;
 mod left;
 mod marks;
@@ -15,4 +16,5 @@ mod part;
 mod replay;
 mod stop;
 
+pub use judging::verify;
 pub use part::{Part, Verdict};
