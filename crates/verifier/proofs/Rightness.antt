@@ -71,6 +71,13 @@ joined-whole bytes [] others first text head index some rest is head_is past tex
 joined-whole bytes (file ∷ files) others first text head index some rest is head_is past text_is =
     text_is ∙ (λ i. (head_is ∙ ap bytes is) i ++ flat_map (λ name. 10 ∷ bytes name) ((take_all index others past ∙ rest) i)) ∙ sym (joined-first bytes file files)
 
+-- the text of one file
+pub joined-only : {A : Type 0} (bytes : A → List ℕ) (files : List A) (only : A) → length files ≡ 1 → only ≡ get_or files 0 only
+    → join_with_byte 10 (map bytes files) ≡ bytes only
+joined-only bytes [] only one is = absurd (omega (arith, one))
+joined-only bytes (file ∷ []) only one is = ap bytes (sym is)
+joined-only bytes (file ∷ other ∷ files) only one is = absurd (omega (arith, one))
+
 pub joined-none : {A : Type 0} (bytes : A → List ℕ) (files : List A) → length files < 1 → join_with_byte 10 (map bytes files) ≡ []
 joined-none bytes [] few = refl
 joined-none bytes (file ∷ files) few = absurd (omega (arith, few))
@@ -99,12 +106,11 @@ item-turn (x' ∷ xs) (y' ∷ ys) (suc index) x y is is' =
 
 -- ---- a stage's check
 
-pub check-is : (recipe : Said) (all : Contents) (stage : Stage) (name : List ℕ) (source : Source) (language : Language) (text made : List ℕ)
+pub check-is : (recipe : Said) (all : Contents) (stage : Stage) (name : List ℕ) (source : Source) (language : Language) (made : List ℕ)
     → stage.check ≡ Some name → source_named recipe.sources name ≡ Some source → source.lang ≡ Defined language
-    → text ≡ joined (text_of recipe all source).files → check_of recipe all stage made ≡ check language source.base text made
+    → check_of recipe all stage made ≡ check language source.base (joined (text_of recipe all source).files) made
 unfolding check_of text_of
-check-is recipe all stage name source language text made named found defined_is text_is =
+check-is recipe all stage name source language made named found defined_is =
     ap (λ o. source_check recipe all (option_and_then (source_named recipe.sources) o) made) named
     ∙ ap (λ o. source_check recipe all o made) found
     ∙ ap (λ l. text_check (text_of recipe all source) (defined l) made) defined_is
-    ∙ ap (λ t. check language source.base t made) (sym text_is)

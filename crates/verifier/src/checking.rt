@@ -39,12 +39,28 @@ pub(crate) fn is_right(
         return Ok(true);
     };
     match source.lang {
-        SourceLanguage::Defined(language) => {
-            let text = joined(alloc, held, source)?;
-            gives(alloc, language, source.base, text.as_slice(), made)
-        }
+        SourceLanguage::Defined(language) => gives_text(alloc, held, source, language, made),
         SourceLanguage::Other => Ok(true),
     }
+}
+
+/// Whether a source's language accepts its text and gives an artefact. A text of one file is that file, and isn't copied.
+#[tactic(auto, unfolding(wheeler::specs::Contents::text_of))]
+fn gives_text(
+    alloc: Global,
+    held: &Held<'_>,
+    source: &Source,
+    language: Language,
+    made: &[u8],
+) -> Result<bool, OutOfMemory>
+    requires { source.now.base ≤ 2 ^ 37 }
+    ensures { IfOk result (λ right. right ≡ is_none (check language source.now.base (joined (text_of held.now.recipe.now (so_far held.now) source.now).files) made.now)) }
+{
+    if let [only] = source.files.as_slice() {
+        return gives(alloc, language, source.base, held.bytes(only), made);
+    }
+    let text = joined(alloc, held, source)?;
+    gives(alloc, language, source.base, text.as_slice(), made)
 }
 
 /// The text of a source: its files, with one LF between neighbours.
