@@ -10,6 +10,8 @@ pub enum Status {
     Usage = 2,
     /// The two sides of a comparison differ.
     Differs = 3,
+    /// A file is no report.
+    ReportRefused = 5,
     /// A program was not started, or did not exit with 0.
     RunFailed = 6,
     /// A language refused a source.

@@ -1,15 +1,15 @@
 -- A stretch of steps of a guest, from many acts of its hart.
-use Rattle.std.proofs.Common.{◌≡◌, ℕ, zero, suc, ◌+◌, ◌-◌, ◌<◌, ◌≤◌, Option, None, Some, refl, sym, ap, ◌∙◌, arith, add-one}
+use Rattle.std.proofs.Common.{◌≡◌, ℕ, zero, suc, ◌+◌, ◌-◌, ◌<◌, ◌≤◌, Option, None, Some, sym, ap, ◌∙◌, arith, add-one}
 use Rattle.std.proofs.lemmas.Option.{same_Some}
 use Rattle.rv64_machine.specs.Hart.{HartState}
 use Rattle.rv64_machine.specs.Hart as hart
 use Rattle.rv64_machine.proofs.Acts as acts
 use Rattle.guest_run.specs.declared.run.RunEnd.{RunEnd}
 use Rattle.guest_run.specs.Run.{after, Runs, Steps}
-use Rattle.guest_run.specs.State.{GuestState, guest_state}
+use Rattle.guest_run.specs.State.{GuestState}
 use Rattle.guest_run.specs.Inside.Stretch.{Stretches}
 use Rattle.guest_run.proofs.RunLaws.{after-sum}
-use Rattle.guest_run.proofs.Running.{after-counted, after-none, after-on, ended, spent}
+use Rattle.guest_run.proofs.Running.{after-counted, after-none, after-on, ended}
 use Rattle.guest_run.proofs.Stepping.{next-goes}
 
 -- so many acts of the hart are as many steps of its guest

@@ -116,7 +116,7 @@ fn starts_with_an_environment_text(rt: HostRuntime) -> Result<(), Fail> {
 }
 
 /// A store rewrites the next instruction.
-const REWRITING: [u32; 7] = [
+static REWRITING: [u32; 7] = [
     0x0070_02b7,
     0x5132_8293,
     0x0001_0337,
@@ -127,7 +127,7 @@ const REWRITING: [u32; 7] = [
 ];
 
 /// brk(0); brk(0x13000); 5A is stored at 0x12000; brk(0x11000); a load there.
-const SHRINKING: [u32; 11] = [
+static SHRINKING: [u32; 11] = [
     0x0d60_0893,
     0x0000_0513,
     0x0000_0073,
@@ -142,7 +142,7 @@ const SHRINKING: [u32; 11] = [
 ];
 
 /// brk(0x13000); 5A is stored at 0x12000; brk(0x11000); brk(0x13000); a load there; brk(1).
-const GROWING: [u32; 13] = [
+static GROWING: [u32; 13] = [
     0x0d60_0893,
     0x0001_3537,
     0x0000_0073,
@@ -201,11 +201,13 @@ fn gives_zeros_at_a_higher_break(rt: HostRuntime) -> Result<(), Fail> {
 fn limits_the_texts(rt: HostRuntime) -> Result<(), Fail> {
     let alloc = rt.alloc();
     // 131,023 bytes, a zero byte and six words are 131,072.
+    let longest = long_text(alloc, 131_023)?;
     let mut setting = RunBox::new(alloc, 0);
-    setting.push_arg(&long_text(alloc, 131_023)?)?;
+    setting.push_arg(&longest)?;
     assert!(rt; Guest::<RunRam>::start(alloc, &EXIT, &setting).is_ok());
+    let too_long = long_text(alloc, 131_024)?;
     let mut longer = RunBox::new(alloc, 0);
-    longer.push_arg(&long_text(alloc, 131_024)?)?;
+    longer.push_arg(&too_long)?;
     let refusal = Guest::<RunRam>::start(alloc, &EXIT, &longer).err();
     assert!(rt; refusal == Some(StartRefusal::ArgsTooLong));
     Ok(())

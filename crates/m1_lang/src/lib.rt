@@ -1,19 +1,14 @@
-//! Stand-in of M1: every source is too long.
+//! M1: the items of hex2 that a source expands to.
+//!
+//! The rules, with their public source, are in docs/reference/m1.md.
 #![tactic(auto)]
 
+mod definitions;
+mod expansion;
+pub mod laws;
 mod refusal;
+mod taking;
 
-ghost use Rattle.m1_lang.specs.Expansion.{expansion_of, Expands};
-
-use hex_items::Items;
-use std::alloc::Global;
-
+pub use expansion::expand;
+pub use hex_writer::write_items;
 pub use refusal::M1Refusal;
-
-/// The items of a source.
-#[tactic(auto, unfolding(crate::specs::Expansion::expansion_of))]
-pub fn expand<'s>(alloc: Global, source: &'s [u8]) -> Result<Items<'s>, M1Refusal>
-    ensures { Expands (expansion_of source.now) result }
-{
-    Err(M1Refusal::TooLong)
-}

@@ -7,7 +7,7 @@ use Rattle.hex.specs.Hex.{encode_lower}
 use Rattle.sha2.specs.Sha256.{sha256}
 use Rattle.ddc_base.specs.Decimals.{as_decimal}
 use Rattle.ddc_base.specs.Lines.{line}
-use Rattle.elf_load.specs.Refusal.{number_of}
+use Rattle.elf_load.specs.Refusal.{rank}
 use Rattle.rv64_machine.specs.declared.answer.Cause.{Cause}
 use Rattle.rv64_machine.specs.declared.answer.Cause.TheVariants as cause
 use Rattle.mem_files.specs.World.{World}
@@ -41,7 +41,7 @@ trap_words cause.Break = codes "break" ∷ []
 
 -- a refused start in words
 abbrev pub refusal_words : Refusal → List (List ℕ)
-refusal_words (Elf elf) = codes "elf" ∷ decimal (number_of elf) ∷ []
+refusal_words (Elf elf) = codes "elf" ∷ decimal (rank elf) ∷ []
 refusal_words ArgsTooLong = codes "args" ∷ []
 refusal_words BoxTooLarge = codes "box" ∷ []
 

@@ -99,7 +99,7 @@ fn start(
 
 /// What a program is given: its name and the arguments, and nothing else.
 #[tactic(auto, using(crate::proofs::Arguments::text_at))]
-fn box_of(alloc: Global, name: &str, args: &[&str]) -> Result<RunBox, OutOfMemory>
+fn box_of<'a>(alloc: Global, name: &'a str, args: &'a [&'a str]) -> Result<RunBox<'a>, OutOfMemory>
     requires text { IsText name.now }
     requires texts { IsTrue (list_all (λ w. is_text w.now) args.now) }
     ensures { IfOk result (λ given. given ≡ setting_of (name.now ∷ map (λ w. w.now) args.now)) }

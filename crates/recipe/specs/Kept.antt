@@ -6,7 +6,6 @@ use Rattle.ddc_base.specs.Names.{IsName}
 use Rattle.mem_files.specs.Names.{is_stripped_name}
 use Rattle.recipe_text.specs.Reading.{is_path, is_word}
 use Rattle.recipe.specs.declared.contents.Said.{Said}
-use Rattle.recipe.specs.declared.parts.Compare.{Compare}
 use Rattle.recipe.specs.declared.parts.Input.{Input}
 use Rattle.recipe.specs.declared.parts.Output.{Output}
 use Rattle.recipe.specs.declared.parts.Output.TheVariants.{Stream, File}
@@ -94,6 +93,7 @@ abbrev pub all_names : Said → List (List ℕ)
 all_names said = map (λ input. input.name) said.inputs ++ map (λ source. source.name) said.sources ++ map (λ stage. stage.name) said.stages
 
 pub record IsRecipe (said : Said) : Type 0 where
+  -- the digest is that of some bytes
   pub digest : (bytes : List ℕ) × (said.digest.0 ≡ sha256 bytes)
   pub some_inputs : 1 ≤ length said.inputs
   pub few_inputs : length said.inputs ≤ 256

@@ -1,7 +1,7 @@
 -- The second walk: what the names of a recipe refer to (docs/reference/recipe.md, "The second walk").
 use Rattle.std.specs.Prelude.{ℕ, ◌+◌, ◌-◌, Bool, true, false, List, take, Option, Some, None, is_some, Result, Ok, Err}
 use Rattle.std.specs.List.{list_all}
-use Rattle.recipe_text.specs.Reading.{◌>>=◌, ◌>>◌, refused_unless, each_passes}
+use Rattle.recipe_text.specs.Reading.{◌>>◌, refused_unless, each_passes}
 use Rattle.recipe_text.specs.declared.keys.Key.{Key}
 use Rattle.recipe_text.specs.declared.keys.Key.TheVariants as key
 use Rattle.recipe_text.specs.declared.keys.Place.{Place}
@@ -48,6 +48,7 @@ checks_source said earlier place (Some source) = do
   refused_unless (NotMadeYet place key.Check) (list_all (is_content said.inputs earlier) source.files)
   refused_unless (BadName place key.Check) (is_defined source.lang)
 
+-- the same, where a name stands at `check`
 unfoldable pub check_refers : Said → List Stage → Place → Option (List ℕ) → Result (Unit {0}) RecipeRefusal
 check_refers said earlier place None = Ok tt
 check_refers said earlier place (Some name) = checks_source said earlier place (source_named said.sources name)
@@ -70,7 +71,7 @@ compare_refers said = do
 
 -- ---- the programs of the unchecked stages
 
--- a program without a source is refused where its source would stand
+-- a program without a source is refused where its source would stand (what names no content was refused above)
 abbrev pub has_source : Said → Option Content → Result (Unit {0}) RecipeRefusal
 has_source said (Some (content.Input index)) =
     refused_unless (Missing (input_place (index + 1)) key.Implements) (is_some (content_source said (content.Input index)))
@@ -78,6 +79,7 @@ has_source said (Some (content.Stage index)) =
     refused_unless (Missing (stage_place (index + 1)) key.Becomes) (is_some (content_source said (content.Stage index)))
 has_source said None = Ok tt
 
+-- the program of an unchecked stage
 abbrev pub is_argued : Said → Option (List ℕ) → List ℕ → Result (Unit {0}) RecipeRefusal
 is_argued said (Some check) program = Ok tt
 is_argued said None program = has_source said (content_of said.inputs said.stages program)

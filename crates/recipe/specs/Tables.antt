@@ -1,12 +1,12 @@
 -- The first walk: each table of a recipe with its keys in order (docs/reference/recipe.md, "Tables").
-use Rattle.std.specs.Prelude.{ℕ, ◌+◌, ◌^◌, Bool, ◌||◌, not, List, [], ◌∷◌, length, codes, bytes_eq, Option, Some, None, option_and_then, option_map, unwrap_or, Result, Ok, if◌then◌else◌}
+use Rattle.std.specs.Prelude.{ℕ, ◌+◌, ◌^◌, Bool, ◌||◌, not, List, [], ◌∷◌, length, codes, bytes_eq, Option, Some, option_and_then, option_map, unwrap_or, Result, Ok, if◌then◌else◌}
 use Rattle.std.specs.List.{list_any}
 use Rattle.toml.specs.Data.{Data, Members, get_member, as_str}
 use Rattle.ddc_base.specs.Names.{name_of}
 use Rattle.languages.specs.Words.{language_named}
 use Rattle.mem_files.specs.Names.{stripped}
 use Rattle.recipe_text.specs.Keys.{key_word}
-use Rattle.recipe_text.specs.Reading.{◌>>=◌, ◌>>◌, or_refused, refused_unless, gathered, a_text, a_name, a_path, a_word, a_number, a_table, an_array, a_list, path_of, required, optional, closed}
+use Rattle.recipe_text.specs.Reading.{◌>>=◌, ◌>>◌, or_refused, refused_unless, gathered, a_text, a_name, a_path, a_word, a_number, a_table, an_array, a_list, path_of, required, optional, no_other_key}
 use Rattle.recipe_text.specs.declared.keys.Key.{Key}
 use Rattle.recipe_text.specs.declared.keys.Key.TheVariants as key
 use Rattle.recipe_text.specs.declared.keys.Place.{Place}
@@ -56,7 +56,7 @@ top_table table = do
   sources ← optional (a_list a_table 0 256) top_place key.Source table
   stages ← required (a_list a_table 1 256) top_place key.Stage table
   compare ← required a_table top_place key.Compare table
-  closed top_place (key.Format ∷ key.Input ∷ key.Source ∷ key.Stage ∷ key.Compare ∷ []) table
+  no_other_key top_place (key.Format ∷ key.Input ∷ key.Source ∷ key.Stage ∷ key.Compare ∷ []) table
   Ok (record { inputs = inputs; sources = unwrap_or sources []; stages = stages; compare = compare })
 
 -- ---- names
@@ -88,7 +88,7 @@ input_table inputs place table = do
   name ← required (a_new_name inputs [] []) place key.Name table
   path ← required a_path place key.Path table
   implements ← optional a_name place key.Implements table
-  closed place (key.Name ∷ key.Path ∷ key.Implements ∷ []) table
+  no_other_key place (key.Name ∷ key.Path ∷ key.Implements ∷ []) table
   Ok (record { name = name; path = path; implements = implements })
 
 -- the input that a table says, after those before it
@@ -112,7 +112,7 @@ source_table inputs sources place table = do
   lang ← required a_language place key.Lang table
   base ← optional (a_number 0 (2 ^ 37)) place key.Base table
   files ← required (a_list a_name 1 64) place key.Files table
-  closed place (key.Name ∷ key.Lang ∷ key.Base ∷ key.Files ∷ []) table
+  no_other_key place (key.Name ∷ key.Lang ∷ key.Base ∷ key.Files ∷ []) table
   Ok (record { name = name; lang = lang; base = unwrap_or base 6291456; files = files })
 
 abbrev pub next_source : List Input → List Source → Members → Result Source RecipeRefusal
@@ -137,7 +137,7 @@ next_file place listed files value = do
   entry ← a_table place listed value
   path_text ← entry_text place listed key.Path entry
   from_text ← entry_text place listed key.From entry
-  closed place (key.Path ∷ key.From ∷ []) entry
+  no_other_key place (key.Path ∷ key.From ∷ []) entry
   from ← or_refused (BadName place listed) (name_of from_text)
   path ← or_refused (BadPath place listed) (guest_path path_text)
   refused_unless (DoubleName place listed) (not (is_file_path files path))
@@ -169,7 +169,7 @@ stage_table inputs sources stages place table = do
   heap ← optional (a_number 0 (2 ^ 30)) place key.Heap table
   check ← optional a_name place key.Check table
   becomes ← optional a_name place key.Becomes table
-  closed place (key.Name ∷ key.Program ∷ key.Args ∷ key.Env ∷ key.Files ∷ key.Output ∷ key.Steps ∷ key.Heap ∷ key.Check ∷ key.Becomes ∷ []) table
+  no_other_key place (key.Name ∷ key.Program ∷ key.Args ∷ key.Env ∷ key.Files ∷ key.Output ∷ key.Steps ∷ key.Heap ∷ key.Check ∷ key.Becomes ∷ []) table
   Ok (record {
     name = name;
     program = program;
@@ -192,5 +192,5 @@ unfoldable pub compare_table : Members → Result Compare RecipeRefusal
 compare_table table = do
   stage ← required a_name compare_place key.Stage table
   binary ← required a_name compare_place key.Binary table
-  closed compare_place (key.Stage ∷ key.Binary ∷ []) table
+  no_other_key compare_place (key.Stage ∷ key.Binary ∷ []) table
   Ok (record { stage = stage; binary = binary })

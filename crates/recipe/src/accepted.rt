@@ -1,10 +1,13 @@
-ghost use Rattle.std.specs.Prelude.{◌≡◌};
+ghost use Rattle.std.specs.Prelude.{◌≡◌, ◌≤◌, IfSome, length, option_map, take};
+ghost use Rattle.recipe.specs.Lookups.{IsIndex};
 ghost use Rattle.recipe.specs.Kept.{IsRecipe};
+ghost use Rattle.recipe.specs.Lookups.{content_of, source_named, source_of};
 
 use crate::contents::Said;
-use crate::parts::{Compare, Input, Source, Stage};
-use ddc_base::ListOf;
+use crate::lookups::{content_of, content_source, source_named};
+use crate::parts::{Compare, Content, Input, Source, Stage};
 use ddc_base::digests::Digest;
+use ddc_base::{ListOf, Name};
 use std::marker::Model;
 
 /// A recipe, which contracts see as what it says. Both walks accepted it.
@@ -71,5 +74,47 @@ impl Recipe {
         ensures kept { IsRecipe self.now }
     {
         &self.said.compare
+    }
+
+    /// What a name stands for: the input of that name, or else what the stage of that name makes.
+    pub fn content(&self, name: &Name) -> Option<Content>
+        ensures value { result ≡ content_of self.now.inputs self.now.stages name.now }
+        ensures index { IfSome result (IsIndex self.now.inputs self.now.stages) }
+    {
+        content_of(
+            self.said.inputs.as_slice(),
+            self.said.stages.as_slice(),
+            name,
+        )
+    }
+
+    /// What a name stands for at a stage, by its index from 0: among the inputs and the stages before it.
+    pub fn content_before(&self, stage: usize, name: &Name) -> Option<Content>
+        requires { stage ≤ length self.now.stages }
+        ensures value { result ≡ content_of self.now.inputs (take stage self.now.stages) name.now }
+        ensures index { IfSome result (IsIndex self.now.inputs (take stage self.now.stages)) }
+    {
+        content_of(
+            self.said.inputs.as_slice(),
+            &self.said.stages.as_slice()[..stage],
+            name,
+        )
+    }
+
+    /// The source of a name.
+    pub fn source(&self, name: &Name) -> Option<&Source>
+        ensures { option_map (λ x. x.now) result ≡ source_named self.now.sources name.now }
+    {
+        source_named(self.said.sources.as_slice(), name)
+    }
+
+    /// The name of the source of the program of a name.
+    pub fn source_of(&self, name: &Name) -> Option<&Name>
+        ensures { option_map (λ x. x.now) result ≡ source_of self.now name.now }
+    {
+        match self.content(name) {
+            Some(content) => content_source(&self.said, content),
+            None => None,
+        }
     }
 }

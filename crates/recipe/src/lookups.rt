@@ -1,9 +1,8 @@
 //! What the names of a recipe stand for.
 ghost use Rattle.std.specs.Prelude.{◌≡◌, ◌<◌, IfSome, length, option_and_then, option_map, slice_get};
-ghost use Rattle.recipe.specs.Inside.Indices.{IsIndex};
+ghost use Rattle.recipe.specs.Lookups.{IsIndex};
 ghost use Rattle.recipe.specs.Lookups.{content_of, content_source, hex_check, input_at, is_hex, source_named, stage_at, stage_source};
 
-use crate::accepted::Recipe;
 use crate::contents::Said;
 use crate::parts::{Content, Input, Source, SourceLanguage, Stage};
 use ddc_base::Name;
@@ -54,7 +53,11 @@ pub(crate) fn content_source(said: &Said, content: Content) -> Option<&Name>
 {
     match content {
         Content::Input(index) => input_source(said.inputs.as_slice(), index),
-        Content::Stage(index) => artefact_source(said.sources.as_slice(), said.stages.as_slice(), index),
+        Content::Stage(index) => artefact_source(
+            said.sources.as_slice(),
+            said.stages.as_slice(),
+            index,
+        ),
     }
 }
 
@@ -116,21 +119,5 @@ fn is_hex(language: SourceLanguage) -> bool
         SourceLanguage::Defined(Language::Hex0 | Language::Hex1 | Language::Hex2) => true,
         SourceLanguage::Defined(Language::M1) => false,
         SourceLanguage::Other => false,
-    }
-}
-
-impl Recipe {
-    /// What a name stands for.
-    pub fn content(&self, name: &Name) -> Option<Content>
-        ensures { result ≡ content_of self.now.inputs self.now.stages name.now }
-    {
-        content_of(self.inputs().as_slice(), self.stages().as_slice(), name)
-    }
-
-    /// The source of a name.
-    pub fn source(&self, name: &Name) -> Option<&Source>
-        ensures { option_map (λ x. x.now) result ≡ source_named self.now.sources name.now }
-    {
-        source_named(self.sources().as_slice(), name)
     }
 }

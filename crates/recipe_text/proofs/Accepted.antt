@@ -171,7 +171,7 @@ pub array_ok : (least most : ℕ) (place : Place) (key : Key) (value : Data) (va
 unfolding an_array
 array_ok least most place key value values e =
     let a = bind_ok (or_refused (Missing place key) (option_map values_of (as_array value)))
-      (λ found. refused_unless (TooMany place key) (nat_le (length found) most) >> (refused_unless (Missing place key) (nat_le least (length found)) >> fine found)) values e in
+    (λ found. refused_unless (TooMany place key) (nat_le (length found) most) >> (refused_unless (Missing place key) (nat_le least (length found)) >> fine found)) values e in
     let b = bind_ok (refused_unless (TooMany place key) (nat_le (length a.0) most)) (λ _. refused_unless (Missing place key) (nat_le least (length a.0)) >> fine a.0) values a.2 in
     let d = bind_ok (refused_unless (Missing place key) (nat_le least (length a.0))) (λ _. fine a.0) values b.2 in
     let same = ok_same a.0 values d.2 in
@@ -185,9 +185,10 @@ unfolding a_list
 list_ok read least most place key value xs e =
     let a = bind_ok (an_array least most place key value) (λ values. gathered (λ _ element. read place key element) [] values) xs e in
     let long = gathered_length (λ _ element. read place key element) [] a.0 xs a.2 in
-    let few = array_ok least most place key value a.0 a.1 in
-    (record { some = omega (arith, few.some, long); few = omega (arith, few.few, long) },
-     gathered_each (Read read place key) (λ _ element. read place key element) a.0 xs (λ before x y is. (x, is)) a.2)
+    let few = array_ok least most place key value a.0 a.1 in (
+      record { some = omega (arith, few.some, long); few = omega (arith, few.few, long) },
+      gathered_each (Read read place key) (λ _ element. read place key element) a.0 xs (λ before x y is. (x, is)) a.2,
+    )
 
 -- ---- a walk that passed
 

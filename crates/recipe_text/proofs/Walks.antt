@@ -4,9 +4,9 @@ use Rattle.std.specs.List.{AllByRecursion}
 use Rattle.std.proofs.lemmas.List.{drop_more, drop_all}
 use Rattle.recipe_text.specs.declared.refusal.RecipeRefusal.{RecipeRefusal}
 use Rattle.recipe_text.specs.declared.refusal.RecipeRefusal.TheVariants.{NotToml, Missing, Unknown, BadName, DoubleName, NotMadeYet, BadPath, BadNumber, TooMany, OutOfMemory}
-use Rattle.recipe_text.specs.Reading.{◌>>=◌, ◌>>◌, Fails, gathered, each_passes}
+use Rattle.recipe_text.specs.Reading.{◌>>=◌, ◌>>◌, IsRefused, gathered, each_passes}
 
-fails_bind : {A B : Type 0} (e : RecipeRefusal) (r : Result A RecipeRefusal) (f : A → Result B RecipeRefusal) → Fails e r → Fails e (r >>= f)
+fails_bind : {A B : Type 0} (e : RecipeRefusal) (r : Result A RecipeRefusal) (f : A → Result B RecipeRefusal) → IsRefused e r → IsRefused e (r >>= f)
 fails_bind OutOfMemory r f h = tt
 fails_bind NotToml r f h = rw h refl
 fails_bind (Missing p k) r f h = rw h refl
@@ -36,7 +36,7 @@ gathered_one : {B C : Type 0} (next : List B → C → Result B RecipeRefusal) (
 unfolding gathered
 gathered_one next found x xs y is = rw is refl
 
-gathered_fails : {B C : Type 0} (e : RecipeRefusal) (next : List B → C → Result B RecipeRefusal) (found : List B) (x : C) (xs : List C) → Fails e (next found x) → Fails e (gathered next found (x ∷ xs))
+gathered_fails : {B C : Type 0} (e : RecipeRefusal) (next : List B → C → Result B RecipeRefusal) (found : List B) (x : C) (xs : List C) → IsRefused e (next found x) → IsRefused e (gathered next found (x ∷ xs))
 unfolding gathered
 gathered_fails e next found x xs h = fails_bind e (next found x) (λ y. gathered next (found ++ y ∷ []) xs) h
 
@@ -48,15 +48,15 @@ pub gathers_more : {X B C : Type 0} (view : X → C) (next : List B → C → Re
     → i < length xs → x ≡ get_or xs i x → Gathers view next xs i found → next found (view x) ≡ Ok y → more ≡ found ++ y ∷ [] → Gathers view next xs (i + 1) more
 gathers_more view next xs i x found more y within is gathers read grown = record {
   so_far = ap (λ ys. gathered next ys (map view (drop (i + 1) xs))) grown ∙ sym (gathered_one next found (view x) (map view (drop (i + 1) xs)) y read)
-    ∙ ap (gathered next found) (sym (next_of view xs i x within is)) ∙ gathers.so_far;
+      ∙ ap (gathered next found) (sym (next_of view xs i x within is)) ∙ gathers.so_far;
   few = omega (arith, ap length grown, length-append found (y ∷ []), gathers.few);
 }
 
 pub gathers_fails : {X B C : Type 0} (e : RecipeRefusal) (view : X → C) (next : List B → C → Result B RecipeRefusal) (xs : List X) (i : ℕ) (x : X) (found : List B)
-    → i < length xs → x ≡ get_or xs i x → Gathers view next xs i found → Fails e (next found (view x)) → Fails e (gathered next [] (map view xs))
+    → i < length xs → x ≡ get_or xs i x → Gathers view next xs i found → IsRefused e (next found (view x)) → IsRefused e (gathered next [] (map view xs))
 gathers_fails e view next xs i x found within is gathers failed =
     let there = ap (gathered next found) (sym (next_of view xs i x within is)) ∙ gathers.so_far in
-    subst (λ r. Fails e r) there (gathered_fails e next found (view x) (map view (drop (i + 1) xs)) failed)
+    subst (λ r. IsRefused e r) there (gathered_fails e next found (view x) (map view (drop (i + 1) xs)) failed)
 
 pub gathers_all : {X B C : Type 0} (view : X → C) (next : List B → C → Result B RecipeRefusal) (xs : List X) (i : ℕ) (found : List B)
     → length xs ≤ i → Gathers view next xs i found → gathered next [] (map view xs) ≡ Ok found
@@ -76,7 +76,7 @@ tested_one : {X : Type 0} (test : ℕ → X → Result (Unit {0}) RecipeRefusal)
 unfolding each_passes
 tested_one test number x xs is = rw is refl
 
-tested_fails : {X : Type 0} (e : RecipeRefusal) (test : ℕ → X → Result (Unit {0}) RecipeRefusal) (number : ℕ) (x : X) (xs : List X) → Fails e (test number x) → Fails e (each_passes test number (x ∷ xs))
+tested_fails : {X : Type 0} (e : RecipeRefusal) (test : ℕ → X → Result (Unit {0}) RecipeRefusal) (number : ℕ) (x : X) (xs : List X) → IsRefused e (test number x) → IsRefused e (each_passes test number (x ∷ xs))
 unfolding each_passes
 tested_fails e test number x xs h = fails_bind e (test number x) (λ _. each_passes test (number + 1) xs) h
 
@@ -92,10 +92,10 @@ passes_more test xs i number x within is passes passed = record {
 }
 
 pub passes_fails : {X : Type 0} (e : RecipeRefusal) (test : ℕ → X → Result (Unit {0}) RecipeRefusal) (xs : List X) (i number : ℕ) (x : X)
-    → i < length xs → x ≡ get_or xs i x → Passes test xs i number → Fails e (test number x) → Fails e (each_passes test 1 xs)
+    → i < length xs → x ≡ get_or xs i x → Passes test xs i number → IsRefused e (test number x) → IsRefused e (each_passes test 1 xs)
 passes_fails e test xs i number x within is passes failed =
     let there = ap (each_passes test number) (sym (drop_more xs i x within ∙ ap (λ y. y ∷ drop (i + 1) xs) (sym is))) ∙ passes.so_far in
-    subst (λ r. Fails e r) there (tested_fails e test number x (drop (i + 1) xs) failed)
+    subst (λ r. IsRefused e r) there (tested_fails e test number x (drop (i + 1) xs) failed)
 
 pub passes_all : {X : Type 0} (test : ℕ → X → Result (Unit {0}) RecipeRefusal) (xs : List X) (i number : ℕ) → length xs ≤ i → Passes test xs i number → each_passes test 1 xs ≡ Ok tt
 passes_all test xs i number past passes = sym passes.so_far ∙ ap (each_passes test number) (drop_all i xs past) ∙ tested_end test number

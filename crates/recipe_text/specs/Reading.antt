@@ -1,6 +1,6 @@
 -- What stands at a key of a recipe's tables: its value, or the first refusal (docs/reference/recipe.md, "What stands at a key").
-use Rattle.std.specs.Prelude.{◌≡◌, ℕ, ◌+◌, ℤ, pos, negsuc, Bool, ◌&&◌, ◌==◌, not, nat_le, List, [], ◌∷◌, ◌++◌, length, Option, Some, None, option_map, Result, Ok, Err, if◌then◌else◌}
-use Rattle.std.specs.List.{list_all, list_any}
+use Rattle.std.specs.Prelude.{◌≡◌, ℕ, ◌+◌, ℤ, pos, negsuc, Bool, ◌&&◌, nat_le, List, [], ◌∷◌, ◌++◌, length, Option, Some, None, option_map, Result, Ok, Err, if◌then◌else◌}
+use Rattle.std.specs.List.{list_all}
 use Rattle.std.specs.Str.{is_utf8}
 use Rattle.toml.specs.Data.{Data, Members, Items, no_items, item, get_member, as_str, as_integer, as_array, as_table}
 use Rattle.toml.specs.Parse.{parse_document}
@@ -47,13 +47,13 @@ each_passes test number (x ∷ xs) = do
 
 -- ---- what a call answered: the reading, with what was read seen by `view`, unless memory was wanting
 
-abbrev pub Fails : {Y : Type 0} → RecipeRefusal → Result Y RecipeRefusal → Type 0
-Fails OutOfMemory reading = Unit {0}
-Fails refusal reading = reading ≡ Err refusal
+abbrev pub IsRefused : {Y : Type 0} → RecipeRefusal → Result Y RecipeRefusal → Type 0
+IsRefused OutOfMemory reading = Unit {0}
+IsRefused refusal reading = reading ≡ Err refusal
 
 abbrev pub Gives : {X Y : Type 0} → (X → Y) → Result X RecipeRefusal → Result Y RecipeRefusal → Type 0
 Gives view (Ok x) reading = reading ≡ Ok (view x)
-Gives view (Err refusal) reading = Fails refusal reading
+Gives view (Err refusal) reading = IsRefused refusal reading
 
 -- ---- the readers of a value: each takes the place of the table and the key, which its refusals name
 
@@ -82,9 +82,13 @@ a_path place key value = do
   text ← a_text place key value
   or_refused (BadPath place key) (path_of text)
 
--- a word for a program: at most 255 bytes, each from 1 to 255
+-- a byte of a word for a program: 1 to FF
+abbrev pub is_word_byte : ℕ → Bool
+is_word_byte byte = nat_le 1 byte && nat_le byte 0xFF
+
+-- a word for a program: at most 255 such bytes
 unfoldable pub is_word : List ℕ → Bool
-is_word text = nat_le (length text) 255 && list_all (λ byte. nat_le 1 byte && nat_le byte 255) text
+is_word text = nat_le (length text) 255 && list_all is_word_byte text
 
 unfoldable pub a_word : Place → Key → Data → Result (List ℕ) RecipeRefusal
 a_word place key value = do
@@ -142,8 +146,8 @@ unfoldable pub optional : {A : Type 0} → (Place → Key → Data → Result A 
 optional read place key table = where_there (read place key) (get_member (key_word key) table)
 
 -- no other key is there
-unfoldable pub closed : Place → List Key → Members → Result (Unit {0}) RecipeRefusal
-closed place keys table = refused_unless (Unknown place) (are_listed keys table)
+unfoldable pub no_other_key : Place → List Key → Members → Result (Unit {0}) RecipeRefusal
+no_other_key place keys table = refused_unless (Unknown place) (are_listed keys table)
 
 -- ---- the whole text
 

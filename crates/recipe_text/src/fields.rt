@@ -5,7 +5,7 @@ ghost use Rattle.std.specs.BTreeMap.{keys as map_keys};
 ghost use Rattle.toml.specs.Data.{get_member};
 ghost use Rattle.toml.specs.View.{view, table_view};
 ghost use Rattle.recipe_text.specs.Keys.{key_word, is_listed, are_listed};
-ghost use Rattle.recipe_text.specs.Reading.{Gives, or_refused, required, optional, a_name, a_number, closed};
+ghost use Rattle.recipe_text.specs.Reading.{Gives, or_refused, required, optional, a_name, a_number, no_other_key};
 ghost use Rattle.recipe_text.specs.declared.refusal.RecipeRefusal.TheVariants.{Missing as Absent};
 
 use crate::keys::{Key, Place};
@@ -59,7 +59,13 @@ pub fn optional_name(place: Place, key: Key, table: &Table) -> Result<Option<Nam
 
 /// The number at a key that has to be there.
 #[tactic(auto, unfolding(crate::specs::Reading::required))]
-pub fn required_number(least: u64, most: u64, place: Place, key: Key, table: &Table) -> Result<u64, RecipeRefusal>
+pub fn required_number(
+    least: u64,
+    most: u64,
+    place: Place,
+    key: Key,
+    table: &Table,
+) -> Result<u64, RecipeRefusal>
     ensures { Gives (λ x. x) result (required (a_number least most) place key (table_view table.now)) }
 {
     number(least, most, place, key, required(place, key, table)?)
@@ -83,9 +89,9 @@ pub fn optional_number(
 }
 
 /// Refuses a table that has a key beside these.
-#[tactic(auto, unfolding(crate::specs::Reading::closed))]
-pub fn closed(place: Place, keys: &[Key], table: &Table) -> Result<(), RecipeRefusal>
-    ensures { Gives (λ x. x) result (closed place keys.now (table_view table.now)) }
+#[tactic(auto, unfolding(crate::specs::Reading::no_other_key))]
+pub fn no_other_key(place: Place, keys: &[Key], table: &Table) -> Result<(), RecipeRefusal>
+    ensures { Gives (λ x. x) result (no_other_key place keys.now (table_view table.now)) }
 {
     if are_listed(keys, table) {
         Ok(())
@@ -105,7 +111,9 @@ fn are_listed(keys: &[Key], table: &Table) -> bool
 fn are_keys_listed(keys: &[Key], table: &Table) -> bool
     ensures { result ≡ list_all (λ k. is_listed keys.now (string_bytes k)) (map_keys table.now) }
 {
-    table.keys().all(|key| is_listed(keys, key.as_str().as_bytes()))
+    table
+        .keys()
+        .all(|key| is_listed(keys, key.as_str().as_bytes()))
 }
 
 /// Whether a text is one of the keys.

@@ -12,7 +12,9 @@ mod refusal;
 mod values;
 
 pub use documents::document;
-pub use fields::{closed, find, optional_name, optional_number, required, required_name, required_number};
+pub use fields::{
+    find, no_other_key, optional_name, optional_number, required, required_name, required_number,
+};
 pub use keys::{Key, Place, Table};
 pub use lists::{array, names, tables, words};
 pub use paths::{Path, is_path};

@@ -13,7 +13,13 @@ use toml::{Table, Value};
 
 /// The values of an array of `least` to `most` of them.
 #[tactic(auto, using(crate::proofs::Arrays::arrays), unfolding(crate::specs::Reading::an_array))]
-pub fn array(least: usize, most: usize, place: Place, key: Key, value: &Value) -> Result<&[Value], RecipeRefusal>
+pub fn array(
+    least: usize,
+    most: usize,
+    place: Place,
+    key: Key,
+    value: &Value,
+) -> Result<&[Value], RecipeRefusal>
     ensures values { Gives (λ values. map view values.now) result (an_array least most place key (view value.now)) }
     ensures few { IfOk result (λ values. length values.now ≤ most) }
 {
@@ -47,7 +53,12 @@ pub fn names(
 }
 
 /// Names, one a value.
-fn names_of(alloc: Global, place: Place, key: Key, values: &[Value]) -> Result<ListOf<Name>, RecipeRefusal>
+fn names_of(
+    alloc: Global,
+    place: Place,
+    key: Key,
+    values: &[Value],
+) -> Result<ListOf<Name>, RecipeRefusal>
     ensures { Gives (λ x. x) result (gathered (λ _ element. a_name place key element) [] (map view values.now)) }
 {
     let mut names = ListOf::new(alloc);
@@ -74,7 +85,12 @@ pub fn words(
 }
 
 /// Words for a program, one a value.
-fn words_of(alloc: Global, place: Place, key: Key, values: &[Value]) -> Result<ListOf<Bytes>, RecipeRefusal>
+fn words_of(
+    alloc: Global,
+    place: Place,
+    key: Key,
+    values: &[Value],
+) -> Result<ListOf<Bytes>, RecipeRefusal>
     ensures { Gives (λ x. x) result (gathered (λ _ element. a_word place key element) [] (map view values.now)) }
 {
     let mut words = ListOf::new(alloc);
@@ -102,7 +118,12 @@ pub fn tables(
 }
 
 /// Tables, one a value.
-fn tables_of(alloc: Global, place: Place, key: Key, values: &[Value]) -> Result<Vec<&Table>, RecipeRefusal>
+fn tables_of(
+    alloc: Global,
+    place: Place,
+    key: Key,
+    values: &[Value],
+) -> Result<Vec<&Table>, RecipeRefusal>
     ensures tables { Gives (λ x. tables_view x.items) result (gathered (λ _ element. a_table place key element) [] (map view values.now)) }
     ensures few { IfOk result (λ x. length x.items ≤ length values.now) }
 {

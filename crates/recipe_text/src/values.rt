@@ -1,9 +1,8 @@
 //! The readers of one value: each takes the place of the table and the key, which its refusals name.
+ghost use Rattle.std.specs.Prelude.{◌≡◌, map};
 ghost use Rattle.std.specs.List.{list_all};
-ghost use Rattle.std.specs.Prelude.{nat_le, ◌&&◌, ◌≡◌, ◌==◌, map};
-ghost use Rattle.std.specs.List.{list_any};
 ghost use Rattle.toml.specs.View.{view, table_view};
-ghost use Rattle.recipe_text.specs.Reading.{Gives, a_text, a_name, a_path, a_word, a_number, a_table, in_range, is_word};
+ghost use Rattle.recipe_text.specs.Reading.{Gives, a_text, a_name, a_path, a_word, a_number, a_table, in_range, is_word, is_word_byte};
 
 use crate::keys::{Key, Place};
 use crate::paths::{Path, is_path};
@@ -71,21 +70,20 @@ fn is_word(text: &[u8]) -> bool
 
 /// Whether every byte may stand in a word.
 fn are_word_bytes(text: &[u8]) -> bool
-    ensures { result ≡ list_all (λ byte. nat_le 1 byte && nat_le byte 255) text.now }
+    ensures { result ≡ list_all is_word_byte text.now }
 {
     text.iter().all(|byte| matches!(*byte, 1..=255))
 }
 
-/// Whether a byte is zero.
-fn has_zero(text: &[u8]) -> bool
-    ensures { result ≡ list_any (λ byte. byte == 0) text.now }
-{
-    text.iter().any(|byte| *byte == 0)
-}
-
 /// A number from `least` to `most`.
 #[tactic(auto, unfolding(crate::specs::Reading::a_number))]
-pub fn number(least: u64, most: u64, place: Place, key: Key, value: &Value) -> Result<u64, RecipeRefusal>
+pub fn number(
+    least: u64,
+    most: u64,
+    place: Place,
+    key: Key,
+    value: &Value,
+) -> Result<u64, RecipeRefusal>
     ensures { Gives (λ number. number) result (a_number least most place key (view value.now)) }
 {
     match value.as_integer() {

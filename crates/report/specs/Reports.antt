@@ -5,6 +5,8 @@ use Rattle.std.specs.Ordering.{nat_cmp, is_lt}
 use Rattle.std.specs.Cmp.Lexicographic.{slice_cmp}
 use Rattle.ddc_base.specs.Names.{IsName}
 use Rattle.ddc_base.specs.declared.digests.Digest.{Digest}
+use Rattle.report.specs.declared.line.Line.{Line}
+use Rattle.report.specs.declared.line.Line.TheVariants.{Header, Recipe, Input, Stage, Stream1, Stream2, Left, Made, Checked, Compare, End}
 use Rattle.report.specs.declared.types.Mark.{Mark}
 use Rattle.report.specs.declared.types.InputLine.{InputLine}
 use Rattle.report.specs.declared.types.LeftLine.{LeftLine}
@@ -13,7 +15,28 @@ use Rattle.report.specs.declared.types.CompareLine.{CompareLine}
 use Rattle.report.specs.declared.types.Compared.{Compared}
 use Rattle.report.specs.declared.types.Compared.TheVariants.{Equal, Differs}
 use Rattle.report.specs.declared.types.Report.{Report}
+use Rattle.report.specs.declared.refusal.ReportRefusal.{ReportRefusal}
+use Rattle.report.specs.declared.refusal.ReportRefusal.TheVariants.{Form, OutOfMemory}
+use Rattle.report.specs.Lines.{lines_text}
 
+-- ---- the text
+
+-- the block of a stage
+abbrev pub stage_lines : StageLine → List Line
+stage_lines stage =
+    (Stage stage.name stage.steps ∷ Stream1 stage.stream1 ∷ Stream2 stage.stream2 ∷ map Left stage.left)
+    ++ Made stage.made ∷ Checked stage.checked ∷ []
+
+-- the lines above the comparison
+abbrev pub front_lines : Digest → List InputLine → List StageLine → List Line
+front_lines recipe inputs stages = (Header ∷ Recipe recipe ∷ map Input inputs) ++ flat_map stage_lines stages
+
+abbrev pub report_lines : Report → List Line
+report_lines report = front_lines report.recipe report.inputs report.stages ++ Compare report.compare ∷ End ∷ []
+
+-- the one text of a report
+abbrev pub report_text : Report → List ℕ
+report_text report = lines_text (report_lines report)
 
 -- ---- the well-formed reports
 
@@ -81,3 +104,28 @@ pub record IsReport (report : Report) : Type 0 where
   pub each_stage : All IsStage report.stages
   pub compare : IsCompare report.compare
 
+-- ---- reading
+
+-- the first n lines of a text, each with its LF, begin the text of some report
+pub record Begins (n : ℕ) (bytes : List ℕ) : Type 0 where
+  pub report : Report
+  pub is : IsReport report
+  pub within : n ≤ length (report_lines report)
+  pub rest : List ℕ
+  pub text : bytes ≡ lines_text (take n (report_lines report)) ++ rest
+
+-- the least number of lines that begin no report
+pub record IsFirstFault (number : ℕ) (bytes : List ℕ) : Type 0 where
+  pub not_here : ¬ (Begins number bytes)
+  pub before : (m : ℕ) → m < number → Begins m bytes
+
+-- what reading the text of this report may answer
+abbrev pub IsRead : Report → Result Report ReportRefusal → Type 0
+IsRead report (Ok found) = found ≡ report
+IsRead report (Err OutOfMemory) = Unit {0}
+IsRead report (Err (Form number)) = ⊥
+
+-- when a refusal comes
+abbrev pub IsFault : List ℕ → ReportRefusal → Type 0
+IsFault bytes (Form number) = IsFirstFault number bytes
+IsFault bytes OutOfMemory = Unit {0}

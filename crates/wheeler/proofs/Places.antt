@@ -1,7 +1,7 @@
 -- A step keeps a position valid, or the audit is over.
 use Rattle.std.proofs.Common.{◌≡◌, ℕ, zero, suc, ◌+◌, ◌<◌, ◌≤◌, Bool, true, false, if◌then◌else◌, nat_lt, Option, None, Some, Result, Ok, Err, List, [], ◌∷◌, ◌++◌, length, map, drop, refl, sym, ap, ◌∙◌, subst, arith, All, inl, inr}
 use Rattle.std.proofs.lemmas.Bool.{cases_lt}
-use Rattle.std.proofs.lemmas.List.Elements.{All-cons, All-drop, All-nil}
+use Rattle.std.proofs.lemmas.List.Elements.{All-cons, All-drop, All-map, All-nil}
 use Rattle.std.proofs.lemmas.List.Sums.{sum_by-append}
 use Rattle.elf_load.specs.Image.{image_of}
 use Rattle.elf_load.specs.declared.Image.{Image}
@@ -111,11 +111,13 @@ one_more (s ∷ stages) [] f stage rest are left is = (subst (λ (t : Stage). Is
 one_more [] (g ∷ done) f stage rest are left is = absurd are
 one_more (s ∷ stages) (g ∷ done) f stage rest are left is = (are.0, one_more stages done f stage rest are.1 left is)
 
+pub all-made : (stages : List Stage) (done : List Finished) → AreFinished stages done → All (λ (f : Finished). IsContent f.made) done
+all-made stages [] are = All-nil (λ (f : Finished). IsContent f.made)
+all-made [] (f ∷ done) are = absurd are
+all-made (stage ∷ stages) (f ∷ done) are = All-cons (λ (g : Finished). IsContent g.made) f done are.0.made (all-made stages done are.1)
+
 made-contents : (stages : List Stage) (done : List Finished) → AreFinished stages done → All IsContent (map (λ (f : Finished). f.made) done)
-made-contents stages [] are = All-nil IsContent
-made-contents [] (f ∷ done) are = absurd are
-made-contents (stage ∷ stages) (f ∷ done) are =
-    All-cons IsContent f.made (map (λ (g : Finished). g.made) done) are.0.made (made-contents stages done are.1)
+made-contents stages done are = All-map IsContent (λ (f : Finished). f.made) done (all-made stages done are)
 
 module _ (recipe : Said) (is : kept.IsRecipe recipe) (inputs : List (List ℕ)) (given : IsInputs recipe inputs) where
   pub contents-are : (done : List Finished) → AreDone recipe done → AreContents (contents inputs done)
@@ -144,6 +146,20 @@ module _ (recipe : Said) (is : kept.IsRecipe recipe) (inputs : List (List ℕ)) 
           done = are;
         })
 
+  -- a stage more is done
+  pub done-more : (p : Position) (stage : Stage) (stages : List Stage) (end : End) (f : Finished) → IsAt recipe p stage stages
+      → ending recipe inputs p.done stage end p.at ≡ Ok f → AreDone recipe (p.done ++ f ∷ [])
+  done-more p stage stages end f ok comes =
+      let are = ended recipe inputs p.done stage end p.at f comes in
+      let size : artefact_bytes (f ∷ []) ≡ length are.made = one-artefact f are.made (p.at.steps + 1) p.at.world are.is in
+      let whole : artefact_bytes (p.done ++ f ∷ []) ≡ artefact_bytes p.done + artefact_bytes (f ∷ []) = sum_by-append (λ (g : Finished). length g.made) p.done (f ∷ []) in
+      record {
+        each = one_more recipe.stages p.done f stage stages ok.done.each ok.left
+            (subst (IsFinished stage) (sym are.is)
+            (finished-is stage (p.at.steps + 1) p.at.world are.made ok.valid.files (omega arith) (omega (arith, ok.within)) are.there));
+        small = omega (arith, are.small, size, whole);
+      }
+
   -- a stage's end: the next stage is entered, or the audit is over
   pub closed-standing : (p : Position) (stage : Stage) (stages : List Stage) (end : End) → IsAt recipe p stage stages
       → IsStanding recipe (closed recipe inputs p.done stages (ending recipe inputs p.done stage end p.at))
@@ -151,14 +167,7 @@ module _ (recipe : Said) (is : kept.IsRecipe recipe) (inputs : List (List ℕ)) 
     by_result : (r : Result Finished Fault) → ending recipe inputs p.done stage end p.at ≡ r → IsStanding recipe (closed recipe inputs p.done stages r)
     by_result (Err fault) comes = tt
     by_result (Ok f) comes =
-        let are = ended recipe inputs p.done stage end p.at f comes in
-        let done = one_more recipe.stages p.done f stage stages ok.done.each ok.left
-        (subst (IsFinished stage) (sym are.is)
-        (finished-is stage (p.at.steps + 1) p.at.world are.made ok.valid.files (omega arith) (omega (arith, ok.within)) are.there)) in
-        let size : artefact_bytes (f ∷ []) ≡ length are.made = one-artefact f are.made (p.at.steps + 1) p.at.world are.is in
-        let whole : artefact_bytes (p.done ++ f ∷ []) ≡ artefact_bytes p.done + artefact_bytes (f ∷ []) = sum_by-append (λ (g : Finished). length g.made) p.done (f ∷ []) in
-        enter-standing (p.done ++ f ∷ []) stages (record { each = done; small = omega (arith, are.small, size, whole) })
-        (todo-next recipe p.done f stage stages ok.left)
+        enter-standing (p.done ++ f ∷ []) stages (done-more p stage stages end f ok comes) (todo-next recipe p.done f stage stages ok.left)
 
   -- a step keeps a position valid, or the audit is over
   pub step-standing : (p : Position) → IsPosition recipe p → IsStanding recipe (step recipe inputs p)

@@ -77,7 +77,7 @@ no-zero (byte ∷ text) is =
     let some = leb-true _ _ (and_parts (nat_le 1 byte) (nat_le byte 255) parts.0).0 in
     ap (λ b. not (b || list_any (λ b. b == 0) text)) (ne_eqb byte 0 (λ zero_is. omega arith)) ∙ no-zero text parts.1
 
-word-is : (text : List ℕ) → IsTrue (is_word text) → IsWord text
+pub word-is : (text : List ℕ) → IsTrue (is_word text) → IsWord text
 unfolding is_word
 word-is text is =
     let parts = and_parts (nat_le (length text) 255) (list_all (λ byte. nat_le 1 byte && nat_le byte 255) text) is in
@@ -86,7 +86,7 @@ word-is text is =
       whole = no-zero text parts.1;
     }
 
-path-is : (path : List ℕ) → kept.IsGuestPath path → IsFilePath path
+pub path-is : (path : List ℕ) → kept.IsGuestPath path → IsFilePath path
 unfolding is_path
 path-is path is =
     let parts = and_parts (nat_le 1 (length path) && nat_le (length path) 255) (list_all is_path_byte path) is.path in

@@ -1,7 +1,6 @@
 use Rattle.std.proofs.Common.{◌+◌, refl, subst, arith, inl}
 use Rattle.rv64_machine.specs.Hart as machine
 use Rattle.rv64_machine.specs.declared.answer.StepEnd.{StepEnd}
-use Rattle.rv64_machine.specs.declared.answer.StepEnd.TheVariants as end
 use Rattle.linux_calls.proofs.Heaps.{IsHeapOf-same}
 use Rattle.guest_run.specs.State.{GuestState, guest_state}
 use Rattle.guest_run.proofs.Stepping.{next-store, next-traps}

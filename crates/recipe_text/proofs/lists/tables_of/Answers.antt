@@ -11,7 +11,7 @@ pub returns-in_err-table-clause-tables : goal.returns-in_err-table-clause-tables
 returns-in_err-table-clause-tables c =
     let p = err_from_is_err_and c.from_residual.result c.from_residual.ensures.1 in
     rw (p.1, p.2) (gathers_fails c.in_err-table.field-0.0 view (λ _ element. a_table c.args.place c.args.key element) c.args.values.now c.loop-value.value-index
-      c.value-item.result (tables_view c.loop-value.tables.items) c.loop-value-test.true c.value-item.is c.loop-value.invariant.gathers c.in_err-table.ensures)
+    c.value-item.result (tables_view c.loop-value.tables.items) c.loop-value-test.true c.value-item.is c.loop-value.invariant.gathers c.in_err-table.ensures)
 
 pub loop-value-preserved : goal.loop-value-preserved
 loop-value-preserved c = record {
@@ -25,4 +25,4 @@ loop-value-preserved c = record {
 pub returns-clause-tables : goal.returns-clause-tables
 returns-clause-tables c =
     gathers_all view (λ _ element. a_table c.args.place c.args.key element) c.args.values.now c.loop-value.value-index (tables_view c.loop-value.tables.items)
-      c.loop-value-test.false c.loop-value.invariant.gathers
+    c.loop-value-test.false c.loop-value.invariant.gathers

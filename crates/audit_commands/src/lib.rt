@@ -1,0 +1,7 @@
+//! The commands of audits and their reports.
+//!
+//! Their rules for people: docs/reference/command-line.md.
+#![tactic(auto)]
+
+pub mod show;
+pub mod texts;
