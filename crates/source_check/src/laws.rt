@@ -18,6 +18,7 @@ pub fn no_source_wants_memory()
 {}
 
 /// Rows of checks in hex0, worked by hand: the artefact is right, differs in a byte, has ended, goes on; and two files that are joined.
+#[tactic(auto, unfolding(crate::specs::Checks::check, hex_langs::specs::Hex0::hex0_of))]
 pub fn worked_rows()
     ensures right { (base : ℕ) → check Hex0 base (codes "# A\n41 4;B") (65 ∷ []) ≡ None }
     ensures differs { (base : ℕ) → check Hex0 base (codes "4142") (65 ∷ 67 ∷ []) ≡ Some (Differs 1) }
