@@ -1,4 +1,5 @@
 //! Laws of benches, positions and reports, over a recipe that keeps its rules. Each law is the contract of a function that does nothing.
+ghost use Rattle.mem_files.specs.Limits.{most_content};
 ghost use Rattle.recipe.specs.Kept.{IsRecipe};
 ghost use Rattle.recipe.specs.declared.contents.Said.{Said};
 ghost use Rattle.report.specs.Reports.{IsReport};
@@ -8,6 +9,8 @@ ghost use Rattle.wheeler.specs.Bench.{bench};
 ghost use Rattle.wheeler.specs.Positions.{Position, Standing, On, Over, beginning, continue, finish, forward, forward_from, position, step, todo};
 ghost use Rattle.wheeler.specs.Valid.{IsInputs, IsPosition, IsStanding, limits};
 ghost use Rattle.wheeler.specs.declared.answer.Answer.TheVariants.{Completes};
+
+use crate::{MAX_ARTEFACTS, MAX_INPUT};
 
 /// Going on by some steps and then by more is going on by their sum.
 pub fn steps_in_parts()
@@ -60,4 +63,10 @@ pub fn reports_are_well_formed()
         → bench recipe inputs ≡ Completes report → IsReport report }
     ensures position { (recipe : Said) (inputs : List (List ℕ)) (p : Position) (report : Report) → IsRecipe recipe → IsInputs recipe inputs
         → IsPosition recipe p → continue recipe inputs p ≡ Completes report → IsReport report }
+{}
+
+/// The numbers of the code are the written limits.
+pub fn numbers_are_those_written()
+    ensures artefacts { MAX_ARTEFACTS ≡ 1_073_741_824 }
+    ensures input { MAX_INPUT ≡ most_content }
 {}
