@@ -1,6 +1,9 @@
-//! A plain assembler of hex2 (and hex1) by the rules of docs/reference/, for bench/asm: no contracts, a vector of items, std's map.
+//! A plain assembler of hex2 (and hex1), and of M1, by the rules of docs/reference/, for bench/asm: no contracts, a vector of items,
+//! std's map.
 //!
 //!     plain LANG BASE SOURCE OUT
+
+mod m1;
 
 use std::collections::HashMap;
 use std::{env, fs, process};
@@ -289,7 +292,11 @@ fn main() {
     let words: Vec<String> = env::args().skip(1).collect();
     let base: u64 = words[1].parse().unwrap();
     let source = fs::read(&words[2]).unwrap();
-    match items(&source, words[0] == "hex2").and_then(|items| link(&items, base)) {
+    let made = match words[0].as_str() {
+        "m1" => m1::expand(&source).map(|items| m1::write(&items)),
+        language => items(&source, language == "hex2").and_then(|items| link(&items, base)),
+    };
+    match made {
         Ok(bytes) => {
             fs::write(&words[3], &bytes).unwrap();
             println!("made {}", bytes.len());

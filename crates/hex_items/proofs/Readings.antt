@@ -56,16 +56,16 @@ pub reading-fault : (dialect : Dialect) (at : ℕ) (byte : ℕ) (left : List ℕ
 unfolding reading
 reading-fault dialect at byte left why code found = rw code (rw found refl)
 
-pub with_front-twice : (front more : List Item) (later : Formed Fault) → with_front front (with_front more later) ≡ with_front (front ++ more) later
+pub with_front-twice : {F : Type 0} (front more : List Item) (later : Formed F) → with_front front (with_front more later) ≡ with_front (front ++ more) later
 with_front-twice front more later = ap (λ (items : List Item). record { items = items; end = later.end }) (sym (append_assoc front more later.items))
 
 -- a token that has its place
-pub formed-token : (word next : Option Open) (at : ℕ) (token : Token) (later : Reading Fault) (more : List Item)
+pub formed-token : {F : Type 0} (word next : Option Open) (at : ℕ) (token : Token) (later : Reading F) (more : List Item)
     → taken word at token ≡ Ok (more, next) → formed word (Then at token later) ≡ with_front more (formed next later)
 formed-token word next at token later more is = ap (λ (step : Step). behind_step step (λ then. formed then later)) is
 
 -- a token that has none
-pub formed-halt : (word : Option Open) (at : ℕ) (token : Token) (later : Reading Fault) (why : Halt)
+pub formed-halt : {F : Type 0} (word : Option Open) (at : ℕ) (token : Token) (later : Reading F) (why : Halt)
     → taken word at token ≡ Err why → formed word (Then at token later) ≡ record { items = []; end = Halted why }
 formed-halt word at token later why is = ap (λ (step : Step). behind_step step (λ then. formed then later)) is
 

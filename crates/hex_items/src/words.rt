@@ -1,9 +1,9 @@
 //! Words: fields and at most one reference, and then exactly four bytes.
-ghost use Rattle.hex_items.specs.Words.{taken, byte_taken, Takes, Adds};
+ghost use Rattle.hex_items.specs.Words.{taken, byte_taken, word_items, Takes, Adds};
 ghost use Rattle.hex_items.specs.declared.item.Item.TheVariants.{Byte};
 ghost use Rattle.hex_items.specs.declared.token.Token.TheVariants as token;
-ghost use Rattle.std.specs.Prelude.{ℕ};
-ghost use Rattle.std.specs.Int.{w32, to_le_bytes};
+ghost use Rattle.std.specs.Prelude.{ℕ, bit_xor};
+ghost use Rattle.std.specs.Int.{w32, from_le_bytes, to_le_bytes};
 ghost use Rattle.std.specs.Prelude.{◌≡◌, [], ◌∷◌, ◌++◌, ◌≤◌, ◌<◌, length, map};
 
 use crate::item::{Item, Kind, Name};
@@ -60,7 +60,9 @@ pub fn take<'s>(
     at: usize,
     token: Token<'s>,
 ) -> Result<Option<Open<'s>>, Halt>
-    ensures { Takes result (taken word.entry at token.entry) items.old items.new }
+    requires { length items.old ≤ 33554432 }
+    ensures takes { Takes result (taken word.entry at token.entry) items.old items.new }
+    ensures few { length items.new ≤ 33554432 }
 {
     match (word, token) {
         (None, Token::Byte(byte)) => {
@@ -113,7 +115,9 @@ pub fn take_byte<'s>(
     word: Option<Open<'s>>,
     byte: u8,
 ) -> Result<Option<Open<'s>>, Halt>
-    ensures { (at : ℕ) → Takes result (taken word.entry at (token.Byte byte)) items.old items.new }
+    requires { length items.old ≤ 33554432 }
+    ensures takes { (at : ℕ) → Takes result (taken word.entry at (token.Byte byte)) items.old items.new }
+    ensures few { length items.new ≤ 33554432 }
 {
     match word {
         None => {
@@ -130,18 +134,16 @@ fn byte_of_word<'s>(
     word: Open<'s>,
     byte: u8,
 ) -> Result<Option<Open<'s>>, Halt>
-    ensures { Takes result (byte_taken word.entry byte) items.old items.new }
+    requires { length items.old ≤ 33554432 }
+    ensures takes { Takes result (byte_taken word.entry byte) items.old items.new }
+    ensures few { length items.new ≤ 33554432 }
 {
     let begun = match word.begun {
         Begun::Nothing => Begun::One(byte),
         Begun::One(a) => Begun::Two(a, byte),
         Begun::Two(a, b) => Begun::Three(a, b, byte),
         Begun::Three(a, b, c) => {
-            let value = word.mask ^ u32::from_le_bytes([a, b, c, byte]);
-            match word.reference {
-                None => add_bytes(items, value)?,
-                Some((kind, name)) => add(items, Item::Word(value, kind, name))?,
-            }
+            take_four(items, word, [a, b, c, byte])?;
             return Ok(None);
         }
     };
@@ -153,9 +155,24 @@ fn byte_of_word<'s>(
     }))
 }
 
+/// Takes all four bytes of an open word at once.
+pub fn take_four<'s>(items: &mut Items<'s>, word: Open<'s>, bytes: [u8; 4]) -> Result<(), Halt>
+    requires { length items.old ≤ 33554432 }
+    ensures adds { Adds (word_items word.entry.reference (bit_xor word.entry.mask (from_le_bytes w32 bytes))) result items.old items.new }
+    ensures few { length items.new ≤ 33554432 }
+{
+    let value = word.mask ^ u32::from_le_bytes(bytes);
+    match word.reference {
+        None => add_bytes(items, value),
+        Some((kind, name)) => add(items, Item::Word(value, kind, name)),
+    }
+}
+
 /// Adds an item, unless too many are there.
 fn add<'s>(items: &mut Items<'s>, item: Item<'s>) -> Result<(), Halt>
-    ensures { Adds (item.entry ∷ []) result items.old items.new }
+    requires { length items.old ≤ 33554432 }
+    ensures adds { Adds (item.entry ∷ []) result items.old items.new }
+    ensures few { length items.new ≤ 33554432 }
 {
     if items.len() == MOST_ITEMS {
         return Err(Halt::TooLong);
@@ -166,7 +183,9 @@ fn add<'s>(items: &mut Items<'s>, item: Item<'s>) -> Result<(), Halt>
 
 /// Adds the four bytes of a word without a reference.
 fn add_bytes<'s>(items: &mut Items<'s>, value: u32) -> Result<(), Halt>
-    ensures { Adds (map Byte (to_le_bytes w32 value)) result items.old items.new }
+    requires { length items.old ≤ 33554432 }
+    ensures adds { Adds (map Byte (to_le_bytes w32 value)) result items.old items.new }
+    ensures few { length items.new ≤ 33554432 }
 {
     if items.len() > MOST_ITEMS - 4 {
         return Err(Halt::TooLong);

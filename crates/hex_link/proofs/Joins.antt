@@ -1,5 +1,5 @@
 -- What putting one item's bytes does to what is left.
-use Rattle.std.proofs.Common.{◌≡◌, ℕ, ◌+◌, ◌*◌, ◌<◌, ◌≤◌, List, [], ◌∷◌, ◌++◌, length, append_assoc, length-append, Option, Some, None, Result, Ok, Err, refl, sym, ap, subst, ◌∙◌, arith}
+use Rattle.std.proofs.Common.{◌≡◌, ℕ, ◌+◌, ◌≤◌, List, [], ◌∷◌, ◌++◌, length, append_assoc, length-append, Option, Result, Ok, Err, refl, sym, ap, subst, ◌∙◌, arith}
 use Rattle.std.proofs.lemmas.List.{length-replicate}
 use Rattle.std.specs.Prelude.{replicate}
 use Rattle.std.specs.Int.{w32, to_le_bytes}
@@ -9,7 +9,7 @@ use Rattle.hex_items.specs.declared.reader.HexRefusal.{HexRefusal}
 use Rattle.hex_items.specs.declared.reader.HexRefusal.TheVariants as refusal
 use Rattle.hex_link.specs.declared.number.Miss.{Miss}
 use Rattle.indexmap.specs.IndexMap.{get, IndexMap}
-use Rattle.hex_link.specs.Link.{address_of, behind, item_bytes, four, bytes_from, Labels, link_of, Links, written_number, onto, pad_size, refused, same_name, size_at, unless_repeat}
+use Rattle.hex_link.specs.Link.{address_of, behind, item_bytes, four, bytes_from, Labels, link_of, Links, onto, pad_size, refused, same_name, size_at, unless_repeat}
 use Rattle.hex_link.specs.Representation.Tables.{Puts, Tables}
 
 pub puts-ok : (meant : Result (List ℕ) Miss) (old new : List ℕ) → Puts (Ok tt) meant old new

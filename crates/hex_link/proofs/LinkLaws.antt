@@ -1,5 +1,5 @@
 -- What linking does not depend on.
-use Rattle.std.proofs.Common.{◌≡◌, ℕ, ◌+◌, ◌≤◌, Bool, true, false, cond, ◌&&◌, List, [], ◌∷◌, ◌++◌, length, map, length-append, Option, Some, None, Result, Ok, Err, IsTrue, refl, sym, ap, subst, ◌∙◌, arith}
+use Rattle.std.proofs.Common.{◌≡◌, ℕ, ◌+◌, ◌≤◌, Bool, true, false, cond, List, [], ◌∷◌, ◌++◌, length, map, length-append, Option, Some, None, Result, Ok, Err, IsTrue, refl, sym, ap, ◌∙◌, arith}
 use Rattle.std.specs.List.{list_all, list_any}
 use Rattle.std.proofs.lemmas.Slice.Eq.{bytes_eq-Decides}
 use Rattle.hex_items.specs.declared.item.Item.{Item}
@@ -10,11 +10,11 @@ use Rattle.hex_items.specs.declared.token.Dialect.TheVariants as dialect
 use Rattle.hex_langs.specs.Hex0.{HasEvenDigits, hex0_of}
 use Rattle.hex_items.specs.Plain.{is_plain}
 use Rattle.hex_items.proofs.PlainSources.{plain-items}
-use Rattle.hex_link.specs.declared.values.Language.{Language}
-use Rattle.hex_link.specs.declared.values.Language.TheVariants.{Hex0, Hex1, Hex2}
+use Rattle.hex_link.specs.declared.values.HexLanguage.{HexLanguage}
+use Rattle.hex_link.specs.declared.values.HexLanguage.TheVariants.{Hex0, Hex1, Hex2}
 use Rattle.hex_link.specs.Values.{linked, value_of}
 use Rattle.hex_link.specs.Laws.{address_behind, is_fixed, KeepsApart, renamed}
-use Rattle.hex_link.specs.Link.{address_of, behind, item_bytes, defines, first_repeat, bytes_from, label_in, Labels, link_of, written_number, onto, refused, repeats, same_name, size_at, unless_repeat}
+use Rattle.hex_link.specs.Link.{address_of, behind, item_bytes, defines, first_repeat, bytes_from, label_in, Labels, link_of, onto, repeats, same_name, size_at, unless_repeat}
 use Rattle.hex_link.proofs.Joins.{bytes-size}
 
 -- ---- bases
@@ -196,7 +196,7 @@ link-bytes bytes base =
 linked-bytes : (base : ℕ) (items : Result (List Item) HexRefusal) (bytes : List ℕ) → items ≡ Ok (map Byte bytes) → linked base items ≡ Ok bytes
 linked-bytes base items bytes is = ap (linked base) is ∙ link-bytes bytes base
 
-pub plain-values : (language : Language) (base : ℕ) (source : List ℕ) → length source ≤ 67108864 → IsTrue (is_plain source) → HasEvenDigits source
+pub plain-values : (language : HexLanguage) (base : ℕ) (source : List ℕ) → length source ≤ 67108864 → IsTrue (is_plain source) → HasEvenDigits source
     → value_of language base source ≡ Ok (hex0_of source)
 plain-values Hex0 base source short plain even = refl
 plain-values Hex1 base source short plain even = linked-bytes base _ (hex0_of source) (plain-items dialect.Hex1 source short plain even)

@@ -1,17 +1,14 @@
 -- What noting one item's label does to the table, and to what is left.
-use Rattle.std.proofs.Common.{◌≡◌, ℕ, suc, ◌+◌, ◌*◌, ◌<◌, ◌≤◌, ◌^◌, Bool, true, false, cond, List, [], ◌∷◌, ◌++◌, length, Option, Some, None, IfSome, is_some, Result, Ok, Err, refl, sym, ap, subst, ◌∙◌, arith}
+use Rattle.std.proofs.Common.{◌≡◌, ℕ, ◌+◌, ◌<◌, ◌^◌, Bool, true, false, cond, List, [], ◌∷◌, ◌++◌, Option, Some, None, IfSome, is_some, refl, sym, ap, subst, ◌∙◌}
 use Rattle.std.proofs.lemmas.Map.Made.{is_some-lookup}
 use Rattle.std.proofs.lemmas.Slice.Eq.{bytes_eq-Decides}
-use Rattle.std.specs.List.{list_any}
 use Rattle.std.specs.Map.{keys_of}
 use Rattle.indexmap.specs.IndexMap.{get, IndexMap, insert_entry, keys}
 use Rattle.indexmap.proofs.CallerLemmas.{insert_entry-new}
 use Rattle.hex_items.specs.declared.item.Item.{Item}
 use Rattle.hex_items.specs.declared.item.Item.TheVariants.{Label}
-use Rattle.hex_items.specs.declared.reader.HexRefusal.{HexRefusal}
-use Rattle.hex_items.specs.declared.reader.HexRefusal.TheVariants as refusal
 use Rattle.hex_link.specs.Link.{address_of, defines, first_repeat, label_in, repeats, same_name, size_at}
-use Rattle.hex_link.specs.Representation.Tables.{Noted, Notes, or_else}
+use Rattle.hex_link.specs.Representation.Tables.{Noted, or_else}
 
 keys_of-append : (es fs : List (List ℕ × ℕ)) → keys_of (es ++ fs) ≡ keys_of es ++ keys_of fs
 keys_of-append [] fs = refl

@@ -5,8 +5,8 @@ use Rattle.hex_items.specs.declared.reader.HexRefusal.{HexRefusal}
 use Rattle.hex_items.specs.declared.token.Dialect.TheVariants as dialect
 use Rattle.hex_langs.specs.Hex0.{hex0_of}
 use Rattle.hex_items.specs.Reading.{items_of}
-use Rattle.hex_link.specs.declared.values.Language.{Language}
-use Rattle.hex_link.specs.declared.values.Language.TheVariants.{Hex0, Hex1, Hex2}
+use Rattle.hex_link.specs.declared.values.HexLanguage.{HexLanguage}
+use Rattle.hex_link.specs.declared.values.HexLanguage.TheVariants.{Hex0, Hex1, Hex2}
 use Rattle.hex_link.specs.Link.{link_of}
 
 -- the items of a source are linked at a base, if it has any
@@ -15,7 +15,7 @@ linked base (Ok items) = link_of items base
 linked base (Err why) = Err why
 
 -- the value of a source at a base; hex0 knows no base
-abbrev pub value_of : Language → ℕ → List ℕ → Result (List ℕ) HexRefusal
+abbrev pub value_of : HexLanguage → ℕ → List ℕ → Result (List ℕ) HexRefusal
 value_of Hex0 base source = Ok (hex0_of source)
 value_of Hex1 base source = linked base (items_of dialect.Hex1 source)
 value_of Hex2 base source = linked base (items_of dialect.Hex2 source)

@@ -4,7 +4,7 @@ ghost use Rattle.std.specs.List.{list_all};
 ghost use Rattle.hex_items.specs.declared.item.Item.{Item};
 ghost use Rattle.hex_langs.specs.Hex0.{hex0_of, HasEvenDigits};
 ghost use Rattle.hex_items.specs.Plain.{is_plain};
-ghost use Rattle.hex_link.specs.declared.values.Language.{Language};
+ghost use Rattle.hex_link.specs.declared.values.HexLanguage.{HexLanguage};
 ghost use Rattle.hex_link.specs.Laws.{is_fixed, address_behind, renamed, KeepsApart};
 ghost use Rattle.hex_link.specs.Link.{link_of};
 ghost use Rattle.hex_link.specs.Values.{value_of};
@@ -27,6 +27,6 @@ pub fn names_do_not_matter()
 
 /// A source of digits, blanks and comments alone, with an even number of digits, means the same in all three languages.
 pub fn plain_sources()
-    ensures { (language : Language) → (base : ℕ) → (source : List ℕ) → length source ≤ 67108864 → IsTrue (is_plain source) → HasEvenDigits source
+    ensures { (language : HexLanguage) → (base : ℕ) → (source : List ℕ) → length source ≤ 67108864 → IsTrue (is_plain source) → HasEvenDigits source
         → value_of language base source ≡ Ok (hex0_of source) }
 {}

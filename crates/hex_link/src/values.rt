@@ -11,7 +11,7 @@ use std::alloc::Global;
 
 /// A language in which a source stands for bytes.
 #[derive(Clone, Copy, Debug, PartialEq, Eq)]
-pub enum Language {
+pub enum HexLanguage {
     Hex0,
     Hex1,
     Hex2,
@@ -22,7 +22,7 @@ pub enum Language {
 /// docs/reference/hex0.md, hex1.md, hex2.md and linking.md have the rules.
 pub fn value(
     alloc: Global,
-    language: Language,
+    language: HexLanguage,
     base: u64,
     source: &[u8],
 ) -> Result<Bytes, HexRefusal>
@@ -30,12 +30,12 @@ pub fn value(
     ensures { Links result (value_of language base source.now) }
 {
     match language {
-        Language::Hex0 => match hex0(alloc, source) {
+        HexLanguage::Hex0 => match hex0(alloc, source) {
             Ok(bytes) => Ok(bytes),
             Err(OutOfMemory) => Err(HexRefusal::OutOfMemory),
         },
-        Language::Hex1 => linked(alloc, base, items1(alloc, source)),
-        Language::Hex2 => linked(alloc, base, items2(alloc, source)),
+        HexLanguage::Hex1 => linked(alloc, base, items1(alloc, source)),
+        HexLanguage::Hex2 => linked(alloc, base, items2(alloc, source)),
     }
 }
 

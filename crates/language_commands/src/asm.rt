@@ -1,20 +1,23 @@
-//! `asm LANG BASE SOURCE OUT`: the value of a source is saved.
+//! `asm LANG BASE SOURCE OUT`: what a source comes to is saved.
 ghost use Rattle.std.specs.Prelude.{◌≡◌, ◌≤◌, ◌^◌, IfOk, IfSome, map};
 ghost use Rattle.ddc_base.specs.Outside.{IsFileName};
 ghost use Rattle.command_plan.specs.declared.status.Status.TheVariants.{CheckFailed};
 ghost use Rattle.command_plan.specs.Performs.{Performs};
 ghost use Rattle.command_plan.specs.Plan.{answers};
 ghost use Rattle.command_plan.specs.Steps.{Says};
-ghost use Rattle.hex_items.specs.Refusals.{refusal_number, refusal_place};
 ghost use Rattle.hex_link.specs.Values.{value_of};
-ghost use Rattle.language_commands.specs.Asm.{made_line, refused_line, language_named, as_base, saved, asm_files, are_two_files, asm_plan};
-ghost use Rattle.language_commands.specs.Inside.Refusing.{Refuses};
+ghost use Rattle.hex_writer.specs.Writing.{items_text};
+ghost use Rattle.m1_lang.specs.Expansion.{expansion_of};
+ghost use Rattle.language_commands.specs.Asm.{made_line, refused_line, as_base, made, saved, saved_items, assembled, asm_files, asm_plan};
+ghost use Rattle.language_commands.specs.Inside.Refusing.{Refuses, RefusesM1};
 
-use command_plan::words::is_file_word;
+use command_plan::words::are_two_files;
 use command_plan::{Answer, Status, Stop, fetch_file, keep, usage};
 use ddc_base::{Bytes, OutOfMemory, Shelf, read_decimal};
-use hex_items::HexRefusal;
-use hex_link::{Language, value};
+use hex_items::{HexRefusal, Items};
+use hex_link::{HexLanguage, value};
+use languages::Language;
+use m1_lang::{M1Refusal, expand, write_items};
 use std::alloc::Global;
 
 /// The greatest base: 2^37.
@@ -27,7 +30,7 @@ pub fn perform<S: Shelf>(alloc: Global, words: &[&str], shelf: &mut S) -> Result
     let [language, base, source, out] = words else {
         return usage(alloc);
     };
-    match (language_of(language), base_of(base)) {
+    match (Language::named(language.as_bytes()), base_of(base)) {
         (Some(language), Some(base)) => {
             if are_two_files(source, out) {
                 assemble_file(alloc, language, base, source, out, shelf)
@@ -36,19 +39,6 @@ pub fn perform<S: Shelf>(alloc: Global, words: &[&str], shelf: &mut S) -> Result
             }
         }
         _ => usage(alloc),
-    }
-}
-
-/// The language that a word names.
-#[tactic(auto, unfolding(crate::specs::Asm::language_named))]
-fn language_of(word: &str) -> Option<Language>
-    ensures { result ≡ language_named word.now }
-{
-    match word {
-        "hex0" => Some(Language::Hex0),
-        "hex1" => Some(Language::Hex1),
-        "hex2" => Some(Language::Hex2),
-        _ => None,
     }
 }
 
@@ -64,13 +54,6 @@ fn base_of(word: &str) -> Option<u64>
     } else {
         None
     }
-}
-
-/// Whether two words can name two files that are not one.
-fn are_two_files(source: &str, out: &str) -> bool
-    ensures { result ≡ are_two_files source.now out.now }
-{
-    is_file_word(source) && is_file_word(out) && source != out
 }
 
 /// Fetches the source, and goes on with it.
@@ -92,8 +75,7 @@ fn assemble_file<S: Shelf>(
     assemble(alloc, language, base, text.as_slice(), out, shelf)
 }
 
-/// Saves the value of a source, or says why it has none.
-#[tactic(auto, using(command_plan::proofs::Performing::performing))]
+/// Saves what a source comes to, or says why it comes to nothing.
 fn assemble<S: Shelf>(
     alloc: Global,
     language: Language,
@@ -104,19 +86,80 @@ fn assemble<S: Shelf>(
 ) -> Result<Answer, Stop>
     requires base { base ≤ 2 ^ 37 }
     requires out { IsFileName out.now }
+    ensures { Performs (assembled language base out.now source.now) (S.state shelf.old) (S.state shelf.new) result }
+{
+    match language {
+        Language::Hex0 => save_value(alloc, HexLanguage::Hex0, base, source, out, shelf),
+        Language::Hex1 => save_value(alloc, HexLanguage::Hex1, base, source, out, shelf),
+        Language::Hex2 => save_value(alloc, HexLanguage::Hex2, base, source, out, shelf),
+        Language::M1 => save_items(alloc, source, out, shelf),
+    }
+}
+
+/// Saves the value of a source, or says why it has none.
+#[tactic(auto, using(command_plan::proofs::Performing::performing))]
+fn save_value<S: Shelf>(
+    alloc: Global,
+    language: HexLanguage,
+    base: u64,
+    source: &[u8],
+    out: &str,
+    shelf: &mut S,
+) -> Result<Answer, Stop>
+    requires base { base ≤ 2 ^ 37 }
+    requires out { IsFileName out.now }
     ensures { Performs (saved out.now (value_of language base source.now)) (S.state shelf.old) (S.state shelf.new) result }
 {
     match value(alloc, language, base, source) {
-        Ok(bytes) => {
-            let text = made(alloc, bytes.len())?;
-            let answer = Answer {
-                status: Status::Yes,
-                text,
-            };
-            keep(alloc, shelf, out, bytes.as_slice(), answer)
-        }
+        Ok(bytes) => save(alloc, bytes.as_slice(), out, shelf),
         Err(refusal) => refuse(alloc, refusal),
     }
+}
+
+/// Saves the text of the items that an M1 source expands to, or says why it does not.
+#[tactic(auto, using(command_plan::proofs::Performing::performing))]
+fn save_items<S: Shelf>(
+    alloc: Global,
+    source: &[u8],
+    out: &str,
+    shelf: &mut S,
+) -> Result<Answer, Stop>
+    requires out { IsFileName out.now }
+    ensures { Performs (saved_items out.now (expansion_of source.now)) (S.state shelf.old) (S.state shelf.new) result }
+{
+    match expand(alloc, source) {
+        Ok(items) => save_text(alloc, &items, out, shelf),
+        Err(refusal) => refuse_m1(alloc, refusal),
+    }
+}
+
+/// Saves the text of items.
+#[tactic(auto, using(command_plan::proofs::Performing::performing))]
+fn save_text<S: Shelf>(
+    alloc: Global,
+    items: &Items<'_>,
+    out: &str,
+    shelf: &mut S,
+) -> Result<Answer, Stop>
+    requires out { IsFileName out.now }
+    ensures { Performs (made out.now (items_text items.now)) (S.state shelf.old) (S.state shelf.new) result }
+{
+    let text = write_items(alloc, items)?;
+    save(alloc, text.as_slice(), out, shelf)
+}
+
+/// Saves a content that was made.
+#[tactic(auto, using(command_plan::proofs::Performing::performing))]
+fn save<S: Shelf>(alloc: Global, content: &[u8], out: &str, shelf: &mut S) -> Result<Answer, Stop>
+    requires out { IsFileName out.now }
+    ensures { Performs (made out.now content.now) (S.state shelf.old) (S.state shelf.new) result }
+{
+    let text = made_text(alloc, content.len())?;
+    let answer = Answer {
+        status: Status::Yes,
+        text,
+    };
+    keep(alloc, shelf, out, content, answer)
 }
 
 /// The answer to a source that has no value, or want of memory.
@@ -125,23 +168,33 @@ fn refuse(alloc: Global, refusal: HexRefusal) -> Result<Answer, Stop>
 {
     match refusal {
         HexRefusal::OutOfMemory => Err(Stop::OutOfMemory),
-        refusal => refused(alloc, refusal),
+        refusal => refused(alloc, refusal.number(), refusal.place()),
     }
 }
 
-/// The answer to a source that has no value.
-fn refused(alloc: Global, refusal: HexRefusal) -> Result<Answer, Stop>
-    ensures { Says (answers CheckFailed (refused_line (refusal_number refusal) (refusal_place refusal))) result }
+/// The answer to an M1 source that does not expand, or want of memory.
+fn refuse_m1(alloc: Global, refusal: M1Refusal) -> Result<Answer, Stop>
+    ensures { RefusesM1 refusal result }
+{
+    match refusal {
+        M1Refusal::OutOfMemory => Err(Stop::OutOfMemory),
+        refusal => refused(alloc, refusal.number(), refusal.place()),
+    }
+}
+
+/// The answer to a source that is refused, by the number of the refusal and its place.
+fn refused(alloc: Global, number: u8, place: u64) -> Result<Answer, Stop>
+    ensures { Says (answers CheckFailed (refused_line number place)) result }
 {
     Ok(Answer {
         status: Status::CheckFailed,
-        text: refused_text(alloc, refusal.number(), refusal.place())?,
+        text: refused_text(alloc, number, place)?,
     })
 }
 
-/// The line of a value that was made.
+/// The line of a content that was made.
 #[tactic(auto, unfolding(crate::specs::Asm::made_line))]
-fn made(alloc: Global, size: usize) -> Result<Bytes, OutOfMemory>
+fn made_text(alloc: Global, size: usize) -> Result<Bytes, OutOfMemory>
     ensures { IfOk result (λ text. text ≡ made_line size) }
 {
     Ok(Bytes::from_vec(format!(in alloc; "made {size}\n")?.into_bytes()))

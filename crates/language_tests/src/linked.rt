@@ -1,7 +1,7 @@
 //! hex2 sources and what Debian's hex2 makes of them, as tests/languages/make-cases prints it.
 use crate::zeros;
 use ddc_base::Bytes;
-use hex_link::{Language, value};
+use hex_link::{HexLanguage, value};
 use std::alloc::Global;
 use std::process::Abort;
 use std::test::Fail;
@@ -71,7 +71,7 @@ fn source_of(alloc: Global, row: &Row) -> Result<Bytes, Fail> {
 fn compare(rt: &impl Abort, alloc: Global, row: &Row) -> Result<(), Fail> {
     assert!(rt; row.0 <= 137_438_953_472);
     let source = source_of(alloc, row)?;
-    match value(alloc, Language::Hex2, row.0, source.as_slice()) {
+    match value(alloc, HexLanguage::Hex2, row.0, source.as_slice()) {
         Ok(bytes) => {
             assert_eq!(rt; bytes.len(), row.4);
             assert!(rt; bytes.as_slice().starts_with(row.5));

@@ -1,7 +1,7 @@
 //! Sources of hex1 and hex2 with what the reference pages say of them.
 use ddc_base::Bytes;
 use hex_items::{HexRefusal, Item, Kind, items1, items2};
-use hex_link::{Language, laws, link, value};
+use hex_link::{HexLanguage, laws, link, value};
 use std::alloc::Global;
 use std::process::Abort;
 use std::test::Fail;
@@ -83,7 +83,7 @@ static HEX1: [(&str, Answer); 11] = [
 fn compare(
     rt: &impl Abort,
     alloc: Global,
-    language: Language,
+    language: HexLanguage,
     rows: &[(&str, Answer)],
 ) -> Result<(), Fail> {
     for (source, answer) in rows {
@@ -98,15 +98,15 @@ fn compare(
 
 #[test]
 fn hex2_sources(rt: HostRuntime) -> Result<(), Fail> {
-    compare(&rt, rt.alloc(), Language::Hex2, &HEX2)?;
-    compare(&rt, rt.alloc(), Language::Hex2, &LINKS)
+    compare(&rt, rt.alloc(), HexLanguage::Hex2, &HEX2)?;
+    compare(&rt, rt.alloc(), HexLanguage::Hex2, &LINKS)
 }
 
 #[test]
 fn hex1_sources(rt: HostRuntime) -> Result<(), Fail> {
-    compare(&rt, rt.alloc(), Language::Hex1, &HEX1)?;
+    compare(&rt, rt.alloc(), HexLanguage::Hex1, &HEX1)?;
     let table: [(&str, Answer); 2] = [("# a\n7F 4\n5;x", Ok(b"\x7f\x45")), ("ABC", Ok(b"\xab"))];
-    compare(&rt, rt.alloc(), Language::Hex0, &table)
+    compare(&rt, rt.alloc(), HexLanguage::Hex0, &table)
 }
 
 /// What items2 answers of a source, in a few words.

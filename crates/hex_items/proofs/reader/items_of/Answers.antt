@@ -46,7 +46,7 @@ returns-in-Err-take_byte c =
     let found : token_at c.args.dialect (get_or source at 0) (drop (at + 1) source) ≡ Ok ((Byte c.in-Ok.value), c.in-Ok.more) = ap (token_at c.args.dialect (get_or source at 0)) (sym (rest_is source (at + 1))) ∙ token-digit c.args.dialect _ _ (sym c.if-is_digit.ensures) ∙ c.in-Ok.ensures.value in
     let moved = moves-token c.args.dialect source at c.in-Ok.more (Byte c.in-Ok.value) (omega arith) (sym c.if-opens_gap.ensures) found in
     let whole = c.loop-at.invariant.whole ∙ ap (λ l. with_front c.loop-at.items (formed c.loop-at.word l)) moved in
-    let refused = refuses _ c.loop-at.items c.take_byte.new.items c.loop-at.word at (Byte c.in-Ok.value) _ c.in-Err-take_byte.halt whole (c.in-Err-take_byte.ensures at) c.loop-at.invariant.few in
+    let refused = refuses _ c.loop-at.items c.take_byte.new.items c.loop-at.word at (Byte c.in-Ok.value) _ c.in-Err-take_byte.halt whole (c.in-Err-take_byte.ensures.takes at) c.loop-at.invariant.few in
     rw c.halted.ensures (reads-by _ _ (Err (halted c.in-Err-take_byte.halt)) (items_of-judged c.args.dialect source (omega arith)) refused)
 
 pub loop-at-preserved-in-Ok-take_byte : goal.loop-at-preserved-in-Ok-take_byte
@@ -56,13 +56,13 @@ loop-at-preserved-in-Ok-take_byte c =
     let found : token_at c.args.dialect (get_or source at 0) (drop (at + 1) source) ≡ Ok ((Byte c.in-Ok.value), c.in-Ok.more) = ap (token_at c.args.dialect (get_or source at 0)) (sym (rest_is source (at + 1))) ∙ token-digit c.args.dialect _ _ (sym c.if-is_digit.ensures) ∙ c.in-Ok.ensures.value in
     let moved = moves-token c.args.dialect source at c.in-Ok.more (Byte c.in-Ok.value) (omega arith) (sym c.if-opens_gap.ensures) found in
     let whole = c.loop-at.invariant.whole ∙ ap (λ l. with_front c.loop-at.items (formed c.loop-at.word l)) moved in
-    let taken_is = takes-ok _ c.in-Ok-take_byte.next c.loop-at.items c.take_byte.new.items (c.in-Ok-take_byte.ensures at) in
+    let taken_is = takes-ok _ c.in-Ok-take_byte.next c.loop-at.items c.take_byte.new.items (c.in-Ok-take_byte.ensures.takes at) in
     let later = reading c.args.dialect (at + (1 + c.in-Ok.more)) 0 (drop (at + (1 + c.in-Ok.more)) source) in
     let step = formed-token c.loop-at.word c.in-Ok-take_byte.next at (Byte c.in-Ok.value) later taken_is.0 taken_is.1 in
     record {
       whole = whole ∙ ap (with_front c.loop-at.items) step ∙ with_front-twice c.loop-at.items taken_is.0 (formed c.in-Ok-take_byte.next later)
           ∙ ap (λ items. with_front items (formed c.in-Ok-take_byte.next later)) (sym taken_is.2);
-      few = omega (arith, c.items-in-Ok.invariant.few, length-packed c.items-in-Ok.inside.codes.items c.items-in-Ok.inside.others.items, ap length c.items-in-Ok.view_is);
+      few = c.in-Ok-take_byte.ensures.few;
       within = omega (arith, c.in-Ok.ensures.within, ap length (rest_is source (at + 1)), length-drop (at + 1) source);
     }
 
@@ -83,7 +83,7 @@ returns-in-Err-take c =
     let found : token_at c.args.dialect (get_or source at 0) (drop (at + 1) source) ≡ Ok (c.in-Ok-token_at.token, c.in-Ok-token_at.more) = ap (token_at c.args.dialect (get_or source at 0)) (sym (rest_is source (at + 1))) ∙ sym c.in-Ok-token_at.ensures.value in
     let moved = moves-token c.args.dialect source at c.in-Ok-token_at.more c.in-Ok-token_at.token (omega arith) (sym c.if-opens_gap.ensures) found in
     let whole = c.loop-at.invariant.whole ∙ ap (λ l. with_front c.loop-at.items (formed c.loop-at.word l)) moved in
-    let refused = refuses _ c.loop-at.items c.take.new.items c.loop-at.word at c.in-Ok-token_at.token _ c.in-Err-take.halt whole c.in-Err-take.ensures c.loop-at.invariant.few in
+    let refused = refuses _ c.loop-at.items c.take.new.items c.loop-at.word at c.in-Ok-token_at.token _ c.in-Err-take.halt whole c.in-Err-take.ensures.takes c.loop-at.invariant.few in
     rw c.halted-in-Err-take.ensures (reads-by _ _ (Err (halted c.in-Err-take.halt)) (items_of-judged c.args.dialect source (omega arith)) refused)
 
 pub loop-at-preserved : goal.loop-at-preserved
@@ -93,13 +93,13 @@ loop-at-preserved c =
     let found : token_at c.args.dialect (get_or source at 0) (drop (at + 1) source) ≡ Ok (c.in-Ok-token_at.token, c.in-Ok-token_at.more) = ap (token_at c.args.dialect (get_or source at 0)) (sym (rest_is source (at + 1))) ∙ sym c.in-Ok-token_at.ensures.value in
     let moved = moves-token c.args.dialect source at c.in-Ok-token_at.more c.in-Ok-token_at.token (omega arith) (sym c.if-opens_gap.ensures) found in
     let whole = c.loop-at.invariant.whole ∙ ap (λ l. with_front c.loop-at.items (formed c.loop-at.word l)) moved in
-    let taken_is = takes-ok _ c.in-Ok-take.next c.loop-at.items c.take.new.items c.in-Ok-take.ensures in
+    let taken_is = takes-ok _ c.in-Ok-take.next c.loop-at.items c.take.new.items c.in-Ok-take.ensures.takes in
     let later = reading c.args.dialect (at + (1 + c.in-Ok-token_at.more)) 0 (drop (at + (1 + c.in-Ok-token_at.more)) source) in
     let step = formed-token c.loop-at.word c.in-Ok-take.next at c.in-Ok-token_at.token later taken_is.0 taken_is.1 in
     record {
       whole = whole ∙ ap (with_front c.loop-at.items) step ∙ with_front-twice c.loop-at.items taken_is.0 (formed c.in-Ok-take.next later)
           ∙ ap (λ items. with_front items (formed c.in-Ok-take.next later)) (sym taken_is.2);
-      few = omega (arith, c.items-in-Ok-token_at.invariant.few, length-packed c.items-in-Ok-token_at.inside.codes.items c.items-in-Ok-token_at.inside.others.items, ap length c.items-in-Ok-token_at.view_is);
+      few = c.in-Ok-take.ensures.few;
       within = omega (arith, c.in-Ok-token_at.ensures.within, ap length (rest_is source (at + 1)), length-drop (at + 1) source);
     }
 

@@ -1,4 +1,4 @@
-use Rattle.std.proofs.Common.{arith, sym, ap, subst, ◌∙◌, refl, ◌≡◌, ◌+◌, ◌∷◌, drop, get_or, List, ℕ, length, Ok}
+use Rattle.std.proofs.Common.{arith, sym, ap, subst, ◌∙◌, ◌+◌, ◌∷◌, drop, List, ℕ, length, Ok}
 use Rattle.std.proofs.lemmas.List.{at_drop_more}
 use Rattle.indexmap.specs.IndexMap.{get}
 use Rattle.hex_link.specs.Link.{item_bytes, bytes_from, onto, same_name}

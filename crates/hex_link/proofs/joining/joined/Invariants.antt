@@ -1,4 +1,4 @@
-use Rattle.std.proofs.Common.{◌≡◌, ◌≤◌, ◌+◌, ◌*◌, ℕ, List, length, drop}
+use Rattle.std.proofs.Common.{◌≡◌, ◌≤◌, ◌+◌, ◌*◌, length, drop}
 use Rattle.indexmap.specs.IndexMap.{get}
 use Rattle.hex_link.specs.Link.{bytes_from, onto, same_name}
 use Rattle.hex_link.proofs.joining.joined.Given as goal

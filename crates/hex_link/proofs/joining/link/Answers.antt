@@ -1,4 +1,4 @@
-use Rattle.std.proofs.Common.{Err, BuildHasherDefault, FoldHasher}
+use Rattle.std.proofs.Common.{BuildHasherDefault, FoldHasher}
 use Rattle.hex_link.proofs.Joins.{links-by, links-joined, links-refused}
 use Rattle.hex_link.proofs.joining.link.Goals as goal
 

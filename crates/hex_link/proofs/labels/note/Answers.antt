@@ -1,4 +1,4 @@
-use Rattle.std.proofs.Common.{sym, ap, ◌∙◌, refl, ◌≡◌}
+use Rattle.std.proofs.Common.{sym, ◌∙◌, refl}
 use Rattle.hex_link.proofs.Notings.{noted-at, repeated-at}
 use Rattle.hex_link.proofs.labels.note.Goals as goal
 

@@ -1,0 +1,89 @@
+-- One word of a source on, and the whole.
+use Rattle.std.proofs.Common.{◌≡◌, ◌≤◌, ◌<◌, ℕ, nat_lt, true, false, List, [], length, ap, sym, subst, ◌∙◌, arith, Option, None, Result, Ok, Err}
+use Rattle.std.proofs.lemmas.Bool.{cond-true, cond-false}
+use Rattle.std.proofs.lemmas.Bool.Decides.{nat_tests}
+use Rattle.indexmap.specs.IndexMap.{get, IndexMap}
+use Rattle.hex_items.specs.declared.item.Item.{Item}
+use Rattle.hex_items.specs.declared.words.Open.{Open}
+use Rattle.hex_items.specs.Reading.{Ends, formed, Formed, Reading, with_front, word_end}
+use Rattle.m1_words.specs.declared.meaning.WordFault.{WordFault}
+use Rattle.m1_words.specs.Words.{Found, Word, word_list, Words, words_of}
+use Rattle.m1_words.specs.Forms.{tokens_of}
+use Rattle.m1_words.specs.Representation.Ahead.{words_at}
+use Rattle.m1_lang.specs.declared.refusal.M1Refusal.{M1Refusal}
+use Rattle.m1_lang.specs.declared.refusal.M1Refusal.TheVariants as refusal
+use Rattle.m1_lang.specs.Definitions.{definitions_in, is_define, parts, plain_words, same_text}
+use Rattle.m1_lang.specs.Expansion.{counted_items, Expands, expansion_by, expansion_of, then_read, unless_refused, words_reading}
+use Rattle.m1_lang.specs.Representation.Passes.{plain_behind, parts_at, reading_at, Tabulates, TakesWord}
+use Rattle.m1_lang.proofs.Passing.{define-plain, parts-plain, words-end}
+use Rattle.m1_lang.proofs.Takings.{counted-end}
+
+-- ---- one word on
+
+pub reading-word : (values : List ℕ → Option (List ℕ)) (source : List ℕ) (at after : ℕ) (word : Word) → words_at source at ≡ Found word (words_at source after)
+    → is_define word.text ≡ false → reading_at values source at ≡ then_read word.at (tokens_of values word.text) (reading_at values source after)
+reading-word values source at after word found plain =
+    ap (λ (w : Words). words_reading values (plain_words (parts (word_list w)))) found
+    ∙ ap (λ p. words_reading values (plain_words p)) (parts-plain word (word_list (words_at source after)) plain)
+
+pub reading-define : (values : List ℕ → Option (List ℕ)) (source : List ℕ) (at after next : ℕ) (word : Word) → words_at source at ≡ Found word (words_at source after)
+    → is_define word.text ≡ true → plain_behind (word_list (words_at source after)) ≡ plain_words (parts_at source next)
+    → reading_at values source at ≡ reading_at values source next
+reading-define values source at after next word found define skips =
+    ap (λ (w : Words). words_reading values (plain_words (parts (word_list w)))) found
+    ∙ ap (words_reading values) (define-plain word (word_list (words_at source after)) define ∙ skips)
+
+pub reading-over : (values : List ℕ → Option (List ℕ)) (source : List ℕ) (at : ℕ) → word_list (words_at source at) ≡ [] → reading_at values source at ≡ Ends
+reading-over values source at none = ap (λ (l : List Word). words_reading values (plain_words (parts l))) none
+
+-- the last word is taken
+pub reading-done : (values : List ℕ → Option (List ℕ)) (source : List ℕ) (at : ℕ) (word : Option Open) (items : List Item) (whole : Formed WordFault) → length source ≤ at
+    → length items ≤ 33554432 → whole ≡ with_front items (formed word (reading_at values source at)) → counted_items whole ≡ unless_refused items (word_end word)
+reading-done values source at word items whole past few is =
+    ap counted_items is
+    ∙ ap (λ (r : Reading WordFault). counted_items (with_front items (formed word r))) (reading-over values source at (ap word_list (words-end source at past)))
+    ∙ counted-end items (word_end word) few
+
+-- a word is refused
+pub refused-word : (why : M1Refusal) (values : List ℕ → Option (List ℕ)) (word : Option Open) (at : ℕ) (text : List ℕ) (old new : List Item) (later : Reading WordFault)
+    (whole : Formed WordFault) → whole ≡ with_front old (formed word (then_read at (tokens_of values text) later))
+    → TakesWord (Err why) word at (tokens_of values text) old new → Expands (counted_items whole) (Err why)
+refused-word (refusal.BadDefine place) values word at text old new later whole is takes = ap counted_items is ∙ takes later
+refused-word (refusal.DoubleDefine place) values word at text old new later whole is takes = ap counted_items is ∙ takes later
+refused-word (refusal.OpenString place) values word at text old new later whole is takes = ap counted_items is ∙ takes later
+refused-word (refusal.UnknownWord place) values word at text old new later whole is takes = ap counted_items is ∙ takes later
+refused-word (refusal.NumberRange place) values word at text old new later whole is takes = ap counted_items is ∙ takes later
+refused-word (refusal.Dangling place) values word at text old new later whole is takes = ap counted_items is ∙ takes later
+refused-word refusal.TooLong values word at text old new later whole is takes = ap counted_items is ∙ takes later
+refused-word refusal.OutOfMemory values word at text old new later whole is takes = tt
+
+-- ---- the whole
+
+pub expansion-long : (source : List ℕ) → 67108864 < length source → expansion_of source ≡ Err refusal.TooLong
+unfolding expansion_of
+expansion-long source long = let over : nat_lt 67108864 (length source) ≡ true = grind (arith, nat_tests) in cond-true _ _ _ over
+
+pub expansion-short : (source : List ℕ) → length source ≤ 67108864
+    → expansion_of source ≡ expansion_by (definitions_in (words_of source)) (plain_words (parts_at source 0))
+unfolding expansion_of
+expansion-short source short = let fits : nat_lt 67108864 (length source) ≡ false = grind (arith, nat_tests) in cond-false _ _ _ fits
+
+-- the definitions are refused
+pub refused-definitions : (S : Type 0) (why : M1Refusal) (source : List ℕ) → length source ≤ 67108864
+    → Tabulates {S = S} (Err why) (definitions_in (words_of source)) → Expands (expansion_of source) (Err why)
+refused-definitions S (refusal.BadDefine place) source short is = expansion-short source short ∙ ap (λ d. expansion_by d (plain_words (parts_at source 0))) is
+refused-definitions S (refusal.DoubleDefine place) source short is = expansion-short source short ∙ ap (λ d. expansion_by d (plain_words (parts_at source 0))) is
+refused-definitions S (refusal.OpenString place) source short is = expansion-short source short ∙ ap (λ d. expansion_by d (plain_words (parts_at source 0))) is
+refused-definitions S (refusal.UnknownWord place) source short is = expansion-short source short ∙ ap (λ d. expansion_by d (plain_words (parts_at source 0))) is
+refused-definitions S (refusal.NumberRange place) source short is = expansion-short source short ∙ ap (λ d. expansion_by d (plain_words (parts_at source 0))) is
+refused-definitions S (refusal.Dangling place) source short is = expansion-short source short ∙ ap (λ d. expansion_by d (plain_words (parts_at source 0))) is
+refused-definitions S refusal.TooLong source short is = expansion-short source short ∙ ap (λ d. expansion_by d (plain_words (parts_at source 0))) is
+refused-definitions S refusal.OutOfMemory source short is = tt
+
+-- by the table of the definitions
+pub expanded-by : {S : Type 0} (table : IndexMap (List ℕ) (List ℕ) S) (source : List ℕ) (result : Result (List Item) M1Refusal) → length source ≤ 67108864
+    → definitions_in (words_of source) ≡ Ok table.entries
+    → Expands (counted_items (formed None (reading_at (λ name. get same_text table name) source 0))) result → Expands (expansion_of source) result
+expanded-by table source result short defined expands =
+    let is = expansion-short source short ∙ ap (λ d. expansion_by d (plain_words (parts_at source 0))) defined in
+    subst (λ (meant : Result (List Item) M1Refusal). Expands meant result) (sym is) expands

@@ -1,0 +1,230 @@
+-- A definition may stand elsewhere.
+use Rattle.std.proofs.Common.{◌≡◌, ℕ, Bool, true, false, cond, not, ◌||◌, List, [], ◌∷◌, ◌++◌, refl, sym, ap, subst, ◌∙◌, Option, Some, None, is_some, Ok, Err}
+use Rattle.std.proofs.Common.{true≢false}
+use Rattle.std.proofs.lemmas.Slice.Eq.{bytes_eq-Decides}
+use Rattle.m1_words.specs.Words.{Word}
+use Rattle.m1_lang.specs.declared.refusal.M1Refusal.TheVariants as refusal
+use Rattle.m1_lang.specs.Definitions.{with_defined, Cut, Defined, Defines, definitions, is_value, Part, Plain, plain_words, same_text, value_in}
+use Rattle.m1_lang.proofs.Unplaced.{expansion_by_values, expansion_with, ok, parts_expansion}
+
+-- ---- look-ups
+
+abbrev or_value : Option (List ℕ) → Option (List ℕ) → Option (List ℕ)
+or_value (Some value) later = Some value
+or_value None later = later
+
+-- one definition more
+look-more : (seen : Defined) (name value text : List ℕ)
+    → value_in (seen ++ (name, value) ∷ []) text ≡ or_value (value_in seen text) (cond (same_text text name) (Some value) None)
+look-more [] name value text = refl
+look-more (first ∷ seen) name value text = by (same_text text first.0) (look-more seen name value text)
+  where
+    by : (here : Bool) → value_in (seen ++ (name, value) ∷ []) text ≡ or_value (value_in seen text) (cond (same_text text name) (Some value) None)
+        → cond here (Some first.1) (value_in (seen ++ (name, value) ∷ []) text) ≡ or_value (cond here (Some first.1) (value_in seen text)) (cond (same_text text name) (Some value) None)
+    by true rest = refl
+    by false rest = rest
+
+-- definitions that give each word the same value
+abbrev pub SameValues : Defined → Defined → Type 0
+SameValues one other = (text : List ℕ) → value_in one text ≡ value_in other text
+
+more-same : (one other : Defined) (name value : List ℕ) → SameValues one other → SameValues (one ++ (name, value) ∷ []) (other ++ (name, value) ∷ [])
+more-same one other name value same text =
+    look-more one name value text ∙ ap (λ (o : Option (List ℕ)). or_value o (cond (same_text text name) (Some value) None)) (same text) ∙ sym (look-more other name value text)
+
+abbrev Related : Option Defined → Option Defined → Type 0
+Related (Some one) (Some other) = SameValues one other
+Related None None = Unit {0}
+Related _ _ = ⊥
+
+-- ---- two definitions
+
+equal-texts : (a b : List ℕ) → same_text a b ≡ true → a ≡ b
+equal-texts a b is = (bytes_eq-Decides a b).0 is
+
+same-self : (a : List ℕ) → same_text a a ≡ true
+same-self a = (bytes_eq-Decides a a).1 refl
+
+same-other : (a b : List ℕ) → same_text a b ≡ same_text b a
+same-other a b = by (same_text a b) (same_text b a) refl refl
+  where
+    by : (one other : Bool) → same_text a b ≡ one → same_text b a ≡ other → one ≡ other
+    by true true is also = refl
+    by false false is also = refl
+    by true false is also = sym (same-self a) ∙ ap (λ (t : List ℕ). same_text t a) (equal-texts a b is) ∙ also
+    by false true is also = sym is ∙ ap (λ (t : List ℕ). same_text t b) (sym (equal-texts b a also)) ∙ same-self b
+
+-- a name is defined, or defined by one definition more
+seen-more : (seen : Defined) (name value text : List ℕ)
+    → is_some (value_in (seen ++ (name, value) ∷ []) text) ≡ is_some (value_in seen text) || same_text text name
+seen-more seen name value text = ap is_some (look-more seen name value text) ∙ by (value_in seen text) (same_text text name)
+  where
+    by : (o : Option (List ℕ)) (same : Bool) → is_some (or_value o (cond same (Some value) None)) ≡ is_some o || same
+    by (Some other) same = refl
+    by None true = refl
+    by None false = refl
+
+-- two definitions of two names give the same values in both orders
+order-same : (seen : Defined) (one value other also : List ℕ) → same_text other one ≡ false
+    → SameValues ((seen ++ (one, value) ∷ []) ++ (other, also) ∷ []) ((seen ++ (other, also) ∷ []) ++ (one, value) ∷ [])
+order-same seen one value other also apart text =
+    look-more (seen ++ (one, value) ∷ []) other also text
+    ∙ ap (λ (o : Option (List ℕ)). or_value o (cond (same_text text other) (Some also) None)) (look-more seen one value text)
+    ∙ by (value_in seen text) (same_text text one) (same_text text other) refl refl
+    ∙ sym (ap (λ (o : Option (List ℕ)). or_value o (cond (same_text text one) (Some value) None)) (look-more seen other also text))
+    ∙ sym (look-more (seen ++ (other, also) ∷ []) one value text)
+  where
+    by : (o : Option (List ℕ)) (first second : Bool) → same_text text one ≡ first → same_text text other ≡ second
+        → or_value (or_value o (cond first (Some value) None)) (cond second (Some also) None) ≡ or_value (or_value o (cond second (Some also) None)) (cond first (Some value) None)
+    by (Some found) first second is_one is_other = refl
+    by None false second is_one is_other = right (cond second (Some also) None)
+      where
+        right : (o : Option (List ℕ)) → o ≡ or_value o None
+        right None = refl
+        right (Some found) = refl
+    by None true false is_one is_other = refl
+    by None true true is_one is_other =
+        absurd (true≢false (sym (same-self other) ∙ ap (same_text other) (sym (equal-texts text other is_other) ∙ equal-texts text one is_one) ∙ apart))
+
+-- ---- one definition in front
+
+ok-with : (seen : Defined) (at : ℕ) (name value : List ℕ) (ps : List Part)
+    → ok (definitions seen (Defines at name value ∷ ps))
+    ≡ cond (not (is_value value)) None (cond (is_some (value_in seen name)) None (ok (definitions (seen ++ (name, value) ∷ []) ps)))
+ok-with seen at name value ps = by (is_value value) (is_some (value_in seen name))
+  where
+    by : (good again : Bool)
+        → ok (with_defined (cond (not good) (Err (refusal.BadDefine at)) (cond again (Err (refusal.DoubleDefine at)) (Ok (seen ++ (name, value) ∷ [])))) (λ more. definitions more ps))
+        ≡ cond (not good) None (cond again None (ok (definitions (seen ++ (name, value) ∷ []) ps)))
+    by false again = refl
+    by true true = refl
+    by true false = refl
+
+chosen : (bad again : Bool) (one other : Option Defined) → Related one other → Related (cond bad None (cond again None one)) (cond bad None (cond again None other))
+chosen true again one other related = tt
+chosen false true one other related = tt
+chosen false false one other related = related
+
+related-self : (o : Option Defined) → Related o o
+related-self None = tt
+related-self (Some defined) = λ text. refl
+
+related-then : (one two three : Option Defined) → Related one two → Related two three → Related one three
+related-then None None None first second = tt
+related-then None None (Some c) first second = absurd second
+related-then None (Some b) three first second = absurd first
+related-then (Some a) None three first second = absurd first
+related-then (Some a) (Some b) None first second = absurd second
+related-then (Some a) (Some b) (Some c) first second = λ text. first text ∙ second text
+
+-- behind definitions that give the same values
+related-more : (one other : Defined) (ps : List Part) → SameValues one other → Related (ok (definitions one ps)) (ok (definitions other ps))
+related-more one other [] same = same
+related-more one other (Cut at ∷ ps) same = tt
+related-more one other (Plain word ∷ ps) same = related-more one other ps same
+related-more one other (Defines at name value ∷ ps) same =
+    subst (λ (o : Option Defined). Related o (ok (definitions other (Defines at name value ∷ ps)))) (sym (ok-with one at name value ps))
+    (subst (λ (o : Option Defined). Related (cond (not (is_value value)) None (cond (is_some (value_in one name)) None (ok (definitions (one ++ (name, value) ∷ []) ps)))) o)
+    (sym (ok-with other at name value ps ∙ ap (λ (o : Option (List ℕ)). cond (not (is_value value)) None (cond (is_some o) None (ok (definitions (other ++ (name, value) ∷ []) ps)))) (sym (same name))))
+    (chosen (not (is_value value)) (is_some (value_in one name)) _ _ (related-more (one ++ (name, value) ∷ []) (other ++ (name, value) ∷ []) ps (more-same one other name value same))))
+
+-- behind one part
+behind-part : (seen : Defined) (part : Part) (ps qs : List Part) → ((more : Defined) → Related (ok (definitions more ps)) (ok (definitions more qs)))
+    → Related (ok (definitions seen (part ∷ ps))) (ok (definitions seen (part ∷ qs)))
+behind-part seen (Cut at) ps qs later = tt
+behind-part seen (Plain word) ps qs later = later seen
+behind-part seen (Defines at name value) ps qs later =
+    subst (λ (o : Option Defined). Related o (ok (definitions seen (Defines at name value ∷ qs)))) (sym (ok-with seen at name value ps))
+    (subst (λ (o : Option Defined). Related (cond (not (is_value value)) None (cond (is_some (value_in seen name)) None (ok (definitions (seen ++ (name, value) ∷ []) ps)))) o)
+    (sym (ok-with seen at name value qs))
+    (chosen (not (is_value value)) (is_some (value_in seen name)) _ _ (later (seen ++ (name, value) ∷ []))))
+
+-- ---- two parts change places
+
+-- one definition and then another
+ok-two : (seen : Defined) (at place : ℕ) (one value other also : List ℕ) (ps : List Part)
+    → ok (definitions seen (Defines at one value ∷ Defines place other also ∷ ps))
+    ≡ cond (not (is_value value)) None (cond (is_some (value_in seen one)) None
+    (cond (not (is_value also)) None (cond (is_some (value_in seen other) || same_text other one) None (ok (definitions ((seen ++ (one, value) ∷ []) ++ (other, also) ∷ []) ps)))))
+ok-two seen at place one value other also ps =
+    ok-with seen at one value (Defines place other also ∷ ps)
+    ∙ ap (λ (o : Option Defined). cond (not (is_value value)) None (cond (is_some (value_in seen one)) None o))
+    (ok-with (seen ++ (one, value) ∷ []) place other also ps
+    ∙ ap (λ (b : Bool). cond (not (is_value also)) None (cond b None (ok (definitions ((seen ++ (one, value) ∷ []) ++ (other, also) ∷ []) ps)))) (seen-more seen one value other))
+
+swap-chosen : (good fine here there apart : Bool) (one other : Option Defined) → (apart ≡ false → Related one other)
+    → Related (cond (not good) None (cond here None (cond (not fine) None (cond (there || apart) None one))))
+    (cond (not fine) None (cond there None (cond (not good) None (cond (here || apart) None other))))
+swap-chosen false false here there apart one other later = tt
+swap-chosen false true here true apart one other later = tt
+swap-chosen false true here false apart one other later = tt
+swap-chosen true false true there apart one other later = tt
+swap-chosen true false false there apart one other later = tt
+swap-chosen true true true true apart one other later = tt
+swap-chosen true true true false apart one other later = tt
+swap-chosen true true false true apart one other later = tt
+swap-chosen true true false false true one other later = tt
+swap-chosen true true false false false one other later = later refl
+
+cut-chosen : (bad again : Bool) → Related (cond bad None (cond again None None)) None
+cut-chosen true again = tt
+cut-chosen false true = tt
+cut-chosen false false = tt
+
+swap : (seen : Defined) (one value : List ℕ) (part : Part) (ps : List Part)
+    → Related (ok (definitions seen (Defines 0 one value ∷ part ∷ ps))) (ok (definitions seen (part ∷ Defines 0 one value ∷ ps)))
+swap seen one value (Cut at) ps =
+    subst (λ (o : Option Defined). Related o None) (sym (ok-with seen 0 one value (Cut at ∷ ps))) (cut-chosen (not (is_value value)) (is_some (value_in seen one)))
+swap seen one value (Plain word) ps = related-self (ok (definitions seen (Defines 0 one value ∷ ps)))
+swap seen one value (Defines at other also) ps =
+    subst (λ (o : Option Defined). Related o (ok (definitions seen (Defines at other also ∷ Defines 0 one value ∷ ps)))) (sym (ok-two seen 0 at one value other also ps))
+    (subst (λ (o : Option Defined). Related (cond (not (is_value value)) None (cond (is_some (value_in seen one)) None
+    (cond (not (is_value also)) None (cond (is_some (value_in seen other) || same_text other one) None (ok (definitions ((seen ++ (one, value) ∷ []) ++ (other, also) ∷ []) ps)))))) o)
+    (sym (ok-two seen at 0 other also one value ps
+    ∙ ap (λ (b : Bool). cond (not (is_value also)) None (cond (is_some (value_in seen other)) None
+    (cond (not (is_value value)) None (cond (is_some (value_in seen one) || b) None (ok (definitions ((seen ++ (other, also) ∷ []) ++ (one, value) ∷ []) ps))))))
+    (same-other one other)))
+    (swap-chosen (is_value value) (is_value also) (is_some (value_in seen one)) (is_some (value_in seen other)) (same_text other one) _ _
+    (λ apart. related-more ((seen ++ (one, value) ∷ []) ++ (other, also) ∷ []) ((seen ++ (other, also) ∷ []) ++ (one, value) ∷ []) ps
+    (order-same seen one value other also apart))))
+
+-- ---- a definition behind other parts
+
+move : (seen : Defined) (one value : List ℕ) (between back : List Part)
+    → Related (ok (definitions seen (Defines 0 one value ∷ (between ++ back)))) (ok (definitions seen (between ++ Defines 0 one value ∷ back)))
+move seen one value [] back = related-self (ok (definitions seen (Defines 0 one value ∷ back)))
+move seen one value (part ∷ between) back =
+    related-then _ (ok (definitions seen (part ∷ Defines 0 one value ∷ (between ++ back)))) _ (swap seen one value part (between ++ back))
+    (behind-part seen part (Defines 0 one value ∷ (between ++ back)) (between ++ Defines 0 one value ∷ back) (λ more. move more one value between back))
+
+move-behind : (seen : Defined) (one value : List ℕ) (front between back : List Part)
+    → Related (ok (definitions seen (front ++ Defines 0 one value ∷ (between ++ back)))) (ok (definitions seen (front ++ (between ++ Defines 0 one value ∷ back))))
+move-behind seen one value [] between back = move seen one value between back
+move-behind seen one value (part ∷ front) between back =
+    behind-part seen part (front ++ Defines 0 one value ∷ (between ++ back)) (front ++ (between ++ Defines 0 one value ∷ back))
+    (λ more. move-behind more one value front between back)
+
+plain-more : (ps qs rs : List Part) → plain_words qs ≡ plain_words rs → plain_words (ps ++ qs) ≡ plain_words (ps ++ rs)
+plain-more [] qs rs same = same
+plain-more (Defines at name value ∷ ps) qs rs same = plain-more ps qs rs same
+plain-more (Cut at ∷ ps) qs rs same = plain-more ps qs rs same
+plain-more (Plain word ∷ ps) qs rs same = ap (λ (words : List Word). word ∷ words) (plain-more ps qs rs same)
+
+plain-moved : (one value : List ℕ) (between back : List Part) → plain_words (between ++ back) ≡ plain_words (between ++ Defines 0 one value ∷ back)
+plain-moved one value between back = plain-more between back (Defines 0 one value ∷ back) refl
+
+related-with : (one other : Option Defined) (words : List Word) → Related one other → expansion_with one words ≡ expansion_with other words
+related-with None None words related = refl
+related-with None (Some b) words related = absurd related
+related-with (Some a) None words related = absurd related
+related-with (Some a) (Some b) words related =
+    let values : value_in a ≡ value_in b = λ i text. related text i in
+    ap (λ (v : List ℕ → Option (List ℕ)). expansion_by_values v words) values
+
+pub moved : (one value : List ℕ) (front between back : List Part)
+    → parts_expansion (front ++ Defines 0 one value ∷ (between ++ back)) ≡ parts_expansion (front ++ (between ++ Defines 0 one value ∷ back))
+moved one value front between back =
+    related-with _ (ok (definitions [] (front ++ (between ++ Defines 0 one value ∷ back)))) (plain_words (front ++ Defines 0 one value ∷ (between ++ back)))
+    (move-behind [] one value front between back)
+    ∙ ap (expansion_with (ok (definitions [] (front ++ (between ++ Defines 0 one value ∷ back)))))
+    (plain-more front (Defines 0 one value ∷ (between ++ back)) (between ++ Defines 0 one value ∷ back) (plain-moved one value between back))

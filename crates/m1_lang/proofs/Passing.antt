@@ -1,0 +1,48 @@
+-- What one word of a source does to what is left.
+use Rattle.std.proofs.Common.{◌≡◌, ℕ, ◌≤◌, Bool, true, false, cond, List, [], ◌∷◌, length, refl, ap, arith}
+use denote.Bor.{Bor}
+use Rattle.std.proofs.lemmas.List.{drop_all}
+use Rattle.m1_words.specs.Words.{Over, Word, Words, word_list, words_from}
+use Rattle.m1_words.specs.Representation.Ahead.{FindsAhead, words_at}
+use Rattle.m1_words.specs.declared.splitting.Ahead.{Ahead}
+use Rattle.m1_words.specs.declared.splitting.Ahead.TheVariants as next
+use Rattle.m1_lang.specs.Definitions.{Cut, Defined, Defines, definitions, is_define, parts, Plain, plain_words}
+use Rattle.m1_lang.specs.Representation.Passes.{behind_define, parts_at, plain_behind}
+
+pub words-end : (source : List ℕ) (at : ℕ) → length source ≤ at → words_at source at ≡ Over
+unfolding words_from
+words-end source at past = ap (words_from at 0) (drop_all at source past)
+
+-- ---- a `DEFINE`
+
+pub define-word : (seen : Defined) (word : Word) (rest : List Word) → is_define word.text ≡ true → definitions seen (parts (word ∷ rest)) ≡ behind_define seen word.at rest
+define-word seen word [] is = ap (λ (b : Bool). definitions seen (cond b (Cut word.at ∷ []) (Plain word ∷ []))) is
+define-word seen word (name ∷ []) is = ap (λ (b : Bool). definitions seen (cond b (Cut word.at ∷ []) (Plain word ∷ parts (name ∷ [])))) is
+define-word seen word (name ∷ value ∷ rest) is =
+    ap (λ (b : Bool). definitions seen (cond b (Defines word.at name.text value.text ∷ parts rest) (Plain word ∷ parts (name ∷ value ∷ rest)))) is
+
+pub define-plain : (word : Word) (rest : List Word) → is_define word.text ≡ true → plain_words (parts (word ∷ rest)) ≡ plain_behind rest
+define-plain word [] is = ap (λ (b : Bool). plain_words (cond b (Cut word.at ∷ []) (Plain word ∷ []))) is
+define-plain word (name ∷ []) is = ap (λ (b : Bool). plain_words (cond b (Cut word.at ∷ []) (Plain word ∷ parts (name ∷ [])))) is
+define-plain word (name ∷ value ∷ rest) is =
+    ap (λ (b : Bool). plain_words (cond b (Defines word.at name.text value.text ∷ parts rest) (Plain word ∷ parts (name ∷ value ∷ rest)))) is
+
+-- ---- another word
+
+pub parts-plain : (word : Word) (rest : List Word) → is_define word.text ≡ false → parts (word ∷ rest) ≡ Plain word ∷ parts rest
+parts-plain word [] is = ap (λ (b : Bool). cond b (Cut word.at ∷ []) (Plain word ∷ [])) is
+parts-plain word (name ∷ []) is = ap (λ (b : Bool). cond b (Cut word.at ∷ []) (Plain word ∷ parts (name ∷ []))) is
+parts-plain word (name ∷ value ∷ rest) is =
+    ap (λ (b : Bool). cond b (Defines word.at name.text value.text ∷ parts rest) (Plain word ∷ parts (name ∷ value ∷ rest))) is
+
+-- ---- no word
+
+pub no-word : (found : Ahead) (source : List ℕ) (at : ℕ) → FindsAhead found source at
+    → ((start : ℕ) (text : Bor (List ℕ)) (after : ℕ) → found ≡ next.Word start text after → ⊥) → word_list (words_at source at) ≡ []
+no-word next.End source at is none = ap word_list is
+no-word (next.Open place) source at is none = ap word_list is
+no-word (next.Word start text after) source at is none = absurd (none start text after refl)
+
+-- nothing is left at the end
+pub nothing-left : (source : List ℕ) → plain_words (parts_at source (length source)) ≡ []
+nothing-left source = ap (λ (w : Words). plain_words (parts (word_list w))) (words-end source (length source) (omega arith))

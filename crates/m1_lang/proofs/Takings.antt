@@ -1,0 +1,119 @@
+-- What taking one token after the other comes to.
+use Rattle.std.proofs.Common.{◌≡◌, ℕ, suc, ◌-◌, replicate, ◌+◌, ◌<◌, ◌≤◌, true, false, nat_lt, List, [], ◌∷◌, ◌++◌, length, map, refl, sym, ap, ◌∙◌, arith, Option, Some, None, Result, Ok, Err, length-append}
+use Rattle.std.proofs.lemmas.Bool.{cond-true, cond-false}
+use Rattle.std.proofs.lemmas.Bool.Decides.{nat_tests}
+use Rattle.std.proofs.lemmas.List.{append-nil}
+use Rattle.hex_items.specs.declared.item.Item.{Item}
+use Rattle.hex_items.specs.declared.token.Token.{Token}
+use Rattle.hex_items.specs.declared.token.Token.TheVariants.{Byte}
+use Rattle.m1_words.specs.Representation.Meanings.{front_bytes}
+use Rattle.hex_items.specs.declared.words.Open.{Open}
+use Rattle.hex_items.specs.declared.words.Halt.{Halt}
+use Rattle.hex_items.specs.declared.words.Halt.TheVariants as halt
+use Rattle.hex_items.specs.Reading.{Ending, formed, Formed, Halted, Reading, Then, with_front}
+use Rattle.hex_items.specs.Words.{Step, taken, Takes}
+use Rattle.hex_items.proofs.Readings.{formed-halt, formed-token, takes-ok, with_front-twice}
+use Rattle.m1_words.specs.declared.meaning.WordFault.{WordFault}
+use Rattle.m1_lang.specs.declared.refusal.M1Refusal.TheVariants.{TooLong}
+use Rattle.m1_lang.specs.Expansion.{at_once, counted_items, halt_refusal, unless_refused}
+use Rattle.m1_lang.specs.Representation.Passes.{TakesTokens}
+
+pub counted-few : (whole : Formed WordFault) → length whole.items ≤ 33554432 → counted_items whole ≡ unless_refused whole.items whole.end
+counted-few whole few = let fits : nat_lt 33554432 (length whole.items) ≡ false = grind (arith, nat_tests) in cond-false _ _ _ fits
+
+counted-many : (whole : Formed WordFault) → 33554432 < length whole.items → counted_items whole ≡ Err TooLong
+counted-many whole many = let over : nat_lt 33554432 (length whole.items) ≡ true = grind (arith, nat_tests) in cond-true _ _ _ over
+
+-- the items so far are few, and nothing comes behind them
+pub counted-end : (items : List Item) (end : Ending WordFault) → length items ≤ 33554432
+    → counted_items (with_front items (record { items = []; end = end })) ≡ unless_refused items end
+counted-end items end few =
+    ap (λ (all : List Item). counted_items (record { items = all; end = end })) (append-nil items) ∙ counted-few (record { items = items; end = end }) few
+
+-- ---- one token
+
+one-ok : (word next : Option Open) (at : ℕ) (token : Token) (old new : List Item) → Takes (Ok next) (taken word at token) old new
+    → TakesTokens (Ok next) word at (token ∷ []) old new
+one-ok word next at token old new takes later =
+    let found = takes-ok (taken word at token) next old new takes in
+    ap (with_front old) (formed-token word next at token later found.0 found.1) ∙ with_front-twice old found.0 (formed next later)
+    ∙ ap (λ (items : List Item). with_front items (formed next later)) (sym found.2)
+
+one-halt : (word : Option Open) (at : ℕ) (token : Token) (old : List Item) (why : Halt) → length old ≤ 33554432 → taken word at token ≡ Err why
+    → (later : Reading WordFault) → counted_items (with_front old (formed word (Then at token later))) ≡ Err (halt_refusal why)
+one-halt word at token old why few is later =
+    ap (λ (f : Formed WordFault). counted_items (with_front old f)) (formed-halt word at token later why is) ∙ counted-end old (Halted why) few
+
+one-long : (word : Option Open) (at : ℕ) (token : Token) (old new : List Item) (meant : Step) → length old ≤ 33554432 → taken word at token ≡ meant
+    → Takes (Err halt.TooLong) meant old new → (later : Reading WordFault) → counted_items (with_front old (formed word (Then at token later))) ≡ Err TooLong
+one-long word at token old new (Ok step) few is takes later =
+    ap (λ (f : Formed WordFault). counted_items (with_front old f)) (formed-token word step.1 at token later step.0 is)
+    ∙ counted-many (with_front old (with_front step.0 (formed step.1 later)))
+    (omega (arith, takes, length-append old (step.0 ++ (formed step.1 later).items), length-append step.0 (formed step.1 later).items))
+one-long word at token old new (Err why) few is takes later = one-halt word at token old halt.TooLong few (is ∙ takes) later
+
+pub takes-one : (result : Result (Option Open) Halt) (word : Option Open) (at : ℕ) (token : Token) (old new : List Item) → length old ≤ 33554432
+    → Takes result (taken word at token) old new → TakesTokens result word at (token ∷ []) old new
+takes-one (Ok next) word at token old new few takes = one-ok word next at token old new takes
+takes-one (Err (halt.Dangling first)) word at token old new few takes = one-halt word at token old (halt.Dangling first) few takes
+takes-one (Err (halt.Second place)) word at token old new few takes = one-halt word at token old (halt.Second place) few takes
+takes-one (Err halt.TooLong) word at token old new few takes = one-long word at token old new (taken word at token) few refl takes
+takes-one (Err halt.OutOfMemory) word at token old new few takes = tt
+
+-- ---- more tokens
+
+-- where some of the tokens were taken, what is left of them makes up the whole
+abbrev pub Left : Option Open → List Token → List Item → Option Open → List Token → List Item → Type 0
+Left word tokens old next left items =
+    (at : ℕ) (later : Reading WordFault) → with_front old (formed word (at_once at tokens later)) ≡ with_front items (formed next (at_once at left later))
+
+pub left-more : (word next then : Option Open) (tokens left : List Token) (token : Token) (old items new : List Item)
+    → Left word tokens old next (token ∷ left) items → ((at : ℕ) → TakesTokens (Ok then) next at (token ∷ []) items new) → Left word tokens old then left new
+left-more word next then tokens left token old items new so_far one at later = so_far at later ∙ one at (at_once at left later)
+
+pub left-refused : (why : Halt) (word next : Option Open) (tokens left : List Token) (token : Token) (old items new : List Item)
+    → Left word tokens old next (token ∷ left) items → ((at : ℕ) → TakesTokens (Err why) next at (token ∷ []) items new)
+    → (at : ℕ) → TakesTokens (Err why) word at tokens old new
+left-refused (halt.Dangling first) word next tokens left token old items new so_far one at = λ later. ap counted_items (so_far at later) ∙ one at (at_once at left later)
+left-refused (halt.Second place) word next tokens left token old items new so_far one at = λ later. ap counted_items (so_far at later) ∙ one at (at_once at left later)
+left-refused halt.TooLong word next tokens left token old items new so_far one at = λ later. ap counted_items (so_far at later) ∙ one at (at_once at left later)
+left-refused halt.OutOfMemory word next tokens left token old items new so_far one at = tt
+
+-- ---- bytes
+
+bytes-append : (at : ℕ) (xs ys : List ℕ) (later : Reading WordFault)
+    → at_once at (map Byte (xs ++ ys)) later ≡ at_once at (map Byte xs) (at_once at (map Byte ys) later)
+bytes-append at [] ys later = refl
+bytes-append at (x ∷ xs) ys later = ap (Then at (Byte x)) (bytes-append at xs ys later)
+
+pub append-refused : (why : Halt) (word : Option Open) (at : ℕ) (xs ys : List ℕ) (old new : List Item)
+    → TakesTokens (Err why) word at (map Byte xs) old new → TakesTokens (Err why) word at (map Byte (xs ++ ys)) old new
+append-refused (halt.Dangling first) word at xs ys old new one =
+    λ later. ap (λ (r : Reading WordFault). counted_items (with_front old (formed word r))) (bytes-append at xs ys later) ∙ one (at_once at (map Byte ys) later)
+append-refused (halt.Second place) word at xs ys old new one =
+    λ later. ap (λ (r : Reading WordFault). counted_items (with_front old (formed word r))) (bytes-append at xs ys later) ∙ one (at_once at (map Byte ys) later)
+append-refused halt.TooLong word at xs ys old new one =
+    λ later. ap (λ (r : Reading WordFault). counted_items (with_front old (formed word r))) (bytes-append at xs ys later) ∙ one (at_once at (map Byte ys) later)
+append-refused halt.OutOfMemory word at xs ys old new one = tt
+
+-- behind the first bytes
+both : (word next : Option Open) (at : ℕ) (xs ys : List ℕ) (old mid : List Item) → TakesTokens (Ok next) word at (map Byte xs) old mid
+    → (later : Reading WordFault) → with_front old (formed word (at_once at (map Byte (xs ++ ys)) later)) ≡ with_front mid (formed next (at_once at (map Byte ys) later))
+both word next at xs ys old mid one later =
+    ap (λ (r : Reading WordFault). with_front old (formed word r)) (bytes-append at xs ys later) ∙ one (at_once at (map Byte ys) later)
+
+pub append-taken : (result : Result (Option Open) Halt) (word next : Option Open) (at : ℕ) (xs ys : List ℕ) (old mid new : List Item)
+    → TakesTokens (Ok next) word at (map Byte xs) old mid → TakesTokens result next at (map Byte ys) mid new → TakesTokens result word at (map Byte (xs ++ ys)) old new
+append-taken (Ok then) word next at xs ys old mid new one two = λ later. both word next at xs ys old mid one later ∙ two later
+append-taken (Err (halt.Dangling first)) word next at xs ys old mid new one two = λ later. ap counted_items (both word next at xs ys old mid one later) ∙ two later
+append-taken (Err (halt.Second place)) word next at xs ys old mid new one two = λ later. ap counted_items (both word next at xs ys old mid one later) ∙ two later
+append-taken (Err halt.TooLong) word next at xs ys old mid new one two = λ later. ap counted_items (both word next at xs ys old mid one later) ∙ two later
+append-taken (Err halt.OutOfMemory) word next at xs ys old mid new one two = tt
+
+pub zeros-more : (count done : ℕ) → done < count → replicate {A = ℕ} (count - done) 0 ≡ 0 ∷ replicate {A = ℕ} (count - (done + 1)) 0
+zeros-more count done left = let more : count - done ≡ suc (count - (done + 1)) = omega (arith, left) in ap (λ (n : ℕ). replicate {A = ℕ} n 0) more
+
+pub front-short : (left : List ℕ) → length left ≤ 1 → front_bytes left ≡ []
+front-short [] short = refl
+front-short (alone ∷ []) short = refl
+front-short (high ∷ low ∷ rest) short = absurd (omega (arith, short))

@@ -1,0 +1,28 @@
+use Rattle.std.proofs.Common.{arith, ap, sym, ◌∙◌, ◌≡◌, List, ℕ, None, Some}
+use Rattle.indexmap.specs.IndexMap.{get, insert_entry}
+use Rattle.m1_words.specs.Words.{Word}
+use Rattle.m1_lang.specs.Definitions.{same_text}
+use Rattle.m1_lang.proofs.Definings.{defines-again, defines-new}
+use Rattle.m1_lang.proofs.definitions.define.Goals as goal
+
+pub returns-in-Ok-None : goal.returns-in-Ok-None
+returns-in-Ok-None c =
+    let name : Word = record { at = c.in-Word.field-0; text = c.in-Word.name.now } in
+    let value : Word = record { at = c.in-Word-next_word.field-0; text = c.in-Word-next_word.value.now } in
+    let old = c.args.table.now in
+    let none : get same_text old name.text ≡ None = ap (get same_text old) (sym c.new-in-Some.ensures) ∙ sym c.in-Ok-None.ensures.old ∙ c.in-Ok-None.field-0-is in
+    let entries = c.in-Ok-None.ensures.entries
+    ∙ ap (λ (k : List ℕ). insert_entry same_text old.entries k c.in-Some.value) c.new-in-Some.ensures
+    ∙ ap (insert_entry same_text old.entries name.text) c.in-Some.ensures.text in
+    let both = defines-new old c.insert.new.self c.args.source.now c.args.start c.args.at c.in-Word.behind c.in-Word-next_word.after name value
+    c.in-Word.ensures.0 c.in-Word-next_word.ensures.0 (sym c.in-Some.ensures.some) none entries in
+    (both.0, both.1, omega (arith, c.in-Word.ensures.1, c.in-Word-next_word.ensures.1), c.in-Word-next_word.ensures.2)
+
+pub returns-in-Ok-Some : goal.returns-in-Ok-Some
+returns-in-Ok-Some c =
+    let name : Word = record { at = c.in-Word.field-0; text = c.in-Word.name.now } in
+    let value : Word = record { at = c.in-Word-next_word.field-0; text = c.in-Word-next_word.value.now } in
+    let old = c.args.table.now in
+    let some : get same_text old name.text ≡ Some c.in-Ok-Some.field-0-0 = ap (get same_text old) (sym c.new-in-Some.ensures) ∙ sym c.in-Ok-Some.ensures.old ∙ c.in-Ok-Some.field-0-is in
+    defines-again old c.args.source.now c.args.start c.args.at c.in-Word.behind c.in-Word-next_word.after name value c.in-Ok-Some.field-0-0
+    c.in-Word.ensures.0 c.in-Word-next_word.ensures.0 (sym c.in-Some.ensures.some) some

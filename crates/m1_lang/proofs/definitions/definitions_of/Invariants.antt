@@ -1,0 +1,14 @@
+use Rattle.std.proofs.Common.{◌≡◌, ◌≤◌, ◌-◌, length, []}
+use Rattle.m1_lang.specs.Definitions.{definitions}
+use Rattle.m1_lang.specs.Representation.Passes.{open_at, parts_at}
+use Rattle.m1_lang.proofs.definitions.definitions_of.Given as goal
+
+abbrev pub invariant-loop-at : goal.invariant-loop-at
+invariant-loop-at l = record {
+  quote : open_at l.source 0 ≡ open_at l.source l.at;
+  whole : definitions [] (parts_at l.source 0) ≡ definitions l.table.entries (parts_at l.source l.at);
+  within : l.at ≤ length l.source;
+}
+
+abbrev pub decreases-loop-at : goal.decreases-loop-at
+decreases-loop-at l = length l.source - l.at

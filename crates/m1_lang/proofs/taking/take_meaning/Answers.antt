@@ -1,0 +1,11 @@
+use Rattle.std.proofs.Common.{sym, subst}
+use Rattle.m1_words.specs.declared.meaning.Meaning.{Meaning}
+use Rattle.m1_words.specs.Representation.Meanings.{meaning_tokens}
+use Rattle.m1_lang.specs.Representation.Passes.{TakesTokens}
+use Rattle.m1_lang.proofs.Takings.{takes-one}
+use Rattle.m1_lang.proofs.taking.take_meaning.Goals as goal
+
+pub returns-in-One-clause-takes : goal.returns-in-One-clause-takes
+returns-in-One-clause-takes c =
+    subst (λ (m : Meaning). TakesTokens c.take.result c.args.word c.args.at (meaning_tokens m) c.args.items.now c.take.new.items) (sym c.in-One.is)
+    (takes-one c.take.result c.args.word c.args.at c.in-One.token c.args.items.now c.take.new.items c.requires c.take.ensures.takes)

@@ -1,0 +1,15 @@
+use Rattle.std.proofs.Common.{◌≤◌, ◌-◌, length, map, drop}
+use Rattle.hex_items.specs.declared.token.Token.TheVariants.{Byte}
+use Rattle.m1_words.specs.Representation.Meanings.{front_bytes}
+use Rattle.m1_lang.proofs.Takings.{Left}
+use Rattle.m1_lang.proofs.taking.take_pairs.Given as goal
+
+abbrev pub invariant-loop-at : goal.invariant-loop-at
+invariant-loop-at l = record {
+  so_far : Left l.initial.word (map Byte (front_bytes l.digits)) l.initial.items l.word (map Byte (front_bytes (drop l.at l.digits))) l.items;
+  few : length l.items ≤ 33554432;
+  within : l.at ≤ length l.digits;
+}
+
+abbrev pub decreases-loop-at : goal.decreases-loop-at
+decreases-loop-at l = length l.digits - l.at

@@ -1,0 +1,75 @@
+-- The definitions of an M1 source. Public source: the language M1 of stage0-posix and mescc-tools, whose exact rules here are this project's
+-- profile. docs/reference/m1.md says the same for people.
+use Rattle.std.specs.Prelude.{ℕ, nat_eq, Bool, not, if◌then◌else◌, List, [], ◌∷◌, ◌++◌, codes, is_some, Option, Some, None, Result, Ok, Err}
+use Rattle.std.specs.Map.{lookup}
+use Rattle.std.specs.Cmp.Lexicographic.{pointwise}
+use Rattle.m1_words.specs.Words.{Word, Words, open_quote, word_list}
+use Rattle.m1_words.specs.Forms.{value_tokens}
+use Rattle.m1_lang.specs.declared.refusal.M1Refusal.{M1Refusal}
+use Rattle.m1_lang.specs.declared.refusal.M1Refusal.TheVariants.{BadDefine, DoubleDefine, OpenString}
+
+-- two texts of the same bytes
+abbrev pub same_text : List ℕ → List ℕ → Bool
+same_text = pointwise nat_eq
+
+-- a part of a source: a definition with the offset of its `DEFINE`, a `DEFINE` that fewer than two words follow, or another word
+pub data Part : Type 0 where
+  Defines : (at : ℕ) (name value : List ℕ) → Part
+  Cut : (at : ℕ) → Part
+  Plain : (word : Word) → Part
+
+abbrev pub is_define : List ℕ → Bool
+is_define text = same_text text (codes "DEFINE")
+
+-- `DEFINE` and the two words after it are one definition
+abbrev pub parts : List Word → List Part
+parts [] = []
+parts (word ∷ []) = if is_define word.text then Cut word.at ∷ [] else Plain word ∷ []
+parts (word ∷ name ∷ []) = if is_define word.text then Cut word.at ∷ [] else Plain word ∷ parts (name ∷ [])
+parts (word ∷ name ∷ value ∷ rest) =
+    if is_define word.text then Defines word.at name.text value.text ∷ parts rest
+    else Plain word ∷ parts (name ∷ value ∷ rest)
+
+-- the words that belong to no definition
+abbrev pub plain_words : List Part → List Word
+plain_words [] = []
+plain_words (Plain word ∷ rest) = word ∷ plain_words rest
+plain_words (part ∷ rest) = plain_words rest
+
+-- names and the texts of their values
+abbrev pub Defined : Type 0
+Defined = List (List ℕ × List ℕ)
+
+-- the value that a definition gives a word
+abbrev pub value_in : Defined → List ℕ → Option (List ℕ)
+value_in defined text = lookup (same_text text) defined
+
+abbrev pub is_value : List ℕ → Bool
+is_value text = is_some (value_tokens text)
+
+-- one definition behind those so far: BadDefine comes before DoubleDefine
+abbrev pub defined_with : Defined → ℕ → List ℕ → List ℕ → Result Defined M1Refusal
+defined_with seen at name value =
+    if not (is_value value) then Err (BadDefine at)
+    else if is_some (value_in seen name) then Err (DoubleDefine at)
+    else Ok (seen ++ (name, value) ∷ [])
+
+abbrev pub with_defined : Result Defined M1Refusal → (Defined → Result Defined M1Refusal) → Result Defined M1Refusal
+with_defined (Ok seen) rest = rest seen
+with_defined (Err why) rest = Err why
+
+-- the definitions of a source in order, behind those so far, or the first that is refused
+abbrev pub definitions : Defined → List Part → Result Defined M1Refusal
+definitions seen [] = Ok seen
+definitions seen (Defines at name value ∷ rest) = with_defined (defined_with seen at name value) (λ more. definitions more rest)
+definitions seen (Cut at ∷ rest) = Err (BadDefine at)
+definitions seen (Plain word ∷ rest) = definitions seen rest
+
+-- a quote that isn't closed comes before every definition
+abbrev pub unless_open : Option ℕ → Result Defined M1Refusal → Result Defined M1Refusal
+unless_open (Some at) later = Err (OpenString at)
+unless_open None later = later
+
+-- the definitions of a source, or its first refusal but those of other words
+abbrev pub definitions_in : Words → Result Defined M1Refusal
+definitions_in words = unless_open (open_quote words) (definitions [] (parts (word_list words)))

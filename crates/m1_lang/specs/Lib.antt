@@ -1,0 +1,5 @@
+pub mod Definitions
+pub mod Expansion
+pub mod Laws
+pub mod Refusals
+pub mod Representation

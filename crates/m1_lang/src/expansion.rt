@@ -1,0 +1,124 @@
+//! The items that an M1 source expands to.
+ghost use Rattle.std.specs.Prelude.{◌≡◌, ◌≤◌, length, None};
+ghost use Rattle.indexmap.specs.IndexMap.{get};
+ghost use Rattle.hex_items.specs.Reading.{formed};
+ghost use Rattle.m1_words.specs.Forms.{tokens_of};
+ghost use Rattle.m1_lang.specs.Definitions.{same_text};
+ghost use Rattle.m1_lang.specs.Expansion.{counted_items, Expands, expansion_of, halt_refusal, word_refusal};
+ghost use Rattle.m1_lang.specs.Representation.Passes.{reading_at, SkipsOne, TakesWord};
+
+use crate::definitions::{definitions_of, is_define};
+use crate::refusal::M1Refusal;
+use crate::taking::{meaning_by, take_meaning};
+use hex_items::{Halt, Items, LONGEST_SOURCE, Name, Open};
+use indexmap::IndexMap;
+use m1_words::{Ahead, Value, WordFault, next_word};
+use std::alloc::Global;
+
+/// The items that an M1 source of at most 67,108,864 bytes expands to, or its first refusal: a quote that isn't closed, then the
+/// definitions in order, then the other words in order. Names lie in the source.
+///
+/// Public source: the language M1 of stage0-posix and mescc-tools. docs/reference/m1.md has the rules of this project's profile.
+pub fn expand<'s>(alloc: Global, source: &'s [u8]) -> Result<Items<'s>, M1Refusal>
+    ensures { Expands (expansion_of source.now) result }
+{
+    if source.len() > LONGEST_SOURCE {
+        return Err(M1Refusal::TooLong);
+    }
+    match definitions_of(alloc, source) {
+        Err(why) => Err(why),
+        Ok(table) => items_by(alloc, &table, source),
+    }
+}
+
+/// The offset behind the name and the value of a definition.
+fn behind_definition(source: &[u8], at: usize) -> usize
+    requires { at ≤ length source.now }
+    ensures { SkipsOne result source.now at }
+{
+    match next_word(source, at) {
+        Ahead::Word(_, _, behind) => match next_word(source, behind) {
+            Ahead::Word(_, _, after) => after,
+            _ => source.len(),
+        },
+        _ => source.len(),
+    }
+}
+
+/// Takes a word at an offset.
+fn take_word<'s>(
+    items: &mut Items<'s>,
+    table: &IndexMap<Name<'s>, Value<'s>>,
+    word: Option<Open<'s>>,
+    at: usize,
+    text: &'s [u8],
+) -> Result<Option<Open<'s>>, M1Refusal>
+    requires { length items.old ≤ 33554432 }
+    ensures takes { TakesWord result word.entry at (tokens_of (λ name. get same_text table.now name) text.now) items.old items.new }
+    ensures few { length items.new ≤ 33554432 }
+{
+    match meaning_by(table, text) {
+        Err(fault) => Err(word_refusal(fault, at)),
+        Ok(meaning) => match take_meaning(items, word, at, meaning) {
+            Err(halt) => Err(halt_refusal(halt)),
+            Ok(next) => Ok(next),
+        },
+    }
+}
+
+/// The items of the words that belong to no definition.
+fn items_by<'s>(
+    alloc: Global,
+    table: &IndexMap<Name<'s>, Value<'s>>,
+    source: &'s [u8],
+) -> Result<Items<'s>, M1Refusal>
+    ensures { Expands (counted_items (formed None (reading_at (λ name. get same_text table.now name) source.now 0))) result }
+{
+    let mut items = Items::new(alloc);
+    let mut word = None;
+    let mut at = 0;
+    while at < source.len() {
+        match next_word(source, at) {
+            Ahead::Word(start, text, after) => {
+                if is_define(text) {
+                    at = behind_definition(source, after);
+                } else {
+                    match take_word(&mut items, table, word, start, text) {
+                        Err(why) => return Err(why),
+                        Ok(next) => {
+                            word = next;
+                            at = after;
+                        }
+                    }
+                }
+            }
+            _ => at = source.len(),
+        }
+    }
+    match word {
+        None => Ok(items),
+        Some(word) => Err(M1Refusal::Dangling(word.first as u64)),
+    }
+}
+
+/// The refusal of a token without a place.
+fn halt_refusal(halt: Halt) -> M1Refusal
+    ensures { result ≡ halt_refusal halt }
+{
+    match halt {
+        Halt::Dangling(first) => M1Refusal::Dangling(first as u64),
+        Halt::Second(at) => M1Refusal::UnknownWord(at as u64),
+        Halt::TooLong => M1Refusal::TooLong,
+        Halt::OutOfMemory => M1Refusal::OutOfMemory,
+    }
+}
+
+/// The refusal of a word.
+fn word_refusal(fault: WordFault, at: usize) -> M1Refusal
+    ensures { result ≡ word_refusal fault at }
+{
+    match fault {
+        WordFault::UnknownWord => M1Refusal::UnknownWord(at as u64),
+        WordFault::NumberRange => M1Refusal::NumberRange(at as u64),
+    }
+}

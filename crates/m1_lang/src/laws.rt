@@ -1,0 +1,36 @@
+//! What holds of every M1 source. Each law is the contract of a function that does nothing.
+ghost use Rattle.hex_items.specs.declared.item.Item.{Item};
+ghost use Rattle.hex_items.specs.declared.token.Dialect.TheVariants.{Hex2};
+ghost use Rattle.hex_items.specs.Reading.{items_of};
+ghost use Rattle.hex_writer.specs.Writing.{items_text};
+ghost use Rattle.m1_lang.specs.Expansion.{expansion_of};
+ghost use Rattle.m1_words.specs.Words.{open_quote, words_of};
+ghost use Rattle.m1_lang.specs.Definitions.{Defines, Part};
+ghost use Rattle.m1_lang.specs.Laws.{AreBlanks, IsOfBytes, IsLayout, IsCutIntoWords, laid_out, Layout, parts_in, texts_in};
+ghost use Rattle.std.specs.Prelude.{◌≡◌, ◌↔◌, ℕ, ◌≤◌, List, ◌∷◌, ◌++◌, None, Ok, length, map};
+
+/// The text that is written of the items of a source gives the same items in hex2, if it is no longer than a source may be.
+pub fn expansions_are_read_again()
+    ensures { (source : List ℕ) → (items : List Item) → IsOfBytes source → expansion_of source ≡ Ok items
+        → length (items_text items) ≤ 67108864 → items_of Hex2 (items_text items) ≡ Ok items }
+{}
+
+/// Words that are laid out with blanks before, between and behind them are the words of the source, each quote closed.
+pub fn words_are_those_laid_out()
+    ensures { (blanks : List ℕ) → (layout : Layout) → AreBlanks blanks → IsLayout layout
+        → (texts_in (blanks ++ laid_out layout) ≡ map (λ laid. laid.0) layout) × (open_quote (words_of (blanks ++ laid_out layout)) ≡ None) }
+{}
+
+/// The layout of a source does not matter: two sources with the same words in the same order give the same items, wherever blanks and
+/// comments stand between the words.
+pub fn layout_does_not_matter()
+    ensures { (one : List ℕ) → (other : List ℕ) → (items : List Item) → IsCutIntoWords one → IsCutIntoWords other → texts_in one ≡ texts_in other
+        → (expansion_of one ≡ Ok items) ↔ (expansion_of other ≡ Ok items) }
+{}
+
+/// The place of a definition does not matter: two sources whose parts differ only in where one definition stands give the same items.
+pub fn definitions_may_move()
+    ensures { (one : List ℕ) → (other : List ℕ) → (items : List Item) → (name : List ℕ) → (value : List ℕ) → (front : List Part) → (between : List Part)
+        → (back : List Part) → IsCutIntoWords one → IsCutIntoWords other → parts_in one ≡ front ++ Defines 0 name value ∷ (between ++ back)
+        → parts_in other ≡ front ++ (between ++ Defines 0 name value ∷ back) → (expansion_of one ≡ Ok items) ↔ (expansion_of other ≡ Ok items) }
+{}

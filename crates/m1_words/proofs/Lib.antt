@@ -1,0 +1,3 @@
+pub mod Capping
+pub mod Pairs
+pub mod Splits
