@@ -3,5 +3,8 @@
 //! Their rules for people: docs/reference/command-line.md.
 #![tactic(auto)]
 
+pub mod audit;
+mod causes;
+mod inputs;
 pub mod show;
 pub mod texts;

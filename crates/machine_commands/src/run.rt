@@ -90,9 +90,9 @@ fn start(
     let setting = box_of(alloc, name, args)?;
     match Guest::<RunRam>::start(alloc, program, &setting) {
         Ok(mut guest) => run_guest(alloc, &mut guest, most),
-        Err(StartRefusal::Elf(elf)) => failed(run_texts::not_loaded(alloc, elf.number())?),
-        Err(StartRefusal::ArgsTooLong) => failed(run_texts::not_started(alloc, "args")?),
-        Err(StartRefusal::BoxTooLarge) => failed(run_texts::not_started(alloc, "box")?),
+        Err(StartRefusal::Elf(elf)) => failed(run_texts::not_loaded(alloc, elf)?),
+        Err(StartRefusal::ArgsTooLong) => failed(run_texts::too_many_args(alloc)?),
+        Err(StartRefusal::BoxTooLarge) => failed(run_texts::too_large_box(alloc)?),
         Err(StartRefusal::OutOfMemory) => Err(Stop::OutOfMemory),
     }
 }

@@ -1,13 +1,13 @@
 -- What a reading that succeeded tells.
-use Rattle.std.proofs.Common.{◌≡◌, ℕ, zero, suc, ◌+◌, ◌<◌, ◌≤◌, ℤ, pos, negsuc, Bool, true, false, cond, List, [], ◌∷◌, ◌++◌, length, Option, Some, None, Result, Ok, Err, refl, sym, ap, subst, ◌∙◌, arith, length-append}
+use Rattle.std.proofs.Common.{◌≡◌, ℕ, zero, suc, ◌+◌, ◌≤◌, ℤ, pos, negsuc, Bool, true, false, cond, List, [], ◌∷◌, ◌++◌, length, Option, Some, None, Result, Ok, Err, refl, ap, subst, arith, length-append}
 use Rattle.std.proofs.lemmas.Bool.{leb-true}
-use Rattle.std.specs.Prelude.{nat_le, ◌&&◌, IsTrue, IfSome, slice_get, option_map}
-use Rattle.toml.specs.Data.{Data, Members, Items, get_member, as_str, as_integer, as_array, as_table}
+use Rattle.std.specs.Prelude.{nat_le, ◌&&◌, IfSome, slice_get, option_map}
+use Rattle.toml.specs.Data.{Data, Members, get_member, as_integer, as_array}
 use Rattle.ddc_base.specs.Names.{IsName, is_name, name_of}
 use Rattle.recipe_text.specs.declared.keys.Key.{Key}
 use Rattle.recipe_text.specs.declared.keys.Place.{Place}
 use Rattle.recipe_text.specs.declared.refusal.RecipeRefusal.{RecipeRefusal}
-use Rattle.recipe_text.specs.declared.refusal.RecipeRefusal.TheVariants.{NotToml, Missing, Unknown, BadName, DoubleName, NotMadeYet, BadPath, BadNumber, TooMany, OutOfMemory}
+use Rattle.recipe_text.specs.declared.refusal.RecipeRefusal.TheVariants.{Missing, BadName, BadPath, BadNumber, TooMany}
 use Rattle.recipe_text.specs.Keys.{key_word}
 use Rattle.recipe_text.specs.Reading.{◌>>=◌, ◌>>◌, or_refused, refused_unless, where_there, gathered, each_passes, a_text, a_name, is_path, path_of, a_path, is_word, a_word, in_range, a_number, an_array, values_of, a_list, required, optional}
 

@@ -1,10 +1,9 @@
 -- The walks, one element on.
-use Rattle.std.proofs.Common.{◌≡◌, ℕ, zero, suc, ◌+◌, ◌<◌, ◌≤◌, List, [], ◌∷◌, ◌++◌, length, map, drop, get_or, Result, Ok, Err, refl, sym, ap, subst, ◌∙◌, arith, length-append}
-use Rattle.std.specs.List.{AllByRecursion}
+use Rattle.std.proofs.Common.{◌≡◌, ℕ, ◌+◌, ◌<◌, ◌≤◌, List, [], ◌∷◌, ◌++◌, length, map, drop, get_or, Result, Ok, refl, sym, ap, subst, ◌∙◌, arith, length-append}
 use Rattle.std.proofs.lemmas.List.{drop_more, drop_all}
 use Rattle.recipe_text.specs.declared.refusal.RecipeRefusal.{RecipeRefusal}
 use Rattle.recipe_text.specs.declared.refusal.RecipeRefusal.TheVariants.{NotToml, Missing, Unknown, BadName, DoubleName, NotMadeYet, BadPath, BadNumber, TooMany, OutOfMemory}
-use Rattle.recipe_text.specs.Reading.{◌>>=◌, ◌>>◌, IsRefused, gathered, each_passes}
+use Rattle.recipe_text.specs.Reading.{◌>>=◌, IsRefused, gathered, each_passes}
 
 fails_bind : {A B : Type 0} (e : RecipeRefusal) (r : Result A RecipeRefusal) (f : A → Result B RecipeRefusal) → IsRefused e r → IsRefused e (r >>= f)
 fails_bind OutOfMemory r f h = tt
