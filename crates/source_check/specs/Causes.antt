@@ -1,5 +1,5 @@
 -- How a language's refusal becomes the cause of a check. What a source comes to is never want of memory (the law
--- `no_value_wants_memory`), so it doesn't matter what stands at OutOfMemory.
+-- `no_source_wants_memory`), so it doesn't matter what stands at OutOfMemory.
 use Rattle.std.specs.Prelude.{ℕ}
 use Rattle.hex_items.specs.declared.reader.HexRefusal.{HexRefusal}
 use Rattle.hex_items.specs.declared.reader.HexRefusal.TheVariants as hex
