@@ -3,4 +3,6 @@
 
 pub mod copying;
 #[cfg(test)]
+mod audits;
+#[cfg(test)]
 mod tests;

@@ -19,6 +19,21 @@ const EXIT: [u8; 132] = [
     0x73, 0x00, 0x00, 0x00,
 ];
 
+/// A report, with the SHA-256 digest of no bytes in every place.
+const REPORT: &str = "\
+ddc-report 1\n\
+recipe e3b0c44298fc1c149afbf4c8996fb92427ae41e4649b934ca495991b7852b855\n\
+input a 0 e3b0c44298fc1c149afbf4c8996fb92427ae41e4649b934ca495991b7852b855\n\
+stage s 1\n\
+stream 1 0 e3b0c44298fc1c149afbf4c8996fb92427ae41e4649b934ca495991b7852b855\n\
+stream 2 0 e3b0c44298fc1c149afbf4c8996fb92427ae41e4649b934ca495991b7852b855\n\
+left 6f 0 e3b0c44298fc1c149afbf4c8996fb92427ae41e4649b934ca495991b7852b855\n\
+made 0 e3b0c44298fc1c149afbf4c8996fb92427ae41e4649b934ca495991b7852b855\n\
+checked m1\n\
+compare s a equal 0\n\
+end\n\
+";
+
 /// exit.elf with another word at an offset.
 fn altered(offset: usize, word: u32) -> [u8; 132] {
     let mut file = EXIT;
@@ -39,6 +54,8 @@ fn worked_shelf(alloc: Global) -> Result<MemShelf, OutOfMemory> {
     shelf.set("exits", &[0x13, 5, 0, 0, 0x93, 8, 0xD0, 5, 0x73, 0, 0, 0])?;
     shelf.set("no word", &[0xFF, 0xFF, 0xFF, 0xFF, 1])?;
     shelf.set("exit.elf", &EXIT)?;
+    shelf.set("report", REPORT.as_bytes())?;
+    shelf.set("half a report", b"ddc-report 1\nrecipe 0\n")?;
     shelf.set("call 0", &altered(124, 0x0000_0893))?;
     shelf.set("illegal", &altered(120, 0))?;
     shelf.set("class", &altered(4, 0x0001_0101))?;
@@ -96,8 +113,7 @@ fn values_are_compared(rt: HostRuntime) -> Result<(), Fail> {
 }
 
 /// A source of M1 whose items are a label and eight bytes.
-const WORKED: &[u8] =
-    b"DEFINE addi 13000000\nDEFINE rd_a0 .00050000\n:s rd_a0 !5 addi \"hi\"";
+const WORKED: &[u8] = b"DEFINE addi 13000000\nDEFINE rd_a0 .00050000\n:s rd_a0 !5 addi \"hi\"";
 
 #[test]
 fn sources_are_assembled(rt: HostRuntime) -> Result<(), Fail> {
@@ -106,11 +122,31 @@ fn sources_are_assembled(rt: HostRuntime) -> Result<(), Fail> {
     shelf.set("worked.m1", WORKED)?;
     shelf.set("range.m1", b"!2048")?;
     let table: [(&[&str], Status, &str); 5] = [
-        (&["asm", "m1", "0", "worked.m1", "text"], Status::Yes, "made 27\n"),
-        (&["asm", "hex2", "0", "text", "made"], Status::Yes, "made 8\n"),
-        (&["asm", "m1", "0", "range.m1", "text"], Status::CheckFailed, "refused 5 0\n"),
-        (&["asm", "m1", "x", "worked.m1", "text"], Status::Usage, "usage\n"),
-        (&["asm", "m2", "0", "worked.m1", "text"], Status::Usage, "usage\n"),
+        (
+            &["asm", "m1", "0", "worked.m1", "text"],
+            Status::Yes,
+            "made 27\n",
+        ),
+        (
+            &["asm", "hex2", "0", "text", "made"],
+            Status::Yes,
+            "made 8\n",
+        ),
+        (
+            &["asm", "m1", "0", "range.m1", "text"],
+            Status::CheckFailed,
+            "refused 5 0\n",
+        ),
+        (
+            &["asm", "m1", "x", "worked.m1", "text"],
+            Status::Usage,
+            "usage\n",
+        ),
+        (
+            &["asm", "m2", "0", "worked.m1", "text"],
+            Status::Usage,
+            "usage\n",
+        ),
     ];
     answers_on(&rt, alloc, &mut shelf, &table)?;
     let text = b":s\n13\n05\n50\n00\n68\n69\n00\n00\n";
@@ -172,6 +208,27 @@ fn programs_are_run(rt: HostRuntime) -> Result<(), Fail> {
             Status::FileRefused,
             "file refused none absent\n",
         ),
+    ];
+    answers(&rt, rt.alloc(), &table)?;
+    Ok(())
+}
+
+#[test]
+fn reports_are_shown(rt: HostRuntime) -> Result<(), Fail> {
+    let table: [(&[&str], Status, &str); 5] = [
+        (&["show", "report"], Status::Yes, REPORT),
+        (
+            &["show", "half a report"],
+            Status::ReportRefused,
+            "report line 2\n",
+        ),
+        (&["show", "empty"], Status::ReportRefused, "report line 1\n"),
+        (
+            &["show", "none"],
+            Status::FileRefused,
+            "file refused none absent\n",
+        ),
+        (&["show", "report", "report"], Status::Usage, "usage\n"),
     ];
     answers(&rt, rt.alloc(), &table)?;
     Ok(())

@@ -113,6 +113,10 @@ says plan shelf (Err ending) said =
     let P : Stop → Type 0 = λ ended. Performs plan shelf shelf (Err ended) in
     subst P (sym said.by_result) (wants_memory plan shelf)
 
+-- one that ends the command
+pub ends_answered : (plan : Plan) (shelf : ShelfState) (answer : Answer) → plan ≡ answers answer.status answer.text → Performs plan shelf shelf (Err (stop.Answered answer))
+ends_answered plan shelf answer is = record { by_result = answered plan shelf answer is }
+
 -- a shelf that tells keeps the call that it answered
 kept : (old : ShelfState) (call : Call) → IsTrue old.tells → (after_call call old).calls ≡ old.calls ++ call ∷ []
 kept old call told = rw told refl

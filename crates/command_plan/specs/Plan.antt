@@ -1,6 +1,6 @@
 -- What a command does, as a plan over files by name, and what the plan comes to over the files that are held.
 -- docs/reference/command-line.md says the same for people.
-use Rattle.std.specs.Prelude.{ℕ, zero, suc, Bool, IsTrue, List, [], ◌∷◌}
+use Rattle.std.specs.Prelude.{ℕ, zero, suc, ◌-◌, Bool, IsTrue, List, [], ◌∷◌, length, min}
 use Rattle.std.specs.FinMap as map
 use Rattle.ddc_base.specs.declared.outside.Loaded.{Loaded}
 use Rattle.ddc_base.specs.declared.outside.Loaded.TheVariants.{Bytes, Absent, TooLong}
@@ -17,6 +17,13 @@ pub data Plan : Type 0 where
   answers : Status → List ℕ → Plan
   needs : List ℕ → ℕ → (List ℕ → Plan) → Plan
   sets : List ℕ → List ℕ → Plan → Plan
+
+-- the contents of these names are needed in order, each of at most `most` bytes and all of at most `room` together; the plan goes on
+-- with them
+abbrev pub needs_all : ℕ → ℕ → List (List ℕ) → (List (List ℕ) → Plan) → Plan
+needs_all most room [] next = next []
+needs_all most room (name ∷ names) next =
+    needs name (min most room) (λ content. needs_all most (room - length content) names (λ contents. next (content ∷ contents)))
 
 -- what a command comes to: its status, its text, and the files afterwards
 pub record Outcome : Type 0 where

@@ -9,6 +9,7 @@ use Rattle.command_plan.specs.declared.status.Status.TheVariants as status
 use Rattle.command_plan.specs.declared.answer.Answer.{Answer}
 use Rattle.command_plan.specs.declared.stop.Stop.{Stop}
 use Rattle.command_plan.specs.declared.stop.Stop.TheVariants as stop
+use Rattle.command_plan.specs.Performs.{Performs}
 use Rattle.command_plan.specs.Plan.{Plan, answers}
 use Rattle.command_plan.specs.Texts.{absent_line, too_long_line, shelf_fault_line}
 
@@ -49,3 +50,16 @@ SavesBy name content old new (Err stop.OutOfMemory) = (new ≡ old) ⊎ SaveFail
 -- a name was set, or ended the command
 pub record Saves (name content : List ℕ) (old new : ShelfState) (result : Result (Unit {0}) Stop) : Type 0 where
   pub by_result : SavesBy name content old new result
+
+-- from where the shelf stands now a plan goes on as the rest of it, whatever follows both
+abbrev pub LeadsOn : {A : Type 0} → ((A → Plan) → Plan) → ((A → Plan) → Plan) → ShelfState → ShelfState → Type 0
+LeadsOn {A} plan rest old now =
+    (next : A → Plan) (final : ShelfState) (result : Result Answer Stop) → Performs (rest next) now final result → Performs (plan next) old final result
+
+abbrev pub ObtainsBy : {A : Type 0} → ((A → Plan) → Plan) → ShelfState → ShelfState → Result A Stop → Type 0
+ObtainsBy plan old new (Ok value) = LeadsOn plan (λ next. next value) old new
+ObtainsBy {A} plan old new (Err ending) = (next : A → Plan) → Performs (plan next) old new (Err ending)
+
+-- what a plan needs first was obtained, or ended the command, whatever follows it
+pub record Obtains {A : Type 0} (plan : (A → Plan) → Plan) (old new : ShelfState) (result : Result A Stop) : Type 0 where
+  pub by_result : ObtainsBy plan old new result

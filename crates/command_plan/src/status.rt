@@ -6,10 +6,16 @@ ghost use Rattle.command_plan.specs.Answered.{exit_status};
 pub enum Status {
     /// The question is answered with yes, or the work is done.
     Yes = 0,
+    /// A report says something that is not so.
+    Refuted = 1,
     /// The words are no command line of ddc.
     Usage = 2,
     /// The two sides of a comparison differ.
     Differs = 3,
+    /// A file is no recipe.
+    RecipeRefused = 4,
+    /// A file is no report.
+    ReportRefused = 5,
     /// A program was not started, or did not exit with 0.
     RunFailed = 6,
     /// A language refused a source.

@@ -1,6 +1,6 @@
 //! What words can be.
 ghost use Rattle.std.specs.Prelude.{◌≡◌, IsTrue};
-ghost use Rattle.command_plan.specs.Words.{has_no_zero_byte, is_file_word};
+ghost use Rattle.command_plan.specs.Words.{has_no_zero_byte, is_file_word, are_two_files};
 
 /// Whether a word has no zero byte.
 pub fn has_no_zero_byte(word: &str) -> bool
@@ -15,4 +15,11 @@ pub fn is_file_word(word: &str) -> bool
     ensures text { IsTrue result → IsTrue (has_no_zero_byte word.now) }
 {
     1 <= word.len() && word.len() <= 255 && has_no_zero_byte(word)
+}
+
+/// Whether two words can name two files that are not one.
+pub fn are_two_files(first: &str, second: &str) -> bool
+    ensures { result ≡ are_two_files first.now second.now }
+{
+    is_file_word(first) && is_file_word(second) && first != second
 }

@@ -2,6 +2,8 @@
 use Rattle.std.specs.Prelude.{ℕ, List, [], ◌∷◌, bytes_eq, codes, if◌then◌else◌}
 use Rattle.command_plan.specs.Plan.{Plan}
 use Rattle.command_plan.specs.Words.{usage}
+use Rattle.audit_commands.specs.Audit.{audit_plan}
+use Rattle.audit_commands.specs.Show.{show_plan}
 use Rattle.language_commands.specs.Asm.{asm_plan}
 use Rattle.language_commands.specs.Hex0.{hex0_plan}
 use Rattle.machine_commands.specs.List.{list_plan}
@@ -15,4 +17,6 @@ plan_of (command ∷ words) =
     else (if bytes_eq command (codes "asm") then asm_plan words
     else (if bytes_eq command (codes "list") then list_plan words
     else (if bytes_eq command (codes "run") then run_plan words
-    else usage)))
+    else (if bytes_eq command (codes "audit") then audit_plan words
+    else (if bytes_eq command (codes "show") then show_plan words
+    else usage)))))

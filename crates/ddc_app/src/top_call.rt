@@ -6,6 +6,7 @@ ghost use Rattle.command_plan.specs.Performs.{Performs, WantsMemory};
 ghost use Rattle.ddc_app.specs.Run.{plan_for, due, IsDue, TakesOne, NamesFault, LosesText};
 ghost use Rattle.ddc_app.specs.Concluding.{PutEnds, Concludes};
 
+use audit_commands::{audit, show};
 use command_plan::{Answer, Status, Stop, usage};
 use ddc_base::{PutFail, Shelf, Sink};
 use language_commands::{asm, hex0};
@@ -59,6 +60,8 @@ fn perform<S: Shelf>(alloc: Global, words: &[&str], shelf: &mut S) -> Result<Ans
         "asm" => asm::perform(alloc, words, shelf),
         "list" => list::perform(alloc, words, shelf),
         "run" => run::perform(alloc, words, shelf),
+        "audit" => audit::perform(alloc, words, shelf),
+        "show" => show::perform(alloc, words, shelf),
         _ => usage(alloc),
     }
 }

@@ -109,22 +109,25 @@ impl Guest {
     }
 }
 
+/// The guest's texts, each with the address where it stands.
+static PLACED: [(i64, &[u8]); 10] = [
+    (F, b"f"),
+    (G, b"g"),
+    (DOT_F, b"./f"),
+    (DOTS_G, b"././g"),
+    (H, b"h"),
+    (SLASH_F, b"/f"),
+    (DOT_ONLY, b"./"),
+    (LONGEST, &[b'n'; 255]),
+    (TOO_LONG, &[b'n'; 256]),
+    (LAST, b"x"),
+];
+
 /// A guest with its texts in place.
 fn with_texts(alloc: Global) -> Result<Guest, OutOfMemory> {
     let mut guest = Guest::new(alloc)?;
-    for (at, text) in [
-        (F, b"f".as_slice()),
-        (G, b"g".as_slice()),
-        (DOT_F, b"./f".as_slice()),
-        (DOTS_G, b"././g".as_slice()),
-        (H, b"h".as_slice()),
-        (SLASH_F, b"/f".as_slice()),
-        (DOT_ONLY, b"./".as_slice()),
-        (LONGEST, [b'n'; 255].as_slice()),
-        (TOO_LONG, [b'n'; 256].as_slice()),
-        (LAST, b"x".as_slice()),
-    ] {
-        guest.put(at as u64, text);
+    for &(at, text) in &PLACED {
+        guest.put(at.cast_unsigned(), text);
     }
     for place in 0..128u64 {
         guest.put(DOTS_ALONE as u64 + 2 * place, b"./");
@@ -132,7 +135,7 @@ fn with_texts(alloc: Global) -> Result<Guest, OutOfMemory> {
     Ok(guest)
 }
 
-const REMOVED_WHILE_OPEN: [Row; 9] = [
+static REMOVED_WHILE_OPEN: [Row; 9] = [
     (SYS_OPENAT, [CWD, F, 577], 3),
     (SYS_WRITE, [3, BUFFER, 5], 5),
     (SYS_UNLINKAT, [CWD, F, 0], 0),
@@ -144,7 +147,7 @@ const REMOVED_WHILE_OPEN: [Row; 9] = [
     (SYS_LSEEK, [1, 0, 0], -29),
 ];
 
-const LOWEST_DESCRIPTOR: [Row; 10] = [
+static LOWEST_DESCRIPTOR: [Row; 10] = [
     (SYS_OPENAT, [CWD, F, 66], 3),
     (SYS_OPENAT, [CWD, G, 66], 4),
     (SYS_OPENAT, [CWD, F, 0], 5),
@@ -157,7 +160,7 @@ const LOWEST_DESCRIPTOR: [Row; 10] = [
     (SYS_OPENAT, [CWD, H, 0], -2),
 ];
 
-const FLAGS: [Row; 16] = [
+static FLAGS: [Row; 16] = [
     (SYS_OPENAT, [CWD, F, 65], 3),
     (SYS_WRITE, [3, BUFFER, 8], 8),
     (SYS_READ, [3, BUFFER, 8], -9),
@@ -176,7 +179,7 @@ const FLAGS: [Row; 16] = [
     (SYS_READ, [4, BUFFER, 1], 0),
 ];
 
-const GAPS_AND_CURSORS: [Row; 11] = [
+static GAPS_AND_CURSORS: [Row; 11] = [
     (SYS_OPENAT, [CWD, F, 66], 3),
     (SYS_LSEEK, [3, 100, 0], 100),
     (SYS_WRITE, [3, BUFFER, 4], 4),
@@ -190,7 +193,7 @@ const GAPS_AND_CURSORS: [Row; 11] = [
     (SYS_LSEEK, [99, 0, 0], -9),
 ];
 
-const BAD_ARGUMENTS: [Row; 21] = [
+static BAD_ARGUMENTS: [Row; 21] = [
     (SYS_OPENAT, [CWD, NOWHERE, 0], -14),
     (SYS_OPENAT, [CWD, EMPTY, 64], -2),
     (SYS_OPENAT, [CWD, H, 0], -2),
@@ -214,7 +217,7 @@ const BAD_ARGUMENTS: [Row; 21] = [
     (SYS_CLOSE, [99, 0, 0], -9),
 ];
 
-const PATHS: [Row; 12] = [
+static PATHS: [Row; 12] = [
     (SYS_OPENAT, [CWD, LONGEST, 65], 3),
     (SYS_OPENAT, [CWD, TOO_LONG, 65], -36),
     (SYS_OPENAT, [CWD, DOTS_ALONE, 65], -36),
@@ -229,7 +232,7 @@ const PATHS: [Row; 12] = [
     (SYS_FACCESSAT, [0x1_0000_0003, H, 0], -20),
 ];
 
-const ORDERS: [Row; 20] = [
+static ORDERS: [Row; 20] = [
     (SYS_UNLINKAT, [9, NOWHERE, 1], -14),
     (SYS_UNLINKAT, [9, TOO_LONG, 1], -36),
     (SYS_UNLINKAT, [9, F, 1], -9),
@@ -252,7 +255,7 @@ const ORDERS: [Row; 20] = [
     (SYS_WRITE, [1, BUFFER, 4096], 4096),
 ];
 
-const LIMITS: [Row; 9] = [
+static LIMITS: [Row; 9] = [
     (SYS_OPENAT, [CWD, F, 66], 3),
     (SYS_LSEEK, [3, i64::MAX, 0], i64::MAX),
     (SYS_LSEEK, [3, 1, 1], -22),
@@ -264,7 +267,7 @@ const LIMITS: [Row; 9] = [
     (SYS_WRITE, [3, BUFFER, 2], -27),
 ];
 
-const FULL: [Row; 16] = [
+static FULL: [Row; 16] = [
     (SYS_OPENAT, [CWD, F, 66], 3),
     (SYS_LSEEK, [3, 268_435_455, 0], 268_435_455),
     (SYS_WRITE, [3, BUFFER, 1], 1),
@@ -283,7 +286,7 @@ const FULL: [Row; 16] = [
     (SYS_WRITE, [4, BUFFER, 8], 8),
 ];
 
-const TOO_MANY: [Row; 8] = [
+static TOO_MANY: [Row; 8] = [
     (SYS_OPENAT, [CWD, F, 64], -24),
     (SYS_OPENAT, [CWD, F, 192], -24),
     (SYS_OPENAT, [CWD, H, 0], -24),
@@ -294,7 +297,7 @@ const TOO_MANY: [Row; 8] = [
     (SYS_OPENAT, [CWD, F, 0], 500),
 ];
 
-const NO_MORE_NAMES: [Row; 5] = [
+static NO_MORE_NAMES: [Row; 5] = [
     (SYS_OPENAT, [CWD, H, 64], -28),
     (SYS_OPENAT, [CWD, H, 0], -2),
     (SYS_OPENAT, [CWD, BUFFER, 192], -17),
@@ -358,7 +361,7 @@ fn the_last_descriptor(rt: HostRuntime) {
     guest.run(&rt, rt.alloc(), &TOO_MANY);
 }
 
-const MADE_AND_CLOSED: [Row; 2] = [
+static MADE_AND_CLOSED: [Row; 2] = [
     (SYS_OPENAT, [CWD, BUFFER, 64], 3),
     (SYS_CLOSE, [3, 0, 0], 0),
 ];
@@ -386,52 +389,56 @@ fn the_last_name(rt: HostRuntime) {
     guest.run(&rt, rt.alloc(), &NO_MORE_NAMES);
 }
 
+/// A call's number, its argument, and how it ends.
+static ENDS: [(u64, i64, CallEnd); 4] = [
+    (SYS_EXIT, 0, CallEnd::Exit(0)),
+    (SYS_EXIT_GROUP, 0x1ff, CallEnd::Exit(255)),
+    (0x1_0000_005d, 0, CallEnd::Unknown(0x1_0000_005d)),
+    (92, 0, CallEnd::Unknown(92)),
+];
+
 #[test]
 fn ends(rt: HostRuntime) {
     let mut guest = with_texts(rt.alloc()).expect(&rt, "memory");
-    for (number, status, want) in [
-        (SYS_EXIT, 0, CallEnd::Exit(0)),
-        (SYS_EXIT_GROUP, 0x1ff, CallEnd::Exit(255)),
-        (0x1_0000_005d, 0, CallEnd::Unknown(0x1_0000_005d)),
-        (92, 0, CallEnd::Unknown(92)),
-    ] {
+    for &(number, status, want) in &ENDS {
         let end = guest.ask(rt.alloc(), number, [status, 0, 0]);
         assert_eq!(rt; end, want, "call {number}");
     }
 }
 
+const FIRST: i64 = 0x2_0000;
+
+const END: i64 = 0x3_0000;
+
+/// Two pages of heap, and then breaks that take one away, give one, and lie outside or at the ends.
+static BROKEN: [Row; 2] = [
+    (SYS_BRK, [0, 0, 0], FIRST),
+    (SYS_BRK, [FIRST + 8192, 0, 0], FIRST + 8192),
+];
+
+static SHRUNK: [Row; 1] = [(SYS_BRK, [FIRST + 1, 0, 0], FIRST + 1)];
+
+static GROWN: [Row; 1] = [(SYS_BRK, [FIRST + 4097, 0, 0], FIRST + 4097)];
+
+static NO_BREAKS: [Row; 4] = [
+    (SYS_BRK, [FIRST - 1, 0, 0], FIRST + 4097),
+    (SYS_BRK, [END + 1, 0, 0], FIRST + 4097),
+    (SYS_BRK, [END, 0, 0], END),
+    (SYS_BRK, [FIRST, 0, 0], FIRST),
+];
+
 /// A heap that shrank and grew reads 0, and the page that holds the break keeps its bytes.
 #[test]
 fn the_break(rt: HostRuntime) {
-    let mut guest = with_texts(rt.alloc()).expect(&rt, "memory");
-    let first = HEAP as i64;
-    guest.run(
-        &rt,
-        rt.alloc(),
-        &[
-            (SYS_BRK, [0, 0, 0], first),
-            (SYS_BRK, [first + 8192, 0, 0], first + 8192),
-        ],
-    );
+    let alloc = rt.alloc();
+    let mut guest = with_texts(alloc).expect(&rt, "memory");
+    guest.run(&rt, alloc, &BROKEN);
     assert!(rt; guest.put(HEAP + 4095, &[1, 2]));
-    guest.run(&rt, rt.alloc(), &[(SYS_BRK, [first + 1, 0, 0], first + 1)]);
+    guest.run(&rt, alloc, &SHRUNK);
     assert_eq!(rt; guest.byte(HEAP + 4095), Some(1), "the page of the break");
     assert_eq!(rt; guest.byte(HEAP + 4096), None, "a page that fell away");
-    guest.run(
-        &rt,
-        rt.alloc(),
-        &[(SYS_BRK, [first + 4097, 0, 0], first + 4097)],
-    );
+    guest.run(&rt, alloc, &GROWN);
     assert_eq!(rt; guest.byte(HEAP + 4096), Some(0), "a page that came again");
-    guest.run(
-        &rt,
-        rt.alloc(),
-        &[
-            (SYS_BRK, [first - 1, 0, 0], first + 4097),
-            (SYS_BRK, [HEAP_END as i64 + 1, 0, 0], first + 4097),
-            (SYS_BRK, [HEAP_END as i64, 0, 0], HEAP_END as i64),
-            (SYS_BRK, [first, 0, 0], first),
-        ],
-    );
+    guest.run(&rt, alloc, &NO_BREAKS);
     assert_eq!(rt; guest.byte(HEAP), None, "an empty heap");
 }

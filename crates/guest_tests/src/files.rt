@@ -114,7 +114,7 @@ fn go_on(rt: &impl Abort, files: &mut Files, script: &[Row]) {
 }
 
 /// Names that are guest file names, those that are held already, and what is no name.
-const NAMES: [Row; 10] = [
+static NAMES: [Row; 10] = [
     (Call::NameAfter(None, None), 0),
     (Call::Place(b"a", b"x"), 0),
     (Call::Place(b"./a", b"x"), 2),
@@ -128,7 +128,7 @@ const NAMES: [Row; 10] = [
 ];
 
 /// The names in the order of their bytes.
-const ORDERED: [Row; 10] = [
+static ORDERED: [Row; 10] = [
     (Call::Place(b"b", b""), 0),
     (Call::Place(b"a/b", b""), 0),
     (Call::Place(b"a", b""), 0),
@@ -142,7 +142,7 @@ const ORDERED: [Row; 10] = [
 ];
 
 /// The flags are looked at before the descriptors, and these before the name.
-const NO_MORE_DESCRIPTORS: [Row; 8] = [
+static NO_MORE_DESCRIPTORS: [Row; 8] = [
     (Call::Open(b"f", O_RDONLY), -24),
     (Call::Open(b"g", O_RDONLY), -24),
     (Call::Open(b"f", O_CREAT | O_EXCL), -24),
@@ -154,7 +154,7 @@ const NO_MORE_DESCRIPTORS: [Row; 8] = [
 ];
 
 /// What goes on with 4,096 names, and what does not.
-const NO_MORE_NAMES: [Row; 9] = [
+static NO_MORE_NAMES: [Row; 9] = [
     (Call::Place(b"f", b""), 3),
     (Call::Place(b"@@", b""), 2),
     (Call::Place(b"", b""), 1),
@@ -168,7 +168,7 @@ const NO_MORE_NAMES: [Row; 9] = [
 
 /// Writes that end at the limit of a file and at that of all bytes, and one byte past each. A file that would be too large
 /// is refused before too many bytes in all, and a bad descriptor before both.
-const NO_MORE_BYTES: [Row; 22] = [
+static NO_MORE_BYTES: [Row; 22] = [
     (Call::Open(b"a", O_RDWR | O_CREAT), 3),
     (Call::Seek(3, 268_435_455, SEEK_SET), 268_435_455),
     (Call::Write(3, b"ab"), -27),
@@ -194,7 +194,7 @@ const NO_MORE_BYTES: [Row; 22] = [
 ];
 
 /// lseek(2), in a file of five bytes.
-const SEEKS: [Row; 17] = [
+static SEEKS: [Row; 17] = [
     (Call::Place(b"f", b"01234"), 0),
     (Call::Open(b"f", O_RDONLY), 3),
     (Call::Seek(3, 2, SEEK_SET), 2),
@@ -215,7 +215,7 @@ const SEEKS: [Row; 17] = [
 ];
 
 /// write(2), read(2) and unlink(2): a gap, an end, a name that goes while its file is open.
-const WRITES_AND_READS: [Row; 18] = [
+static WRITES_AND_READS: [Row; 18] = [
     (Call::Open(b"g", O_RDWR | O_CREAT), 3),
     (Call::Write(3, b"ab"), 0),
     (Call::Seek(3, 2, SEEK_CUR), 4),
@@ -237,7 +237,7 @@ const WRITES_AND_READS: [Row; 18] = [
 ];
 
 /// The streams, the descriptors that are used again, O_TRUNC, the most bytes of a file, and what a name holds after calls.
-const CLOSES_AND_FITS: [Row; 28] = [
+static CLOSES_AND_FITS: [Row; 28] = [
     (Call::Place(b"f", b"old"), 0),
     (Call::Open(b"f", O_RDWR), 3),
     (Call::Open(b"f", O_RDONLY | O_TRUNC), 4),
@@ -269,7 +269,7 @@ const CLOSES_AND_FITS: [Row; 28] = [
 ];
 
 /// openat(2): flags, and what they answer where the file is absent, and where it is present.
-const OPENS: [(u32, i64, i64); 8] = [
+static OPENS: [(u32, i64, i64); 8] = [
     (O_RDONLY, -2, 3),
     (O_RDWR, -2, 3),
     (O_ACCMODE, -22, -22),
@@ -280,7 +280,7 @@ const OPENS: [(u32, i64, i64); 8] = [
     (O_WRONLY | O_TRUNC, -2, 3),
 ];
 
-const HELD: [Row; 1] = [(Call::Place(b"f", b"x"), 0)];
+static HELD: [Row; 1] = [(Call::Place(b"f", b"x"), 0)];
 
 /// Scripts that begin with no files.
 #[test]
@@ -301,7 +301,7 @@ fn runs_scripts(rt: HostRuntime) -> Result<(), Fail> {
 
 #[test]
 fn opens_by_flags(rt: HostRuntime) -> Result<(), Fail> {
-    for (flags, absent, present) in OPENS {
+    for &(flags, absent, present) in &OPENS {
         let mut files = run(&rt, rt.alloc(), &[])?;
         assert_eq!(rt; answer(&mut files, Call::Open(b"f", flags)), absent);
         let mut files = run(&rt, rt.alloc(), &HELD)?;

@@ -18,21 +18,23 @@ fn reads_exit(rt: HostRuntime) -> Result<(), Fail> {
     Ok(())
 }
 
+/// A byte of exit.elf, what it is changed to, and what the program is refused for.
+static ALTERED: [(usize, u8, ElfRefusal); 9] = [
+    (0, 0x00, ElfRefusal::Magic),
+    (4, 0x01, ElfRefusal::Class),
+    (18, 0x3e, ElfRefusal::Machine),
+    (16, 0x03, ElfRefusal::Kind),
+    (54, 0x37, ElfRefusal::HeaderRange),
+    (64, 0x03, ElfRefusal::Interpreter),
+    (64, 0x02, ElfRefusal::NoLoad),
+    (96, 0x85, ElfRefusal::SegmentRange),
+    (24, 0x79, ElfRefusal::EntryOutside),
+];
+
 #[test]
 fn refuses_altered_programs(rt: HostRuntime) -> Result<(), Fail> {
     assert!(rt; refusal_of(&EXIT[..63]) == Some(ElfRefusal::Short));
-    let table = [
-        (0, 0x00, ElfRefusal::Magic),
-        (4, 0x01, ElfRefusal::Class),
-        (18, 0x3e, ElfRefusal::Machine),
-        (16, 0x03, ElfRefusal::Kind),
-        (54, 0x37, ElfRefusal::HeaderRange),
-        (64, 0x03, ElfRefusal::Interpreter),
-        (64, 0x02, ElfRefusal::NoLoad),
-        (96, 0x85, ElfRefusal::SegmentRange),
-        (24, 0x79, ElfRefusal::EntryOutside),
-    ];
-    for (index, byte, refusal) in table {
+    for &(index, byte, refusal) in &ALTERED {
         assert!(rt; refusal_of(&altered(index, byte)) == Some(refusal));
     }
     Ok(())

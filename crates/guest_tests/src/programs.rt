@@ -116,7 +116,7 @@ fn starts_with_an_environment_text(rt: HostRuntime) -> Result<(), Fail> {
 }
 
 /// A store rewrites the next instruction.
-const REWRITING: [u32; 7] = [
+static REWRITING: [u32; 7] = [
     0x0070_02b7,
     0x5132_8293,
     0x0001_0337,
@@ -127,7 +127,7 @@ const REWRITING: [u32; 7] = [
 ];
 
 /// brk(0); brk(0x13000); 5A is stored at 0x12000; brk(0x11000); a load there.
-const SHRINKING: [u32; 11] = [
+static SHRINKING: [u32; 11] = [
     0x0d60_0893,
     0x0000_0513,
     0x0000_0073,
@@ -142,7 +142,7 @@ const SHRINKING: [u32; 11] = [
 ];
 
 /// brk(0x13000); 5A is stored at 0x12000; brk(0x11000); brk(0x13000); a load there; brk(1).
-const GROWING: [u32; 13] = [
+static GROWING: [u32; 13] = [
     0x0d60_0893,
     0x0001_3537,
     0x0000_0073,

@@ -255,11 +255,7 @@ fn gap_behind<'s>(size: usize, rest: &'s [u8]) -> Result<(Token<'s>, usize), Fau
 
 /// The token that begins with a byte, by what stands after it, and how many of those bytes it takes.
 #[tactic(auto, unfolding(crate::specs::Tokens::token_at))]
-pub fn token_at<'s>(
-    dialect: Dialect,
-    byte: u8,
-    rest: &'s [u8],
-) -> Result<(Token<'s>, usize), Fault>
+pub fn token_at<'s>(dialect: Dialect, byte: u8, rest: &'s [u8]) -> Result<(Token<'s>, usize), Fault>
     ensures value { result ≡ token_at dialect byte rest.now }
     ensures within { IfOk result (λ found. found.1 ≤ length rest.now) }
 {

@@ -15,7 +15,7 @@ use Rattle.m1_lang.specs.declared.refusal.M1Refusal.{M1Refusal}
 use Rattle.m1_lang.specs.Expansion.{expansion_of}
 use Rattle.m1_lang.specs.Refusals.{m1_refusal_number, m1_refusal_place}
 use Rattle.command_plan.specs.declared.status.Status.TheVariants.{Yes, CheckFailed}
-use Rattle.command_plan.specs.Words.{is_file_word, usage}
+use Rattle.command_plan.specs.Words.{are_two_files, usage}
 use Rattle.command_plan.specs.Plan.{Plan, answers, needs, sets}
 
 -- the value has this length, and is saved
@@ -58,10 +58,6 @@ assembled M1 base out source = saved_items out (expansion_of source)
 -- the source is needed, of at most 268,435,456 bytes
 unfoldable pub asm_files : Language → ℕ → List ℕ → List ℕ → Plan
 asm_files language base source out = needs source 268_435_456 (λ text. assembled language base out text)
-
--- two names of files that are not one
-abbrev pub are_two_files : List ℕ → List ℕ → Bool
-are_two_files source out = is_file_word source && is_file_word out && not (bytes_eq source out)
 
 -- in a language and at a base, if the words name them
 abbrev pub asm_in : Option Language → Option ℕ → List ℕ → List ℕ → Plan

@@ -8,10 +8,10 @@ ghost use Rattle.command_plan.specs.Steps.{Says};
 ghost use Rattle.hex_link.specs.Values.{value_of};
 ghost use Rattle.hex_writer.specs.Writing.{items_text};
 ghost use Rattle.m1_lang.specs.Expansion.{expansion_of};
-ghost use Rattle.language_commands.specs.Asm.{made_line, refused_line, as_base, made, saved, saved_items, assembled, asm_files, are_two_files, asm_plan};
+ghost use Rattle.language_commands.specs.Asm.{made_line, refused_line, as_base, made, saved, saved_items, assembled, asm_files, asm_plan};
 ghost use Rattle.language_commands.specs.Inside.Refusing.{Refuses, RefusesM1};
 
-use command_plan::words::is_file_word;
+use command_plan::words::are_two_files;
 use command_plan::{Answer, Status, Stop, fetch_file, keep, usage};
 use ddc_base::{Bytes, OutOfMemory, Shelf, read_decimal};
 use hex_items::{HexRefusal, Items};
@@ -54,13 +54,6 @@ fn base_of(word: &str) -> Option<u64>
     } else {
         None
     }
-}
-
-/// Whether two words can name two files that are not one.
-fn are_two_files(source: &str, out: &str) -> bool
-    ensures { result ≡ are_two_files source.now out.now }
-{
-    is_file_word(source) && is_file_word(out) && source != out
 }
 
 /// Fetches the source, and goes on with it.

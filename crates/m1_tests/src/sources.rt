@@ -1,6 +1,6 @@
 //! M1 sources with what the reference page says of them: the text of their items, or the refusal.
-use ddc_base::Bytes;
 use crate::blanks;
+use ddc_base::Bytes;
 use m1_lang::{M1Refusal, expand, laws, write_items};
 use std::alloc::Global;
 use std::process::Abort;
@@ -145,7 +145,12 @@ fn expanded(alloc: Global, source: &str) -> Result<Bytes, M1Refusal> {
     }
 }
 
-fn compare(rt: &impl Abort, alloc: Global, source: &str, answer: &Result<&str, M1Refusal>) -> Result<(), Fail> {
+fn compare(
+    rt: &impl Abort,
+    alloc: Global,
+    source: &str,
+    answer: &Result<&str, M1Refusal>,
+) -> Result<(), Fail> {
     match (expanded(alloc, source), answer) {
         (Ok(text), Ok(wanted)) => assert_eq!(rt; text.as_slice(), wanted.as_bytes()),
         (Err(refusal), Err(wanted)) => assert_eq!(rt; refusal, *wanted),

@@ -161,9 +161,15 @@ fn number_behind<'s>(sign: u8, n: i64) -> Result<Meaning<'s>, WordFault>
     let is_short = is_within(n, -2048, 2048);
     let is_word = is_within(n, -2_147_483_648, 4_294_967_296);
     if sign == b'!' {
-        ranged(is_short, Meaning::One(Token::Field(immediate_field(number_word(n)))))
+        ranged(
+            is_short,
+            Meaning::One(Token::Field(immediate_field(number_word(n)))),
+        )
     } else if sign == b'@' {
-        ranged(is_short, Meaning::One(Token::Field(store_field(number_word(n)))))
+        ranged(
+            is_short,
+            Meaning::One(Token::Field(store_field(number_word(n)))),
+        )
     } else if sign == b'~' {
         ranged(is_word, Meaning::One(Token::Field(rounded_field(n))))
     } else {

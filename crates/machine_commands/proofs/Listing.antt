@@ -4,7 +4,7 @@ use Rattle.std.proofs.lemmas.List.{drop-drop, drop_all, length-drop, append-nil}
 use Rattle.byteorder.specs.Endian.{little_number}
 use Rattle.hex.specs.Hex.{encode_lower}
 use Rattle.rv64_decode.specs.Decode.{decoded}
-use Rattle.machine_commands.specs.Texts.{hex_word}
+use Rattle.run_causes.specs.Texts.{hex_word}
 use Rattle.machine_commands.specs.List.{instruction_text, word_line, rest_line, listing}
 
 -- a word's line from its parts

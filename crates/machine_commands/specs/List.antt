@@ -8,7 +8,7 @@ use Rattle.rv64_decode.specs.declared.Inst.{Inst}
 use Rattle.rv64_decode.specs.Decode.{decoded}
 use Rattle.rv64_decode.specs.Text.{text}
 use Rattle.command_plan.specs.declared.status.Status.TheVariants.{Yes}
-use Rattle.machine_commands.specs.Texts.{hex_word}
+use Rattle.run_causes.specs.Texts.{hex_word}
 use Rattle.command_plan.specs.Words.{is_file_word, usage}
 use Rattle.command_plan.specs.Plan.{Plan, answers, needs}
 

@@ -7,9 +7,6 @@ use Rattle.hex.specs.Hex.{encode_lower}
 use Rattle.sha2.specs.Sha256.{sha256}
 use Rattle.ddc_base.specs.Decimals.{as_decimal}
 use Rattle.ddc_base.specs.Lines.{line}
-use Rattle.elf_load.specs.Refusal.{rank}
-use Rattle.rv64_machine.specs.declared.answer.Cause.{Cause}
-use Rattle.rv64_machine.specs.declared.answer.Cause.TheVariants as cause
 use Rattle.mem_files.specs.World.{World}
 use Rattle.mem_files.specs.Outputs.{FirstStream, left, out}
 use Rattle.guest_run.specs.Setting.{Setting, is_text}
@@ -18,7 +15,7 @@ use Rattle.guest_run.specs.Start.{Refusal, Elf, ArgsTooLong, BoxTooLarge, start_
 use Rattle.guest_run.specs.Run.{End, Exited, Trapped, UnknownCall, first_end}
 use Rattle.command_plan.specs.declared.status.Status.{Status}
 use Rattle.command_plan.specs.declared.status.Status.TheVariants.{Yes, RunFailed}
-use Rattle.machine_commands.specs.Texts.{hex_word, hex_address}
+use Rattle.run_causes.specs.Texts.{trap_text, call_text, elf_text, args_text, box_text, spent_text}
 use Rattle.command_plan.specs.Words.{is_file_word, usage}
 use Rattle.command_plan.specs.Plan.{Plan, answers, needs}
 
@@ -30,27 +27,18 @@ within_steps (Some steps) = if nat_le 1 steps && nat_le steps (2 ^ 48) then Some
 unfoldable pub as_steps : List ℕ → Option ℕ
 as_steps word = within_steps (as_decimal word)
 
--- a trap in words
-abbrev pub trap_words : Cause → List (List ℕ)
-trap_words (cause.Illegal word) = codes "illegal" ∷ hex_word word ∷ []
-trap_words (cause.FetchUnmapped address) = codes "fetch-unmapped" ∷ hex_address address ∷ []
-trap_words (cause.FetchMisaligned address) = codes "fetch-misaligned" ∷ hex_address address ∷ []
-trap_words (cause.LoadUnmapped address) = codes "load-unmapped" ∷ hex_address address ∷ []
-trap_words (cause.StoreUnmapped address) = codes "store-unmapped" ∷ hex_address address ∷ []
-trap_words cause.Break = codes "break" ∷ []
-
--- a refused start in words
-abbrev pub refusal_words : Refusal → List (List ℕ)
-refusal_words (Elf elf) = codes "elf" ∷ decimal (rank elf) ∷ []
-refusal_words ArgsTooLong = codes "args" ∷ []
-refusal_words BoxTooLarge = codes "box" ∷ []
+-- a refused start
+abbrev pub refusal_text : Refusal → List ℕ
+refusal_text (Elf refusal) = elf_text refusal
+refusal_text ArgsTooLong = args_text
+refusal_text BoxTooLarge = box_text
 
 -- a run that failed, by its cause and its step
 abbrev pub step_words : ℕ → List (List ℕ)
 step_words step = codes "step" ∷ decimal step ∷ []
 
-unfoldable pub failed_line : List (List ℕ) → ℕ → List ℕ
-failed_line cause step = line (codes "failed" ∷ (cause ++ step_words step))
+unfoldable pub failed_line : List ℕ → ℕ → List ℕ
+failed_line cause step = line (codes "failed" ∷ cause ∷ step_words step)
 
 -- the length and the digest of bytes
 abbrev pub length_and_digest : List ℕ → List (List ℕ)
@@ -79,14 +67,14 @@ status_of status = if status == 0 then Yes else RunFailed
 
 abbrev pub end_plan : Option (End × GuestState) → ℕ → Plan
 end_plan (Some (Exited status, guest)) most = answers (status_of status) (exited_text status (guest.steps + 1) guest.world)
-end_plan (Some (Trapped trap, guest)) most = answers RunFailed (failed_line (codes "trap" ∷ trap_words trap) (guest.steps + 1))
-end_plan (Some (UnknownCall number, guest)) most = answers RunFailed (failed_line (codes "call" ∷ decimal number ∷ []) (guest.steps + 1))
-end_plan None most = answers RunFailed (failed_line (codes "spent" ∷ []) most)
+end_plan (Some (Trapped trap, guest)) most = answers RunFailed (failed_line (trap_text trap) (guest.steps + 1))
+end_plan (Some (UnknownCall number, guest)) most = answers RunFailed (failed_line (call_text number) (guest.steps + 1))
+end_plan None most = answers RunFailed (failed_line spent_text most)
 
 -- what is said of a start
 abbrev pub start_plan : Result GuestState Refusal → ℕ → Plan
 start_plan (Ok guest) most = end_plan (first_end guest most) most
-start_plan (Err why) most = answers RunFailed (failed_line (codes "start" ∷ refusal_words why) 0)
+start_plan (Err why) most = answers RunFailed (failed_line (refusal_text why) 0)
 
 -- no files, no environment, and a heap of at most 536,870,912 bytes
 abbrev pub setting_of : List (List ℕ) → Setting

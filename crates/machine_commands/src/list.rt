@@ -8,7 +8,7 @@ ghost use Rattle.command_plan.specs.declared.status.Status.TheVariants.{Yes};
 ghost use Rattle.command_plan.specs.Performs.{Performs};
 ghost use Rattle.command_plan.specs.Steps.{Says};
 ghost use Rattle.command_plan.specs.Plan.{answers};
-ghost use Rattle.machine_commands.specs.Texts.{hex_word};
+ghost use Rattle.run_causes.specs.Texts.{hex_word};
 ghost use Rattle.machine_commands.specs.List.{instruction_text, word_line, rest_line, listing, list_file, list_plan};
 
 use byteorder::{BigEndian, ByteOrder, LittleEndian};

@@ -90,20 +90,16 @@ fn start(
     let setting = box_of(alloc, name, args)?;
     match Guest::<RunRam>::start(alloc, program, &setting) {
         Ok(mut guest) => run_guest(alloc, &mut guest, most),
-        Err(StartRefusal::Elf(elf)) => failed(run_texts::not_loaded(alloc, elf.number())?),
-        Err(StartRefusal::ArgsTooLong) => failed(run_texts::not_started(alloc, "args")?),
-        Err(StartRefusal::BoxTooLarge) => failed(run_texts::not_started(alloc, "box")?),
+        Err(StartRefusal::Elf(elf)) => failed(run_texts::not_loaded(alloc, elf)?),
+        Err(StartRefusal::ArgsTooLong) => failed(run_texts::too_many_args(alloc)?),
+        Err(StartRefusal::BoxTooLarge) => failed(run_texts::too_large_box(alloc)?),
         Err(StartRefusal::OutOfMemory) => Err(Stop::OutOfMemory),
     }
 }
 
 /// What a program is given: its name and the arguments, and nothing else.
 #[tactic(auto, using(crate::proofs::Arguments::text_at))]
-fn box_of<'a>(
-    alloc: Global,
-    name: &'a str,
-    args: &'a [&'a str],
-) -> Result<RunBox<'a>, OutOfMemory>
+fn box_of<'a>(alloc: Global, name: &'a str, args: &'a [&'a str]) -> Result<RunBox<'a>, OutOfMemory>
     requires text { IsText name.now }
     requires texts { IsTrue (list_all (λ w. is_text w.now) args.now) }
     ensures { IfOk result (λ given. given ≡ setting_of (name.now ∷ map (λ w. w.now) args.now)) }

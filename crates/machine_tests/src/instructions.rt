@@ -100,7 +100,7 @@ fn instructions_as_objdump_prints_them(rt: HostRuntime) -> Result<(), Fail> {
     laws::no_instruction_has_two_words();
     laws::the_instructions_in_form_have_words();
     let mut pc = START;
-    for (word, want) in ROWS {
+    for &(word, want) in &ROWS {
         let inst = decode(word).ok_or("a row has no word")?;
         assert_eq!(rt;
             print(&inst, pc).as_slice(),
@@ -111,7 +111,7 @@ fn instructions_as_objdump_prints_them(rt: HostRuntime) -> Result<(), Fail> {
         assert_eq!(rt; encode(&inst), word);
         pc = pc.wrapping_add(4);
     }
-    for word in OTHERS {
+    for &word in &OTHERS {
         assert_eq!(rt; decode(word), None, "at {word:08x}");
     }
     Ok(())

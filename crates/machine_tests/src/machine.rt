@@ -112,29 +112,30 @@ fn rows_do_what_an_independent_machine_does(rt: HostRuntime) {
     check_stores(&rt, &mut hart);
 }
 
+/// Division by zero and overflow, by the table in the standard's chapter on M, on 64 bits and on words.
+static DIVISIONS: [(u32, u64, u64, u64); 6] = [
+    (
+        0x02c5c533,
+        0x8000000000000000,
+        0xFFFFFFFFFFFFFFFF,
+        0x8000000000000000,
+    ), // DIV
+    (0x02c5e533, 0x8000000000000000, 0xFFFFFFFFFFFFFFFF, 0), // REM
+    (0x02c5c533, 7, 0, 0xFFFFFFFFFFFFFFFF), // DIV
+    (0x02c5f53b, 0x180000005, 0, 0xFFFFFFFF80000005), // REMUW
+    (
+        0x02c5c53b,
+        0x180000000,
+        0xFFFFFFFFFFFFFFFF,
+        0xFFFFFFFF80000000,
+    ), // DIVW
+    (0x02c5c53b, 0x180000000, 3, 0xFFFFFFFFD5555556), // DIVW
+];
+
 #[test]
 fn divisions_at_their_edges(rt: HostRuntime) {
-    // Division by zero and overflow, by the table in the standard's chapter on M, on 64 bits and on words.
-    let table: [(u32, u64, u64, u64); 6] = [
-        (
-            0x02c5c533,
-            0x8000000000000000,
-            0xFFFFFFFFFFFFFFFF,
-            0x8000000000000000,
-        ), // DIV
-        (0x02c5e533, 0x8000000000000000, 0xFFFFFFFFFFFFFFFF, 0), // REM
-        (0x02c5c533, 7, 0, 0xFFFFFFFFFFFFFFFF), // DIV
-        (0x02c5f53b, 0x180000005, 0, 0xFFFFFFFF80000005), // REMUW
-        (
-            0x02c5c53b,
-            0x180000000,
-            0xFFFFFFFFFFFFFFFF,
-            0xFFFFFFFF80000000,
-        ), // DIVW
-        (0x02c5c53b, 0x180000000, 3, 0xFFFFFFFFD5555556), // DIVW
-    ];
     let mut hart: Hart<PagedRam> = fresh(&rt, rt.alloc());
-    for (word, a, b, result) in table {
+    for &(word, a, b, result) in &DIVISIONS {
         assert_eq!(rt;
             run_on(&rt, &mut hart, word, a, b),
             (result, 4),
@@ -154,20 +155,21 @@ fn run_once(rt: &impl Abort, alloc: Global, word: u32, x11: u64) -> (StepEnd, u6
     (end, hart.reg(10), hart.pc().wrapping_sub(0x10000))
 }
 
+/// A word, the value of x11, and then x10 and how far the pc went.
+static GOING_ON: [(u32, u64, u64, u64); 8] = [
+    (0xfff58013, 7, 9, 4), // ADDI x0, x11, -1
+    (0x00001517, 0, 0x11000, 4), // AUIPC x10, 1
+    (0x80000517, 0, 0xFFFFFFFF80010000, 4), // AUIPC x10, 0x80000
+    (0x0080056f, 0, 0x10004, 8), // JAL x10, 8
+    (0x00558567, 0x10100, 0x10004, 0x104), // JALR x10, 5(x11)
+    (0x00058567, 0x10101, 0x10004, 0x100), // JALR x10, 0(x11)
+    (0x00058363, 1, 9, 4), // BEQ x11, x0, 6, not taken
+    (0x0ff0000f, 0, 9, 4), // FENCE
+];
+
 #[test]
 fn rows_that_go_on(rt: HostRuntime) {
-    // A word, the value of x11, and then x10 and how far the pc went.
-    let table: [(u32, u64, u64, u64); 8] = [
-        (0xfff58013, 7, 9, 4), // ADDI x0, x11, -1
-        (0x00001517, 0, 0x11000, 4), // AUIPC x10, 1
-        (0x80000517, 0, 0xFFFFFFFF80010000, 4), // AUIPC x10, 0x80000
-        (0x0080056f, 0, 0x10004, 8), // JAL x10, 8
-        (0x00558567, 0x10100, 0x10004, 0x104), // JALR x10, 5(x11)
-        (0x00058567, 0x10101, 0x10004, 0x100), // JALR x10, 0(x11)
-        (0x00058363, 1, 9, 4), // BEQ x11, x0, 6, not taken
-        (0x0ff0000f, 0, 9, 4), // FENCE
-    ];
-    for (word, x11, x10, way) in table {
+    for &(word, x11, x10, way) in &GOING_ON {
         assert_eq!(rt;
             run_once(&rt, rt.alloc(), word, x11),
             (StepEnd::Done, x10, way),
@@ -176,27 +178,47 @@ fn rows_that_go_on(rt: HostRuntime) {
     }
 }
 
+/// A word, the value of x11, and how the step ends, which leaves x10 and the pc.
+static STOPPING: [(u32, u64, StepEnd); 10] = [
+    (
+        0x0060056f,
+        0,
+        StepEnd::Trap(Cause::FetchMisaligned(0x10006)),
+    ), // JAL x10, 6
+    (
+        0x00358567,
+        0x10100,
+        StepEnd::Trap(Cause::FetchMisaligned(0x10102)),
+    ), // JALR x10, 3(x11)
+    (
+        0x00058363,
+        0,
+        StepEnd::Trap(Cause::FetchMisaligned(0x10006)),
+    ), // BEQ x11, x0, 6, taken
+    (
+        0x0005b503,
+        0x12FFC,
+        StepEnd::Trap(Cause::LoadUnmapped(0x12FFC)),
+    ), // LD x10, 0(x11)
+    (
+        0x0005b503,
+        0xFFFFFFFFFFFFFFFC,
+        StepEnd::Trap(Cause::LoadUnmapped(0xFFFFFFFFFFFFFFFC)),
+    ), // LD x10, 0(x11)
+    (
+        0x00b5b023,
+        0x12FF9,
+        StepEnd::Trap(Cause::StoreUnmapped(0x12FF9)),
+    ), // SD x11, 0(x11)
+    (0x00000000, 0, StepEnd::Trap(Cause::Illegal(0))),
+    (0x00008002, 0, StepEnd::Trap(Cause::Illegal(0x8002))), // a compressed instruction
+    (0x00100073, 0, StepEnd::Trap(Cause::Break)), // EBREAK
+    (0x00000073, 0, StepEnd::Call), // ECALL
+];
+
 #[test]
 fn rows_that_stop(rt: HostRuntime) {
-    // A word, the value of x11, and how the step ends, which leaves x10 and the pc.
-    let trap = StepEnd::Trap;
-    let table: [(u32, u64, StepEnd); 10] = [
-        (0x0060056f, 0, trap(Cause::FetchMisaligned(0x10006))), // JAL x10, 6
-        (0x00358567, 0x10100, trap(Cause::FetchMisaligned(0x10102))), // JALR x10, 3(x11)
-        (0x00058363, 0, trap(Cause::FetchMisaligned(0x10006))), // BEQ x11, x0, 6, taken
-        (0x0005b503, 0x12FFC, trap(Cause::LoadUnmapped(0x12FFC))), // LD x10, 0(x11)
-        (
-            0x0005b503,
-            0xFFFFFFFFFFFFFFFC,
-            trap(Cause::LoadUnmapped(0xFFFFFFFFFFFFFFFC)),
-        ), // LD x10, 0(x11)
-        (0x00b5b023, 0x12FF9, trap(Cause::StoreUnmapped(0x12FF9))), // SD x11, 0(x11)
-        (0x00000000, 0, trap(Cause::Illegal(0))),
-        (0x00008002, 0, trap(Cause::Illegal(0x8002))), // a compressed instruction
-        (0x00100073, 0, trap(Cause::Break)), // EBREAK
-        (0x00000073, 0, StepEnd::Call), // ECALL
-    ];
-    for (word, x11, end) in table {
+    for &(word, x11, end) in &STOPPING {
         assert_eq!(rt;
             run_once(&rt, rt.alloc(), word, x11),
             (end, 9, 0),

@@ -1,19 +1,22 @@
 //! Rows of words as the GNU assembler makes them.
 use rv64_table::{Op, laws, row_of, rows};
 
+/// Words as the GNU assembler makes them, with their operations.
+static ASSEMBLED: [(u32, Op); 7] = [
+    (0x4020_8fb3, Op::Sub),
+    (0x43f3_5293, Op::Srai),
+    (0x41f3_529b, Op::Sraiw),
+    (0x0ff0_000f, Op::Fence),
+    (0x0010_0073, Op::Ebreak),
+    (0x02c5_f53b, Op::Remuw),
+    (0xffff_f0b7, Op::Lui),
+];
+
 #[test]
 fn rows_of_assembled_words(rt: HostRuntime) {
     laws::no_word_matches_two_rows();
     laws::a_fitting_row_is_the_row();
-    for (word, want) in [
-        (0x4020_8fb3, Op::Sub),
-        (0x43f3_5293, Op::Srai),
-        (0x41f3_529b, Op::Sraiw),
-        (0x0ff0_000f, Op::Fence),
-        (0x0010_0073, Op::Ebreak),
-        (0x02c5_f53b, Op::Remuw),
-        (0xffff_f0b7, Op::Lui),
-    ] {
+    for &(word, want) in &ASSEMBLED {
         assert_eq!(rt; row_of(word), Some(want), "at {word:08x}");
         let row = want.row();
         assert_eq!(rt; word & row.mask, row.want, "at {word:08x}");

@@ -16,3 +16,4 @@ pub mod LawLemmas
 pub mod Tournament
 pub mod Counting
 pub mod After
+pub mod Walks

@@ -1,0 +1,2 @@
+-- What serves the code's split. No promise rests on these files being read.
+pub mod Refusing

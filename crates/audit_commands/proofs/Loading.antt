@@ -1,0 +1,16 @@
+-- What a recipe's inputs are fetched by, and what is fetched.
+use Rattle.std.proofs.Common.{◌≡◌, ℕ, ◌≤◌, Bool, true, IsTrue, List, length, ◌&&◌, nat_le, arith}
+use Rattle.std.specs.List.{list_all}
+use Rattle.std.proofs.lemmas.Bool.{and_parts, leb-true}
+use Rattle.ddc_base.specs.Outside.{IsFileName, ShelfState}
+use Rattle.recipe_text.specs.Reading.{is_path, is_path_byte}
+use Rattle.command_plan.specs.declared.stop.Stop.{Stop}
+use Rattle.command_plan.specs.Steps.{Fetches}
+
+-- a path is a name that a shelf takes
+pub path_names : (path : List ℕ) → IsTrue (is_path path) → IsFileName path
+unfolding is_path
+path_names path is =
+    let parts = and_parts (nat_le 1 (length path) && nat_le (length path) 255) (list_all is_path_byte path) is in
+    let sizes = and_parts (nat_le 1 (length path)) (nat_le (length path) 255) parts.0 in
+    record { not_empty = leb-true 1 (length path) sizes.0; not_long = leb-true (length path) 255 sizes.1 }

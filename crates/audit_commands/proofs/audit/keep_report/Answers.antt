@@ -1,0 +1,9 @@
+use Rattle.std.proofs.Common.{◌≡◌, sym, subst, List, ℕ}
+use Rattle.command_plan.specs.Performs.{Performs}
+use Rattle.command_plan.specs.Plan.{answers, sets}
+use Rattle.audit_commands.specs.Audit.{completed}
+use Rattle.audit_commands.proofs.audit.keep_report.Goals as goal
+
+pub returns : goal.returns
+unfolding completed
+returns g c = rw (c.as_slice.ensures, c.in_ok-text.ensures.value, c.in_ok-answer.ensures.status, c.in_ok-answer.ensures.text) at c.keep.ensures

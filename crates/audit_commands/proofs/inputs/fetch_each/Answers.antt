@@ -1,0 +1,46 @@
+use Rattle.std.proofs.Common.{◌≡◌, ◌+◌, ◌-◌, ◌≤◌, All, [], ◌∷◌, ◌++◌, length, drop, map, refl, sym, ap, ◌∙◌, subst, arith}
+use Rattle.std.proofs.lemmas.List.{length-append}
+use Rattle.std.proofs.lemmas.List.Elements.{All-append, All-cons, All-nil}
+use Rattle.mem_files.specs.Outputs.{IsContent}
+use Rattle.recipe.specs.declared.parts.Input.{Input}
+use Rattle.command_plan.proofs.Gathering.{ends, fetched_within, goes_on, stops_at, wants}
+use Rattle.audit_commands.proofs.Loading.{path_names}
+use Rattle.audit_commands.proofs.inputs.fetch_each.Goals as goal
+
+pub loop-input-init : goal.loop-input-init
+loop-input-init g c = rw c.new-contents.ensures (record { leads = λ next final result p. p; count = refl; each = All-nil IsContent })
+
+pub fetch-requires : goal.fetch-requires
+fetch-requires g c = rw c.as_str.ensures.value (path_names c.input-item.result.path c.as_str.ensures.path)
+
+pub size_of-room-requires : goal.size_of-room-requires
+size_of-room-requires g c =
+    rw c.as_slice.ensures (fetched_within c.as_str.result.now 268_435_456 c.loop-input.room c.min.result _ _ c.in-Ok.content c.min.ensures c.in-Ok.ensures).0
+
+pub returns-in-Err-clause-loads : goal.returns-in-Err-clause-loads
+returns-in-Err-clause-loads g c =
+    stops_at _ 268_435_456 c.loop-input.room c.min.result c.loop-input.contents (λ (input : Input). input.path) c.args.inputs.now c.loop-input.input-index c.input-item.result c.as_str.result.now
+    _ _ _ c.in-Err.stop c.loop-input.invariant.leads c.loop-input-test.true c.input-item.is c.as_str.ensures.value c.min.ensures c.in-Err.ensures
+
+pub returns-in-Err-push-clause-loads : goal.returns-in-Err-push-clause-loads
+returns-in-Err-push-clause-loads g c =
+    wants _ 268_435_456 _ _ _ _ _
+    (goes_on _ 268_435_456 c.loop-input.room c.min.result c.loop-input.contents (λ (input : Input). input.path) c.args.inputs.now c.loop-input.input-index c.input-item.result c.as_str.result.now
+      _ _ _ c.in-Ok.content _ _ c.loop-input.invariant.leads c.loop-input-test.true c.input-item.is c.as_str.ensures.value c.min.ensures c.in-Ok.ensures refl refl)
+
+pub loop-input-preserved : goal.loop-input-preserved
+loop-input-preserved g c =
+    let pushed = c.in-Ok-push.ensures.ok in
+    record {
+      leads = goes_on _ 268_435_456 c.loop-input.room c.min.result c.loop-input.contents (λ (input : Input). input.path) c.args.inputs.now c.loop-input.input-index c.input-item.result
+          c.as_str.result.now _ _ _ c.in-Ok.content _ _ c.loop-input.invariant.leads c.loop-input-test.true c.input-item.is c.as_str.ensures.value c.min.ensures c.in-Ok.ensures
+          (ap (λ n. c.loop-input.room - n) (c.size_of-room.ensures.size ∙ ap length c.as_slice.ensures)) pushed;
+      count = ap length pushed ∙ length-append c.loop-input.contents (c.in-Ok.content ∷ []) ∙ ap (λ n. n + 1) c.loop-input.invariant.count;
+      each = subst (All IsContent) (sym pushed)
+          (All-append IsContent c.loop-input.contents (c.in-Ok.content ∷ []) c.loop-input.invariant.each
+          (All-cons IsContent c.in-Ok.content [] (rw c.as_slice.ensures at c.size_of-room.ensures.content) (All-nil IsContent)));
+    }
+
+pub returns-clause-loads : goal.returns-clause-loads
+returns-clause-loads g c =
+    ends _ 268_435_456 c.loop-input.room c.loop-input.contents _ _ (λ (input : Input). input.path) c.args.inputs.now c.loop-input.input-index c.loop-input.invariant.leads c.loop-input-test.false

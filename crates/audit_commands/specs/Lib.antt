@@ -1,0 +1,4 @@
+pub mod Show
+pub mod Texts
+pub mod Audit
+pub mod Inside

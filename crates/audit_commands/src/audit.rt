@@ -1,0 +1,193 @@
+//! `audit RECIPE REPORT`: the stages of a recipe are run, and their report is saved.
+ghost use Rattle.std.specs.Prelude.{◌≡◌, None, map, IfOk};
+ghost use Rattle.ddc_base.specs.Outside.{IsFileName};
+ghost use Rattle.recipe.specs.Kept.{IsRecipe};
+ghost use Rattle.report.specs.Reports.{IsReport};
+ghost use Rattle.wheeler.specs.Bench.{bench};
+ghost use Rattle.wheeler.specs.Valid.{IsInputs};
+ghost use Rattle.command_plan.specs.declared.status.Status.TheVariants.{RunFailed, CheckFailed};
+ghost use Rattle.command_plan.specs.Performs.{Performs};
+ghost use Rattle.command_plan.specs.Plan.{answers};
+ghost use Rattle.command_plan.specs.Steps.{Says};
+ghost use Rattle.audit_commands.specs.Audit.{audited, audit_files, audit_plan, audit_recipe, compared_status, completed};
+ghost use Rattle.audit_commands.specs.Inside.Finishing.{Finishes};
+ghost use Rattle.audit_commands.specs.Texts.{compared_line, stage_name, run_failed_line, check_failed_line};
+
+use crate::inputs::{fetch_inputs, fetch_recipe};
+use crate::texts;
+use audit_run::{Audit, Progress};
+use command_plan::words::are_two_files;
+use command_plan::{Answer, Status, Stop, keep, usage};
+use ddc_base::{OutOfMemory, Shelf};
+use recipe::{Inputs, Recipe};
+use report::{CompareLine, Compared, Report};
+use source_check::CheckCause;
+use std::alloc::Global;
+use wheeler::RunCause;
+
+/// Performs the command on the words after its name.
+#[tactic(auto, using(command_plan::proofs::Performing::performing))]
+pub fn perform<S: Shelf>(alloc: Global, words: &[&str], shelf: &mut S) -> Result<Answer, Stop>
+    ensures { Performs (audit_plan (map (λ w. w.now) words.now)) (S.state shelf.old) (S.state shelf.new) result }
+{
+    match words {
+        [recipe, report] if are_two_files(recipe, report) => {
+            audit_files(alloc, recipe, report, shelf)
+        }
+        _ => usage(alloc),
+    }
+}
+
+/// Fetches the recipe, and goes on with it.
+#[tactic(auto, using(command_plan::proofs::Gathering::obtaining), unfolding(crate::specs::Audit::audit_files))]
+fn audit_files<S: Shelf>(
+    alloc: Global,
+    recipe: &str,
+    report: &str,
+    shelf: &mut S,
+) -> Result<Answer, Stop>
+    requires recipe { IsFileName recipe.now }
+    requires report { IsFileName report.now }
+    ensures { Performs (audit_files recipe.now report.now) (S.state shelf.old) (S.state shelf.new) result }
+{
+    match fetch_recipe(alloc, shelf, recipe, report) {
+        Ok(recipe) => audit_recipe(alloc, recipe, report, shelf),
+        Err(stop) => Err(stop),
+    }
+}
+
+/// Fetches the inputs, and goes on with them.
+#[tactic(auto, using(command_plan::proofs::Gathering::obtaining), unfolding(crate::specs::Audit::audit_recipe))]
+fn audit_recipe<S: Shelf>(
+    alloc: Global,
+    recipe: Recipe,
+    report: &str,
+    shelf: &mut S,
+) -> Result<Answer, Stop>
+    requires { IsFileName report.now }
+    ensures { Performs (audit_recipe report.now recipe) (S.state shelf.old) (S.state shelf.new) result }
+{
+    match fetch_inputs(alloc, shelf, &recipe) {
+        Ok(inputs) => audit_inputs(alloc, recipe, inputs, report, shelf),
+        Err(stop) => Err(stop),
+    }
+}
+
+/// Makes the audit, and goes on with what it comes to.
+#[tactic(auto, using(command_plan::proofs::Performing::performing))]
+fn audit_inputs<S: Shelf>(
+    alloc: Global,
+    recipe: Recipe,
+    inputs: Inputs,
+    report: &str,
+    shelf: &mut S,
+) -> Result<Answer, Stop>
+    requires inputs { IsInputs recipe inputs }
+    requires kept { IsRecipe recipe }
+    requires report { IsFileName report.now }
+    ensures { Performs (audited recipe report.now (bench recipe inputs)) (S.state shelf.old) (S.state shelf.new) result }
+{
+    let mut audit = Audit::new(alloc, recipe, inputs);
+    let progress = finish(&mut audit);
+    conclude(alloc, &audit, progress, report, shelf)
+}
+
+/// Saves the report of an audit that is over, or says which stage is not done.
+fn conclude<S: Shelf>(
+    alloc: Global,
+    audit: &Audit,
+    progress: Progress,
+    report: &str,
+    shelf: &mut S,
+) -> Result<Answer, Stop>
+    requires over { Finishes audit.now.recipe audit.now.inputs progress audit.now.stands }
+    requires report { IsFileName report.now }
+    ensures { Performs (audited audit.now.recipe report.now (bench audit.now.recipe audit.now.inputs))
+        (S.state shelf.old) (S.state shelf.new) result }
+{
+    match progress {
+        Progress::Equal | Progress::Differs => match audit.report() {
+            Some(made) => keep_report(alloc, made, report, shelf),
+            None => unreachable!(),
+        },
+        Progress::RunFailed { stage, cause, step } => {
+            run_failed(alloc, audit.recipe(), stage, cause, step)
+        }
+        Progress::CheckFailed { stage, cause } => {
+            check_failed(alloc, audit.recipe(), stage, cause)
+        }
+        Progress::Paused => unreachable!(),
+        Progress::OutOfMemory => Err(Stop::OutOfMemory),
+    }
+}
+
+/// The answer of a stage that made no artefact.
+fn run_failed(
+    alloc: Global,
+    recipe: &Recipe,
+    stage: u32,
+    cause: RunCause,
+    step: u64,
+) -> Result<Answer, Stop>
+    ensures { Says (answers RunFailed (run_failed_line (stage_name recipe.now.stages stage) cause step)) result }
+{
+    Ok(Answer {
+        status: Status::RunFailed,
+        text: texts::run_failed(alloc, texts::stage_name(recipe, stage), cause, step)?,
+    })
+}
+
+/// The answer of a stage whose artefact is not what its source stands for.
+fn check_failed(
+    alloc: Global,
+    recipe: &Recipe,
+    stage: u32,
+    cause: CheckCause,
+) -> Result<Answer, Stop>
+    ensures { Says (answers CheckFailed (check_failed_line (stage_name recipe.now.stages stage) cause)) result }
+{
+    Ok(Answer {
+        status: Status::CheckFailed,
+        text: texts::check_failed(alloc, texts::stage_name(recipe, stage), cause)?,
+    })
+}
+
+/// Advances an audit to its end: no recipe allows as many steps.
+fn finish(audit: &mut Audit) -> Progress
+    requires stands { audit.old.stands ≡ None }
+    requires kept { IsRecipe audit.old.recipe }
+    ensures answer { Finishes audit.old.recipe audit.old.inputs result audit.new.stands }
+    ensures recipe { audit.new.recipe ≡ audit.old.recipe }
+    ensures inputs { audit.new.inputs ≡ audit.old.inputs }
+{
+    audit.advance(u64::MAX)
+}
+
+/// Saves a report, and says how its comparison ended.
+#[tactic(auto, using(command_plan::proofs::Performing::saving), unfolding(crate::specs::Audit::completed))]
+fn keep_report<S: Shelf>(
+    alloc: Global,
+    made: &Report,
+    report: &str,
+    shelf: &mut S,
+) -> Result<Answer, Stop>
+    requires made { IsReport made.now }
+    requires report { IsFileName report.now }
+    ensures { Performs (completed report.now made.now) (S.state shelf.old) (S.state shelf.new) result }
+{
+    let text = report::write(alloc, made)?;
+    let answer = compared(alloc, &made.compare)?;
+    keep(alloc, shelf, report, text.as_slice(), answer)
+}
+
+/// The answer to a comparison.
+fn compared(alloc: Global, compare: &CompareLine) -> Result<Answer, OutOfMemory>
+    ensures status { IfOk result (λ answer. answer.status ≡ compared_status compare.now.result) }
+    ensures text { IfOk result (λ answer. answer.text ≡ compared_line compare.now) }
+{
+    let text = texts::compared(alloc, compare)?;
+    match compare.result {
+        Compared::Equal(_) => Ok(Answer { status: Status::Yes, text }),
+        Compared::Differs(_, _, _) => Ok(Answer { status: Status::Differs, text }),
+    }
+}

@@ -1,0 +1,58 @@
+//! The texts of causes.
+ghost use Rattle.std.specs.Prelude.{◌≡◌, IfOk, string_bytes};
+ghost use Rattle.audit_commands.specs.Texts.{start_cause_text, run_cause_text, check_cause_text};
+
+use ddc_base::OutOfMemory;
+use source_check::CheckCause;
+use std::alloc::Global;
+use wheeler::{RunCause, StartCause};
+
+/// A run that made no artefact.
+pub fn run_cause(alloc: Global, cause: RunCause) -> Result<String, OutOfMemory>
+    ensures { IfOk result (λ text. string_bytes text ≡ run_cause_text cause) }
+{
+    match cause {
+        RunCause::Start(cause) => start_cause(alloc, cause),
+        RunCause::Trap(cause) => run_causes::trap(alloc, cause),
+        RunCause::Call(number) => run_causes::call(alloc, number),
+        RunCause::Status(status) => Ok(format!(in alloc; "status {status}")?),
+        RunCause::NoOutput => Ok(String::from_str(alloc, "no-output")?),
+        RunCause::Spent => Ok(String::from_str(alloc, run_causes::spent())?),
+        RunCause::Crowded => Ok(String::from_str(alloc, "crowded")?),
+    }
+}
+
+/// A start that is refused.
+fn start_cause(alloc: Global, cause: StartCause) -> Result<String, OutOfMemory>
+    ensures { IfOk result (λ text. string_bytes text ≡ start_cause_text cause) }
+{
+    match cause {
+        StartCause::Elf(refusal) => run_causes::elf(alloc, refusal),
+        StartCause::ArgsTooLong => Ok(String::from_str(alloc, run_causes::args())?),
+        StartCause::BoxTooLarge => Ok(String::from_str(alloc, run_causes::box_files())?),
+    }
+}
+
+/// An artefact that is not what its source stands for.
+pub fn check_cause(alloc: Global, cause: CheckCause) -> Result<String, OutOfMemory>
+    ensures { IfOk result (λ text. string_bytes text ≡ check_cause_text cause) }
+{
+    match cause {
+        CheckCause::Hex(cause) => {
+            let number = cause.number();
+            let place = cause.place();
+            Ok(format!(in alloc; "hex {number} {place}")?)
+        }
+        CheckCause::M1(cause) => {
+            let number = cause.number();
+            let place = cause.place();
+            Ok(format!(in alloc; "m1 {number} {place}")?)
+        }
+        CheckCause::NotItems(cause) => {
+            let number = cause.number();
+            let place = cause.place();
+            Ok(format!(in alloc; "items {number} {place}")?)
+        }
+        CheckCause::Differs(place) => Ok(format!(in alloc; "differs {place}")?),
+    }
+}

@@ -1,0 +1,101 @@
+-- Stretches in a row, and where they leave an audit.
+use Rattle.std.proofs.Common.{◌≡◌, ℕ, ◌+◌, ◌-◌, ◌<◌, ◌≤◌, Result, Ok, Err, List, [], ◌∷◌, ◌++◌, length, refl, sym, ap, ◌∙◌, arith, subst}
+use Rattle.guest_run.specs.State.{GuestState}
+use Rattle.recipe.specs.declared.contents.Said.{Said}
+use Rattle.recipe.specs.Kept as kept
+use Rattle.wheeler.specs.declared.answer.Fault.{Fault}
+use Rattle.wheeler.specs.declared.answer.Finished.{Finished}
+use Rattle.wheeler.specs.Positions.{Standing, On, Over, at, closed, enter, forward, forward_from, todo}
+use Rattle.wheeler.specs.Valid.{AreDone, IsInputs, IsPosition, IsStanding}
+use Rattle.wheeler.proofs.Forwards.{forward_from-sum}
+use Rattle.wheeler.proofs.Places.{enter-standing}
+use Rattle.wheeler.proofs.Rules.{rules}
+use Rattle.audit_run.specs.declared.place.Entry.{Entry}
+use Rattle.audit_run.specs.declared.place.Moved.{Moved}
+use Rattle.audit_run.specs.declared.place.Moved.TheVariants as moved
+use Rattle.audit_run.specs.declared.place.Place.{Place}
+use Rattle.audit_run.specs.declared.place.Place.TheVariants as place
+use Rattle.audit_run.specs.Advances.{StopsAt}
+use Rattle.audit_run.specs.Inside.Parts.{entry_standing, IsPlace, IsStarted, later, SlicesBy, stands, StopsIn}
+use Rattle.audit_run.proofs.Present.{stays}
+
+-- where an audit stands that has started
+pub place-of : (recipe : Said) (inputs : List (List ℕ)) (done : List Finished) (where_it_is : Place) → IsStarted where_it_is → IsStanding recipe (stands recipe inputs done where_it_is)
+    → IsPlace recipe done where_it_is
+place-of recipe inputs done place.Ready started ok = absurd started
+place-of recipe inputs done (place.Running guest) started ok = ok
+place-of recipe inputs done (place.Over answer) started ok = ok
+
+pub entry-stands : (recipe : Said) (inputs : List (List ℕ)) (done : List Finished) (e : Entry) → kept.IsRecipe recipe → IsInputs recipe inputs → AreDone recipe done
+    → entry_standing done e ≡ enter recipe inputs done (todo recipe done) → IsStanding recipe (entry_standing done e)
+entry-stands recipe inputs done e is given are entered =
+    subst (IsStanding recipe) (sym entered) (enter-standing recipe (rules recipe is) inputs given done (todo recipe done) are refl)
+
+-- before the first advance nothing is done
+pub ready-done : (recipe : Said) (done : List Finished) (where_it_is : Place) → where_it_is ≡ place.Ready → IsPlace recipe done where_it_is → AreDone recipe done
+ready-done recipe done where_it_is ready ok =
+    let none : done ≡ [] = subst (IsPlace recipe done) ready ok in
+    subst (AreDone recipe) (sym none) (record { each = tt; small = omega arith })
+
+-- want of memory behind some steps more
+pub stops-later : (recipe : Said) (inputs : List (List ℕ)) (from between to : Standing) (first most left : ℕ) → between ≡ forward_from recipe inputs from first → first + left ≤ most
+    → StopsIn recipe inputs between left to → StopsIn recipe inputs from most to
+stops-later recipe inputs from between (Over answer) first most left is le stops = absurd stops
+stops-later recipe inputs from between (On p) first most left is le stops = record {
+  count = first + stops.count;
+  fewer = omega (arith, le, stops.fewer);
+  reached = sym (forward_from-sum recipe inputs from first stops.count (first + stops.count) refl) ∙ ap (λ s. forward_from recipe inputs s stops.count) (sym is) ∙ stops.reached;
+  wants = stops.wants;
+}
+
+module _ (recipe : Said) (inputs : List (List ℕ)) (is : kept.IsRecipe recipe) (given : IsInputs recipe inputs) (done shown : List Finished) (same : shown ≡ done)
+    (where_it_is : Place) (guest new : GuestState) (at_place : where_it_is ≡ place.Running guest) (ok : IsPlace recipe done where_it_is) where
+  here : IsPosition recipe (at done guest)
+  here = subst (IsPlace recipe done) at_place ok
+
+  pub goes-stands : (taken : ℕ) (step : Moved) → step ≡ moved.Goes → SlicesBy recipe inputs shown (later recipe shown) guest taken step new → IsPosition recipe (at done new)
+  goes-stands taken step goes slices =
+      stays recipe inputs (at done guest) taken (On (at done new)) is given here
+      (subst (λ d. forward recipe inputs (at d guest) taken ≡ On (at d new)) same (subst (λ s. SlicesBy recipe inputs shown (later recipe shown) guest taken s new) goes slices))
+
+  ended-by : (taken : ℕ) (step : Moved) (r : Result Finished Fault) (f : Finished) → step ≡ moved.Ended r → r ≡ Ok f
+      → SlicesBy recipe inputs shown (later recipe shown) guest taken step new → SlicesBy recipe inputs done (later recipe done) guest taken (moved.Ended (Ok f)) new
+  ended-by taken step r f ends good slices =
+      subst (λ d. SlicesBy recipe inputs d (later recipe d) guest taken (moved.Ended (Ok f)) new) same
+      (subst (λ q. SlicesBy recipe inputs shown (later recipe shown) guest taken (moved.Ended q) new) good
+      (subst (λ s. SlicesBy recipe inputs shown (later recipe shown) guest taken s new) ends slices))
+
+  pub closed-stands : (taken : ℕ) (step : Moved) (r : Result Finished Fault) (f : Finished) (done' : List Finished) (place' : Place) → step ≡ moved.Ended r → r ≡ Ok f
+      → SlicesBy recipe inputs shown (later recipe shown) guest taken step new
+      → stands recipe inputs done' place' ≡ closed recipe inputs done (later recipe done) (Ok f) → IsStarted place' → IsPlace recipe done' place'
+  closed-stands taken step r f done' place' ends good slices stood started =
+      let by = ended-by taken step r f ends good slices in
+      place-of recipe inputs done' place' started
+      (subst (IsStanding recipe) (sym stood) (stays recipe inputs (at done guest) taken (closed recipe inputs done (later recipe done) (Ok f)) is given here by.0))
+
+  pub closing-stops : (most taken : ℕ) (step : Moved) (r : Result Finished Fault) (f : Finished) (done' : List Finished) (place' : Place) → step ≡ moved.Ended r → r ≡ Ok f
+      → SlicesBy recipe inputs shown (later recipe shown) guest taken step new → 1 ≤ taken → taken ≤ most → done' ≡ done → place' ≡ place.Running new
+      → StopsIn recipe inputs (stands recipe inputs done where_it_is) most (stands recipe inputs done' place')
+  closing-stops most taken step r f done' place' ends good slices some le back back' =
+      let by = ended-by taken step r f ends good slices in
+      let Goal : Standing → Type 0 = StopsIn recipe inputs (stands recipe inputs done where_it_is) most in
+      let at_new : stands recipe inputs done' place' ≡ On (at done new) = ap (stands recipe inputs done') back' ∙ ap (λ d. On (at d new)) back in
+      let stop : StopsAt recipe inputs (stands recipe inputs done where_it_is) most (at done new) = record {
+        count = taken - 1;
+        fewer = omega (arith, some, le);
+        reached = ap (λ (q : Place). forward_from recipe inputs (stands recipe inputs done q) (taken - 1)) at_place ∙ by.1;
+        wants = by.2;
+      } in
+      subst Goal (sym at_new) stop
+
+  pub closing-stands : (taken : ℕ) (step : Moved) (r : Result Finished Fault) (f : Finished) (done' : List Finished) (place' : Place) → step ≡ moved.Ended r → r ≡ Ok f
+      → SlicesBy recipe inputs shown (later recipe shown) guest taken step new → done' ≡ done → place' ≡ place.Running new → IsPlace recipe done' place'
+  closing-stands taken step r f done' place' ends good slices back back' =
+      let by = ended-by taken step r f ends good slices in
+      subst (λ d. IsPlace recipe d place') (sym back)
+      (subst (IsPlace recipe done) (sym back') (stays recipe inputs (at done guest) (taken - 1) (On (at done new)) is given here by.1))
+
+  pub out-stands : (most : ℕ) → StopsAt recipe inputs (On (at shown guest)) most (at shown new) → IsPosition recipe (at done new)
+  out-stands most stops =
+      let by = subst (λ d. StopsAt recipe inputs (On (at d guest)) most (at d new)) same stops in
+      stays recipe inputs (at done guest) by.count (On (at done new)) is given here by.reached

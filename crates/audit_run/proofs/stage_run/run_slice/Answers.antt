@@ -1,0 +1,55 @@
+use Rattle.std.proofs.Common.{◌≡◌, ◌+◌, ◌-◌, ◌<◌, ◌≤◌, ℕ, Some, Ok, Err, arith, refl, sym, ap, ◌∙◌, subst}
+use Rattle.guest_run.specs.Run.{Exited, Trapped, UnknownCall}
+use Rattle.wheeler.specs.declared.answer.Fault.TheVariants.{Runs}
+use Rattle.wheeler.specs.declared.cause.RunCause.TheVariants as run
+use Rattle.wheeler.specs.Stages.{exited_with}
+use Rattle.audit_stage.specs.Makes.{Makes}
+use Rattle.audit_run.proofs.Slicing.{slices-end, slices-end-out, slices-goes, slices-out, slices-spent}
+use Rattle.audit_run.proofs.stage_run.run_slice.Goals as goal
+
+pub returns-then-steps-stage : goal.returns-then-steps-stage
+returns-then-steps-stage c =
+    slices-goes _ _ _ _ _ _ _ c.requires.stands c.requires.recipe c.requires.given c.args.most c.min-slice.result c.in-Spent.ensures.answer
+    (omega (arith, c.min-slice.ensures, c.steps-before.ensures.value, c.requires.stands.within, c.requires.some)) (omega (arith, c.min-slice.ensures))
+    (omega (arith, c.if-steps-stage.true, c.steps.ensures.value))
+
+pub returns-else-steps-stage : goal.returns-else-steps-stage
+returns-else-steps-stage c =
+    slices-spent c.args.recipe.now c.args.inputs.now c.args.done.now c.args.stage.now _ c.args.guest.now c.run.new.self c.requires.stands c.requires.recipe c.requires.given c.args.most c.min-slice.result c.in-Spent.ensures.answer
+    (omega (arith, c.min-slice.ensures, c.steps-before.ensures.value, c.requires.stands.within, c.requires.some)) (omega (arith, c.min-slice.ensures))
+    (omega (arith, c.min-slice.ensures, c.steps-before.ensures.value, c.requires.stands.within)) (omega (arith, c.if-steps-stage.false, c.steps.ensures.value))
+
+pub returns-in-OutOfMemory : goal.returns-in-OutOfMemory
+returns-in-OutOfMemory c =
+    slices-out _ _ _ _ _ _ _ c.requires.stands c.requires.recipe c.requires.given c.args.most c.min-slice.result _ c.in-OutOfMemory.ensures.answer
+    (omega (arith, c.min-slice.ensures)) (omega (arith, c.min-slice.ensures, c.steps-before.ensures.value, c.requires.stands.within))
+
+pub returns-in-Trapped : goal.returns-in-Trapped
+returns-in-Trapped c =
+    slices-end _ _ _ _ _ _ _ c.requires.stands c.requires.recipe c.requires.given c.args.most c.min-slice.result (c.steps-step.result + 1 - c.steps-before.result) (Trapped c.in-Trapped.cause)
+    (Err (Runs (run.Trap c.in-Trapped.cause) (c.steps-step.result + 1))) c.in-Trapped.ensures.answer
+    (omega (arith, c.min-slice.ensures)) (omega (arith, c.min-slice.ensures, c.steps-before.ensures.value, c.requires.stands.within))
+    (omega (arith, c.steps-step.ensures.value, c.steps-before.ensures.value)) (ap (λ n. Err (Runs (run.Trap c.in-Trapped.cause) (n + 1))) c.steps-step.ensures.value)
+
+pub returns-in-UnknownCall : goal.returns-in-UnknownCall
+returns-in-UnknownCall c =
+    slices-end _ _ _ _ _ _ _ c.requires.stands c.requires.recipe c.requires.given c.args.most c.min-slice.result (c.steps-step-in-UnknownCall.result + 1 - c.steps-before.result) (UnknownCall c.in-UnknownCall.number)
+    (Err (Runs (run.Call c.in-UnknownCall.number) (c.steps-step-in-UnknownCall.result + 1))) c.in-UnknownCall.ensures.answer
+    (omega (arith, c.min-slice.ensures)) (omega (arith, c.min-slice.ensures, c.steps-before.ensures.value, c.requires.stands.within))
+    (omega (arith, c.steps-step-in-UnknownCall.ensures.value, c.steps-before.ensures.value))
+    (ap (λ n. Err (Runs (run.Call c.in-UnknownCall.number) (n + 1))) c.steps-step-in-UnknownCall.ensures.value)
+
+pub returns-in-Ok : goal.returns-in-Ok
+returns-in-Ok c =
+    slices-end _ _ _ _ _ _ _ c.requires.stands c.requires.recipe c.requires.given c.args.most c.min-slice.result (c.steps-step-in-Exited.result + 1 - c.steps-before.result) (Exited c.in-Exited.status)
+    c.in-Ok.result c.in-Exited.ensures.answer
+    (omega (arith, c.min-slice.ensures)) (omega (arith, c.min-slice.ensures, c.steps-before.ensures.value, c.requires.stands.within))
+    (omega (arith, c.steps-step-in-Exited.ensures.value, c.steps-before.ensures.value))
+    (c.in-Ok.ensures.answer
+    ∙ (λ i. exited_with c.args.recipe.now c.args.inputs.now c.args.done.now c.args.stage.now c.in-Exited.status (c.steps-step-in-Exited.ensures.value i + 1) (c.files.ensures i)))
+
+pub returns-in-Err : goal.returns-in-Err
+returns-in-Err c =
+    slices-end-out _ _ _ _ _ _ _ c.requires.stands c.requires.recipe c.requires.given c.args.most c.min-slice.result c.in-Exited.status _ c.in-Exited.ensures.answer
+    (omega (arith, c.min-slice.ensures)) (omega (arith, c.min-slice.ensures, c.steps-before.ensures.value, c.requires.stands.within))
+    (subst (Makes c.args.stage.now c.args.done.now c.in-Exited.status) c.files.ensures c.in-Err.ensures.want)

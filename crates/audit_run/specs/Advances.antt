@@ -1,0 +1,60 @@
+-- What an advance does. docs/reference/audit.md says the same for people.
+use Rattle.std.specs.Prelude.{◌≡◌, ◌<◌, ◌⊎◌, ℕ, Option, None, Some, List, ◌∷◌}
+use Rattle.guest_run.specs.Run.{Next, Goes, Ends, Exited, Trapped, UnknownCall, StepTakesMemory, next}
+use Rattle.recipe.specs.declared.contents.Said.{Said}
+use Rattle.recipe.specs.declared.parts.Stage.{Stage}
+use Rattle.report.specs.declared.types.Compared.{Compared}
+use Rattle.report.specs.declared.types.Compared.TheVariants.{Equal, Differs}
+use Rattle.wheeler.specs.declared.answer.Answer.{Answer}
+use Rattle.wheeler.specs.declared.answer.Answer.TheVariants.{Completes, Fails}
+use Rattle.wheeler.specs.declared.answer.Fault.TheVariants.{Runs, Checks}
+use Rattle.wheeler.specs.Positions.{Position, Standing, On, Over, forward_from, todo}
+use Rattle.audit_stage.specs.Makes.{Makes}
+use Rattle.audit_run.specs.declared.place.Progress.{Progress}
+use Rattle.audit_run.specs.declared.place.Progress.TheVariants as said
+use Rattle.audit_run.specs.Seen.{AuditState, standing}
+
+-- what is said of a comparison, of an answer, and of where an audit stands
+abbrev pub said_of_result : Compared → Progress
+said_of_result (Equal length) = said.Equal
+said_of_result (Differs offset ours theirs) = said.Differs
+
+abbrev pub said_of_answer : Answer → Progress
+said_of_answer (Completes report) = said_of_result report.compare.result
+said_of_answer (Fails stage (Runs cause step)) = said.RunFailed stage cause step
+said_of_answer (Fails stage (Checks cause)) = said.CheckFailed stage cause
+
+abbrev pub said_of : Standing → Progress
+said_of (On p) = said.Paused
+said_of (Over answer) = said_of_answer answer
+
+-- the next step of a position takes memory: the guest's own step does; or its run ends with an artefact, which is checked and kept, and
+-- then the next stage starts or the report is made
+abbrev pub WantsBy : Stage → Position → Next → Type 0
+WantsBy stage p (Goes to) = StepTakesMemory p.at
+WantsBy stage p (Ends (Exited status)) = Makes stage p.done status p.at.world
+WantsBy stage p (Ends (Trapped cause)) = ⊥
+WantsBy stage p (Ends (UnknownCall number)) = ⊥
+
+abbrev pub Wants : Said → Position → Type 0
+Wants recipe p = (stage : Stage) × (stages : List Stage) × (todo recipe p.done ≡ stage ∷ stages) × WantsBy stage p (next p.at)
+
+-- memory was wanting behind fewer steps than were asked for, where the next step takes memory
+pub record StopsAt (recipe : Said) (inputs : List (List ℕ)) (from : Standing) (most : ℕ) (to : Position) : Type 0 where
+  pub count : ℕ
+  pub fewer : count < most
+  pub reached : forward_from recipe inputs from count ≡ On to
+  pub wants : Wants recipe to
+
+-- or where the first stage had still to be started, which leaves the audit as it was
+abbrev pub Stops : AuditState → ℕ → Option Standing → Type 0
+Stops old most None = old.stands ≡ None
+Stops old most (Some (On p)) = StopsAt old.recipe old.inputs (standing old) most p
+Stops old most (Some (Over answer)) = ⊥
+
+-- an advance by at most so many steps goes on by so many, and says where the audit stands then; or memory is wanting
+abbrev pub Advances : AuditState → ℕ → Progress → Option Standing → Type 0
+Advances old most said.OutOfMemory new = Stops old most new
+Advances old most answer new =
+    (new ≡ Some (forward_from old.recipe old.inputs (standing old) most))
+    × (answer ≡ said_of (forward_from old.recipe old.inputs (standing old) most))

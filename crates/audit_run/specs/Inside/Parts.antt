@@ -1,0 +1,85 @@
+-- Where the parts of an audit stand.
+use Rattle.std.specs.Prelude.{◌≡◌, ◌<◌, ◌≤◌, ◌+◌, ◌-◌, ℕ, suc, Option, None, Some, Result, Ok, Err, List, [], ◌∷◌, ◌++◌, length, drop, slice_get}
+use Rattle.ddc_base.specs.declared.byte_list.OutOfMemory.{OutOfMemory}
+use Rattle.guest_run.specs.State.{GuestState}
+use Rattle.recipe.specs.declared.contents.Said.{Said}
+use Rattle.recipe.specs.declared.parts.Stage.{Stage}
+use Rattle.wheeler.specs.declared.answer.Answer.{Answer}
+use Rattle.wheeler.specs.declared.answer.Answer.TheVariants.{Completes, Fails}
+use Rattle.wheeler.specs.declared.answer.Fault.{Fault}
+use Rattle.wheeler.specs.declared.answer.Finished.{Finished}
+use Rattle.wheeler.specs.Positions.{Position, Standing, On, Over, at, beginning, closed, forward, forward_from, todo}
+use Rattle.wheeler.specs.Valid.{AreDone, IsAt, IsInputs, IsStanding}
+use Rattle.audit_run.specs.declared.place.Place.{Place}
+use Rattle.audit_run.specs.declared.place.Place.TheVariants as place
+use Rattle.audit_run.specs.declared.place.Entry.{Entry}
+use Rattle.audit_run.specs.declared.place.Entry.TheVariants as entry
+use Rattle.audit_run.specs.declared.place.Moved.{Moved}
+use Rattle.audit_run.specs.declared.place.Moved.TheVariants as moved
+use Rattle.audit_run.specs.declared.place.Progress.{Progress}
+use Rattle.audit_run.specs.declared.place.Progress.TheVariants as progress
+use Rattle.audit_run.specs.Advances.{said_of_answer, StopsAt, Wants}
+
+abbrev pub seen : List Finished → Place → Option Standing
+seen done place.Ready = None
+seen done (place.Running guest) = Some (On (at done guest))
+seen done (place.Over answer) = Some (Over answer)
+
+abbrev pub stands : Said → List (List ℕ) → List Finished → Place → Standing
+stands recipe inputs done place.Ready = beginning recipe inputs
+stands recipe inputs done (place.Running guest) = On (at done guest)
+stands recipe inputs done (place.Over answer) = Over answer
+
+abbrev pub entry_standing : List Finished → Entry → Standing
+entry_standing done (entry.Started guest) = On (at done guest)
+entry_standing done (entry.Over answer) = Over answer
+
+-- the stages after the present one
+abbrev pub later : Said → List Finished → List Stage
+later recipe done = drop (length done + 1) recipe.stages
+
+-- what a slice of a stage's run means
+abbrev pub SlicesBy : Said → List (List ℕ) → List Finished → List Stage → GuestState → ℕ → Moved → GuestState → Type 0
+SlicesBy recipe inputs done stages old taken moved.Goes new = forward recipe inputs (at done old) taken ≡ On (at done new)
+SlicesBy recipe inputs done stages old taken (moved.Ended (Ok f)) new =
+    (forward recipe inputs (at done old) taken ≡ closed recipe inputs done stages (Ok f))
+    × (forward recipe inputs (at done old) (taken - 1) ≡ On (at done new)) × Wants recipe (at done new) × AreDone recipe (done ++ f ∷ [])
+SlicesBy recipe inputs done stages old taken (moved.Ended (Err fault)) new =
+    forward recipe inputs (at done old) taken ≡ closed recipe inputs done stages (Err fault)
+
+abbrev pub Slices : Said → List (List ℕ) → List Finished → List Stage → GuestState → ℕ → Result (ℕ × Moved) OutOfMemory → GuestState → Type 0
+Slices recipe inputs done stages old most (Ok step) new =
+    SlicesBy recipe inputs done stages old step.0 step.1 new × (1 ≤ step.0) × (step.0 ≤ most)
+Slices recipe inputs done stages old most (Err error) new = StopsAt recipe inputs (On (at done old)) most (at done new)
+
+-- what holds of the parts between two calls: before the first advance no stage is done
+abbrev pub IsPlace : Said → List Finished → Place → Type 0
+IsPlace recipe done place.Ready = done ≡ []
+IsPlace recipe done (place.Running guest) = IsStanding recipe (On (at done guest))
+IsPlace recipe done (place.Over answer) = IsStanding recipe (Over answer)
+
+pub record IsAtRest (recipe : Said) (inputs : List (List ℕ)) (done : List Finished) (where_it_is : Place) : Type 0 where
+  pub given : IsInputs recipe inputs
+  pub place : IsPlace recipe done where_it_is
+
+-- an audit whose first stage has started, or was refused
+abbrev pub IsStarted : Place → Type 0
+IsStarted place.Ready = ⊥
+IsStarted (place.Running guest) = Unit {0}
+IsStarted (place.Over answer) = Unit {0}
+
+-- what want of memory leaves of an audit that has started
+abbrev pub StopsIn : Said → List (List ℕ) → Standing → ℕ → Standing → Type 0
+StopsIn recipe inputs from most (On p) = StopsAt recipe inputs from most p
+StopsIn recipe inputs from most (Over answer) = ⊥
+
+-- what a stretch of at most so many steps does to where an audit stands
+abbrev pub Stretches : Said → List (List ℕ) → Standing → ℕ → Result ℕ OutOfMemory → Standing → Type 0
+Stretches recipe inputs from most (Ok taken) to = (to ≡ forward_from recipe inputs from taken) × (1 ≤ taken) × (taken ≤ most)
+Stretches recipe inputs from most (Err error) to = StopsIn recipe inputs from most to
+
+-- what is said of an audit that stands here
+abbrev pub SaysOf : Place → Progress → Type 0
+SaysOf place.Ready said = ⊥
+SaysOf (place.Running guest) said = said ≡ progress.Paused
+SaysOf (place.Over answer) said = said ≡ said_of_answer answer

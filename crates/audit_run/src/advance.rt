@@ -1,0 +1,113 @@
+//! An advance, over the parts of an audit.
+ghost use Rattle.audit_run.specs.Advances.{Advances, said_of_answer, said_of_result};
+ghost use Rattle.audit_run.specs.Inside.Parts.{IsAtRest, IsPlace, IsStarted, SaysOf, seen, stands};
+ghost use Rattle.std.specs.Prelude.{◌≡◌, ◌≤◌, None, OnErr, OnOk};
+ghost use Rattle.wheeler.specs.Valid.{IsInputs};
+
+use crate::entering::enter;
+use crate::place::{Entry, Place, Progress};
+use crate::stretch::advance_started;
+use audit_stage::Done;
+use ddc_base::{Bytes, OutOfMemory};
+use recipe::Recipe;
+use report::Compared;
+use std::alloc::Global;
+use wheeler::{Answer, Fault};
+
+/// At most `most` steps.
+pub(crate) fn advance_parts(
+    alloc: Global,
+    recipe: &Recipe,
+    inputs: &[Bytes],
+    done: &mut Vec<Done>,
+    place: &mut Place,
+    most: u64,
+) -> Progress
+    requires some { 1 ≤ most }
+    requires rest { IsAtRest recipe.now inputs.now done.old.items place.old }
+    ensures answer { Advances (record { recipe = recipe.now; inputs = inputs.now; stands = seen done.old.items place.old }) most result
+        (seen done.new.items place.new) }
+    ensures rest { IsAtRest recipe.now inputs.now done.new.items place.new }
+{
+    match begin(alloc, recipe, inputs, done.as_slice(), place) {
+        Ok(()) => {}
+        Err(OutOfMemory) => return Progress::OutOfMemory,
+    }
+    match advance_started(alloc, recipe, inputs, done, place, most) {
+        Ok(()) => said_of(place),
+        Err(OutOfMemory) => Progress::OutOfMemory,
+    }
+}
+
+/// Enters the first stage, where it was not entered yet. Want of memory leaves the audit as it was.
+fn begin(
+    alloc: Global,
+    recipe: &Recipe,
+    inputs: &[Bytes],
+    done: &[Done],
+    place: &mut Place,
+) -> Result<(), OutOfMemory>
+    requires given { IsInputs recipe.now inputs.now }
+    requires place { IsPlace recipe.now done.now place.old }
+    ensures ok { OnOk result (stands recipe.now inputs.now done.now place.new ≡ stands recipe.now inputs.now done.now place.old) }
+    ensures started { OnOk result (IsStarted place.new) }
+    ensures stands { IsPlace recipe.now done.now place.new }
+    ensures err { OnErr result (place.new ≡ place.old) }
+    ensures ready { OnErr result (seen done.now place.old ≡ None) }
+{
+    match place {
+        Place::Running(_) => Ok(()),
+        Place::Over(_) => Ok(()),
+        Place::Ready => match enter(alloc, recipe, inputs, done) {
+            Ok(Entry::Started(guest)) => {
+                *place = Place::Running(guest);
+                Ok(())
+            }
+            Ok(Entry::Over(answer)) => {
+                *place = Place::Over(answer);
+                Ok(())
+            }
+            Err(OutOfMemory) => Err(OutOfMemory),
+        },
+    }
+}
+
+/// What is said of an audit that stands here.
+fn said_of(place: &Place) -> Progress
+    requires { IsStarted place.now }
+    ensures { SaysOf place.now result }
+{
+    match place {
+        Place::Ready => unreachable!(),
+        Place::Running(_) => Progress::Paused,
+        Place::Over(answer) => said_of_answer(answer),
+    }
+}
+
+/// What is said of an answer.
+fn said_of_answer(answer: &Answer) -> Progress
+    ensures { result ≡ said_of_answer answer.now }
+{
+    match answer {
+        Answer::Completes(report) => said_of_result(&report.compare.result),
+        Answer::Fails(stage, Fault::Runs(cause, step)) => Progress::RunFailed {
+            stage: *stage,
+            cause: *cause,
+            step: *step,
+        },
+        Answer::Fails(stage, Fault::Checks(cause)) => Progress::CheckFailed {
+            stage: *stage,
+            cause: *cause,
+        },
+    }
+}
+
+/// What is said of a comparison.
+fn said_of_result(found: &Compared) -> Progress
+    ensures { result ≡ said_of_result found.now }
+{
+    match found {
+        Compared::Equal(_) => Progress::Equal,
+        Compared::Differs(_, _, _) => Progress::Differs,
+    }
+}

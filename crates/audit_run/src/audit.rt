@@ -1,0 +1,132 @@
+//! The audit as callers see it.
+ghost use Rattle.audit_run.specs.Advances.{Advances};
+ghost use Rattle.audit_run.specs.Seen.{place_of, report_of, setting_of};
+ghost use Rattle.report.specs.Reports.{IsReport};
+ghost use Rattle.std.specs.Option.{option_copied};
+ghost use Rattle.std.specs.Prelude.{◌≡◌, ◌<◌, ◌≤◌, ◌+◌, length, None, IfOk, IfSome, option_map};
+ghost use Rattle.wheeler.specs.Valid.{IsInputs};
+
+use crate::advance::advance_parts;
+use crate::place::{Place, Progress};
+use crate::setting::setting_of;
+use audit_stage::Done;
+use ddc_base::OutOfMemory;
+use guest_run::RunBox;
+use recipe::{Inputs, Recipe};
+use report::Report;
+use std::alloc::Global;
+use std::marker::Model;
+use wheeler::Answer;
+
+/// An audit: a recipe, its inputs, and where it stands, which is before the first stage, in a stage, or over.
+///
+/// It keeps the allocator that its constructor took.
+#[derive(Debug, Drop)]
+pub struct Audit {
+    recipe: Recipe,
+    inputs: Inputs,
+    done: Vec<Done>,
+    place: Place,
+    alloc: Global,
+}
+
+impl Model for Audit {
+    ghost use Rattle.audit_run.specs.Inside.Parts.{IsAtRest, seen};
+    ghost use Rattle.audit_run.specs.Seen.{AuditState, audit_code};
+
+    ghost Value = { AuditState };
+
+    ghost coded = { audit_code };
+
+    ghost view = { λ a. record { recipe = a.recipe; inputs = a.inputs; stands = seen a.done.items a.place } };
+
+    ghost invariant = { λ a. IsAtRest a.recipe a.inputs a.done.items a.place };
+}
+
+impl Audit {
+    /// An audit whose first stage has not started. It takes no memory.
+    pub fn new(alloc: Global, recipe: Recipe, inputs: Inputs) -> Audit
+        requires { IsInputs recipe inputs }
+        ensures { result ≡ record { recipe = recipe; inputs = inputs; stands = None } }
+    {
+        Audit {
+            recipe,
+            inputs,
+            done: Vec::new(alloc),
+            place: Place::Ready,
+            alloc,
+        }
+    }
+
+    /// Goes on by `most` steps, or to the audit's end, and says where it stands then.
+    ///
+    /// The end of a stage, its check, the next start and the comparison belong to the step that ends the stage's run; the first start
+    /// belongs to none. An audit that is over answers the same again. After want of memory it stands after the steps that were done, and
+    /// may be advanced again: that comes only where the next step takes memory, or the first stage had to be started.
+    pub fn advance(&mut self, most: u64) -> Progress
+        requires { 1 ≤ most }
+        ensures answer { Advances self.old most result self.new.stands }
+        ensures recipe { self.new.recipe ≡ self.old.recipe }
+        ensures inputs { self.new.inputs ≡ self.old.inputs }
+    {
+        advance_parts(
+            self.alloc,
+            &self.recipe,
+            self.inputs.as_slice(),
+            &mut self.done,
+            &mut self.place,
+            most,
+        )
+    }
+
+    /// The report, exactly after `Equal` and `Differs`.
+    pub fn report(&self) -> Option<&Report>
+        ensures report { option_copied result ≡ report_of self.now.stands }
+        ensures form { IfSome (option_copied result) IsReport }
+    {
+        match &self.place {
+            Place::Over(Answer::Completes(report)) => Some(report),
+            _ => None,
+        }
+    }
+
+    /// The present stage's number, from 1, and how many steps were taken in it: (1, 0) before the first advance, and (0, 0) where the
+    /// audit is over.
+    pub fn place(&self) -> (u32, u64)
+        ensures { result ≡ place_of self.now.stands }
+    {
+        match &self.place {
+            Place::Ready => (1, 0),
+            Place::Running(guest) => (stage_after(&self.recipe, self.done.len()), guest.steps()),
+            Place::Over(_) => (0, 0),
+        }
+    }
+
+    /// The present stage's program and its box, which is made anew; `None` where the audit is over.
+    pub fn setting(&self, alloc: Global) -> Result<Option<(&[u8], RunBox<'_>)>, OutOfMemory>
+        ensures { IfOk result (λ setting. option_map (λ s. (s.0.now, s.1)) setting ≡ setting_of self.now.recipe self.now.inputs self.now.stands) }
+    {
+        match &self.place {
+            Place::Over(_) => Ok(None),
+            Place::Ready | Place::Running(_) => {
+                setting_of(alloc, &self.recipe, self.inputs.as_slice(), self.done.as_slice())
+            }
+        }
+    }
+
+    /// The recipe.
+    pub fn recipe(&self) -> &Recipe
+        ensures { result.now ≡ self.now.recipe }
+    {
+        &self.recipe
+    }
+}
+
+/// The number, from 1, of the stage after so many.
+fn stage_after(recipe: &Recipe, done: usize) -> u32
+    requires { done < length recipe.now.stages }
+    ensures { result ≡ done + 1 }
+{
+    let before = &recipe.stages().as_slice()[..done];
+    before.len() as u32 + 1
+}

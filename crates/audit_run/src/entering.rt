@@ -1,0 +1,40 @@
+//! The start of the next stage, or the report.
+ghost use Rattle.audit_run.specs.Inside.Parts.{entry_standing};
+ghost use Rattle.mem_files.specs.Outputs.{IsContent};
+ghost use Rattle.recipe.specs.Kept.{IsRecipe};
+ghost use Rattle.std.specs.Prelude.{◌≡◌, All, IfOk};
+ghost use Rattle.wheeler.specs.Positions.{enter, todo};
+ghost use Rattle.wheeler.specs.Valid.{AreDone};
+
+use crate::place::Entry;
+use audit_stage::{Done, report_of, start_stage};
+use ddc_base::{Bytes, OutOfMemory};
+use recipe::Recipe;
+use std::alloc::Global;
+use wheeler::{Answer, Fault, RunCause};
+
+/// Starts the stage that follows those that are done; where none does, makes the report.
+pub(crate) fn enter(
+    alloc: Global,
+    recipe: &Recipe,
+    inputs: &[Bytes],
+    done: &[Done],
+) -> Result<Entry, OutOfMemory>
+    requires inputs { All IsContent inputs.now }
+    requires done { AreDone recipe.now done.now }
+    ensures kept { IsRecipe recipe.now }
+    ensures entered { IfOk result (λ e. entry_standing done.now e ≡ enter recipe.now inputs.now done.now (todo recipe.now done.now)) }
+{
+    let Some(stage) = recipe.stages().as_slice().get(done.len()) else {
+        let report = report_of(alloc, recipe, inputs, done)?;
+        return Ok(Entry::Over(Answer::Completes(report)));
+    };
+    match start_stage(alloc, recipe, stage, inputs, done)? {
+        Ok(guest) => Ok(Entry::Started(guest)),
+        Err(cause) => {
+            let number = done.len() as u32 + 1;
+            let fault = Fault::Runs(RunCause::Start(cause), 0);
+            Ok(Entry::Over(Answer::Fails(number, fault)))
+        }
+    }
+}

@@ -1,0 +1,61 @@
+//! Where an audit stands.
+use audit_stage::Done;
+use guest_run::{Guest, RunRam};
+use source_check::CheckCause;
+use wheeler::{Answer, Fault, RunCause};
+
+/// Where an audit stands.
+#[derive(Debug, Drop)]
+pub(crate) enum Place {
+    /// No advance was made: the first stage has not started.
+    Ready,
+    /// A stage runs.
+    Running(Guest<RunRam>),
+    /// The audit is over.
+    Over(Answer),
+}
+
+/// What entering the next stage comes to.
+#[derive(Debug, Drop)]
+pub(crate) enum Entry {
+    /// Its program has started.
+    Started(Guest<RunRam>),
+    /// The audit is over.
+    Over(Answer),
+}
+
+/// What some steps come to.
+#[derive(Debug, Drop)]
+pub(crate) enum Moved {
+    /// The stage goes on.
+    Goes,
+    /// The stage's run has ended.
+    Ended(Result<Done, Fault>),
+}
+
+/// What an advance answers.
+#[derive(Clone, Copy, Debug, PartialEq, Eq)]
+pub enum Progress {
+    /// The audit is over: the compared artefact is the audited binary.
+    Equal,
+    /// The audit is over: they differ.
+    Differs,
+    /// The audit is over: a stage's run made no artefact.
+    RunFailed {
+        /// The stage's number, from 1.
+        stage: u32,
+        cause: RunCause,
+        /// The step of the run, from 1; 0 where the program did not start.
+        step: u64,
+    },
+    /// The audit is over: an artefact is not what its source stands for.
+    CheckFailed {
+        /// The stage's number, from 1.
+        stage: u32,
+        cause: CheckCause,
+    },
+    /// All steps that were asked for were taken, and the audit is not over.
+    Paused,
+    /// Want of memory. The audit stands after the steps that were done, and may be advanced again.
+    OutOfMemory,
+}

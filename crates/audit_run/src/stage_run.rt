@@ -1,0 +1,64 @@
+//! A slice of a stage's run, and its end.
+ghost use Rattle.audit_run.specs.Inside.Parts.{later, Slices};
+ghost use Rattle.audit_stage.specs.Rules.{IsStage};
+ghost use Rattle.recipe.specs.Kept.{IsRecipe};
+ghost use Rattle.std.specs.Prelude.{◌≡◌, ◌≤◌};
+ghost use Rattle.wheeler.specs.Positions.{at};
+ghost use Rattle.wheeler.specs.Valid.{IsAt, IsInputs};
+
+use crate::place::Moved;
+use audit_stage::{Done, exited};
+use ddc_base::{Bytes, OutOfMemory};
+use guest_run::{Guest, RunEnd, RunRam};
+use recipe::{Recipe, Stage};
+use std::alloc::Global;
+use wheeler::{Fault, RunCause};
+
+/// At most `most` steps of a stage, which end with the stage's run.
+pub(crate) fn run_slice(
+    alloc: Global,
+    recipe: &Recipe,
+    stage: &Stage,
+    inputs: &[Bytes],
+    done: &[Done],
+    guest: &mut Guest<RunRam>,
+    most: u64,
+) -> Result<(u64, Moved), OutOfMemory>
+    requires some { 1 ≤ most }
+    requires recipe { IsRecipe recipe.now }
+    requires given { IsInputs recipe.now inputs.now }
+    requires stage { IsStage recipe.now stage.now }
+    requires stands { IsAt recipe.now (at done.now guest.old) stage.now (later recipe.now done.now) }
+    ensures { Slices recipe.now inputs.now done.now (later recipe.now done.now) guest.old most result guest.new }
+{
+    let before = guest.steps();
+    let slice = most.min(stage.steps - before);
+    match guest.run(slice) {
+        RunEnd::Spent => {
+            if guest.steps() < stage.steps {
+                Ok((slice, Moved::Goes))
+            } else {
+                let fault = Fault::Runs(RunCause::Spent, stage.steps);
+                Ok((slice, Moved::Ended(Err(fault))))
+            }
+        }
+        RunEnd::OutOfMemory => Err(OutOfMemory),
+        RunEnd::Trapped(cause) => {
+            let step = guest.steps() + 1;
+            let fault = Fault::Runs(RunCause::Trap(cause), step);
+            Ok((step - before, Moved::Ended(Err(fault))))
+        }
+        RunEnd::UnknownCall(number) => {
+            let step = guest.steps() + 1;
+            let fault = Fault::Runs(RunCause::Call(number), step);
+            Ok((step - before, Moved::Ended(Err(fault))))
+        }
+        RunEnd::Exited(status) => {
+            let step = guest.steps() + 1;
+            match exited(alloc, recipe, stage, inputs, done, guest.files(), status, step) {
+                Ok(result) => Ok((step - before, Moved::Ended(result))),
+                Err(OutOfMemory) => Err(OutOfMemory),
+            }
+        }
+    }
+}

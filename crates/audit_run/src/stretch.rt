@@ -1,0 +1,139 @@
+//! An audit's steps, over its parts.
+ghost use Rattle.audit_run.specs.Inside.Parts.{IsPlace, IsStarted, later, Slices, stands, StopsIn, Stretches};
+ghost use Rattle.recipe.specs.Kept.{IsRecipe};
+ghost use Rattle.std.specs.Prelude.{◌≡◌, ◌++◌, ◌∷◌, [], ◌≤◌, OnErr, OnOk, Ok};
+ghost use Rattle.wheeler.specs.Positions.{at, closed, forward_from, todo};
+ghost use Rattle.wheeler.specs.Valid.{AreDone, IsInputs, IsPosition};
+
+use crate::entering::enter;
+use crate::place::{Entry, Moved, Place};
+use crate::stage_run::run_slice;
+use audit_stage::Done;
+use ddc_base::{Bytes, OutOfMemory};
+use guest_run::{Guest, RunRam};
+use recipe::Recipe;
+use std::alloc::Global;
+use wheeler::Answer;
+
+/// A stage is done: the next one starts, or the audit is over. Want of memory leaves all as it was.
+fn close(
+    alloc: Global,
+    recipe: &Recipe,
+    inputs: &[Bytes],
+    done: &mut Vec<Done>,
+    place: &mut Place,
+    finished: Done,
+) -> Result<(), OutOfMemory>
+    requires given { IsInputs recipe.now inputs.now }
+    requires done { AreDone recipe.now (done.old.items ++ finished ∷ []) }
+    requires left { todo recipe.now (done.old.items ++ finished ∷ []) ≡ later recipe.now done.old.items }
+    ensures ok { OnOk result (stands recipe.now inputs.now done.new.items place.new
+        ≡ closed recipe.now inputs.now done.old.items (later recipe.now done.old.items) (Ok finished)) }
+    ensures started { OnOk result (IsStarted place.new) }
+    ensures place { OnErr result (place.new ≡ place.old) }
+    ensures done { OnErr result (done.new.items ≡ done.old.items) }
+{
+    done.push(finished)?;
+    match enter(alloc, recipe, inputs, done.as_slice()) {
+        Ok(Entry::Started(guest)) => {
+            *place = Place::Running(guest);
+            Ok(())
+        }
+        Ok(Entry::Over(answer)) => {
+            *place = Place::Over(answer);
+            Ok(())
+        }
+        Err(OutOfMemory) => {
+            done.pop();
+            Err(OutOfMemory)
+        }
+    }
+}
+
+/// Steps of the present stage.
+fn run_present(
+    alloc: Global,
+    recipe: &Recipe,
+    inputs: &[Bytes],
+    done: &[Done],
+    guest: &mut Guest<RunRam>,
+    most: u64,
+) -> Result<(u64, Moved), OutOfMemory>
+    requires some { 1 ≤ most }
+    requires given { IsInputs recipe.now inputs.now }
+    requires stands { IsPosition recipe.now (at done.now guest.old) }
+    ensures kept { IsRecipe recipe.now }
+    ensures slices { Slices recipe.now inputs.now done.now (later recipe.now done.now) guest.old most result guest.new }
+{
+    let stage = &recipe.stages().as_slice()[done.len()];
+    run_slice(alloc, recipe, stage, inputs, done, guest, most)
+}
+
+/// At least one step, or none left to take: up to the end of the present stage's run.
+fn stretch(
+    alloc: Global,
+    recipe: &Recipe,
+    inputs: &[Bytes],
+    done: &mut Vec<Done>,
+    place: &mut Place,
+    most: u64,
+) -> Result<u64, OutOfMemory>
+    requires some { 1 ≤ most }
+    requires given { IsInputs recipe.now inputs.now }
+    requires stands { IsPlace recipe.now done.old.items place.old }
+    requires started { IsStarted place.old }
+    ensures steps { Stretches recipe.now inputs.now (stands recipe.now inputs.now done.old.items place.old) most result
+        (stands recipe.now inputs.now done.new.items place.new) }
+    ensures started { IsStarted place.new }
+    ensures stands { IsPlace recipe.now done.new.items place.new }
+{
+    let step = match place {
+        Place::Running(guest) => run_present(alloc, recipe, inputs, done.as_slice(), guest, most),
+        Place::Ready | Place::Over(_) => return Ok(most),
+    };
+    match step {
+        Ok((taken, moved)) => match moved {
+            Moved::Goes => Ok(taken),
+            Moved::Ended(result) => match result {
+                Ok(finished) => match close(alloc, recipe, inputs, done, place, finished) {
+                    Ok(()) => Ok(taken),
+                    Err(OutOfMemory) => Err(OutOfMemory),
+                },
+                Err(fault) => {
+                    *place = Place::Over(Answer::Fails(done.len() as u32 + 1, fault));
+                    Ok(taken)
+                }
+            },
+        },
+        Err(OutOfMemory) => Err(OutOfMemory),
+    }
+}
+
+/// At most `most` steps of an audit whose first stage was entered.
+pub(crate) fn advance_started(
+    alloc: Global,
+    recipe: &Recipe,
+    inputs: &[Bytes],
+    done: &mut Vec<Done>,
+    place: &mut Place,
+    most: u64,
+) -> Result<(), OutOfMemory>
+    requires given { IsInputs recipe.now inputs.now }
+    requires stands { IsPlace recipe.now done.old.items place.old }
+    requires started { IsStarted place.old }
+    ensures ok { OnOk result (stands recipe.now inputs.now done.new.items place.new
+        ≡ forward_from recipe.now inputs.now (stands recipe.now inputs.now done.old.items place.old) most) }
+    ensures err { OnErr result (StopsIn recipe.now inputs.now (stands recipe.now inputs.now done.old.items place.old) most
+        (stands recipe.now inputs.now done.new.items place.new)) }
+    ensures started { IsStarted place.new }
+    ensures stands { IsPlace recipe.now done.new.items place.new }
+{
+    let mut left = most;
+    while left > 0 {
+        match stretch(alloc, recipe, inputs, done, place, left) {
+            Ok(taken) => left -= taken,
+            Err(OutOfMemory) => return Err(OutOfMemory),
+        }
+    }
+    Ok(())
+}

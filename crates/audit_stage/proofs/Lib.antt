@@ -1,0 +1,4 @@
+mod Walking
+mod Lines
+mod Joining
+mod Placing

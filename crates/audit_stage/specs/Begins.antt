@@ -1,0 +1,12 @@
+-- A start that may be refused, with the refusal as a cause.
+use Rattle.std.specs.Prelude.{◌≡◌, Result, Ok, Err}
+use Rattle.guest_run.specs.State.{GuestState}
+use Rattle.guest_run.specs.Start.{Refusal, Elf, ArgsTooLong, BoxTooLarge}
+use Rattle.wheeler.specs.declared.cause.StartCause.{StartCause}
+use Rattle.wheeler.specs.declared.cause.StartCause.TheVariants as start
+
+abbrev pub Begins : Result GuestState Refusal → Result GuestState StartCause → Type 0
+Begins meant (Ok guest) = meant ≡ Ok guest
+Begins meant (Err (start.Elf refusal)) = meant ≡ Err (Elf refusal)
+Begins meant (Err start.ArgsTooLong) = meant ≡ Err ArgsTooLong
+Begins meant (Err start.BoxTooLarge) = meant ≡ Err BoxTooLarge

@@ -1,0 +1,15 @@
+-- What the code of one stage rests on: the rules of the recipe for the stage, and small contents.
+use Rattle.std.specs.Prelude.{ℕ, List, All}
+use Rattle.mem_files.specs.Outputs.{IsContent}
+use Rattle.recipe.specs.declared.contents.Said.{Said}
+use Rattle.recipe.specs.declared.parts.Stage.{Stage}
+use Rattle.recipe.specs.Kept as kept
+use Rattle.wheeler.specs.declared.answer.Finished.{Finished}
+
+-- a stage of a recipe that keeps its rules
+abbrev pub IsStage : Said → Stage → Type 0
+IsStage recipe stage = (earlier : List Stage) × kept.IsStage recipe earlier stage
+
+-- the artefacts keep the limit of contents
+abbrev pub AreMade : List Finished → Type 0
+AreMade done = All (λ (f : Finished). IsContent f.made) done

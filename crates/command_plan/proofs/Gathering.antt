@@ -1,0 +1,99 @@
+-- Loads in a row.
+use Rattle.std.proofs.Common.{◌≡◌, ℕ, zero, suc, ◌+◌, ◌-◌, ◌<◌, ◌≤◌, Result, Ok, Err, List, [], ◌∷◌, ◌++◌, length, map, drop, get_or, min, append_assoc, append-nil, le_trans, refl, sym, ap, subst, arith}
+use Rattle.std.proofs.lemmas.List.{drop_all, length-map}
+use Rattle.std.proofs.Math.Nat.{min-le_left, min-le_right}
+use Rattle.ddc_base.specs.Outside.{ShelfState}
+use Rattle.command_plan.specs.declared.answer.Answer.{Answer}
+use Rattle.command_plan.specs.declared.stop.Stop.{Stop}
+use Rattle.command_plan.specs.declared.stop.Stop.TheVariants as stop
+use Rattle.command_plan.specs.Plan.{Plan, needs_all}
+use Rattle.command_plan.specs.Performs.{Performs}
+use Rattle.command_plan.specs.Steps.{Fetches, Obtains, LeadsOn}
+use Rattle.command_plan.proofs.Performing.{ends_at_fetch, goes_on_after_fetch, wants_memory}
+
+-- what is left of loads in a row: these names, after these contents
+abbrev pub rest_of : ℕ → ℕ → List (List ℕ) → List (List ℕ) → (List (List ℕ) → Plan) → Plan
+rest_of most room contents names next = needs_all most room names (λ more. next (contents ++ more))
+
+-- what follows what was obtained, and what ended the command
+pub goes_on_with : {A : Type 0} (plan : (A → Plan) → Plan) (next : A → Plan) (old mid new : ShelfState) (value : A) (result : Result Answer Stop)
+    → Obtains plan old mid (Ok value) → Performs (next value) mid new result → Performs (plan next) old new result
+goes_on_with plan next old mid new value result o p = o.by_result next new result p
+
+pub ends_before : {A : Type 0} (plan : (A → Plan) → Plan) (next : A → Plan) (old new : ShelfState) (ending : Stop)
+    → Obtains plan old new (Err ending) → Performs (plan next) old new (Err ending)
+ends_before plan next old new ending o = o.by_result next
+
+pub ruleset obtaining = (goes_on_with, ends_before)
+
+module _ (plan : (List (List ℕ) → Plan) → Plan) (most room : ℕ) (contents : List (List ℕ)) (old now : ShelfState) where
+  -- one more content
+  more : (name : List ℕ) (names : List (List ℕ)) (mid : ShelfState) (content : List ℕ) → LeadsOn plan (rest_of most room contents (name ∷ names)) old now
+      → Fetches name (min most room) now mid (Ok content) → LeadsOn plan (rest_of most (room - length content) (contents ++ content ∷ []) names) old mid
+  more name names mid content leads f = λ next final result p.
+      leads next final result (goes_on_after_fetch name (min most room) (λ c. needs_all most (room - length c) names (λ more. next (contents ++ c ∷ more))) now mid final content result f
+        (subst (λ (n : List (List ℕ) → Plan). Performs (needs_all most (room - length content) names n) mid final result)
+        (λ i more. next (append_assoc contents (content ∷ []) more i)) p))
+
+  -- a load that ends the command
+  stops : (name : List ℕ) (names : List (List ℕ)) (new : ShelfState) (ending : Stop) → LeadsOn plan (rest_of most room contents (name ∷ names)) old now
+      → Fetches name (min most room) now new (Err ending) → Obtains plan old new (Err ending)
+  stops name names new ending leads f = record {
+    by_result = λ next. leads next new (Err ending)
+      (ends_at_fetch name (min most room) (λ c. needs_all most (room - length c) names (λ more. next (contents ++ c ∷ more))) now new ending f);
+  }
+
+  -- want of memory between two loads
+  pub wants : (names : List (List ℕ)) → LeadsOn plan (rest_of most room contents names) old now → Obtains plan old now (Err stop.OutOfMemory)
+  wants names leads = record { by_result = λ next. leads next now (Err stop.OutOfMemory) (wants_memory (rest_of most room contents names next) now) }
+
+  -- the names of these values, from one on
+  module _ {A : Type 0} (name : A → List ℕ) (values : List A) (index : ℕ) where
+    -- all contents
+    pub ends : LeadsOn plan (rest_of most room contents (drop index (map name values))) old now → length values ≤ index → Obtains plan old now (Ok contents)
+    ends leads le =
+        let none : drop index (map name values) ≡ [] =
+          drop_all index (map name values) (let same : length (map name values) ≡ length values = length-map values name in omega (arith, le, same)) in
+        let led : LeadsOn plan (rest_of most room contents []) old now = subst (λ names. LeadsOn plan (rest_of most room contents names) old now) none leads in
+        record {
+          by_result = λ next final result p. led next final result (subst (λ c. Performs (next c) now final result) (sym (append-nil contents)) p);
+        }
+
+names_from : {A : Type 0} (name : A → List ℕ) (values : List A) (index : ℕ) (item : A) → index < length values → item ≡ get_or values index item
+    → drop index (map name values) ≡ name item ∷ drop (index + 1) (map name values)
+names_from name [] index item lt is = absurd (omega (arith, lt))
+names_from name (value ∷ values) zero item lt is = ap (λ v. name v ∷ map name values) (sym is)
+names_from name (value ∷ values) (suc index) item lt is =
+    let next : suc index + 1 ≡ suc (index + 1) = omega arith in
+    subst (λ n. drop index (map name values) ≡ name item ∷ drop n (map name (value ∷ values))) (sym next) (names_from name values index item (omega (arith, lt)) is)
+
+-- the same, as a loop over values with names has them: the name's text, the limit and what is left of the room are computed
+module _ {A : Type 0} (plan : (List (List ℕ) → Plan) → Plan) (most room limit : ℕ) (contents : List (List ℕ)) (name : A → List ℕ) (values : List A) (index : ℕ) (item : A) (text : List ℕ)
+    (old now : ShelfState) where
+  one : (new : ShelfState) (result : Result (List ℕ) Stop) → text ≡ name item → limit ≡ min most room → Fetches text limit now new result → Fetches (name item) (min most room) now new result
+  one new result named limited f = subst (λ n. Fetches n (min most room) now new result) named (subst (λ l. Fetches text l now new result) limited f)
+
+  there : LeadsOn plan (rest_of most room contents (drop index (map name values))) old now → index < length values → item ≡ get_or values index item
+      → LeadsOn plan (rest_of most room contents (name item ∷ drop (index + 1) (map name values))) old now
+  there leads lt is = subst (λ names. LeadsOn plan (rest_of most room contents names) old now) (names_from name values index item lt is) leads
+
+  pub stops_at : (new : ShelfState) (ending : Stop) → LeadsOn plan (rest_of most room contents (drop index (map name values))) old now → index < length values → item ≡ get_or values index item
+      → text ≡ name item → limit ≡ min most room → Fetches text limit now new (Err ending) → Obtains plan old new (Err ending)
+  stops_at new ending leads lt is named limited f =
+      stops plan most room contents old now (name item) (drop (index + 1) (map name values)) new ending (there leads lt is) (one new (Err ending) named limited f)
+
+  pub goes_on : (mid : ShelfState) (content : List ℕ) (left : ℕ) (so_far : List (List ℕ)) → LeadsOn plan (rest_of most room contents (drop index (map name values))) old now
+      → index < length values → item ≡ get_or values index item → text ≡ name item → limit ≡ min most room → Fetches text limit now mid (Ok content)
+      → left ≡ room - length content → so_far ≡ contents ++ content ∷ []
+      → LeadsOn plan (rest_of most left so_far (drop (index + 1) (map name values))) old mid
+  goes_on mid content left so_far leads lt is named limited f falls pushed =
+      subst (λ c. LeadsOn plan (rest_of most left c (drop (index + 1) (map name values))) old mid) (sym pushed)
+      (subst (λ r. LeadsOn plan (rest_of most r (contents ++ content ∷ []) (drop (index + 1) (map name values))) old mid) (sym falls)
+      (more plan most room contents old now (name item) (drop (index + 1) (map name values)) mid content (there leads lt is) (one mid (Ok content) named limited f)))
+
+-- what was fetched is no more than the limit, so than either limit
+pub fetched_within : (text : List ℕ) (most room limit : ℕ) (old new : ShelfState) (content : List ℕ) → limit ≡ min most room → Fetches text limit old new (Ok content)
+    → (length content ≤ most) × (length content ≤ room)
+fetched_within text most room limit old new content limited f =
+    let fits : length content ≤ min most room = subst (λ l. length content ≤ l) limited f.by_result.2 in
+    (le_trans fits (min-le_left most room), le_trans fits (min-le_right most room))

@@ -1,0 +1,161 @@
+-- What both walks accept is a recipe.
+use Rattle.std.proofs.Common.{◌≡◌, ℕ, ◌+◌, ◌≤◌, List, [], ◌∷◌, length, take, Option, Some, None, Ok, refl, subst, arith}
+use Rattle.std.specs.Prelude.{IfSome, bytes_eq, slice_get, unwrap_or}
+use Rattle.std.specs.List.{IsDistinct}
+use Rattle.sha2.specs.Sha256.{sha256}
+use Rattle.toml.specs.Data.{Members}
+use Rattle.recipe_text.specs.declared.keys.Key.TheVariants as key
+use Rattle.recipe_text.specs.Reading.{a_list, a_number, a_table, no_other_key, document_of, gathered, optional, required}
+use Rattle.recipe_text.proofs.Accepted.{bound, ok_same, required_ok, optional_ok, list_ok, gathered_each, gathered_keeps, gathered_length, passes_at, unless_ok, Few, Read}
+use Rattle.recipe.specs.declared.contents.Said.{Said}
+use Rattle.recipe.specs.declared.parts.Input.{Input}
+use Rattle.recipe.specs.declared.parts.Source.{Source}
+use Rattle.recipe.specs.declared.parts.Stage.{Stage}
+use Rattle.recipe.specs.Kept.{IsRecipe, IsStage}
+use Rattle.recipe.specs.Reading.{first_walk}
+use Rattle.recipe.specs.SecondWalk.{second_walk}
+use Rattle.recipe.specs.Tables.{top_place, input_place, source_place, stage_place, Top, top_table, next_input, next_source, next_stage, compare_table}
+use Rattle.recipe.proofs.DistinctNames.{names_of, input_added, source_added, stage_added}
+use Rattle.recipe.proofs.FirstWalk.{InputSaid, input_said, SourceSaid, source_said, StageSaid, stage_said}
+use Rattle.recipe.proofs.SecondWalk.{all_at, source_there, stage_refers_at, argued_at, walked}
+
+-- ---- the top
+
+record TopSaid (top : Top) : Type 0 where
+  inputs : Few 1 256 (length top.inputs)
+  sources : length top.sources ≤ 256
+  stages : Few 1 256 (length top.stages)
+
+few_sources : (sources : Option (List Members)) → IfSome sources (Read (a_list a_table 0 256) top_place key.Source) → length (unwrap_or sources []) ≤ 256
+few_sources None read = omega arith
+few_sources (Some sources) read = (list_ok a_table 0 256 top_place key.Source read.0 sources read.1).0.few
+
+top_said : (table : Members) (top : Top) → top_table table ≡ Ok top → TopSaid top
+unfolding top_table
+top_said table top e =
+    bound _ (required (a_number 1 1) top_place key.Format table) _ top e (λ format format_is rest1.
+    bound _ (required (a_list a_table 1 256) top_place key.Input table) _ top rest1 (λ inputs inputs_is rest2.
+    bound _ (optional (a_list a_table 0 256) top_place key.Source table) _ top rest2 (λ sources sources_is rest3.
+    bound _ (required (a_list a_table 1 256) top_place key.Stage table) _ top rest3 (λ stages stages_is rest4.
+    bound _ (required a_table top_place key.Compare table) _ top rest4 (λ compare compare_is rest5.
+    bound _ (no_other_key top_place (key.Format ∷ key.Input ∷ key.Source ∷ key.Stage ∷ key.Compare ∷ []) table) _ top rest5 (λ other closed_is rest6.
+    let inputs_at = required_ok (a_list a_table 1 256) top_place key.Input table inputs inputs_is in
+    let stages_at = required_ok (a_list a_table 1 256) top_place key.Stage table stages stages_is in
+    subst TopSaid (ok_same (record { inputs = inputs; sources = unwrap_or sources []; stages = stages; compare = compare }) top rest6)
+    (record {
+      inputs = (list_ok a_table 1 256 top_place key.Input inputs_at.0 inputs inputs_at.1).0;
+      sources = few_sources sources (optional_ok (a_list a_table 0 256) top_place key.Source table sources sources_is);
+      stages = (list_ok a_table 1 256 top_place key.Stage stages_at.0 stages stages_at.1).0;
+    })))))))
+
+-- ---- the first walk
+
+record FirstSaid (said : Said) : Type 0 where
+  digest : (bytes : List ℕ) × (said.digest.0 ≡ sha256 bytes)
+  few_inputs : Few 1 256 (length said.inputs)
+  few_sources : length said.sources ≤ 256
+  few_stages : Few 1 256 (length said.stages)
+  names : IsDistinct bytes_eq (names_of said.inputs said.sources said.stages)
+  inputs : (i : ℕ) (input : Input) → slice_get said.inputs i ≡ Some input → (before : List Input) × InputSaid before input
+  sources : (i : ℕ) (source : Source) → slice_get said.sources i ≡ Some source → (before : List Source) × SourceSaid said.inputs before source
+  stages : (i : ℕ) (stage : Stage) → slice_get said.stages i ≡ Some stage → (before : List Stage) × StageSaid said.inputs said.sources before stage
+
+input_next : (before : List Input) (table : Members) (input : Input) → next_input before table ≡ Ok input → InputSaid before input
+input_next before table input e = input_said before (input_place (length before + 1)) table input e
+
+source_next : (inputs : List Input) (before : List Source) (table : Members) (source : Source) → next_source inputs before table ≡ Ok source → SourceSaid inputs before source
+source_next inputs before table source e = source_said inputs before (source_place (length before + 1)) table source e
+
+stage_next : (inputs : List Input) (sources : List Source) (before : List Stage) (table : Members) (stage : Stage) → next_stage inputs sources before table ≡ Ok stage
+    → StageSaid inputs sources before stage
+stage_next inputs sources before table stage e = stage_said inputs sources before (stage_place (length before + 1)) table stage e
+
+walked_first : (bytes : List ℕ) (said : Said) → first_walk bytes ≡ Ok said → FirstSaid said
+unfolding first_walk IsDistinct
+walked_first bytes said e =
+    bound _ (document_of bytes) _ said e (λ document document_is rest1.
+    bound _ (top_table document) _ said rest1 (λ top top_is rest2.
+    bound _ (gathered next_input [] top.inputs) _ said rest2 (λ inputs inputs_is rest3.
+    bound _ (gathered (next_source inputs) [] top.sources) _ said rest3 (λ sources sources_is rest4.
+    bound _ (gathered (next_stage inputs sources) [] top.stages) _ said rest4 (λ stages stages_is rest5.
+    bound _ (compare_table top.compare) _ said rest5 (λ compare compare_is rest6.
+    let top_said = top_said document top top_is in
+    let inputs_long = gathered_length next_input [] top.inputs inputs inputs_is in
+    let sources_long = gathered_length (next_source inputs) [] top.sources sources sources_is in
+    let stages_long = gathered_length (next_stage inputs sources) [] top.stages stages stages_is in
+    let input_names = gathered_keeps (λ found. IsDistinct bytes_eq (names_of found [] [])) next_input [] top.inputs inputs
+    (λ before table input distinct is. input_added before input distinct (input_next before table input is).name.is_new) tt inputs_is in
+    let source_names = gathered_keeps (λ found. IsDistinct bytes_eq (names_of inputs found [])) (next_source inputs) [] top.sources sources
+    (λ before table source distinct is. source_added inputs before source distinct (source_next inputs before table source is).name.is_new) input_names sources_is in
+    let stage_names = gathered_keeps (λ found. IsDistinct bytes_eq (names_of inputs sources found)) (next_stage inputs sources) [] top.stages stages
+    (λ before table stage distinct is. stage_added inputs sources before stage distinct (stage_next inputs sources before table stage is).name.is_new) source_names stages_is in
+    subst FirstSaid (ok_same (record { digest = record { 0 = sha256 bytes }; inputs = inputs; sources = sources; stages = stages; compare = compare }) said rest6)
+    (record {
+      digest = (bytes, refl);
+      few_inputs = record { some = omega (arith, top_said.inputs.some, inputs_long); few = omega (arith, top_said.inputs.few, inputs_long) };
+      few_sources = omega (arith, top_said.sources, sources_long);
+      few_stages = record { some = omega (arith, top_said.stages.some, stages_long); few = omega (arith, top_said.stages.few, stages_long) };
+      names = stage_names;
+      inputs = gathered_each (λ input. (before : List Input) × InputSaid before input) next_input top.inputs inputs
+          (λ before table input is. (before, input_next before table input is)) inputs_is;
+      sources = gathered_each (λ source. (before : List Source) × SourceSaid inputs before source) (next_source inputs) top.sources sources
+          (λ before table source is. (before, source_next inputs before table source is)) sources_is;
+      stages = gathered_each (λ stage. (before : List Stage) × StageSaid inputs sources before stage) (next_stage inputs sources) top.stages stages
+          (λ before table stage is. (before, stage_next inputs sources before table stage is)) stages_is;
+    })))))))
+
+-- ---- both
+
+stage_kept : (said : Said) (i : ℕ) (stage : Stage) → FirstSaid said → second_walk said ≡ Ok tt → slice_get said.stages i ≡ Some stage → IsStage said (take i said.stages) stage
+stage_kept said i stage first second is =
+    let walk = walked said second in
+    let told = (first.stages i stage is).1 in
+    let refers = stage_refers_at said i stage walk.stages is in
+    record {
+      name = told.name.is_name;
+      program = refers.program;
+      some_args = told.some_args;
+      few_args = told.few_args;
+      args = told.args;
+      few_env = told.few_env;
+      env = told.env;
+      few_files = told.files.few;
+      files = λ j file at. record { path = told.files.paths j file at; from = refers.files j file at };
+      distinct = told.files.distinct;
+      output = told.output;
+      some_steps = told.some_steps;
+      few_steps = told.few_steps;
+      heap = told.heap;
+      check = refers.check;
+      becomes = refers.becomes;
+      argued = argued_at said i stage walk.argued is refers.program;
+    }
+
+pub keeps : (bytes : List ℕ) (said : Said) → first_walk bytes ≡ Ok said → second_walk said ≡ Ok tt → IsRecipe said
+keeps bytes said is second =
+    let first = walked_first bytes said is in
+    let walk = walked said second in
+    record {
+      digest = first.digest;
+      some_inputs = first.few_inputs.some;
+      few_inputs = first.few_inputs.few;
+      few_sources = first.few_sources;
+      some_stages = first.few_stages.some;
+      few_stages = first.few_stages.few;
+      names = first.names;
+      inputs = λ i input at. let told = (first.inputs i input at).1 in record {
+        name = told.name.is_name;
+        path = told.path;
+        implements = source_there said.sources _ _ input.implements (passes_at _ 1 said.inputs i input walk.inputs at);
+      };
+      sources = λ i source at. let told = (first.sources i source at).1 in record {
+        name = told.name.is_name;
+        base = told.base;
+        some_files = told.files.some;
+        few_files = told.files.few;
+        files = all_at _ source.files (unless_ok _ _ tt (passes_at _ 1 said.sources i source walk.sources at));
+      };
+      stages = λ i stage at. stage_kept said i stage first second at;
+      compared = walk.compared;
+      binary = walk.binary;
+    }

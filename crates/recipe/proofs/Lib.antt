@@ -1,0 +1,7 @@
+pub mod DistinctNames
+pub mod FirstWalk
+pub mod GuestPaths
+pub mod Keeps
+pub mod MoreStages
+pub mod NoWant
+pub mod SecondWalk

@@ -1,0 +1,6 @@
+use Rattle.recipe.specs.SecondWalk.{input_refers}
+use Rattle.recipe_text.proofs.Walks.{Passes}
+use Rattle.recipe.proofs.references.inputs_refer.Given as goal
+
+abbrev pub invariant-loop-input : goal.invariant-loop-input
+invariant-loop-input l = Passes (input_refers l.said) l.inputs l.input-index l.number

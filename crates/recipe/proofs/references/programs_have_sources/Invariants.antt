@@ -1,0 +1,6 @@
+use Rattle.recipe.specs.SecondWalk.{program_has_source}
+use Rattle.recipe_text.proofs.Walks.{Passes}
+use Rattle.recipe.proofs.references.programs_have_sources.Given as goal
+
+abbrev pub invariant-loop-stage : goal.invariant-loop-stage
+invariant-loop-stage l = Passes (program_has_source l.said) l.stages l.stage-index l.number

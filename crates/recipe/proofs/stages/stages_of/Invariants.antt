@@ -1,0 +1,7 @@
+use Rattle.toml.specs.View.{table_view}
+use Rattle.recipe.specs.Tables.{next_stage}
+use Rattle.recipe_text.proofs.Walks.{Gathers}
+use Rattle.recipe.proofs.stages.stages_of.Given as goal
+
+abbrev pub invariant-loop-table : goal.invariant-loop-table
+invariant-loop-table l = Gathers (λ table. table_view table.now) (next_stage l.inputs l.sources) l.tables l.table-index l.stages

@@ -1,0 +1,13 @@
+-- The tables of the top, as the definitions see them.
+use Rattle.toml.specs.View.{table_view}
+use Rattle.recipe_text.specs.Inside.Views.{tables_view}
+use Rattle.recipe.specs.Tables as tables
+use Rattle.recipe.specs.declared.top_tables.Top.{Top}
+
+abbrev pub top_view : Top → tables.Top
+top_view top = record {
+  inputs = tables_view top.inputs.items;
+  sources = tables_view top.sources.items;
+  stages = tables_view top.stages.items;
+  compare = table_view top.compare.now;
+}

@@ -1,0 +1,24 @@
+-- What the bytes of a recipe say, or the first refusal of its two walks (docs/reference/recipe.md).
+use Rattle.std.specs.Prelude.{ℕ, List, [], Result, Ok}
+use Rattle.sha2.specs.Sha256.{sha256}
+use Rattle.recipe_text.specs.Reading.{◌>>=◌, ◌>>◌, gathered, document_of}
+use Rattle.recipe_text.specs.declared.refusal.RecipeRefusal.{RecipeRefusal}
+use Rattle.recipe.specs.declared.contents.Said.{Said}
+use Rattle.recipe.specs.SecondWalk.{second_walk}
+use Rattle.recipe.specs.Tables.{top_table, next_input, next_source, next_stage, compare_table}
+
+unfoldable pub first_walk : List ℕ → Result Said RecipeRefusal
+first_walk bytes = do
+  document ← document_of bytes
+  top ← top_table document
+  inputs ← gathered next_input [] top.inputs
+  sources ← gathered (next_source inputs) [] top.sources
+  stages ← gathered (next_stage inputs sources) [] top.stages
+  compare ← compare_table top.compare
+  Ok (record { digest = record { 0 = sha256 bytes }; inputs = inputs; sources = sources; stages = stages; compare = compare })
+
+unfoldable pub recipe_of : List ℕ → Result Said RecipeRefusal
+recipe_of bytes = do
+  said ← first_walk bytes
+  second_walk said
+  Ok said

@@ -1,0 +1,98 @@
+-- The second walk: what the names of a recipe refer to (docs/reference/recipe.md, "The second walk").
+use Rattle.std.specs.Prelude.{ℕ, ◌+◌, ◌-◌, Bool, true, false, List, take, Option, Some, None, is_some, Result, Ok, Err}
+use Rattle.std.specs.List.{list_all}
+use Rattle.recipe_text.specs.Reading.{◌>>◌, refused_unless, each_passes}
+use Rattle.recipe_text.specs.declared.keys.Key.{Key}
+use Rattle.recipe_text.specs.declared.keys.Key.TheVariants as key
+use Rattle.recipe_text.specs.declared.keys.Place.{Place}
+use Rattle.recipe_text.specs.declared.refusal.RecipeRefusal.{RecipeRefusal}
+use Rattle.recipe_text.specs.declared.refusal.RecipeRefusal.TheVariants.{Missing, BadName, NotMadeYet}
+use Rattle.recipe.specs.declared.parts.Content.{Content}
+use Rattle.recipe.specs.declared.parts.Content.TheVariants as content
+use Rattle.recipe.specs.declared.parts.Input.{Input}
+use Rattle.recipe.specs.declared.parts.Source.{Source}
+use Rattle.recipe.specs.declared.parts.SourceLanguage.{SourceLanguage}
+use Rattle.recipe.specs.declared.parts.SourceLanguage.TheVariants.{Defined, Other}
+use Rattle.recipe.specs.declared.parts.Stage.{Stage}
+use Rattle.recipe.specs.Lookups.{input_at, stage_at, source_named, content_of, content_source}
+use Rattle.recipe.specs.declared.contents.Said.{Said}
+use Rattle.recipe.specs.Tables.{input_place, source_place, stage_place, compare_place}
+
+-- whether a name stands for one of these inputs or for what one of these stages makes
+abbrev pub is_content : List Input → List Stage → List ℕ → Bool
+is_content inputs stages name = is_some (content_of inputs stages name)
+
+-- a source of this name is there, where a name stands at the key
+abbrev pub refers_to_source : List Source → Place → Key → Option (List ℕ) → Result (Unit {0}) RecipeRefusal
+refers_to_source sources place key None = Ok tt
+refers_to_source sources place key (Some name) = refused_unless (NotMadeYet place key) (is_some (source_named sources name))
+
+-- ---- each table, with its number from 1
+
+abbrev pub input_refers : Said → ℕ → Input → Result (Unit {0}) RecipeRefusal
+input_refers said number input = refers_to_source said.sources (input_place number) key.Implements input.implements
+
+abbrev pub source_refers : Said → ℕ → Source → Result (Unit {0}) RecipeRefusal
+source_refers said number source =
+    refused_unless (NotMadeYet (source_place number) key.Files) (list_all (is_content said.inputs said.stages) source.files)
+
+-- whether ddc has a definition of the language
+abbrev pub is_defined : SourceLanguage → Bool
+is_defined (Defined language) = true
+is_defined Other = false
+
+-- the source of a check: its files stand before the stage, and its language has a definition
+abbrev pub checks_source : Said → List Stage → Place → Option Source → Result (Unit {0}) RecipeRefusal
+checks_source said earlier place None = Err (NotMadeYet place key.Check)
+checks_source said earlier place (Some source) = do
+  refused_unless (NotMadeYet place key.Check) (list_all (is_content said.inputs earlier) source.files)
+  refused_unless (BadName place key.Check) (is_defined source.lang)
+
+-- the same, where a name stands at `check`
+unfoldable pub check_refers : Said → List Stage → Place → Option (List ℕ) → Result (Unit {0}) RecipeRefusal
+check_refers said earlier place None = Ok tt
+check_refers said earlier place (Some name) = checks_source said earlier place (source_named said.sources name)
+
+-- a stage after these earlier ones
+unfoldable pub stage_refers_after : Said → List Stage → Place → Stage → Result (Unit {0}) RecipeRefusal
+stage_refers_after said earlier place stage = do
+  refused_unless (NotMadeYet place key.Program) (is_content said.inputs earlier stage.program)
+  refused_unless (NotMadeYet place key.Files) (list_all (λ file. is_content said.inputs earlier file.from) stage.files)
+  check_refers said earlier place stage.check
+  refers_to_source said.sources place key.Becomes stage.becomes
+
+abbrev pub stage_refers : Said → ℕ → Stage → Result (Unit {0}) RecipeRefusal
+stage_refers said number stage = stage_refers_after said (take (number - 1) said.stages) (stage_place number) stage
+
+unfoldable pub compare_refers : Said → Result (Unit {0}) RecipeRefusal
+compare_refers said = do
+  refused_unless (NotMadeYet compare_place key.Stage) (is_some (stage_at said.stages said.compare.stage))
+  refused_unless (NotMadeYet compare_place key.Binary) (is_some (input_at said.inputs said.compare.binary))
+
+-- ---- the programs of the unchecked stages
+
+-- a program without a source is refused where its source would stand (what names no content was refused above)
+abbrev pub has_source : Said → Option Content → Result (Unit {0}) RecipeRefusal
+has_source said (Some (content.Input index)) =
+    refused_unless (Missing (input_place (index + 1)) key.Implements) (is_some (content_source said (content.Input index)))
+has_source said (Some (content.Stage index)) =
+    refused_unless (Missing (stage_place (index + 1)) key.Becomes) (is_some (content_source said (content.Stage index)))
+has_source said None = Ok tt
+
+-- the program of an unchecked stage
+abbrev pub is_argued : Said → Option (List ℕ) → List ℕ → Result (Unit {0}) RecipeRefusal
+is_argued said (Some check) program = Ok tt
+is_argued said None program = has_source said (content_of said.inputs said.stages program)
+
+abbrev pub program_has_source : Said → ℕ → Stage → Result (Unit {0}) RecipeRefusal
+program_has_source said number stage = is_argued said stage.check stage.program
+
+-- ---- the walk
+
+unfoldable pub second_walk : Said → Result (Unit {0}) RecipeRefusal
+second_walk said = do
+  each_passes (input_refers said) 1 said.inputs
+  each_passes (source_refers said) 1 said.sources
+  each_passes (stage_refers said) 1 said.stages
+  compare_refers said
+  each_passes (program_has_source said) 1 said.stages

@@ -1,0 +1,120 @@
+ghost use Rattle.std.specs.Prelude.{◌≡◌, ◌≤◌, IfSome, length, option_map, take};
+ghost use Rattle.recipe.specs.Lookups.{IsIndex};
+ghost use Rattle.recipe.specs.Kept.{IsRecipe};
+ghost use Rattle.recipe.specs.Lookups.{content_of, source_named, source_of};
+
+use crate::contents::Said;
+use crate::lookups::{content_of, content_source, source_named};
+use crate::parts::{Compare, Content, Input, Source, Stage};
+use ddc_base::digests::Digest;
+use ddc_base::{ListOf, Name};
+use std::marker::Model;
+
+/// A recipe, which contracts see as what it says. Both walks accepted it.
+#[derive(Debug, Drop)]
+pub struct Recipe {
+    said: Said,
+}
+
+impl Model for Recipe {
+    ghost use Rattle.recipe.specs.Kept.{IsRecipe};
+    ghost use Rattle.recipe.specs.declared.contents.Said.{Said};
+
+    ghost Value = { Said };
+
+    ghost view = { λ recipe. recipe.said };
+
+    ghost invariant = { λ recipe. IsRecipe recipe.said };
+}
+
+impl Recipe {
+    /// A recipe of what both walks accepted.
+    pub(crate) fn new(said: Said) -> Recipe
+        requires { IsRecipe said }
+        ensures { result ≡ said }
+    {
+        Recipe { said }
+    }
+
+    /// The SHA-256 digest of the recipe's bytes.
+    pub fn digest(&self) -> &Digest
+        ensures value { result.now ≡ self.now.digest }
+        ensures kept { IsRecipe self.now }
+    {
+        &self.said.digest
+    }
+
+    /// The inputs.
+    pub fn inputs(&self) -> &ListOf<Input>
+        ensures value { result.now ≡ self.now.inputs }
+        ensures kept { IsRecipe self.now }
+    {
+        &self.said.inputs
+    }
+
+    /// The sources.
+    pub fn sources(&self) -> &ListOf<Source>
+        ensures value { result.now ≡ self.now.sources }
+        ensures kept { IsRecipe self.now }
+    {
+        &self.said.sources
+    }
+
+    /// The stages.
+    pub fn stages(&self) -> &ListOf<Stage>
+        ensures value { result.now ≡ self.now.stages }
+        ensures kept { IsRecipe self.now }
+    {
+        &self.said.stages
+    }
+
+    /// What is compared at the end.
+    pub fn compare(&self) -> &Compare
+        ensures value { result.now ≡ self.now.compare }
+        ensures kept { IsRecipe self.now }
+    {
+        &self.said.compare
+    }
+
+    /// What a name stands for: the input of that name, or else what the stage of that name makes.
+    pub fn content(&self, name: &Name) -> Option<Content>
+        ensures value { result ≡ content_of self.now.inputs self.now.stages name.now }
+        ensures index { IfSome result (IsIndex self.now.inputs self.now.stages) }
+    {
+        content_of(
+            self.said.inputs.as_slice(),
+            self.said.stages.as_slice(),
+            name,
+        )
+    }
+
+    /// What a name stands for at a stage, by its index from 0: among the inputs and the stages before it.
+    pub fn content_before(&self, stage: usize, name: &Name) -> Option<Content>
+        requires { stage ≤ length self.now.stages }
+        ensures value { result ≡ content_of self.now.inputs (take stage self.now.stages) name.now }
+        ensures index { IfSome result (IsIndex self.now.inputs (take stage self.now.stages)) }
+    {
+        content_of(
+            self.said.inputs.as_slice(),
+            &self.said.stages.as_slice()[..stage],
+            name,
+        )
+    }
+
+    /// The source of a name.
+    pub fn source(&self, name: &Name) -> Option<&Source>
+        ensures { option_map (λ x. x.now) result ≡ source_named self.now.sources name.now }
+    {
+        source_named(self.said.sources.as_slice(), name)
+    }
+
+    /// The name of the source of the program of a name.
+    pub fn source_of(&self, name: &Name) -> Option<&Name>
+        ensures { option_map (λ x. x.now) result ≡ source_of self.now name.now }
+    {
+        match self.content(name) {
+            Some(content) => content_source(&self.said, content),
+            None => None,
+        }
+    }
+}

@@ -1,0 +1,14 @@
+use crate::parts::{Compare, Input, Source, Stage};
+use ddc_base::ListOf;
+use ddc_base::digests::Digest;
+
+/// What a recipe says.
+#[derive(Debug, Drop)]
+pub(crate) struct Said {
+    /// The digest of the recipe's bytes.
+    pub(crate) digest: Digest,
+    pub(crate) inputs: ListOf<Input>,
+    pub(crate) sources: ListOf<Source>,
+    pub(crate) stages: ListOf<Stage>,
+    pub(crate) compare: Compare,
+}

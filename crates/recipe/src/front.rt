@@ -1,0 +1,85 @@
+ghost use Rattle.std.specs.Prelude.{◌≡◌, ◌≤◌, IfOk, IfSome, length, option_map};
+ghost use Rattle.toml.specs.View.{table_view};
+ghost use Rattle.recipe_text.specs.Inside.Views.{tables_view};
+ghost use Rattle.recipe_text.specs.Reading.{Gives, a_list, a_table, optional, required};
+ghost use Rattle.recipe.specs.Inside.Views.{top_view};
+ghost use Rattle.recipe.specs.Tables.{top_table};
+
+use crate::top_tables::Top;
+use recipe_text::{
+    Key, Place, RecipeRefusal, find, no_other_key, required, required_number, table, tables,
+};
+use std::alloc::Global;
+use toml::Table;
+
+/// The place of the top.
+const TOP: Place = Place {
+    table: recipe_text::Table::Top,
+    number: 0,
+};
+
+/// The tables of the top.
+#[tactic(auto, unfolding(crate::specs::Tables::top_table))]
+pub(crate) fn top_of<'a>(alloc: Global, top: &'a Table) -> Result<Top<'a>, RecipeRefusal>
+    ensures { Gives top_view result (top_table (table_view top.now)) }
+{
+    required_number(1, 1, TOP, Key::Format, top)?;
+    let inputs = required_tables(alloc, Key::Input, top)?;
+    let sources = optional_tables(alloc, Key::Source, top)?.unwrap_or(Vec::new(alloc));
+    let stages = required_tables(alloc, Key::Stage, top)?;
+    let compare = required_table(Key::Compare, top)?;
+    no_other_key(
+        TOP,
+        &[
+            Key::Format,
+            Key::Input,
+            Key::Source,
+            Key::Stage,
+            Key::Compare,
+        ],
+        top,
+    )?;
+    Ok(Top {
+        inputs,
+        sources,
+        stages,
+        compare,
+    })
+}
+
+/// 1 to 256 tables at a key of the top.
+#[tactic(auto, unfolding(recipe_text::specs::Reading::required))]
+fn required_tables<'a>(
+    alloc: Global,
+    key: Key,
+    top: &'a Table,
+) -> Result<Vec<&'a Table>, RecipeRefusal>
+    ensures tables { Gives (λ x. tables_view x.items) result (required (a_list a_table 1 256) TOP key (table_view top.now)) }
+    ensures few { IfOk result (λ x. length x.items ≤ 256) }
+{
+    tables(alloc, 1, 256, TOP, key, required(TOP, key, top)?)
+}
+
+/// Up to 256 tables at a key of the top, where it is there.
+#[tactic(auto, unfolding(recipe_text::specs::Reading::optional))]
+fn optional_tables<'a>(
+    alloc: Global,
+    key: Key,
+    top: &'a Table,
+) -> Result<Option<Vec<&'a Table>>, RecipeRefusal>
+    ensures tables { Gives (λ x. option_map (λ t. tables_view t.items) x) result (optional (a_list a_table 0 256) TOP key (table_view top.now)) }
+    ensures few { IfOk result (λ x. IfSome x (λ t. length t.items ≤ 256)) }
+{
+    match find(top, key) {
+        Some(value) => Ok(Some(tables(alloc, 0, 256, TOP, key, value)?)),
+        None => Ok(None),
+    }
+}
+
+/// The table at a key of the top.
+#[tactic(auto, unfolding(recipe_text::specs::Reading::required))]
+fn required_table<'a>(key: Key, top: &'a Table) -> Result<&'a Table, RecipeRefusal>
+    ensures { Gives (λ x. table_view x.now) result (required a_table TOP key (table_view top.now)) }
+{
+    table(TOP, key, required(TOP, key, top)?)
+}

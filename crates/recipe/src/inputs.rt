@@ -1,0 +1,67 @@
+ghost use Rattle.std.specs.Prelude.{◌≡◌, ◌<◌, ◌≤◌, ◌^◌, ◌-◌, [], IfOk, length};
+ghost use Rattle.toml.specs.View.{table_view, view};
+ghost use Rattle.recipe_text.specs.Inside.Views.{tables_view};
+ghost use Rattle.recipe_text.specs.Reading.{Gives, a_path, gathered, required};
+ghost use Rattle.recipe.specs.Tables.{input_table, next_input};
+
+use crate::names::required_new_name;
+use crate::parts::Input;
+use ddc_base::ListOf;
+use recipe_text::{Key, Path, Place, RecipeRefusal, no_other_key, optional_name, path, required};
+use std::alloc::Global;
+use toml::Table;
+
+/// The inputs that the tables say.
+pub(crate) fn inputs_of(alloc: Global, tables: &[&Table]) -> Result<ListOf<Input>, RecipeRefusal>
+    requires { length tables.now ≤ 256 }
+    ensures inputs { Gives (λ x. x) result (gathered next_input [] (tables_view tables.now)) }
+    ensures few { IfOk result (λ x. length x ≤ 256) }
+{
+    let mut inputs = ListOf::new(alloc);
+    for table in tables {
+        let input = next_input(alloc, &inputs, *table)?;
+        inputs.push(input)?;
+    }
+    Ok(inputs)
+}
+
+/// The input that a table says, after those before it.
+fn next_input(alloc: Global, inputs: &ListOf<Input>, table: &Table) -> Result<Input, RecipeRefusal>
+    requires { length inputs.now < 2 ^ 32 - 1 }
+    ensures { Gives (λ x. x) result (next_input inputs.now (table_view table.now)) }
+{
+    let place = Place {
+        table: recipe_text::Table::Input,
+        number: inputs.len() as u32 + 1,
+    };
+    input_of(alloc, inputs.as_slice(), place, table)
+}
+
+/// The input that a table says at its place.
+#[tactic(auto, unfolding(crate::specs::Tables::input_table))]
+fn input_of(
+    alloc: Global,
+    inputs: &[Input],
+    place: Place,
+    table: &Table,
+) -> Result<Input, RecipeRefusal>
+    ensures { Gives (λ x. x) result (input_table inputs.now place (table_view table.now)) }
+{
+    let name = required_new_name(inputs, &[], &[], place, table)?;
+    let path = required_path(alloc, place, table)?;
+    let implements = optional_name(place, Key::Implements, table)?;
+    no_other_key(place, &[Key::Name, Key::Path, Key::Implements], table)?;
+    Ok(Input {
+        name,
+        path,
+        implements,
+    })
+}
+
+/// The path of an input.
+#[tactic(auto, unfolding(recipe_text::specs::Reading::required))]
+fn required_path(alloc: Global, place: Place, table: &Table) -> Result<Path, RecipeRefusal>
+    ensures { Gives (λ x. x) result (required a_path place Key.Path (table_view table.now)) }
+{
+    path(alloc, place, Key::Path, required(place, Key::Path, table)?)
+}

@@ -1,0 +1,17 @@
+//! Laws of the definitions.
+ghost use Rattle.std.specs.Prelude.{◌≡◌, ℕ, List, IsSome, take, Err};
+ghost use Rattle.recipe_text.specs.declared.refusal.RecipeRefusal.TheVariants.{OutOfMemory};
+ghost use Rattle.recipe.specs.declared.parts.Input.{Input};
+ghost use Rattle.recipe.specs.declared.parts.Stage.{Stage};
+ghost use Rattle.recipe.specs.Lookups.{content_of};
+ghost use Rattle.recipe.specs.Reading.{recipe_of};
+
+/// What a name stands for among the inputs and the first stages, it stands for among all of them.
+pub fn a_name_keeps_its_content()
+    ensures { (inputs : List Input) (stages : List Stage) (n : ℕ) (name : List ℕ) → IsSome (content_of inputs (take n stages) name) → content_of inputs stages name ≡ content_of inputs (take n stages) name }
+{}
+
+/// What bytes say is never want of memory: it comes from the reader's calls alone.
+pub fn no_bytes_say_want_of_memory()
+    ensures { (bytes : List ℕ) → ¬ (recipe_of bytes ≡ Err OutOfMemory) }
+{}

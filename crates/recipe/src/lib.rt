@@ -1,0 +1,27 @@
+//! The recipe of an audit: its tables, read from a TOML text by two walks, and what its names stand for.
+//!
+//! Its rules for people: docs/reference/recipe.md.
+#![tactic(auto)]
+
+mod accepted;
+mod comparison;
+mod contents;
+mod front;
+mod inputs;
+pub mod laws;
+mod lookups;
+mod names;
+mod parts;
+mod reading;
+mod references;
+mod sources;
+mod stage_files;
+mod stages;
+mod top_tables;
+
+pub use accepted::Recipe;
+pub use parts::{
+    Compare, Content, Input, Inputs, Output, Source, SourceLanguage, Stage, StageFile,
+};
+pub use reading::read;
+pub use recipe_text::{Key, Path, Place, RecipeRefusal, Table};

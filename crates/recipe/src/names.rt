@@ -1,0 +1,75 @@
+//! Names that no table above has.
+ghost use Rattle.std.specs.Prelude.{◌≡◌};
+ghost use Rattle.toml.specs.View.{table_view, view};
+ghost use Rattle.recipe_text.specs.Reading.{Gives, required};
+ghost use Rattle.recipe.specs.Tables.{a_new_name, is_input_name, is_source_name, is_stage_name, is_taken};
+
+use crate::parts::{Input, Source, Stage};
+use ddc_base::Name;
+use recipe_text::{Key, Place, RecipeRefusal, name, required};
+use toml::{Table, Value};
+
+/// The name of a table, which none of these has.
+#[tactic(auto, unfolding(recipe_text::specs::Reading::required))]
+pub(crate) fn required_new_name(
+    inputs: &[Input],
+    sources: &[Source],
+    stages: &[Stage],
+    place: Place,
+    table: &Table,
+) -> Result<Name, RecipeRefusal>
+    ensures { Gives (λ x. x) result (required (a_new_name inputs.now sources.now stages.now) place Key.Name (table_view table.now)) }
+{
+    new_name(
+        inputs,
+        sources,
+        stages,
+        place,
+        required(place, Key::Name, table)?,
+    )
+}
+
+/// The same, of the value.
+#[tactic(auto, unfolding(crate::specs::Tables::a_new_name))]
+fn new_name(
+    inputs: &[Input],
+    sources: &[Source],
+    stages: &[Stage],
+    place: Place,
+    value: &Value,
+) -> Result<Name, RecipeRefusal>
+    ensures { Gives (λ x. x) result (a_new_name inputs.now sources.now stages.now place Key.Name (view value.now)) }
+{
+    let name = name(place, Key::Name, value)?;
+    if is_taken(inputs, sources, stages, &name) {
+        Err(RecipeRefusal::DoubleName(place, Key::Name))
+    } else {
+        Ok(name)
+    }
+}
+
+/// Whether one of these has the name.
+#[tactic(auto, unfolding(crate::specs::Tables::is_taken))]
+fn is_taken(inputs: &[Input], sources: &[Source], stages: &[Stage], name: &Name) -> bool
+    ensures { result ≡ is_taken inputs.now sources.now stages.now name.now }
+{
+    is_input_name(inputs, name) || is_source_name(sources, name) || is_stage_name(stages, name)
+}
+
+fn is_input_name(inputs: &[Input], name: &Name) -> bool
+    ensures { result ≡ is_input_name inputs.now name.now }
+{
+    inputs.iter().any(|input| input.name == *name)
+}
+
+fn is_source_name(sources: &[Source], name: &Name) -> bool
+    ensures { result ≡ is_source_name sources.now name.now }
+{
+    sources.iter().any(|source| source.name == *name)
+}
+
+fn is_stage_name(stages: &[Stage], name: &Name) -> bool
+    ensures { result ≡ is_stage_name stages.now name.now }
+{
+    stages.iter().any(|stage| stage.name == *name)
+}

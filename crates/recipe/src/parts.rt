@@ -1,0 +1,95 @@
+use ddc_base::{Bytes, ListOf, Name};
+use languages::Language;
+use recipe_text::Path;
+
+/// The inputs' contents, in the recipe's order.
+pub type Inputs = ListOf<Bytes>;
+
+/// A file that the audit is given.
+#[derive(Debug, Drop)]
+pub struct Input {
+    pub name: Name,
+    /// Where a shelf has it.
+    pub path: Path,
+    /// The name of the source that it is trusted to be a program of.
+    pub implements: Option<Name>,
+}
+
+/// The language of a source.
+#[derive(Clone, Copy, Debug, PartialEq, Eq)]
+pub enum SourceLanguage {
+    /// One that ddc defines.
+    Defined(Language),
+    /// The word `other`: one without a definition here.
+    Other,
+}
+
+/// A program's text.
+#[derive(Debug, Drop)]
+pub struct Source {
+    pub name: Name,
+    pub lang: SourceLanguage,
+    /// The address at which the value of a hex1 or hex2 source stands: at most 2^37.
+    pub base: u64,
+    /// The names of 1 to 64 contents that make up the text, in order.
+    pub files: ListOf<Name>,
+}
+
+/// A file that a stage's program finds.
+#[derive(Debug, Drop)]
+pub struct StageFile {
+    /// The program's path of it: 1 to 255 bytes, which don't begin with `./`.
+    pub path: Bytes,
+    /// The name of its content.
+    pub from: Name,
+}
+
+/// What a stage makes.
+#[derive(Debug, Drop)]
+pub enum Output {
+    /// What the program writes on its standard output.
+    Stream,
+    /// The file of this path that the program leaves: 1 to 255 bytes, which don't begin with `./`.
+    File(Bytes),
+}
+
+/// A run of a program, which makes an artefact.
+#[derive(Debug, Drop)]
+pub struct Stage {
+    pub name: Name,
+    /// The name of an input or of an earlier stage's artefact.
+    pub program: Name,
+    /// 1 to 64 texts of at most 255 bytes, none of them zero.
+    pub args: ListOf<Bytes>,
+    /// At most 64 such texts.
+    pub env: ListOf<Bytes>,
+    /// At most 256 files, of distinct paths.
+    pub files: ListOf<StageFile>,
+    pub output: Output,
+    /// The most steps of the run: 1 to 2^48.
+    pub steps: u64,
+    /// The most bytes of the heap: at most 2^30.
+    pub heap: u64,
+    /// The name of the source whose value the artefact is to be.
+    pub check: Option<Name>,
+    /// The name of the source that the artefact is a program of.
+    pub becomes: Option<Name>,
+}
+
+/// What is compared at the end.
+#[derive(Debug, Drop)]
+pub struct Compare {
+    /// The name of a stage.
+    pub stage: Name,
+    /// The name of an input.
+    pub binary: Name,
+}
+
+/// What the name of an input or a stage stands for, by its index from 0.
+#[derive(Clone, Copy, Debug, PartialEq, Eq)]
+pub enum Content {
+    /// What an input is.
+    Input(usize),
+    /// What a stage makes.
+    Stage(usize),
+}

@@ -1,0 +1,52 @@
+ghost use Rattle.std.specs.Prelude.{◌≡◌, ◌≤◌, IfOk, length};
+ghost use Rattle.recipe_text.specs.Reading.{Gives};
+ghost use Rattle.recipe.specs.Reading.{first_walk, recipe_of};
+
+use crate::accepted::Recipe;
+use crate::comparison::compare_of;
+use crate::contents::Said;
+use crate::front::top_of;
+use crate::inputs::inputs_of;
+use crate::references::second_walk;
+use crate::sources::sources_of;
+use crate::stages::stages_of;
+use recipe_text::{RecipeRefusal, document};
+use std::alloc::Global;
+
+/// Reads a recipe: the first refusal of its two walks, or what it says.
+#[tactic(auto, using(crate::proofs::Keeps::keeps), unfolding(crate::specs::Reading::recipe_of))]
+pub fn read(alloc: Global, bytes: &[u8]) -> Result<Recipe, RecipeRefusal>
+    ensures { Gives (λ recipe. recipe) result (recipe_of bytes.now) }
+{
+    let said = first_walk(alloc, bytes)?;
+    second_walk(&said)?;
+    Ok(Recipe::new(said))
+}
+
+/// The first walk: each table with its keys.
+#[tactic(auto, unfolding(crate::specs::Reading::first_walk))]
+fn first_walk(alloc: Global, bytes: &[u8]) -> Result<Said, RecipeRefusal>
+    ensures said { Gives (λ said. said) result (first_walk bytes.now) }
+    ensures few_inputs { IfOk result (λ said. length said.inputs ≤ 256) }
+    ensures few_sources { IfOk result (λ said. length said.sources ≤ 256) }
+    ensures few_stages { IfOk result (λ said. length said.stages ≤ 256) }
+{
+    let document = document(alloc, bytes)?;
+    let top = top_of(alloc, &document)?;
+    let inputs = inputs_of(alloc, top.inputs.as_slice())?;
+    let sources = sources_of(alloc, inputs.as_slice(), top.sources.as_slice())?;
+    let stages = stages_of(
+        alloc,
+        inputs.as_slice(),
+        sources.as_slice(),
+        top.stages.as_slice(),
+    )?;
+    let compare = compare_of(top.compare)?;
+    Ok(Said {
+        digest: ddc_base::digest(bytes),
+        inputs,
+        sources,
+        stages,
+        compare,
+    })
+}

@@ -1,0 +1,311 @@
+//! The second walk: what the names of a recipe refer to.
+ghost use Rattle.std.specs.Prelude.{◌≡◌, ◌<◌, ◌≤◌, ◌^◌, ◌-◌, length, is_some, Some};
+ghost use Rattle.std.specs.List.{list_all};
+ghost use Rattle.recipe_text.specs.Reading.{Gives, each_passes, refused_unless};
+ghost use Rattle.recipe_text.specs.declared.refusal.RecipeRefusal.TheVariants.{NotMadeYet as NotYet};
+ghost use Rattle.recipe.specs.Lookups as spec;
+ghost use Rattle.recipe.specs.Lookups.{IsIndex};
+ghost use Rattle.recipe.specs.SecondWalk.{check_refers, checks_source, compare_refers, has_source, input_refers, is_argued, is_content, is_defined, program_has_source, refers_to_source, second_walk, source_refers, stage_refers, stage_refers_after};
+
+use crate::comparison::COMPARE;
+use crate::contents::Said;
+use crate::lookups::{content_of, content_source, input_at, source_named, stage_at};
+use crate::parts::{Content, Input, Source, SourceLanguage, Stage, StageFile};
+use ddc_base::Name;
+use recipe_text::{Key, Place, RecipeRefusal, Table};
+
+/// Whether all names refer to what is there by then.
+#[tactic(auto, unfolding(crate::specs::SecondWalk::second_walk))]
+pub(crate) fn second_walk(said: &Said) -> Result<(), RecipeRefusal>
+    requires inputs { length said.now.inputs ≤ 256 }
+    requires sources { length said.now.sources ≤ 256 }
+    requires stages { length said.now.stages ≤ 256 }
+    ensures { Gives (λ x. x) result (second_walk said.now) }
+{
+    inputs_refer(said, said.inputs.as_slice())?;
+    sources_refer(said, said.sources.as_slice())?;
+    stages_refer(said, said.stages.as_slice())?;
+    compare_refers(said)?;
+    programs_have_sources(said, said.stages.as_slice())
+}
+
+/// The inputs' `implements`.
+fn inputs_refer(said: &Said, inputs: &[Input]) -> Result<(), RecipeRefusal>
+    requires { length inputs.now < 2 ^ 32 - 1 }
+    ensures { Gives (λ x. x) result (each_passes (input_refers said.now) 1 inputs.now) }
+{
+    let mut number = 1u32;
+    for input in inputs {
+        input_refers(said, number, input)?;
+        number += 1;
+    }
+    Ok(())
+}
+
+fn input_refers(said: &Said, number: u32, input: &Input) -> Result<(), RecipeRefusal>
+    ensures { Gives (λ x. x) result (input_refers said.now number input.now) }
+{
+    let place = Place {
+        table: Table::Input,
+        number,
+    };
+    refers_to_source(
+        said.sources.as_slice(),
+        place,
+        Key::Implements,
+        &input.implements,
+    )
+}
+
+/// Whether a source of the name is there, where there is a name.
+fn refers_to_source(
+    sources: &[Source],
+    place: Place,
+    key: Key,
+    name: &Option<Name>,
+) -> Result<(), RecipeRefusal>
+    ensures { Gives (λ x. x) result (refers_to_source sources.now place key name.now) }
+{
+    match name {
+        Some(name) => made_by_now(source_named(sources, name).is_some(), place, key),
+        None => Ok(()),
+    }
+}
+
+/// Refuses a name that stands for nothing that is there by then.
+fn made_by_now(made: bool, place: Place, key: Key) -> Result<(), RecipeRefusal>
+    ensures { Gives (λ x. x) result (refused_unless (NotYet place key) made) }
+{
+    if made {
+        Ok(())
+    } else {
+        Err(RecipeRefusal::NotMadeYet(place, key))
+    }
+}
+
+/// The sources' files.
+fn sources_refer(said: &Said, sources: &[Source]) -> Result<(), RecipeRefusal>
+    requires { length sources.now < 2 ^ 32 - 1 }
+    ensures { Gives (λ x. x) result (each_passes (source_refers said.now) 1 sources.now) }
+{
+    let mut number = 1u32;
+    for source in sources {
+        source_refers(said, number, source)?;
+        number += 1;
+    }
+    Ok(())
+}
+
+fn source_refers(said: &Said, number: u32, source: &Source) -> Result<(), RecipeRefusal>
+    ensures { Gives (λ x. x) result (source_refers said.now number source.now) }
+{
+    let place = Place {
+        table: Table::Source,
+        number,
+    };
+    let made = are_contents(
+        said.inputs.as_slice(),
+        said.stages.as_slice(),
+        source.files.as_slice(),
+    );
+    made_by_now(made, place, Key::Files)
+}
+
+/// Whether each name stands for one of these inputs or for what one of these stages makes.
+fn are_contents(inputs: &[Input], stages: &[Stage], names: &[Name]) -> bool
+    ensures { result ≡ list_all (is_content inputs.now stages.now) names.now }
+{
+    names.iter().all(|name| is_content(inputs, stages, name))
+}
+
+/// Whether a name stands for one of these inputs or for what one of these stages makes.
+fn is_content(inputs: &[Input], stages: &[Stage], name: &Name) -> bool
+    ensures { result ≡ is_content inputs.now stages.now name.now }
+{
+    content_of(inputs, stages, name).is_some()
+}
+
+/// The stages' programs, files, checks and what they become.
+fn stages_refer(said: &Said, stages: &[Stage]) -> Result<(), RecipeRefusal>
+    requires few { length stages.now < 2 ^ 32 - 1 }
+    requires same { stages.now ≡ said.now.stages }
+    ensures { Gives (λ x. x) result (each_passes (stage_refers said.now) 1 stages.now) }
+{
+    let mut number = 1u32;
+    for stage in stages {
+        stage_refers(said, number, stage)?;
+        number += 1;
+    }
+    Ok(())
+}
+
+fn stage_refers(said: &Said, number: u32, stage: &Stage) -> Result<(), RecipeRefusal>
+    requires from_one { 1 ≤ number }
+    requires within { number ≤ length said.now.stages }
+    ensures { Gives (λ x. x) result (stage_refers said.now number stage.now) }
+{
+    let place = Place {
+        table: Table::Stage,
+        number,
+    };
+    let earlier = &said.stages.as_slice()[..number as usize - 1];
+    stage_refers_after(said, earlier, place, stage)
+}
+
+/// The same, of a stage after these earlier ones.
+#[tactic(auto, unfolding(crate::specs::SecondWalk::stage_refers_after))]
+fn stage_refers_after(
+    said: &Said,
+    earlier: &[Stage],
+    place: Place,
+    stage: &Stage,
+) -> Result<(), RecipeRefusal>
+    ensures { Gives (λ x. x) result (stage_refers_after said.now earlier.now place stage.now) }
+{
+    let inputs = said.inputs.as_slice();
+    made_by_now(
+        is_content(inputs, earlier, &stage.program),
+        place,
+        Key::Program,
+    )?;
+    made_by_now(
+        are_made(inputs, earlier, stage.files.as_slice()),
+        place,
+        Key::Files,
+    )?;
+    check_refers(said, earlier, place, &stage.check)?;
+    refers_to_source(said.sources.as_slice(), place, Key::Becomes, &stage.becomes)
+}
+
+/// Whether the content of each file is one of these inputs or what one of these stages makes.
+fn are_made(inputs: &[Input], stages: &[Stage], files: &[StageFile]) -> bool
+    ensures { result ≡ list_all (λ file. is_content inputs.now stages.now file.from) files.now }
+{
+    files
+        .iter()
+        .all(|file| is_content(inputs, stages, &file.from))
+}
+
+/// Whether a stage may be checked against a source, where it names one.
+#[tactic(auto, unfolding(crate::specs::SecondWalk::check_refers))]
+fn check_refers(
+    said: &Said,
+    earlier: &[Stage],
+    place: Place,
+    check: &Option<Name>,
+) -> Result<(), RecipeRefusal>
+    ensures { Gives (λ x. x) result (check_refers said.now earlier.now place check.now) }
+{
+    match check {
+        Some(name) => named_source_checks(said, earlier, place, name),
+        None => Ok(()),
+    }
+}
+
+fn named_source_checks(
+    said: &Said,
+    earlier: &[Stage],
+    place: Place,
+    name: &Name,
+) -> Result<(), RecipeRefusal>
+    ensures { Gives (λ x. x) result (checks_source said.now earlier.now place (spec.source_named said.now.sources name.now)) }
+{
+    match source_named(said.sources.as_slice(), name) {
+        Some(source) => source_checks(said, earlier, place, source),
+        None => Err(RecipeRefusal::NotMadeYet(place, Key::Check)),
+    }
+}
+
+/// Whether a source's files stand before the stage, and its language has a definition.
+fn source_checks(
+    said: &Said,
+    earlier: &[Stage],
+    place: Place,
+    source: &Source,
+) -> Result<(), RecipeRefusal>
+    ensures { Gives (λ x. x) result (checks_source said.now earlier.now place (Some source.now)) }
+{
+    if !are_contents(said.inputs.as_slice(), earlier, source.files.as_slice()) {
+        return Err(RecipeRefusal::NotMadeYet(place, Key::Check));
+    }
+    match source.lang {
+        SourceLanguage::Defined(_) => Ok(()),
+        SourceLanguage::Other => Err(RecipeRefusal::BadName(place, Key::Check)),
+    }
+}
+
+/// What is compared.
+#[tactic(auto, unfolding(crate::specs::SecondWalk::compare_refers))]
+fn compare_refers(said: &Said) -> Result<(), RecipeRefusal>
+    ensures { Gives (λ x. x) result (compare_refers said.now) }
+{
+    let stage = stage_at(said.stages.as_slice(), &said.compare.stage);
+    made_by_now(stage.is_some(), COMPARE, Key::Stage)?;
+    let binary = input_at(said.inputs.as_slice(), &said.compare.binary);
+    made_by_now(binary.is_some(), COMPARE, Key::Binary)
+}
+
+/// Whether each unchecked stage's program has a source.
+fn programs_have_sources(said: &Said, stages: &[Stage]) -> Result<(), RecipeRefusal>
+    requires few { length stages.now < 2 ^ 32 - 1 }
+    requires few_inputs { length said.now.inputs ≤ 256 }
+    requires few_stages { length said.now.stages ≤ 256 }
+    ensures { Gives (λ x. x) result (each_passes (program_has_source said.now) 1 stages.now) }
+{
+    let mut number = 1u32;
+    for stage in stages {
+        program_has_source(said, number, stage)?;
+        number += 1;
+    }
+    Ok(())
+}
+
+fn program_has_source(said: &Said, number: u32, stage: &Stage) -> Result<(), RecipeRefusal>
+    requires few_inputs { length said.now.inputs ≤ 256 }
+    requires few_stages { length said.now.stages ≤ 256 }
+    ensures { Gives (λ x. x) result (program_has_source said.now number stage.now) }
+{
+    match &stage.check {
+        Some(_) => Ok(()),
+        None => named_has_source(said, &stage.program),
+    }
+}
+
+fn named_has_source(said: &Said, program: &Name) -> Result<(), RecipeRefusal>
+    requires few_inputs { length said.now.inputs ≤ 256 }
+    requires few_stages { length said.now.stages ≤ 256 }
+    ensures { Gives (λ x. x) result (has_source said.now (spec.content_of said.now.inputs said.now.stages program.now)) }
+{
+    match content_of(said.inputs.as_slice(), said.stages.as_slice(), program) {
+        Some(content) => has_source(said, content),
+        None => Ok(()),
+    }
+}
+
+/// Refuses a program without a source where its source would stand.
+fn has_source(said: &Said, content: Content) -> Result<(), RecipeRefusal>
+    requires index { IsIndex said.now.inputs said.now.stages content }
+    requires few_inputs { length said.now.inputs ≤ 256 }
+    requires few_stages { length said.now.stages ≤ 256 }
+    ensures { Gives (λ x. x) result (has_source said.now (Some content)) }
+{
+    if content_source(said, content).is_some() {
+        return Ok(());
+    }
+    match content {
+        Content::Input(index) => Err(RecipeRefusal::Missing(
+            Place {
+                table: Table::Input,
+                number: index as u32 + 1,
+            },
+            Key::Implements,
+        )),
+        Content::Stage(index) => Err(RecipeRefusal::Missing(
+            Place {
+                table: Table::Stage,
+                number: index as u32 + 1,
+            },
+            Key::Becomes,
+        )),
+    }
+}

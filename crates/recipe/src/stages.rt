@@ -1,0 +1,137 @@
+ghost use Rattle.std.specs.Prelude.{◌≡◌, ◌<◌, ◌≤◌, ◌^◌, ◌-◌, [], IfOk, length, unwrap_or};
+ghost use Rattle.toml.specs.View.{table_view, view};
+ghost use Rattle.recipe_text.specs.Inside.Views.{tables_view};
+ghost use Rattle.recipe_text.specs.Reading.{Gives, a_list, a_word, gathered, optional, required};
+ghost use Rattle.recipe.specs.Tables.{next_stage, stage_table};
+
+use crate::names::required_new_name;
+use crate::parts::{Input, Source, Stage};
+use crate::stage_files::{optional_files, required_output};
+use ddc_base::{Bytes, ListOf};
+use recipe_text::{
+    Key, Place, RecipeRefusal, find, no_other_key, optional_name, optional_number, required,
+    required_name, required_number, words,
+};
+use std::alloc::Global;
+use toml::Table;
+
+/// The most bytes of the heap of a stage that names none: 512 MiB.
+const DEFAULT_HEAP: u64 = 536_870_912;
+
+/// The keys of a stage.
+const KEYS: [Key; 10] = [
+    Key::Name,
+    Key::Program,
+    Key::Args,
+    Key::Env,
+    Key::Files,
+    Key::Output,
+    Key::Steps,
+    Key::Heap,
+    Key::Check,
+    Key::Becomes,
+];
+
+/// The stages that the tables say.
+pub(crate) fn stages_of(
+    alloc: Global,
+    inputs: &[Input],
+    sources: &[Source],
+    tables: &[&Table],
+) -> Result<ListOf<Stage>, RecipeRefusal>
+    requires { length tables.now ≤ 256 }
+    ensures stages { Gives (λ x. x) result (gathered (next_stage inputs.now sources.now) [] (tables_view tables.now)) }
+    ensures few { IfOk result (λ x. length x ≤ 256) }
+{
+    let mut stages = ListOf::new(alloc);
+    for table in tables {
+        let stage = next_stage(alloc, inputs, sources, &stages, *table)?;
+        stages.push(stage)?;
+    }
+    Ok(stages)
+}
+
+/// The stage that a table says, after those before it.
+fn next_stage(
+    alloc: Global,
+    inputs: &[Input],
+    sources: &[Source],
+    stages: &ListOf<Stage>,
+    table: &Table,
+) -> Result<Stage, RecipeRefusal>
+    requires { length stages.now < 2 ^ 32 - 1 }
+    ensures { Gives (λ x. x) result (next_stage inputs.now sources.now stages.now (table_view table.now)) }
+{
+    let place = Place {
+        table: recipe_text::Table::Stage,
+        number: stages.len() as u32 + 1,
+    };
+    stage_of(alloc, inputs, sources, stages.as_slice(), place, table)
+}
+
+/// The stage that a table says at its place.
+#[tactic(auto, unfolding(crate::specs::Tables::stage_table))]
+fn stage_of(
+    alloc: Global,
+    inputs: &[Input],
+    sources: &[Source],
+    stages: &[Stage],
+    place: Place,
+    table: &Table,
+) -> Result<Stage, RecipeRefusal>
+    ensures { Gives (λ x. x) result (stage_table inputs.now sources.now stages.now place (table_view table.now)) }
+{
+    let name = required_new_name(inputs, sources, stages, place, table)?;
+    let program = required_name(place, Key::Program, table)?;
+    let args = required_args(alloc, place, table)?;
+    let env = optional_env(alloc, place, table)?.unwrap_or(ListOf::new(alloc));
+    let files = optional_files(alloc, place, table)?.unwrap_or(ListOf::new(alloc));
+    let output = required_output(alloc, place, table)?;
+    let steps = required_number(1, 1 << 48, place, Key::Steps, table)?;
+    let heap = optional_number(0, 1 << 30, place, Key::Heap, table)?.unwrap_or(DEFAULT_HEAP);
+    let check = optional_name(place, Key::Check, table)?;
+    let becomes = optional_name(place, Key::Becomes, table)?;
+    no_other_key(place, &KEYS, table)?;
+    Ok(Stage {
+        name,
+        program,
+        args,
+        env,
+        files,
+        output,
+        steps,
+        heap,
+        check,
+        becomes,
+    })
+}
+
+/// The arguments of a stage's program.
+#[tactic(auto, unfolding(recipe_text::specs::Reading::required))]
+fn required_args(alloc: Global, place: Place, table: &Table) -> Result<ListOf<Bytes>, RecipeRefusal>
+    ensures { Gives (λ x. x) result (required (a_list a_word 1 64) place Key.Args (table_view table.now)) }
+{
+    words(
+        alloc,
+        1,
+        64,
+        place,
+        Key::Args,
+        required(place, Key::Args, table)?,
+    )
+}
+
+/// The environment of a stage's program, where it names one.
+#[tactic(auto, unfolding(recipe_text::specs::Reading::optional))]
+fn optional_env(
+    alloc: Global,
+    place: Place,
+    table: &Table,
+) -> Result<Option<ListOf<Bytes>>, RecipeRefusal>
+    ensures { Gives (λ x. x) result (optional (a_list a_word 0 64) place Key.Env (table_view table.now)) }
+{
+    match find(table, Key::Env) {
+        Some(value) => Ok(Some(words(alloc, 0, 64, place, Key::Env, value)?)),
+        None => Ok(None),
+    }
+}

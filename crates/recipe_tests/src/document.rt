@@ -1,0 +1,181 @@
+//! The example of docs/reference/recipe.md and that page's changes of it.
+use crate::texts::{EXAMPLE, answer, with};
+use std::test::Fail;
+
+/// What is changed, and into what.
+type Change = (&'static str, &'static str);
+
+/// An input that implements the source.
+const IMPLEMENTS: Change = (
+    "path = \"copy.elf\"",
+    "path = \"copy.elf\"\nimplements = \"copy_src\"",
+);
+
+/// No table `source`.
+const NO_SOURCE: Change = (
+    "[[source]]\nname = \"copy_src\"\nlang = \"hex0\"\nfiles = [\"text\"]\n",
+    "",
+);
+
+/// Nothing is changed.
+const NOTHING: Change = ("", "");
+
+/// Two changes of the example, and the answer.
+static CHANGES: [(Change, Change, &str); 34] = [
+    (("format = 1\n", "format\nformat = 1\n"), NOTHING, "1"),
+    (("format = 1", ""), NOTHING, "2 top 0 format"),
+    (("format = 1", "format = \"1\""), NOTHING, "2 top 0 format"),
+    (("format = 1", "format = 2"), NOTHING, "8 top 0 format"),
+    (
+        NO_SOURCE,
+        ("format = 1", "format = 1\nsource = 5"),
+        "2 top 0 source",
+    ),
+    (
+        NO_SOURCE,
+        ("format = 1", "format = 1\nsource = [5]"),
+        "2 top 0 source",
+    ),
+    (
+        ("format = 1", "format = 1\ntitle = \"audit\""),
+        NOTHING,
+        "3 top 0",
+    ),
+    (
+        ("name = \"prog\"", "name = \"Prog\""),
+        NOTHING,
+        "4 input 1 name",
+    ),
+    (
+        ("path = \"copy.elf\"", "path = \"\""),
+        NOTHING,
+        "7 input 1 path",
+    ),
+    (
+        ("path = \"copy.elf\"", "path = \"copy.elf\"\nfile = \"x\""),
+        NOTHING,
+        "3 input 1",
+    ),
+    (
+        ("name = \"copy_src\"", "name = \"text\""),
+        NOTHING,
+        "5 source 1 name",
+    ),
+    (
+        ("lang = \"hex0\"", "lang = \"hex3\""),
+        NOTHING,
+        "4 source 1 lang",
+    ),
+    (
+        ("lang = \"hex0\"", "lang = \"hex0\"\nbase = -1"),
+        NOTHING,
+        "8 source 1 base",
+    ),
+    (
+        ("files = [\"text\"]", "files = []"),
+        NOTHING,
+        "2 source 1 files",
+    ),
+    (
+        ("files = [\"text\"]", "files = [\"txt\"]"),
+        NOTHING,
+        "6 source 1 files",
+    ),
+    (
+        ("args = [\"copy\"]", "args = []"),
+        NOTHING,
+        "2 stage 1 args",
+    ),
+    (
+        ("args = [\"copy\"]", "args = [\"a\\u0000\"]"),
+        NOTHING,
+        "7 stage 1 args",
+    ),
+    ((", from = \"prog\"", ""), NOTHING, "2 stage 1 files"),
+    (
+        ("from = \"prog\"", "from = \"prog\", mode = 5"),
+        NOTHING,
+        "3 stage 1",
+    ),
+    (
+        (
+            "from = \"prog\" }",
+            "from = \"prog\" }, { path = \"./in\", from = \"src\" }",
+        ),
+        NOTHING,
+        "5 stage 1 files",
+    ),
+    (
+        ("from = \"prog\"", "from = \"two\""),
+        NOTHING,
+        "6 stage 1 files",
+    ),
+    (
+        ("output = \"out\"", "output = \"./\""),
+        NOTHING,
+        "7 stage 1 output",
+    ),
+    (("steps = 100000", "steps = 0"), NOTHING, "8 stage 1 steps"),
+    (
+        ("program = \"prog\"", "program = \"two\""),
+        NOTHING,
+        "6 stage 1 program",
+    ),
+    (
+        ("check = \"copy_src\"", "check = \"prog\""),
+        NOTHING,
+        "6 stage 1 check",
+    ),
+    (
+        ("files = [\"text\"]", "files = [\"two\"]"),
+        NOTHING,
+        "6 stage 1 check",
+    ),
+    (
+        ("lang = \"hex0\"", "lang = \"other\""),
+        NOTHING,
+        "4 stage 1 check",
+    ),
+    (
+        ("stage = \"two\"", "stage = \"bin\""),
+        NOTHING,
+        "6 compare 0 stage",
+    ),
+    (
+        ("check = \"copy_src\"", ""),
+        NOTHING,
+        "2 input 1 implements",
+    ),
+    (
+        ("check = \"copy_src\"", ""),
+        IMPLEMENTS,
+        "2 stage 1 becomes",
+    ),
+    (IMPLEMENTS, ("check =", "becomes ="), "accepted"),
+    (NOTHING, NOTHING, "accepted"),
+    (
+        IMPLEMENTS,
+        ("program = \"one\"", "program = \"prog\""),
+        "accepted",
+    ),
+    (
+        ("lang = \"hex0\"", "lang = \"m1\""),
+        NOTHING,
+        "2 stage 1 becomes",
+    ),
+];
+
+#[test]
+fn changes_of_the_example(rt: HostRuntime) -> Result<(), Fail> {
+    for (first, second, wanted) in &CHANGES {
+        let once = with(rt.alloc(), EXAMPLE, first.0, first.1)?;
+        let twice = with(rt.alloc(), once.as_str(), second.0, second.1)?;
+        let answer = answer(rt.alloc(), twice.as_bytes())?;
+        assert_eq!(rt; answer.as_str(), *wanted);
+    }
+    let cut = answer(rt.alloc(), b"format = 1 # \xff")?;
+    assert_eq!(rt; cut.as_str(), "1");
+    let empty = answer(rt.alloc(), b"")?;
+    assert_eq!(rt; empty.as_str(), "2 top 0 format");
+    Ok(())
+}

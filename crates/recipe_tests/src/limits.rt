@@ -1,0 +1,173 @@
+//! Lengths at each limit and one past it: a piece is repeated so often between two others.
+use crate::repeated;
+use crate::texts::{GOOD, answer, with};
+use std::test::Fail;
+
+/// What is changed; the piece in front, the one that is repeated, the one behind; how often, and the answer.
+type Row = (&'static str, [&'static str; 3], usize, &'static str);
+
+static LENGTHS: [Row; 17] = [
+    (
+        "name = \"bin\"",
+        ["name = \"", "b", "\""],
+        32,
+        "6 compare 0 binary",
+    ),
+    (
+        "name = \"bin\"",
+        ["name = \"", "b", "\""],
+        33,
+        "4 input 3 name",
+    ),
+    (
+        "path = \"b.bin\"",
+        ["path = \"", "b", "\""],
+        255,
+        "accepted",
+    ),
+    (
+        "path = \"b.bin\"",
+        ["path = \"", "b", "\""],
+        256,
+        "7 input 3 path",
+    ),
+    (
+        "files = [\"text\"]",
+        ["files = [", "\"text\", ", "]"],
+        64,
+        "accepted",
+    ),
+    (
+        "files = [\"text\"]",
+        ["files = [", "\"text\", ", "]"],
+        65,
+        "9 source 1 files",
+    ),
+    (
+        "args = [\"copy\"]",
+        ["args = [", "\"copy\", ", "]"],
+        64,
+        "accepted",
+    ),
+    (
+        "args = [\"copy\"]",
+        ["args = [", "\"copy\", ", "]"],
+        65,
+        "9 stage 1 args",
+    ),
+    (
+        "args = [\"copy\"]",
+        ["args = [\"", "c", "\"]"],
+        255,
+        "accepted",
+    ),
+    (
+        "args = [\"copy\"]",
+        ["args = [\"", "c", "\"]"],
+        256,
+        "7 stage 1 args",
+    ),
+    (
+        "env = [\"A=1\"]",
+        ["env = [", "\"A=1\", ", "]"],
+        64,
+        "accepted",
+    ),
+    (
+        "env = [\"A=1\"]",
+        ["env = [", "\"A=1\", ", "]"],
+        65,
+        "9 stage 1 env",
+    ),
+    (
+        "path = \"in\"",
+        ["path = \"././", "i", "\""],
+        255,
+        "accepted",
+    ),
+    (
+        "path = \"in\"",
+        ["path = \"", "i", "\""],
+        256,
+        "7 stage 1 files",
+    ),
+    (
+        "output = \"out\"",
+        ["output = \"", "./", "o\""],
+        200,
+        "accepted",
+    ),
+    (
+        "output = \"out\"",
+        ["output = \"", "o", "\""],
+        256,
+        "7 stage 1 output",
+    ),
+    (
+        "{ path = \"in\", from = \"prog\" }",
+        ["", "{}, ", ""],
+        257,
+        "9 stage 1 files",
+    ),
+];
+
+/// Counted tables: whole texts with so many of them.
+static TABLES: [Row; 6] = [
+    (
+        "",
+        ["format = 1\ninput = [", "{}, ", "]"],
+        256,
+        "2 top 0 stage",
+    ),
+    (
+        "",
+        ["format = 1\ninput = [", "{}, ", "]"],
+        257,
+        "9 top 0 input",
+    ),
+    (
+        "",
+        ["format = 1\ninput = [{}]\nsource = [", "{}, ", "]"],
+        256,
+        "2 top 0 stage",
+    ),
+    (
+        "",
+        ["format = 1\ninput = [{}]\nsource = [", "{}, ", "]"],
+        257,
+        "9 top 0 source",
+    ),
+    (
+        "",
+        ["format = 1\ninput = [{}]\nstage = [", "{}, ", "]"],
+        256,
+        "2 top 0 compare",
+    ),
+    (
+        "",
+        ["format = 1\ninput = [{}]\nstage = [", "{}, ", "]"],
+        257,
+        "9 top 0 stage",
+    ),
+];
+
+#[test]
+fn of_values(rt: HostRuntime) -> Result<(), Fail> {
+    for (old, pieces, count, wanted) in &LENGTHS {
+        let new = repeated(rt.alloc(), pieces[0], pieces[1], *count, pieces[2])?;
+        let text = with(rt.alloc(), GOOD, old, new.as_str())?;
+        let answer = answer(rt.alloc(), text.as_bytes())?;
+        assert_eq!(rt; answer.as_str(), *wanted);
+    }
+    Ok(())
+}
+
+#[test]
+fn of_tables(rt: HostRuntime) -> Result<(), Fail> {
+    for (_, pieces, count, wanted) in &TABLES {
+        let text = repeated(rt.alloc(), pieces[0], pieces[1], *count, pieces[2])?;
+        let answer = answer(rt.alloc(), text.as_bytes())?;
+        assert_eq!(rt; answer.as_str(), *wanted);
+    }
+    Ok(())
+}

@@ -1,0 +1,118 @@
+//! A good recipe with every key, texts made of it, and what the reader answers, in words.
+use ddc_base::OutOfMemory;
+use recipe::{RecipeRefusal, read};
+use std::alloc::Global;
+
+pub(crate) const GOOD: &str = r#"format = 1
+[[input]]
+name = "prog"
+path = "copy.elf"
+implements = "copy_src"
+[[input]]
+name = "text"
+path = "copy.hex0"
+[[input]]
+name = "bin"
+path = "b.bin"
+[[source]]
+name = "copy_src"
+lang = "hex0"
+base = 65536
+files = ["text"]
+[[source]]
+name = "rest_src"
+lang = "other"
+files = ["text", "one"]
+[[stage]]
+name = "one"
+program = "prog"
+args = ["copy"]
+env = ["A=1"]
+files = [{ path = "in", from = "prog" }]
+output = "out"
+steps = 100000
+heap = 4096
+check = "copy_src"
+[[stage]]
+name = "two"
+program = "one"
+args = ["first"]
+output = "-"
+steps = 5
+becomes = "rest_src"
+[[stage]]
+name = "three"
+program = "two"
+args = ["second"]
+output = "./-"
+steps = 6
+[compare]
+stage = "three"
+binary = "bin"
+"#;
+
+/// The example of docs/reference/recipe.md.
+pub(crate) const EXAMPLE: &str = r#"format = 1
+[[input]]
+name = "prog"
+path = "copy.elf"
+[[input]]
+name = "text"
+path = "copy.hex0"
+[[input]]
+name = "src"
+path = "a.bin"
+[[input]]
+name = "bin"
+path = "b.bin"
+[[source]]
+name = "copy_src"
+lang = "hex0"
+files = ["text"]
+[[stage]]
+name = "one"
+program = "prog"
+args = ["copy"]
+files = [{ path = "in", from = "prog" }]
+output = "out"
+steps = 100000
+check = "copy_src"
+[[stage]]
+name = "two"
+program = "one"
+args = ["copy"]
+files = [{ path = "in", from = "src" }]
+output = "out"
+steps = 100000
+[compare]
+stage = "two"
+binary = "bin"
+"#;
+
+/// A text with another in place of the first piece that is `old`. Where there is none it is no recipe.
+pub(crate) fn with(alloc: Global, text: &str, old: &str, new: &str) -> Result<String, OutOfMemory> {
+    match text.split_once(old) {
+        Some((before, after)) => Ok(format!(in alloc; "{before}{new}{after}")?),
+        None => Ok(format!(in alloc; "nothing to change: {old}")?),
+    }
+}
+
+/// What the reader answers: `accepted`, or the refusal's number, table, item and key.
+pub(crate) fn answer(alloc: Global, text: &[u8]) -> Result<String, OutOfMemory> {
+    match read(alloc, text) {
+        Ok(_) => Ok(String::from_str(alloc, "accepted")?),
+        Err(refusal) => shown(alloc, refusal),
+    }
+}
+
+fn shown(alloc: Global, refusal: RecipeRefusal) -> Result<String, OutOfMemory> {
+    let number = refusal.number();
+    match (refusal.place(), refusal.key()) {
+        (Some(place), Some(key)) => Ok(format!(in alloc;
+            "{number} {} {} {key}",
+            place.table, place.number
+        )?),
+        (Some(place), None) => Ok(format!(in alloc; "{number} {} {}", place.table, place.number)?),
+        _ => Ok(format!(in alloc; "{number}")?),
+    }
+}

@@ -1,0 +1,289 @@
+-- What each state keeps of the rules of a report, and how it goes on to one.
+use Rattle.std.proofs.Common.{◌≡◌, ℕ, suc, ◌+◌, ◌-◌, ◌<◌, ◌≤◌, ◌^◌, Bool, true, cond, ltb, lit<, List, [], ◌∷◌, ◌++◌, length, map, Option, Some, None, refl, sym, ap, subst, ◌∙◌, append_assoc, arith, length-append}
+use Rattle.std.specs.Prelude.{◌&&◌, slice_get, All}
+use Rattle.std.specs.List.{flat_map}
+use Rattle.std.specs.Ordering.{nat_cmp, is_lt}
+use Rattle.std.specs.Cmp.Lexicographic.{slice_cmp}
+use Rattle.std.proofs.lemmas.Bool.{and_parts}
+use Rattle.std.proofs.lemmas.Bool.Decides.{Decides-ltb}
+use Rattle.std.proofs.lemmas.List.{append-nil}
+use Rattle.std.proofs.lemmas.List.Elements.{All-append, All-cons, All-head, All-map, All-nil, All-push, All-replicate, All-tail}
+use Rattle.std.specs.Prelude.{replicate}
+use Rattle.ddc_base.specs.Names.{is_name, IsName}
+use Rattle.ddc_base.specs.declared.digests.Digest.{Digest}
+use Rattle.report.specs.declared.line.Line.{Line}
+use Rattle.report.specs.declared.line.Line.TheVariants.{Header, Recipe, Input, Stage, Stream1, Stream2, Left, Made, Checked, Compare, End}
+use Rattle.report.specs.declared.types.Mark.{Mark}
+use Rattle.report.specs.declared.types.InputLine.{InputLine}
+use Rattle.report.specs.declared.types.LeftLine.{LeftLine}
+use Rattle.report.specs.declared.types.StageLine.{StageLine}
+use Rattle.report.specs.declared.types.CompareLine.{CompareLine}
+use Rattle.report.specs.declared.types.Compared.TheVariants.{Equal}
+use Rattle.report.specs.declared.types.Report.{Report}
+use Rattle.report.specs.declared.state.Front.{Front}
+use Rattle.report.specs.declared.state.Opened.{Opened}
+use Rattle.report.specs.declared.state.State.{State}
+use Rattle.report.specs.declared.state.State.TheVariants.{Start, Titled, Inputs, Named, Heard, Leaving, Closing, Stages, Compared, Ended}
+use Rattle.report.specs.Inside.States.{step, follows, is_after, closed, with_stage}
+use Rattle.report.specs.Reports.{stage_lines, report_lines, ascend, IsCount, IsDigest, IsMark, IsInput, IsLeft, IsStage, IsCompare, IsReport}
+use Rattle.report.proofs.Cuts.{if_some, same_some}
+use Rattle.report.proofs.LineTexts.{IsLine}
+use Rattle.report.proofs.Takes.{so_far, step_takes}
+
+pub record IsFront (front : Front) : Type 0 where
+  pub recipe : IsDigest front.recipe
+  pub inputs : IsCount 1 256 (length front.inputs)
+  pub each_input : All IsInput front.inputs
+  pub stages : length front.stages ≤ 256
+  pub each_stage : All IsStage front.stages
+
+pub record IsOpened (stage : Opened) : Type 0 where
+  pub name : IsName stage.name
+  pub steps : stage.steps < 2 ^ 64
+  pub stream1 : IsMark stage.stream1
+  pub stream2 : IsMark stage.stream2
+  pub count : length stage.left ≤ 4096
+  pub each_left : All IsLeft stage.left
+  pub ascending : ascend stage.left ≡ true
+
+-- a report with room for one more stage
+pub record HasRoom (front : Front) : Type 0 where
+  pub fits : IsFront front
+  pub room : length front.stages < 256
+
+-- what a state keeps
+abbrev pub Good : State → Type 0
+Good Start = Unit {0}
+Good Titled = Unit {0}
+Good (Inputs recipe inputs) = IsDigest recipe × (length inputs ≤ 256) × All IsInput inputs
+Good (Named front name steps) = HasRoom front × IsName name × (steps < 2 ^ 64)
+Good (Heard front name steps stream1) = HasRoom front × IsName name × (steps < 2 ^ 64) × IsMark stream1
+Good (Leaving front stage) = HasRoom front × IsOpened stage
+Good (Closing front stage made) = HasRoom front × IsOpened stage × IsMark made
+Good (Stages front) = IsFront front × (1 ≤ length front.stages)
+Good (Compared report) = IsReport report
+Good (Ended report) = IsReport report
+
+is_below : (a b : ℕ) → ltb a b ≡ true → a < b
+is_below a b h = (Decides-ltb a b).0 h
+
+and_both : (a b : Bool) → a ≡ true → b ≡ true → (a && b) ≡ true
+and_both a b h k = rw (h, k) refl
+
+ascend_push : (left : List LeftLine) (file : LeftLine) → ascend left ≡ true → follows left file.name ≡ true → ascend (left ++ file ∷ []) ≡ true
+ascend_push [] file h k = refl
+ascend_push (first ∷ []) file h k = and_both _ _ k refl
+ascend_push (first ∷ next ∷ left) file h k =
+    let parts = and_parts (is_lt (slice_cmp nat_cmp first.name next.name)) (ascend (next ∷ left)) h in
+    let at_last : slice_get (first ∷ next ∷ left) (length (first ∷ next ∷ left) - 1) ≡ slice_get (next ∷ left) (length (next ∷ left) - 1) =
+    (let a : suc (suc (length left)) - 1 ≡ suc (length left) = omega arith in
+    let b : suc (length left) - 1 ≡ length left = omega arith in
+    rw (a, b) refl) in
+    and_both _ _ parts.0 (ascend_push (next ∷ left) file parts.1 (ap (λ (o : Option LeftLine). is_after o file.name) (sym at_last) ∙ k))
+
+grown : {X : Type 0} (xs : List X) (x : X) → length (xs ++ x ∷ []) ≡ length xs + 1
+grown xs x = length-append xs (x ∷ [])
+
+with_room : (front : Front) (stage : StageLine) → HasRoom front → IsStage stage → Good (Stages (with_stage front stage))
+with_room front stage has is = (
+  record {
+    recipe = has.fits.recipe;
+    inputs = has.fits.inputs;
+    each_input = has.fits.each_input;
+    stages = omega (arith, has.room, grown front.stages stage);
+    each_stage = All-push IsStage front.stages stage has.fits.each_stage is;
+  },
+  omega (arith, grown front.stages stage),
+)
+
+pub step_keeps : (s : State) (l : Line) (t : State) → Good s → IsLine l → step s l ≡ Some t → Good t
+unfolding step
+step_keeps Start Header t good is e = subst Good (same_some Titled t e) tt
+step_keeps Titled (Recipe recipe) t good is e = subst Good (same_some (Inputs recipe []) t e) (is, omega arith, All-nil IsInput)
+step_keeps (Inputs recipe inputs) (Input input) t good is e =
+    let p = if_some (ltb (length inputs) 256) (Some (Inputs recipe (inputs ++ input ∷ []))) t e in
+    subst Good (same_some (Inputs recipe (inputs ++ input ∷ [])) t p.1) (good.0, omega (arith, is_below _ _ p.0, grown inputs input), All-push IsInput inputs input good.2 is)
+step_keeps (Inputs recipe inputs) (Stage name steps) t good is e =
+    let front : Front = record { recipe = recipe; inputs = inputs; stages = [] } in
+    let p = if_some (ltb 0 (length inputs)) (Some (Named front name steps)) t e in
+    let some : 1 ≤ length inputs = omega (arith, is_below _ _ p.0) in
+    let fits : IsFront front = record { recipe = good.0; inputs = (some, good.1); each_input = good.2; stages = omega arith; each_stage = All-nil IsStage } in
+    subst Good (same_some (Named front name steps) t p.1) (record { fits = fits; room = lit< tt }, is.0, is.1)
+step_keeps (Named front name steps) (Stream1 mark) t good is e = subst Good (same_some (Heard front name steps mark) t e) (good.0, good.1, good.2, is)
+step_keeps (Heard front name steps stream1) (Stream2 mark) t good is e =
+    let opened : Opened = record { name = name; steps = steps; stream1 = stream1; stream2 = mark; left = [] } in
+    let fits : IsOpened opened = record { name = good.1; steps = good.2; stream1 = good.3; stream2 = is; count = omega arith; each_left = All-nil IsLeft; ascending = refl } in
+    subst Good (same_some (Leaving front opened) t e) (good.0, fits)
+step_keeps (Leaving front stage) (Left file) t good is e =
+    let next : Opened = record stage { left = stage.left ++ file ∷ [] } in
+    let p = if_some (ltb (length stage.left) 4096) (cond (follows stage.left file.name) (Some (Leaving front next)) None) t e in
+    let q = if_some (follows stage.left file.name) (Some (Leaving front next)) t p.1 in
+    let fits : IsOpened next = record {
+      name = good.1.name;
+      steps = good.1.steps;
+      stream1 = good.1.stream1;
+      stream2 = good.1.stream2;
+      count = omega (arith, is_below _ _ p.0, grown stage.left file);
+      each_left = All-push IsLeft stage.left file good.1.each_left is;
+      ascending = ascend_push stage.left file good.1.ascending q.0;
+    } in
+    subst Good (same_some (Leaving front next) t q.1) (good.0, fits)
+step_keeps (Leaving front stage) (Made mark) t good is e = subst Good (same_some (Closing front stage mark) t e) (good.0, good.1, is)
+step_keeps (Closing front stage made) (Checked checked) t good is e =
+    let fits : IsStage (closed stage made checked) = record {
+      name = good.1.name;
+      steps = good.1.steps;
+      stream1 = good.1.stream1;
+      stream2 = good.1.stream2;
+      count = good.1.count;
+      each_left = good.1.each_left;
+      ascending = good.1.ascending;
+      made = good.2;
+    } in
+    subst Good (same_some (Stages (with_stage front (closed stage made checked))) t e) (with_room front (closed stage made checked) good.0 fits)
+step_keeps (Stages front) (Stage name steps) t good is e =
+    let p = if_some (ltb (length front.stages) 256) (Some (Named front name steps)) t e in
+    subst Good (same_some (Named front name steps) t p.1) (record { fits = good.0; room = is_below _ _ p.0 }, is.0, is.1)
+step_keeps (Stages front) (Compare compare) t good is e =
+    let report : Report = record { recipe = front.recipe; inputs = front.inputs; stages = front.stages; compare = compare } in
+    subst Good (same_some (Compared report) t e)
+    (record { recipe = good.0.recipe; inputs = good.0.inputs; each_input = good.0.each_input; stages = (good.1, good.0.stages); each_stage = good.0.each_stage; compare = is })
+step_keeps (Compared report) End t good is e = subst Good (same_some (Ended report) t e) good
+step_keeps _ _ t good is e = absurd cc
+
+-- ---- each state goes on to a report
+
+pub record Finishes (s : State) : Type 0 where
+  pub report : Report
+  pub is : IsReport report
+  pub more : List Line
+  pub lines : report_lines report ≡ so_far s ++ more
+
+-- by one more line
+by : (s : State) (l : Line) (t : State) → IsLine l → step s l ≡ Some t → Good s → (Good t → Finishes t) → Finishes s
+by s l t fits stepped good later =
+    let f = later (step_keeps s l t good fits stepped) in
+    record {
+      report = f.report;
+      is = f.is;
+      more = l ∷ f.more;
+      lines = f.lines ∙ ap (λ (ls : List Line). ls ++ f.more) (step_takes s l t stepped) ∙ append_assoc (so_far s) (l ∷ []) f.more;
+    }
+
+some_name : List ℕ
+some_name = 97 ∷ []
+
+some_name_is : IsName some_name
+unfolding is_name some_name
+some_name_is = refl
+
+some_digest : Digest
+some_digest = record { 0 = replicate 32 0 }
+
+some_digest_is : IsDigest some_digest
+unfolding some_digest
+some_digest_is = record { count = refl; bytes = All-replicate (λ byte. byte < 256) 32 0 (lit< tt) }
+
+some_mark : Mark
+some_mark = record { length = 0; digest = some_digest }
+
+some_mark_is : IsMark some_mark
+unfolding some_mark
+some_mark_is = record { length = lit< tt; digest = some_digest_is }
+
+some_compare : CompareLine
+some_compare = record { stage = some_name; binary = some_name; result = Equal 0 }
+
+some_compare_is : IsCompare some_compare
+unfolding some_compare
+some_compare_is = record { stage = some_name_is; binary = some_name_is; result = lit< tt }
+
+done : (s : State) (report : Report) → IsReport report → report_lines report ≡ so_far s → Finishes s
+done s report is lines = record { report = report; is = is; more = []; lines = lines ∙ sym (append-nil (so_far s)) }
+
+from_ended : (report : Report) → Good (Ended report) → Finishes (Ended report)
+from_ended report good = done (Ended report) report good refl
+
+from_compared : (report : Report) → Good (Compared report) → Finishes (Compared report)
+unfolding step
+from_compared report good = by (Compared report) End (Ended report) tt refl good (from_ended report)
+
+from_stages : (front : Front) → Good (Stages front) → Finishes (Stages front)
+unfolding step
+from_stages front good = by (Stages front) (Compare some_compare) _ some_compare_is refl good (from_compared _)
+
+from_closing : (front : Front) (stage : Opened) (made : Mark) → Good (Closing front stage made) → Finishes (Closing front stage made)
+unfolding step
+from_closing front stage made good = by (Closing front stage made) (Checked None) _ tt refl good (from_stages _)
+
+from_leaving : (front : Front) (stage : Opened) → Good (Leaving front stage) → Finishes (Leaving front stage)
+unfolding step
+from_leaving front stage good = by (Leaving front stage) (Made some_mark) _ some_mark_is refl good (from_closing front stage some_mark)
+
+from_heard : (front : Front) (name : List ℕ) (steps : ℕ) (mark : Mark) → Good (Heard front name steps mark) → Finishes (Heard front name steps mark)
+unfolding step
+from_heard front name steps mark good = by (Heard front name steps mark) (Stream2 some_mark) _ some_mark_is refl good (from_leaving front _)
+
+from_named : (front : Front) (name : List ℕ) (steps : ℕ) → Good (Named front name steps) → Finishes (Named front name steps)
+unfolding step
+from_named front name steps good = by (Named front name steps) (Stream1 some_mark) _ some_mark_is refl good (from_heard front name steps some_mark)
+
+from_inputs : (recipe : Digest) (input : InputLine) (inputs : List InputLine) → Good (Inputs recipe (input ∷ inputs)) → Finishes (Inputs recipe (input ∷ inputs))
+unfolding step
+from_inputs recipe input inputs good =
+    let front : Front = record { recipe = recipe; inputs = input ∷ inputs; stages = [] } in
+    let some : ltb 0 (suc (length inputs)) ≡ true = (Decides-ltb 0 (suc (length inputs))).1 (omega arith) in
+    let opens : step (Inputs recipe (input ∷ inputs)) (Stage some_name 0) ≡ Some (Named front some_name 0) = rw some refl in
+    by (Inputs recipe (input ∷ inputs)) (Stage some_name 0) (Named front some_name 0) (some_name_is, lit< tt) opens good (from_named front some_name 0)
+
+from_no_input : (recipe : Digest) → Good (Inputs recipe []) → Finishes (Inputs recipe [])
+unfolding step
+from_no_input recipe good =
+    let input : InputLine = record { name = some_name; mark = some_mark } in
+    by (Inputs recipe []) (Input input) _ (record { name = some_name_is; mark = some_mark_is }) refl good (from_inputs recipe input [])
+
+from_titled : Finishes Titled
+unfolding step
+from_titled = by Titled (Recipe some_digest) _ some_digest_is refl tt (from_no_input some_digest)
+
+pub finished : (s : State) → Good s → Finishes s
+unfolding step
+finished Start good = by Start Header Titled tt refl tt (λ _. from_titled)
+finished Titled good = from_titled
+finished (Inputs recipe []) good = from_no_input recipe good
+finished (Inputs recipe (input ∷ inputs)) good = from_inputs recipe input inputs good
+finished (Named front name steps) good = from_named front name steps good
+finished (Heard front name steps mark) good = from_heard front name steps mark good
+finished (Leaving front stage) good = from_leaving front stage good
+finished (Closing front stage made) good = from_closing front stage made good
+finished (Stages front) good = from_stages front good
+finished (Compared report) good = from_compared report good
+finished (Ended report) good = from_ended report good
+
+-- ---- the lines of a report
+
+stage_is : (stage : StageLine) → IsStage stage → All IsLine (stage_lines stage)
+stage_is stage is =
+    let left = map Left stage.left in
+    let ending = Made stage.made ∷ Checked stage.checked ∷ [] in
+    let each_left : All IsLine left = All-map IsLine Left stage.left is.each_left in
+    let last : All IsLine ending = All-cons IsLine (Made stage.made) (Checked stage.checked ∷ []) is.made (All-cons IsLine (Checked stage.checked) [] tt (All-nil IsLine)) in
+    let rest = left ++ ending in
+    All-cons IsLine (Stage stage.name stage.steps) (Stream1 stage.stream1 ∷ Stream2 stage.stream2 ∷ rest) (is.name, is.steps) (
+    All-cons IsLine (Stream1 stage.stream1) (Stream2 stage.stream2 ∷ rest) is.stream1 (
+    All-cons IsLine (Stream2 stage.stream2) rest is.stream2 (All-append IsLine left ending each_left last)))
+
+stages_are : (stages : List StageLine) → All IsStage stages → All IsLine (flat_map stage_lines stages)
+stages_are [] each = All-nil IsLine
+stages_are (stage ∷ stages) each =
+    All-append IsLine (stage_lines stage) (flat_map stage_lines stages) (stage_is stage (All-head IsStage stage stages each)) (stages_are stages (All-tail IsStage stage stages each))
+
+pub lines_are : (report : Report) → IsReport report → All IsLine (report_lines report)
+lines_are report is =
+    let inputs = map Input report.inputs in
+    let stages = flat_map stage_lines report.stages in
+    let front : All IsLine (Header ∷ Recipe report.recipe ∷ inputs) =
+    All-cons IsLine Header (Recipe report.recipe ∷ inputs) tt (All-cons IsLine (Recipe report.recipe) inputs is.recipe (All-map IsLine Input report.inputs is.each_input)) in
+    let last : All IsLine (Compare report.compare ∷ End ∷ []) = All-cons IsLine (Compare report.compare) (End ∷ []) is.compare (All-cons IsLine End [] tt (All-nil IsLine)) in
+    All-append IsLine ((Header ∷ Recipe report.recipe ∷ inputs) ++ stages) (Compare report.compare ∷ End ∷ [])
+    (All-append IsLine (Header ∷ Recipe report.recipe ∷ inputs) stages front (stages_are report.stages is.each_stage)) last

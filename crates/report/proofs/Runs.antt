@@ -1,0 +1,117 @@
+-- The lines of a report, taken one after the other, lead to its end.
+use Rattle.std.proofs.Common.{◌≡◌, ℕ, suc, ◌+◌, ◌-◌, ◌<◌, ◌≤◌, true, ltb, List, [], ◌∷◌, ◌++◌, length, map, Option, Some, None, refl, sym, ap, ◌∙◌, append_assoc, arith, length-append}
+use Rattle.std.specs.Prelude.{slice_get, All}
+use Rattle.std.specs.List.{flat_map}
+use Rattle.std.specs.Ordering.{nat_cmp, is_lt}
+use Rattle.std.specs.Cmp.Lexicographic.{slice_cmp}
+use Rattle.std.proofs.lemmas.Bool.{and_parts}
+use Rattle.std.proofs.lemmas.Bool.Decides.{Decides-ltb}
+use Rattle.std.proofs.lemmas.List.{append-nil}
+use Rattle.std.proofs.lemmas.List.Elements.{All-head, All-tail}
+use Rattle.ddc_base.specs.declared.digests.Digest.{Digest}
+use Rattle.report.specs.declared.line.Line.{Line}
+use Rattle.report.specs.declared.line.Line.TheVariants.{Input, Stream1, Stream2, Left, Made, Checked, Compare, End}
+use Rattle.report.specs.declared.types.InputLine.{InputLine}
+use Rattle.report.specs.declared.types.LeftLine.{LeftLine}
+use Rattle.report.specs.declared.types.StageLine.{StageLine}
+use Rattle.report.specs.declared.types.Report.{Report}
+use Rattle.report.specs.declared.state.Front.{Front}
+use Rattle.report.specs.declared.state.Opened.{Opened}
+use Rattle.report.specs.declared.state.State.{State}
+use Rattle.report.specs.declared.state.State.TheVariants.{Start, Inputs, Named, Leaving, Stages, Ended}
+use Rattle.report.specs.Inside.Cuts.{◌>>=◌}
+use Rattle.report.specs.Inside.States.{step, follows, is_after, with_stage}
+use Rattle.report.specs.Reports.{stage_lines, report_lines, ascend, IsStage, IsReport}
+
+-- the state after the lines
+abbrev pub run : State → List Line → Option State
+run state [] = Some state
+run state (line ∷ lines) = step state line >>= λ next. run next lines
+
+pub run-append : (state : State) (front more : List Line) → run state (front ++ more) ≡ (run state front >>= λ next. run next more)
+run-append state [] more = refl
+run-append state (line ∷ front) more = on (step state line) (λ s. run-append s front more)
+  where
+    on : (next : Option State) → ((s : State) → run s (front ++ more) ≡ (run s front >>= λ t. run t more)) → (next >>= λ s. run s (front ++ more)) ≡ ((next >>= λ s. run s front) >>= λ t. run t more)
+    on None h = refl
+    on (Some s) h = h s
+
+-- two runs, one after the other
+then : (s t : State) (front more : List Line) → run s front ≡ Some t → run s (front ++ more) ≡ run t more
+then s t front more first = run-append s front more ∙ ap (λ (next : Option State). next >>= λ u. run u more) first
+
+below : (a b : ℕ) → a < b → ltb a b ≡ true
+below a b h = (Decides-ltb a b).1 h
+
+run_inputs : (recipe : Digest) (front more : List InputLine) → length front + length more ≤ 256 → run (Inputs recipe front) (map Input more) ≡ Some (Inputs recipe (front ++ more))
+unfolding step
+run_inputs recipe front [] few = ap (λ (inputs : List InputLine). Some (Inputs recipe inputs)) (sym (append-nil front))
+run_inputs recipe front (input ∷ more) few =
+    rw (below (length front) 256 (omega arith)) (run_inputs recipe (front ++ input ∷ []) more (omega (arith, length-append front (input ∷ [])))
+    ∙ ap (λ (inputs : List InputLine). Some (Inputs recipe inputs)) (append_assoc front (input ∷ []) more))
+
+-- what the neighbours say: a name is after the last one before it
+follows_last : (front : List LeftLine) (file : LeftLine) (more : List LeftLine) → ascend (front ++ file ∷ more) ≡ true → follows front file.name ≡ true
+follows_last [] file more h = refl
+follows_last (first ∷ []) file more h = (and_parts (is_lt (slice_cmp nat_cmp first.name file.name)) (ascend (file ∷ more)) h).0
+follows_last (first ∷ next ∷ front) file more h =
+    let rest = (and_parts (is_lt (slice_cmp nat_cmp first.name next.name)) (ascend (next ∷ (front ++ file ∷ more))) h).1 in
+    let at_last : slice_get (first ∷ next ∷ front) (length (first ∷ next ∷ front) - 1) ≡ slice_get (next ∷ front) (length (next ∷ front) - 1) =
+    (let a : suc (suc (length front)) - 1 ≡ suc (length front) = omega arith in
+    let b : suc (length front) - 1 ≡ length front = omega arith in
+    rw (a, b) refl) in
+    ap (λ (o : Option LeftLine). is_after o file.name) at_last ∙ follows_last (next ∷ front) file more rest
+
+run_left : (front : Front) (stage : Opened) (more : List LeftLine) → length stage.left + length more ≤ 4096 → ascend (stage.left ++ more) ≡ true
+    → run (Leaving front stage) (map Left more) ≡ Some (Leaving front (record stage { left = stage.left ++ more }))
+unfolding step
+run_left front stage [] few ascending = ap (λ (left : List LeftLine). Some (Leaving front (record stage { left = left }))) (sym (append-nil stage.left))
+run_left front stage (file ∷ more) few ascending =
+    rw (below (length stage.left) 4096 (omega arith), follows_last stage.left file more ascending)
+    (run_left front (record stage { left = stage.left ++ file ∷ [] }) more (omega (arith, length-append stage.left (file ∷ []))) (rw (append_assoc stage.left (file ∷ []) more) ascending)
+    ∙ ap (λ (left : List LeftLine). Some (Leaving front (record stage { left = left }))) (append_assoc stage.left (file ∷ []) more))
+
+-- a block after its first line
+run_block : (front : Front) (stage : StageLine) → IsStage stage
+    → run (Named front stage.name stage.steps) (Stream1 stage.stream1 ∷ Stream2 stage.stream2 ∷ map Left stage.left ++ Made stage.made ∷ Checked stage.checked ∷ [])
+    ≡ Some (Stages (with_stage front stage))
+unfolding step
+run_block front stage is =
+    let opened : Opened = record { name = stage.name; steps = stage.steps; stream1 = stage.stream1; stream2 = stage.stream2; left = [] } in
+    then (Leaving front opened) (Leaving front (record opened { left = stage.left })) (map Left stage.left) (Made stage.made ∷ Checked stage.checked ∷ [])
+    (run_left front opened stage.left (omega (arith, is.count)) is.ascending)
+
+run_stages : (front : Front) (more : List StageLine) → length front.stages + length more ≤ 256 → All IsStage more
+    → run (Stages front) (flat_map stage_lines more) ≡ Some (Stages (record front { stages = front.stages ++ more }))
+unfolding step
+run_stages front [] few each = ap (λ (stages : List StageLine). Some (Stages (record front { stages = stages }))) (sym (append-nil front.stages))
+run_stages front (stage ∷ more) few each =
+    let opened : run (Stages front) (stage_lines stage) ≡ Some (Stages (with_stage front stage)) =
+    rw (below (length front.stages) 256 (omega arith)) (run_block front stage (All-head IsStage stage more each)) in
+    then (Stages front) (Stages (with_stage front stage)) (stage_lines stage) (flat_map stage_lines more) opened
+    ∙ run_stages (with_stage front stage) more (omega (arith, length-append front.stages (stage ∷ []))) (All-tail IsStage stage more each)
+    ∙ ap (λ (stages : List StageLine). Some (Stages (record front { stages = stages }))) (append_assoc front.stages (stage ∷ []) more)
+
+-- the blocks, the first of which ends the inputs
+run_blocks : (recipe : Digest) (inputs : List InputLine) (stages : List StageLine) → 1 ≤ length inputs → 1 ≤ length stages → length stages ≤ 256 → All IsStage stages
+    → run (Inputs recipe inputs) (flat_map stage_lines stages) ≡ Some (Stages (record { recipe = recipe; inputs = inputs; stages = stages }))
+unfolding step
+run_blocks recipe inputs [] some one few each = absurd (omega arith)
+run_blocks recipe inputs (stage ∷ more) some one few each =
+    let front : Front = record { recipe = recipe; inputs = inputs; stages = [] } in
+    let opened : run (Inputs recipe inputs) (stage_lines stage) ≡ Some (Stages (with_stage front stage)) =
+    rw (below 0 (length inputs) (omega arith)) (run_block front stage (All-head IsStage stage more each)) in
+    then (Inputs recipe inputs) (Stages (with_stage front stage)) (stage_lines stage) (flat_map stage_lines more) opened
+    ∙ run_stages (with_stage front stage) more (omega arith) (All-tail IsStage stage more each)
+
+pub run_report : (report : Report) → IsReport report → run Start (report_lines report) ≡ Some (Ended report)
+unfolding step
+run_report report is =
+    let inputs = map Input report.inputs in
+    let stages = flat_map stage_lines report.stages in
+    let ending = Compare report.compare ∷ End ∷ [] in
+    let read : run (Inputs report.recipe []) inputs ≡ Some (Inputs report.recipe report.inputs) = run_inputs report.recipe [] report.inputs (omega (arith, is.inputs.1)) in
+    let before : run (Inputs report.recipe []) (inputs ++ stages) ≡ Some (Stages (record { recipe = report.recipe; inputs = report.inputs; stages = report.stages })) =
+    then (Inputs report.recipe []) (Inputs report.recipe report.inputs) inputs stages read
+    ∙ run_blocks report.recipe report.inputs report.stages is.inputs.0 is.stages.0 is.stages.1 is.each_stage in
+    then (Inputs report.recipe []) (Stages (record { recipe = report.recipe; inputs = report.inputs; stages = report.stages })) (inputs ++ stages) ending before

@@ -1,0 +1,87 @@
+-- Each line that a state takes stands at the end of its lines.
+use Rattle.std.proofs.Common.{◌≡◌, cond, ltb, List, [], ◌∷◌, ◌++◌, length, map, Some, None, refl, sym, ap, ◌∙◌, append_assoc}
+use Rattle.std.specs.List.{flat_map}
+use Rattle.std.proofs.lemmas.Grind.{flat_map-append}
+use Rattle.std.proofs.lemmas.List.{append-nil, map_push}
+use Rattle.report.specs.declared.line.Line.{Line}
+use Rattle.report.specs.declared.line.Line.TheVariants.{Header, Recipe, Input, Stage, Stream1, Stream2, Left, Made, Checked, Compare, End}
+use Rattle.report.specs.declared.types.InputLine.{InputLine}
+use Rattle.report.specs.declared.types.StageLine.{StageLine}
+use Rattle.report.specs.declared.state.Front.{Front}
+use Rattle.report.specs.declared.state.Opened.{Opened}
+use Rattle.report.specs.declared.state.State.{State}
+use Rattle.report.specs.declared.state.State.TheVariants.{Start, Titled, Inputs, Named, Heard, Leaving, Closing, Stages, Compared, Ended}
+use Rattle.report.specs.Inside.States.{step, follows, closed, with_stage}
+use Rattle.report.specs.Reports.{stage_lines, front_lines, report_lines}
+use Rattle.report.proofs.Cuts.{if_some, same_some}
+
+abbrev pub front_of : Front → List Line
+front_of front = front_lines front.recipe front.inputs front.stages
+
+abbrev pub opened_lines : Opened → List Line
+opened_lines stage = Stage stage.name stage.steps ∷ Stream1 stage.stream1 ∷ Stream2 stage.stream2 ∷ map Left stage.left
+
+-- the lines that a state has taken
+abbrev pub so_far : State → List Line
+so_far Start = []
+so_far Titled = Header ∷ []
+so_far (Inputs recipe inputs) = Header ∷ Recipe recipe ∷ map Input inputs
+so_far (Named front name steps) = front_of front ++ Stage name steps ∷ []
+so_far (Heard front name steps stream1) = front_of front ++ Stage name steps ∷ Stream1 stream1 ∷ []
+so_far (Leaving front stage) = front_of front ++ opened_lines stage
+so_far (Closing front stage made) = front_of front ++ (opened_lines stage ++ Made made ∷ [])
+so_far (Stages front) = front_of front
+so_far (Compared report) = front_lines report.recipe report.inputs report.stages ++ Compare report.compare ∷ []
+so_far (Ended report) = report_lines report
+
+-- a state known by its lines
+grows : (s t : State) (line : Line) → Some t ≡ Some s → (ls : List Line) → so_far t ≡ ls ++ line ∷ [] → so_far s ≡ ls ++ line ∷ []
+grows s t line e ls is = ap so_far (sym (same_some t s e)) ∙ is
+
+front_push : (front : Front) (stage : StageLine) → front_of (with_stage front stage) ≡ front_of front ++ stage_lines stage
+front_push front stage =
+    let ls = Header ∷ Recipe front.recipe ∷ map Input front.inputs in
+    ap (λ (more : List Line). ls ++ more) (flat_map-append stage_lines front.stages (stage ∷ []) ∙ ap (λ (more : List Line). flat_map stage_lines front.stages ++ more) (append-nil (stage_lines stage)))
+    ∙ sym (append_assoc ls (flat_map stage_lines front.stages) (stage_lines stage))
+
+no_stages : (recipe : _) (inputs : List InputLine) → front_lines recipe inputs [] ≡ Header ∷ Recipe recipe ∷ map Input inputs
+no_stages recipe inputs = append-nil (Header ∷ Recipe recipe ∷ map Input inputs)
+
+pub step_takes : (s : State) (line : Line) (t : State) → step s line ≡ Some t → so_far t ≡ so_far s ++ line ∷ []
+unfolding step
+step_takes Start Header t e = grows t Titled Header e [] refl
+step_takes Titled (Recipe recipe) t e = grows t (Inputs recipe []) (Recipe recipe) e (Header ∷ []) refl
+step_takes (Inputs recipe inputs) (Input input) t e =
+    let p = if_some (ltb (length inputs) 256) (Some (Inputs recipe (inputs ++ input ∷ []))) t e in
+    grows t (Inputs recipe (inputs ++ input ∷ [])) (Input input) p.1 (Header ∷ Recipe recipe ∷ map Input inputs) (ap (λ (ls : List Line). Header ∷ Recipe recipe ∷ ls) (map_push Input inputs input))
+step_takes (Inputs recipe inputs) (Stage name steps) t e =
+    let front : Front = record { recipe = recipe; inputs = inputs; stages = [] } in
+    let p = if_some (ltb 0 (length inputs)) (Some (Named front name steps)) t e in
+    grows t (Named front name steps) (Stage name steps) p.1 (Header ∷ Recipe recipe ∷ map Input inputs) (ap (λ (ls : List Line). ls ++ Stage name steps ∷ []) (no_stages recipe inputs))
+step_takes (Named front name steps) (Stream1 mark) t e =
+    grows t (Heard front name steps mark) (Stream1 mark) e (front_of front ++ Stage name steps ∷ []) (sym (append_assoc (front_of front) (Stage name steps ∷ []) (Stream1 mark ∷ [])))
+step_takes (Heard front name steps stream1) (Stream2 mark) t e =
+    grows t (Leaving front (record { name = name; steps = steps; stream1 = stream1; stream2 = mark; left = [] })) (Stream2 mark) e
+    (front_of front ++ Stage name steps ∷ Stream1 stream1 ∷ []) (sym (append_assoc (front_of front) (Stage name steps ∷ Stream1 stream1 ∷ []) (Stream2 mark ∷ [])))
+step_takes (Leaving front stage) (Left file) t e =
+    let next = Leaving front (record stage { left = stage.left ++ file ∷ [] }) in
+    let p = if_some (ltb (length stage.left) 4096) (cond (follows stage.left file.name) (Some next) None) t e in
+    let q = if_some (follows stage.left file.name) (Some next) t p.1 in
+    grows t next (Left file) q.1 (front_of front ++ opened_lines stage)
+    (ap (λ (ls : List Line). front_of front ++ Stage stage.name stage.steps ∷ Stream1 stage.stream1 ∷ Stream2 stage.stream2 ∷ ls) (map_push Left stage.left file) ∙ sym (append_assoc (front_of front) (opened_lines stage) (Left file ∷ [])))
+step_takes (Leaving front stage) (Made mark) t e =
+    grows t (Closing front stage mark) (Made mark) e (front_of front ++ opened_lines stage) (sym (append_assoc (front_of front) (opened_lines stage) (Made mark ∷ [])))
+step_takes (Closing front stage made) (Checked checked) t e =
+    let block = closed stage made checked in
+    grows t (Stages (with_stage front block)) (Checked checked) e (front_of front ++ (opened_lines stage ++ Made made ∷ []))
+    (front_push front block ∙ ap (λ (ls : List Line). front_of front ++ ls) (sym (append_assoc (opened_lines stage) (Made made ∷ []) (Checked checked ∷ [])))
+    ∙ sym (append_assoc (front_of front) (opened_lines stage ++ Made made ∷ []) (Checked checked ∷ [])))
+step_takes (Stages front) (Stage name steps) t e =
+    let p = if_some (ltb (length front.stages) 256) (Some (Named front name steps)) t e in
+    grows t (Named front name steps) (Stage name steps) p.1 (front_of front) refl
+step_takes (Stages front) (Compare compare) t e =
+    grows t (Compared (record { recipe = front.recipe; inputs = front.inputs; stages = front.stages; compare = compare })) (Compare compare) e (front_of front) refl
+step_takes (Compared report) End t e =
+    let front = front_lines report.recipe report.inputs report.stages in
+    grows t (Ended report) End e (front ++ Compare report.compare ∷ []) (sym (append_assoc front (Compare report.compare ∷ []) (End ∷ [])))
+step_takes _ _ t e = absurd cc

@@ -1,0 +1,12 @@
+use Rattle.std.proofs.Common.{◌≤◌, ◌+◌, length}
+use Rattle.report.specs.Inside.Reading.{Stands}
+use Rattle.report.proofs.reading.read_lines.Given as goal
+
+abbrev pub invariant-loop-rest : goal.invariant-loop-rest
+invariant-loop-rest l = record {
+  stands : Stands l.bytes l.number l.state l.rest;
+  few : l.number + length l.rest ≤ length l.bytes;
+}
+
+abbrev pub decreases-loop-rest : goal.decreases-loop-rest
+decreases-loop-rest l = length l.rest

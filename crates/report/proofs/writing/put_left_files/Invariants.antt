@@ -1,0 +1,7 @@
+use Rattle.std.proofs.Common.{map}
+use Rattle.report.specs.declared.line.Line.TheVariants.{Left}
+use Rattle.report.proofs.Written.{Writes}
+use Rattle.report.proofs.writing.put_left_files.Given as goal
+
+abbrev pub invariant-loop-file : goal.invariant-loop-file
+invariant-loop-file l = Writes (map Left) l.fn.out l.files l.file-index l.out

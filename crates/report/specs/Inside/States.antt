@@ -1,0 +1,65 @@
+-- No promise rests on this file being read: which line may follow which.
+use Rattle.std.specs.Prelude.{◌≡◌, ℕ, Bool, true, false, ◌-◌, nat_lt, List, [], ◌∷◌, ◌++◌, length, slice_get, Option, Some, None, if◌then◌else◌}
+use Rattle.std.specs.Ordering.{nat_cmp, is_lt}
+use Rattle.std.specs.Cmp.Lexicographic.{slice_cmp}
+use Rattle.languages.specs.declared.Language.{Language}
+use Rattle.report.specs.declared.line.Line.{Line}
+use Rattle.report.specs.declared.line.Line.TheVariants.{Header, Recipe, Input, Stage, Stream1, Stream2, Left, Made, Checked, Compare, End}
+use Rattle.report.specs.declared.types.Mark.{Mark}
+use Rattle.report.specs.declared.types.LeftLine.{LeftLine}
+use Rattle.report.specs.declared.types.StageLine.{StageLine}
+use Rattle.report.specs.declared.state.Front.{Front}
+use Rattle.report.specs.declared.state.Opened.{Opened}
+use Rattle.report.specs.declared.state.State.{State}
+use Rattle.report.specs.declared.state.State.TheVariants.{Start, Titled, Inputs, Named, Heard, Leaving, Closing, Stages, Compared, Ended}
+
+abbrev pub is_after : Option LeftLine → List ℕ → Bool
+is_after None name = true
+is_after (Some file) name = is_lt (slice_cmp nat_cmp file.name name)
+
+-- the name comes after the last of these
+abbrev pub follows : List LeftLine → List ℕ → Bool
+follows left name = is_after (slice_get left (length left - 1)) name
+
+-- a whole block
+abbrev pub closed : Opened → Mark → Option Language → StageLine
+closed stage made checked = record {
+  name = stage.name;
+  steps = stage.steps;
+  stream1 = stage.stream1;
+  stream2 = stage.stream2;
+  left = stage.left;
+  made = made;
+  checked = checked;
+}
+
+-- one more stage
+abbrev pub with_stage : Front → StageLine → Front
+with_stage front stage = record front { stages = front.stages ++ stage ∷ [] }
+
+-- the state after one more line
+unfoldable pub step : State → Line → Option State
+step Start Header = Some Titled
+step Titled (Recipe recipe) = Some (Inputs recipe [])
+step (Inputs recipe inputs) (Input input) = if nat_lt (length inputs) 256 then Some (Inputs recipe (inputs ++ input ∷ [])) else None
+step (Inputs recipe inputs) (Stage name steps) =
+    if nat_lt 0 (length inputs) then Some (Named (record { recipe = recipe; inputs = inputs; stages = [] }) name steps) else None
+step (Named front name steps) (Stream1 mark) = Some (Heard front name steps mark)
+step (Heard front name steps stream1) (Stream2 mark) =
+    Some (Leaving front (record { name = name; steps = steps; stream1 = stream1; stream2 = mark; left = [] }))
+step (Leaving front stage) (Left file) =
+    if nat_lt (length stage.left) 4096
+    then (if follows stage.left file.name then Some (Leaving front (record stage { left = stage.left ++ file ∷ [] })) else None)
+    else None
+step (Leaving front stage) (Made mark) = Some (Closing front stage mark)
+step (Closing front stage made) (Checked checked) = Some (Stages (with_stage front (closed stage made checked)))
+step (Stages front) (Stage name steps) = if nat_lt (length front.stages) 256 then Some (Named front name steps) else None
+step (Stages front) (Compare compare) =
+    Some (Compared (record { recipe = front.recipe; inputs = front.inputs; stages = front.stages; compare = compare }))
+step (Compared report) End = Some (Ended report)
+step _ _ = None
+
+-- what taking a line answers
+abbrev pub Takes : State → Line → State → Bool → Type 0
+Takes old line new true = step old line ≡ Some new
+Takes old line new false = step old line ≡ None

@@ -1,0 +1,42 @@
+-- The lines of a report, as words. docs/reference/report.md says the same for people.
+use Rattle.std.specs.Prelude.{ℕ, List, [], ◌∷◌, Option, Some, None, decimal, codes}
+use Rattle.std.specs.List.{flat_map}
+use Rattle.hex.specs.Hex.{encode_lower}
+use Rattle.ddc_base.specs.Lines.{line}
+use Rattle.languages.specs.Words.{language_word}
+use Rattle.languages.specs.declared.Language.{Language}
+use Rattle.report.specs.declared.line.Line.{Line}
+use Rattle.report.specs.declared.line.Line.TheVariants.{Header, Recipe, Input, Stage, Stream1, Stream2, Left, Made, Checked, Compare, End}
+use Rattle.report.specs.declared.types.Mark.{Mark}
+use Rattle.report.specs.declared.types.Compared.{Compared}
+use Rattle.report.specs.declared.types.Compared.TheVariants.{Equal, Differs}
+
+-- a length and a digest
+abbrev pub mark_words : Mark → List (List ℕ)
+mark_words mark = decimal mark.length ∷ encode_lower mark.digest.0 ∷ []
+
+abbrev pub checked_words : Option Language → List (List ℕ)
+checked_words None = codes "unchecked" ∷ []
+checked_words (Some language) = codes "checked" ∷ language_word language ∷ []
+
+abbrev pub compared_words : Compared → List (List ℕ)
+compared_words (Equal length) = codes "equal" ∷ decimal length ∷ []
+compared_words (Differs offset ours theirs) = codes "differs" ∷ decimal offset ∷ decimal ours ∷ decimal theirs ∷ []
+
+-- the words of a line
+abbrev pub words : Line → List (List ℕ)
+words Header = codes "ddc-report" ∷ codes "1" ∷ []
+words (Recipe digest) = codes "recipe" ∷ encode_lower digest.0 ∷ []
+words (Input input) = codes "input" ∷ input.name ∷ mark_words input.mark
+words (Stage name steps) = codes "stage" ∷ name ∷ decimal steps ∷ []
+words (Stream1 mark) = codes "stream" ∷ codes "1" ∷ mark_words mark
+words (Stream2 mark) = codes "stream" ∷ codes "2" ∷ mark_words mark
+words (Left file) = codes "left" ∷ encode_lower file.name ∷ mark_words file.mark
+words (Made mark) = codes "made" ∷ mark_words mark
+words (Checked language) = checked_words language
+words (Compare compare) = codes "compare" ∷ compare.stage ∷ compare.binary ∷ compared_words compare.result
+words End = codes "end" ∷ []
+
+-- the text of lines: in each a blank between neighbouring words, and an LF at its end
+abbrev pub lines_text : List Line → List ℕ
+lines_text lines = flat_map (λ l. line (words l)) lines

@@ -1,0 +1,131 @@
+-- A report: which are well formed, their one text, and where a text is none. docs/reference/report.md says the same for people.
+use Rattle.std.specs.Prelude.{◌≡◌, ℕ, ◌<◌, ◌≤◌, ◌^◌, Bool, true, ◌&&◌, All, List, [], ◌∷◌, ◌++◌, length, take, map, Result, Ok, Err, ◌⊎◌, IsTrue}
+use Rattle.std.specs.List.{flat_map}
+use Rattle.std.specs.Ordering.{nat_cmp, is_lt}
+use Rattle.std.specs.Cmp.Lexicographic.{slice_cmp}
+use Rattle.ddc_base.specs.Names.{IsName}
+use Rattle.ddc_base.specs.declared.digests.Digest.{Digest}
+use Rattle.report.specs.declared.line.Line.{Line}
+use Rattle.report.specs.declared.line.Line.TheVariants.{Header, Recipe, Input, Stage, Stream1, Stream2, Left, Made, Checked, Compare, End}
+use Rattle.report.specs.declared.types.Mark.{Mark}
+use Rattle.report.specs.declared.types.InputLine.{InputLine}
+use Rattle.report.specs.declared.types.LeftLine.{LeftLine}
+use Rattle.report.specs.declared.types.StageLine.{StageLine}
+use Rattle.report.specs.declared.types.CompareLine.{CompareLine}
+use Rattle.report.specs.declared.types.Compared.{Compared}
+use Rattle.report.specs.declared.types.Compared.TheVariants.{Equal, Differs}
+use Rattle.report.specs.declared.types.Report.{Report}
+use Rattle.report.specs.declared.refusal.ReportRefusal.{ReportRefusal}
+use Rattle.report.specs.declared.refusal.ReportRefusal.TheVariants.{Form, OutOfMemory}
+use Rattle.report.specs.Lines.{lines_text}
+
+-- ---- the text
+
+-- the block of a stage
+abbrev pub stage_lines : StageLine → List Line
+stage_lines stage =
+    (Stage stage.name stage.steps ∷ Stream1 stage.stream1 ∷ Stream2 stage.stream2 ∷ map Left stage.left)
+    ++ Made stage.made ∷ Checked stage.checked ∷ []
+
+-- the lines above the comparison
+abbrev pub front_lines : Digest → List InputLine → List StageLine → List Line
+front_lines recipe inputs stages = (Header ∷ Recipe recipe ∷ map Input inputs) ++ flat_map stage_lines stages
+
+abbrev pub report_lines : Report → List Line
+report_lines report = front_lines report.recipe report.inputs report.stages ++ Compare report.compare ∷ End ∷ []
+
+-- the one text of a report
+abbrev pub report_text : Report → List ℕ
+report_text report = lines_text (report_lines report)
+
+-- ---- the well-formed reports
+
+abbrev pub IsCount : ℕ → ℕ → ℕ → Type 0
+IsCount least most count = (least ≤ count) × (count ≤ most)
+
+abbrev pub AreBytes : List ℕ → Type 0
+AreBytes bytes = All (λ byte. byte < 256) bytes
+
+pub record IsDigest (digest : Digest) : Type 0 where
+  pub count : length digest.0 ≡ 32
+  pub bytes : AreBytes digest.0
+
+pub record IsMark (mark : Mark) : Type 0 where
+  pub length : mark.length < 2 ^ 64
+  pub digest : IsDigest mark.digest
+
+pub record IsInput (input : InputLine) : Type 0 where
+  pub name : IsName input.name
+  pub mark : IsMark input.mark
+
+pub record IsLeft (file : LeftLine) : Type 0 where
+  pub count : IsCount 1 255 (length file.name)
+  pub bytes : AreBytes file.name
+  pub mark : IsMark file.mark
+
+-- each file's name is before the next one's, by their bytes
+abbrev pub ascend : List LeftLine → Bool
+ascend [] = true
+ascend (file ∷ []) = true
+ascend (file ∷ next ∷ files) = is_lt (slice_cmp nat_cmp file.name next.name) && ascend (next ∷ files)
+
+pub record IsStage (stage : StageLine) : Type 0 where
+  pub name : IsName stage.name
+  pub steps : stage.steps < 2 ^ 64
+  pub stream1 : IsMark stage.stream1
+  pub stream2 : IsMark stage.stream2
+  pub count : length stage.left ≤ 4096
+  pub each_left : All IsLeft stage.left
+  pub ascending : IsTrue (ascend stage.left)
+  pub made : IsMark stage.made
+
+-- the offset is at most both lengths, and below one of them
+pub record IsDifference (offset ours theirs : ℕ) : Type 0 where
+  pub within_ours : offset ≤ ours
+  pub within_theirs : offset ≤ theirs
+  pub inside_one : (offset < ours) ⊎ (offset < theirs)
+  pub small_ours : ours < 2 ^ 64
+  pub small_theirs : theirs < 2 ^ 64
+
+abbrev pub IsCompared : Compared → Type 0
+IsCompared (Equal length) = length < 2 ^ 64
+IsCompared (Differs offset ours theirs) = IsDifference offset ours theirs
+
+pub record IsCompare (compare : CompareLine) : Type 0 where
+  pub stage : IsName compare.stage
+  pub binary : IsName compare.binary
+  pub result : IsCompared compare.result
+
+pub record IsReport (report : Report) : Type 0 where
+  pub recipe : IsDigest report.recipe
+  pub inputs : IsCount 1 256 (length report.inputs)
+  pub each_input : All IsInput report.inputs
+  pub stages : IsCount 1 256 (length report.stages)
+  pub each_stage : All IsStage report.stages
+  pub compare : IsCompare report.compare
+
+-- ---- reading
+
+-- the first n lines of a text, each with its LF, begin the text of some report
+pub record Begins (n : ℕ) (bytes : List ℕ) : Type 0 where
+  pub report : Report
+  pub is : IsReport report
+  pub within : n ≤ length (report_lines report)
+  pub rest : List ℕ
+  pub text : bytes ≡ lines_text (take n (report_lines report)) ++ rest
+
+-- the least number of lines that begin no report
+pub record IsFirstFault (number : ℕ) (bytes : List ℕ) : Type 0 where
+  pub not_here : ¬ (Begins number bytes)
+  pub before : (m : ℕ) → m < number → Begins m bytes
+
+-- what reading the text of this report may answer
+abbrev pub IsRead : Report → Result Report ReportRefusal → Type 0
+IsRead report (Ok found) = found ≡ report
+IsRead report (Err OutOfMemory) = Unit {0}
+IsRead report (Err (Form number)) = ⊥
+
+-- when a refusal comes
+abbrev pub IsFault : List ℕ → ReportRefusal → Type 0
+IsFault bytes (Form number) = IsFirstFault number bytes
+IsFault bytes OutOfMemory = Unit {0}

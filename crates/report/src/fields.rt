@@ -1,0 +1,172 @@
+//! The fields of a line, each by itself.
+ghost use Rattle.std.specs.Prelude.{◌≡◌, ◌<◌, IsTrue, ◌+◌, ◌==◌, length, drop, IfOk, IfSome, option_map};
+ghost use Rattle.std.specs.List.{position, list_all};
+ghost use Rattle.ddc_base.specs.Inside.HexTests as test;
+ghost use Rattle.report.specs.Inside.Cuts.{cut_at};
+ghost use Rattle.report.specs.Inside.Fields.{file_name_of, hex_of, digit_value, pairs_of, digest_of, mark_of, lengths_of, is_difference, difference_of, compared_of};
+
+use crate::types::{Compared, Mark};
+use ddc_base::digests::Digest;
+use ddc_base::{Bytes, HexFail, OutOfMemory, read_decimal, read_hex};
+use std::alloc::Global;
+
+/// What stands before the first such byte of a text, and what after it.
+#[tactic(auto, unfolding(crate::specs::Inside::Cuts::cut_at))]
+pub(crate) fn cut_at(byte: u8, text: &[u8]) -> Option<(&[u8], &[u8])>
+    ensures value { option_map (λ cut. (cut.0.now, cut.1.now)) result ≡ cut_at byte text.now }
+    ensures shorter { IfSome result (λ cut. length cut.1.now < length text.now) }
+{
+    match place_of(byte, text) {
+        Some(at) => Some((&text[..at], after(text, at))),
+        None => None,
+    }
+}
+
+/// The offset of the first such byte.
+fn place_of(byte: u8, text: &[u8]) -> Option<usize>
+    ensures value { result ≡ position (λ b. b == byte) text.now }
+    ensures within { IfSome result (λ at. at < length text.now) }
+{
+    text.iter().position(|b| *b == byte)
+}
+
+fn after(text: &[u8], at: usize) -> &[u8]
+    requires { at < length text.now }
+    ensures { result.now ≡ drop (at + 1) text.now }
+{
+    &text[at + 1..]
+}
+
+/// The 1 to 255 bytes whose hexadecimal text a word is.
+#[tactic(auto, unfolding(crate::specs::Inside::Fields::file_name_of))]
+pub(crate) fn file_name_of(alloc: Global, word: &[u8]) -> Result<Option<Bytes>, OutOfMemory>
+    ensures { IfOk result (λ name. name ≡ file_name_of word.now) }
+{
+    if 1 <= word.len() && word.len() <= 510 {
+        hex_of(alloc, word)
+    } else {
+        Ok(None)
+    }
+}
+
+fn hex_of(alloc: Global, word: &[u8]) -> Result<Option<Bytes>, OutOfMemory>
+    ensures { IfOk result (λ bytes. bytes ≡ hex_of word.now) }
+{
+    match read_hex(alloc, word) {
+        Ok(bytes) => Ok(Some(bytes)),
+        Err(HexFail::Bad) => Ok(None),
+        Err(HexFail::OutOfMemory) => Err(OutOfMemory),
+    }
+}
+
+/// The digest whose hexadecimal text a word is.
+#[tactic(auto, unfolding(crate::specs::Inside::Fields::digest_of))]
+pub(crate) fn digest_of(word: &[u8]) -> Option<Digest>
+    ensures { result ≡ digest_of word.now }
+{
+    if word.len() == 64 && are_lower_digits(word) {
+        Some(Digest(bytes_of(word)))
+    } else {
+        None
+    }
+}
+
+/// The bytes of 64 lower-case digits.
+///
+/// The value of a digit is computed without a branch that depends on the digit, since the digits of a digest are as good as random.
+fn bytes_of(word: &[u8]) -> [u8; 32]
+    requires count { length word.now ≡ 64 }
+    requires digits { IsTrue (list_all test.is_lower_digit word.now) }
+    ensures { result ≡ pairs_of word.now }
+{
+    let mut bytes = [0; 32];
+    for (index, byte) in bytes.iter_mut().enumerate() {
+        *byte = 16 * digit_value(word[2 * index]) + digit_value(word[2 * index + 1]);
+    }
+    bytes
+}
+
+/// The value of a lower-case digit.
+fn digit_value(digit: u8) -> u8
+    requires { IsTrue (test.is_lower_digit digit) }
+    ensures value { result ≡ digit_value digit }
+    ensures small { result < 16 }
+{
+    if digit < b'a' {
+        digit - b'0'
+    } else {
+        digit - b'a' + 10
+    }
+}
+
+fn are_lower_digits(text: &[u8]) -> bool
+    ensures { result ≡ list_all test.is_lower_digit text.now }
+{
+    text.iter().all(|byte| is_lower_digit(*byte))
+}
+
+fn is_lower_digit(byte: u8) -> bool
+    ensures { result ≡ test.is_lower_digit byte }
+{
+    matches!(byte, b'0'..=b'9' | b'a'..=b'f')
+}
+
+/// The length and the digest that a text is.
+#[tactic(auto, unfolding(crate::specs::Inside::Fields::mark_of))]
+pub(crate) fn mark_of(text: &[u8]) -> Option<Mark>
+    ensures { result ≡ mark_of text.now }
+{
+    let (length, digest) = cut_at(b' ', text)?;
+    let length = read_decimal(length)?;
+    let digest = digest_of(digest)?;
+    Some(Mark { length, digest })
+}
+
+/// What a comparison found.
+#[tactic(auto, unfolding(crate::specs::Inside::Fields::compared_of))]
+pub(crate) fn compared_of(text: &[u8]) -> Option<Compared>
+    ensures { result ≡ compared_of text.now }
+{
+    let (how, numbers) = cut_at(b' ', text)?;
+    match how {
+        b"equal" => {
+            let length = read_decimal(numbers)?;
+            Some(Compared::Equal(length))
+        }
+        b"differs" => difference_of(numbers),
+        _ => None,
+    }
+}
+
+/// The offset and the two lengths that a text is.
+#[tactic(auto, unfolding(crate::specs::Inside::Fields::difference_of))]
+fn difference_of(text: &[u8]) -> Option<Compared>
+    ensures { result ≡ difference_of text.now }
+{
+    let (offset, lengths) = cut_at(b' ', text)?;
+    let offset = read_decimal(offset)?;
+    let (ours, theirs) = lengths_of(lengths)?;
+    if is_difference(offset, ours, theirs) {
+        Some(Compared::Differs(offset, ours, theirs))
+    } else {
+        None
+    }
+}
+
+/// The two lengths that a text is.
+#[tactic(auto, unfolding(crate::specs::Inside::Fields::lengths_of))]
+fn lengths_of(text: &[u8]) -> Option<(u64, u64)>
+    ensures { result ≡ lengths_of text.now }
+{
+    let (ours, theirs) = cut_at(b' ', text)?;
+    let ours = read_decimal(ours)?;
+    let theirs = read_decimal(theirs)?;
+    Some((ours, theirs))
+}
+
+/// Whether the offset is at most both lengths, and below one of them.
+fn is_difference(offset: u64, ours: u64, theirs: u64) -> bool
+    ensures { result ≡ is_difference offset ours theirs }
+{
+    offset <= ours && offset <= theirs && (offset < ours || offset < theirs)
+}

@@ -1,0 +1,75 @@
+//! Reading a report.
+ghost use Rattle.std.specs.Prelude.{◌≡◌, ◌<◌, length, IfOk, IfErr, IfSome, option_map};
+ghost use Rattle.report.specs.Reading.{report_of, Reads};
+ghost use Rattle.report.specs.Inside.Loops.{ReadsLines};
+ghost use Rattle.report.specs.Inside.Reading.{next_line};
+ghost use Rattle.report.specs.Reports.{IsReport, report_text, IsRead, IsFault};
+ghost use Rattle.report.specs.declared.types.Report.{Report as ReportValue};
+
+use crate::fields::cut_at;
+use crate::line::{Line, line_of};
+use crate::refusal::ReportRefusal;
+use crate::state::State;
+use crate::types::Report;
+use ddc_base::OutOfMemory;
+use std::alloc::Global;
+
+/// The report whose text the bytes are.
+///
+/// Every other text is refused with the least number of lines that begin no report: a line that is not there, or that lacks its LF, begins
+/// none, and so does what follows the last line. The time is that of the bytes' number, and what is copied is what the report keeps.
+pub fn read(alloc: Global, bytes: &[u8]) -> Result<Report, ReportRefusal>
+    ensures found { IfOk result (λ report. IsReport report × (bytes.now ≡ report_text report)) }
+    ensures only { (report : ReportValue) → IsReport report → bytes.now ≡ report_text report → IsRead report result }
+    ensures refused { IfErr result (IsFault bytes.now) }
+    ensures value { Reads (report_of bytes.now) result }
+{
+    read_report(alloc, bytes)
+}
+
+fn read_report(alloc: Global, bytes: &[u8]) -> Result<Report, ReportRefusal>
+    ensures { Reads (report_of bytes.now) result }
+{
+    let (state, number) = read_lines(alloc, bytes)?;
+    match state {
+        State::Ended(report) => Ok(report),
+        _ => Err(ReportRefusal::Form(number)),
+    }
+}
+
+/// How far the bytes' lines lead, and the number of the line after them.
+fn read_lines(alloc: Global, bytes: &[u8]) -> Result<(State, u64), ReportRefusal>
+    ensures { ReadsLines bytes.now result }
+{
+    let mut state = State::Start;
+    let mut rest = bytes;
+    let mut number = 0;
+    while !rest.is_empty() {
+        match next_line(alloc, rest)? {
+            Some((line, after)) => {
+                if !state.take(alloc, line)? {
+                    return Err(ReportRefusal::Form(number + 1));
+                }
+                rest = after;
+                number += 1;
+            }
+            None => return Err(ReportRefusal::Form(number + 1)),
+        }
+    }
+    Ok((state, number + 1))
+}
+
+/// The line at the front of some bytes, and what follows its LF.
+#[tactic(auto, unfolding(crate::specs::Inside::Reading::next_line))]
+fn next_line(alloc: Global, bytes: &[u8]) -> Result<Option<(Line, &[u8])>, OutOfMemory>
+    ensures value { IfOk result (λ found. option_map (λ next. (next.0, next.1.now)) found ≡ next_line bytes.now) }
+    ensures shorter { IfOk result (λ found. IfSome found (λ next. length next.1.now < length bytes.now)) }
+{
+    match cut_at(b'\n', bytes) {
+        Some((text, rest)) => match line_of(alloc, text)? {
+            Some(line) => Ok(Some((line, rest))),
+            None => Ok(None),
+        },
+        None => Ok(None),
+    }
+}

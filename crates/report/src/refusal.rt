@@ -1,0 +1,23 @@
+ghost use Rattle.std.specs.Prelude.{◌≡◌};
+ghost use Rattle.report.specs.declared.refusal.ReportRefusal.TheVariants.{OutOfMemory};
+
+use ddc_base;
+use thiserror::Error;
+
+/// Why bytes were not read as a report.
+#[derive(Clone, Copy, Debug, PartialEq, Eq, Error)]
+pub enum ReportRefusal {
+    /// They are no report's text: the number, from 1, of the first line that no report goes on with.
+    #[error("report line {0}")]
+    Form(u64),
+    #[error("out of memory")]
+    OutOfMemory,
+}
+
+impl From<ddc_base::OutOfMemory> for ReportRefusal {
+    ghost from_gives = { λ _ refusal. refusal ≡ OutOfMemory };
+
+    fn from(_error: ddc_base::OutOfMemory) -> ReportRefusal {
+        ReportRefusal::OutOfMemory
+    }
+}

@@ -1,0 +1,77 @@
+use ddc_base::digests::Digest;
+use ddc_base::{Bytes, ListOf, Name};
+use languages::Language;
+
+/// The lines of the inputs, in the recipe's order.
+pub type InputLines = ListOf<InputLine>;
+/// The lines of the files that a stage left, strictly ascending by the bytes of their names.
+pub type LeftLines = ListOf<LeftLine>;
+/// The stages' blocks, in the recipe's order.
+pub type StageLines = ListOf<StageLine>;
+
+/// What a report says of some content: how many bytes it has, and their SHA-256 digest.
+#[derive(Clone, Copy, Debug, PartialEq, Eq)]
+pub struct Mark {
+    pub length: u64,
+    pub digest: Digest,
+}
+
+/// An input of the recipe, and what its file held.
+#[derive(Debug, Drop)]
+pub struct InputLine {
+    pub name: Name,
+    pub mark: Mark,
+}
+
+/// A file that was there when a stage's program had exited: its name, of 1 to 255 bytes, and what it held.
+#[derive(Debug, Drop)]
+pub struct LeftLine {
+    pub name: Bytes,
+    pub mark: Mark,
+}
+
+/// What a stage did.
+#[derive(Debug, Drop)]
+pub struct StageLine {
+    pub name: Name,
+    /// The step at which its program exited.
+    pub steps: u64,
+    /// What it wrote to its standard output.
+    pub stream1: Mark,
+    /// What it wrote to its standard error.
+    pub stream2: Mark,
+    /// At most 4,096 files.
+    pub left: LeftLines,
+    /// Its artefact.
+    pub made: Mark,
+    /// The language in which its artefact was checked, if it was.
+    pub checked: Option<Language>,
+}
+
+/// What the comparison found.
+#[derive(Clone, Copy, Debug, PartialEq, Eq)]
+pub enum Compared {
+    /// Both have these bytes, so many of them.
+    Equal(u64),
+    /// The first offset at which they differ or one has ended, the artefact's length and the binary's. The offset is at most both lengths,
+    /// and below one of them.
+    Differs(u64, u64, u64),
+}
+
+/// The comparison of a stage's artefact with an input, the audited binary.
+#[derive(Debug, Drop)]
+pub struct CompareLine {
+    pub stage: Name,
+    pub binary: Name,
+    pub result: Compared,
+}
+
+/// What an audit found: 1 to 256 inputs, 1 to 256 stages, and the comparison.
+#[derive(Debug, Drop)]
+pub struct Report {
+    /// The digest of the recipe's bytes.
+    pub recipe: Digest,
+    pub inputs: InputLines,
+    pub stages: StageLines,
+    pub compare: CompareLine,
+}

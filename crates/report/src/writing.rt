@@ -1,0 +1,236 @@
+//! Writing a report.
+ghost use Rattle.std.specs.Prelude.{◌≡◌, ◌++◌, ◌∷◌, ◌<◌, [], decimal, map, length, OnOk, IfOk};
+ghost use Rattle.std.specs.List.{flat_map};
+ghost use Rattle.hex.specs.Hex.{encode_lower};
+ghost use Rattle.ddc_base.specs.Lines.{line as line_text};
+ghost use Rattle.report.specs.Lines.{words, mark_words, compared_words, checked_words, lines_text};
+ghost use Rattle.report.specs.Reports.{IsReport, stage_lines, report_text};
+ghost use Rattle.report.specs.declared.line.Line.TheVariants as line;
+ghost use Rattle.report.specs.declared.types.Compared.TheVariants as compared;
+
+use crate::types::{CompareLine, Compared, InputLine, LeftLine, Mark, Report, StageLine};
+use ddc_base::{Bytes, Name, OutOfMemory, put_decimal, put_hex};
+use languages::Language;
+use std::alloc::Global;
+
+/// Room for the lines around the inputs and stages, for an input's line, for a stage's block without left files, and for a left file's line
+/// without its name. Lengths and steps have at most 20 digits.
+const FRONT_ROOM: usize = 256;
+
+const INPUT_ROOM: usize = 128;
+
+const STAGE_ROOM: usize = 384;
+
+const LEFT_ROOM: usize = 92;
+
+/// The one text of a well-formed report. It has fewer than 2^30 bytes.
+pub fn write(alloc: Global, report: &Report) -> Result<Bytes, OutOfMemory>
+    requires { IsReport report.now }
+    ensures value { IfOk result (λ text. text ≡ report_text report.now) }
+    ensures short { IfOk result (λ text. length text < 1_073_741_824) }
+{
+    text_of(alloc, report)
+}
+
+fn text_of(alloc: Global, report: &Report) -> Result<Bytes, OutOfMemory>
+    ensures { IfOk result (λ text. text ≡ report_text report.now) }
+{
+    let mut out = Bytes::with_capacity(alloc, room(report))?;
+    put_front(&mut out, report)?;
+    put_stages(&mut out, report.stages.as_slice())?;
+    put_compare(&mut out, &report.compare)?;
+    out.extend(b"end\n")?;
+    Ok(out)
+}
+
+/// Enough for a report's text, so that it is not moved as it grows, and not much more.
+fn room(report: &Report) -> usize {
+    let mut room = report
+        .inputs
+        .len()
+        .saturating_mul(INPUT_ROOM)
+        .saturating_add(FRONT_ROOM);
+    for stage in report.stages.as_slice() {
+        room = room.saturating_add(STAGE_ROOM);
+        for file in stage.left.as_slice() {
+            let name = file.name.len().saturating_mul(2);
+            room = room.saturating_add(LEFT_ROOM).saturating_add(name);
+        }
+    }
+    room
+}
+
+/// What stands above the stages.
+#[tactic(auto, using(crate::proofs::Written::written))]
+fn put_front(out: &mut Bytes, report: &Report) -> Result<(), OutOfMemory>
+    ensures { OnOk result (out.new ≡ out.old ++ lines_text (line.Header ∷ line.Recipe report.now.recipe ∷ map line.Input report.now.inputs)) }
+{
+    out.extend(b"ddc-report 1\nrecipe ")?;
+    put_hex(out, &report.recipe.0)?;
+    out.push(b'\n')?;
+    put_inputs(out, report.inputs.as_slice())
+}
+
+fn put_inputs(out: &mut Bytes, inputs: &[InputLine]) -> Result<(), OutOfMemory>
+    ensures { OnOk result (out.new ≡ out.old ++ lines_text (map line.Input inputs.now)) }
+{
+    for input in inputs {
+        put_input(out, input)?;
+    }
+    Ok(())
+}
+
+#[tactic(auto, using(crate::proofs::Written::written))]
+fn put_input(out: &mut Bytes, input: &InputLine) -> Result<(), OutOfMemory>
+    ensures { OnOk result (out.new ≡ out.old ++ line_text (words (line.Input input.now))) }
+{
+    out.extend(b"input ")?;
+    out.extend(input.name.bytes())?;
+    out.push(b' ')?;
+    put_mark(out, &input.mark)
+}
+
+/// A length and a digest, at the end of a line.
+#[tactic(auto, using(crate::proofs::Written::written))]
+fn put_mark(out: &mut Bytes, mark: &Mark) -> Result<(), OutOfMemory>
+    ensures { OnOk result (out.new ≡ out.old ++ line_text (mark_words mark.now)) }
+{
+    put_decimal(out, mark.length)?;
+    out.push(b' ')?;
+    put_hex(out, &mark.digest.0)?;
+    out.push(b'\n')
+}
+
+fn put_stages(out: &mut Bytes, stages: &[StageLine]) -> Result<(), OutOfMemory>
+    ensures { OnOk result (out.new ≡ out.old ++ lines_text (flat_map stage_lines stages.now)) }
+{
+    for stage in stages {
+        put_stage(out, stage)?;
+    }
+    Ok(())
+}
+
+/// A stage's block.
+fn put_stage(out: &mut Bytes, stage: &StageLine) -> Result<(), OutOfMemory>
+    ensures { OnOk result (out.new ≡ out.old ++ lines_text (stage_lines stage.now)) }
+{
+    put_name(out, stage)?;
+    put_streams(out, stage)?;
+    put_left_files(out, stage.left.as_slice())?;
+    put_made(out, &stage.made)?;
+    put_checked(out, stage.checked)
+}
+
+#[tactic(auto, using(crate::proofs::Written::written))]
+fn put_name(out: &mut Bytes, stage: &StageLine) -> Result<(), OutOfMemory>
+    ensures { OnOk result (out.new ≡ out.old ++ line_text (words (line.Stage stage.now.name stage.now.steps))) }
+{
+    out.extend(b"stage ")?;
+    out.extend(stage.name.bytes())?;
+    out.push(b' ')?;
+    put_decimal(out, stage.steps)?;
+    out.push(b'\n')
+}
+
+#[tactic(auto, using(crate::proofs::Written::written))]
+fn put_streams(out: &mut Bytes, stage: &StageLine) -> Result<(), OutOfMemory>
+    ensures { OnOk result (out.new ≡ out.old ++ line_text (words (line.Stream1 stage.now.stream1)) ++ line_text (words (line.Stream2 stage.now.stream2))) }
+{
+    out.extend(b"stream 1 ")?;
+    put_mark(out, &stage.stream1)?;
+    out.extend(b"stream 2 ")?;
+    put_mark(out, &stage.stream2)
+}
+
+fn put_left_files(out: &mut Bytes, files: &[LeftLine]) -> Result<(), OutOfMemory>
+    ensures { OnOk result (out.new ≡ out.old ++ lines_text (map line.Left files.now)) }
+{
+    for file in files {
+        put_left(out, file)?;
+    }
+    Ok(())
+}
+
+#[tactic(auto, using(crate::proofs::Written::written))]
+fn put_left(out: &mut Bytes, file: &LeftLine) -> Result<(), OutOfMemory>
+    ensures { OnOk result (out.new ≡ out.old ++ line_text (words (line.Left file.now))) }
+{
+    out.extend(b"left ")?;
+    put_hex(out, file.name.as_slice())?;
+    out.push(b' ')?;
+    put_mark(out, &file.mark)
+}
+
+#[tactic(auto, using(crate::proofs::Written::written))]
+fn put_made(out: &mut Bytes, mark: &Mark) -> Result<(), OutOfMemory>
+    ensures { OnOk result (out.new ≡ out.old ++ line_text (words (line.Made mark.now))) }
+{
+    out.extend(b"made ")?;
+    put_mark(out, mark)
+}
+
+#[tactic(auto, using(crate::proofs::Written::written))]
+fn put_checked(out: &mut Bytes, checked: Option<Language>) -> Result<(), OutOfMemory>
+    ensures { OnOk result (out.new ≡ out.old ++ line_text (checked_words checked)) }
+{
+    match checked {
+        None => out.extend(b"unchecked\n"),
+        Some(language) => {
+            out.extend(b"checked ")?;
+            out.extend(language.word().as_bytes())?;
+            out.push(b'\n')
+        }
+    }
+}
+
+#[tactic(auto, using(crate::proofs::Written::written))]
+fn put_compare(out: &mut Bytes, compare: &CompareLine) -> Result<(), OutOfMemory>
+    ensures { OnOk result (out.new ≡ out.old ++ line_text (words (line.Compare compare.now))) }
+{
+    out.extend(b"compare ")?;
+    out.extend(compare.stage.bytes())?;
+    out.push(b' ')?;
+    match compare.result {
+        Compared::Equal(length) => put_equal(out, &compare.binary, length),
+        Compared::Differs(offset, ours, theirs) => {
+            put_difference(out, &compare.binary, offset, ours, theirs)
+        }
+    }
+}
+
+#[tactic(auto, using(crate::proofs::Written::written))]
+fn put_equal(out: &mut Bytes, binary: &Name, length: u64) -> Result<(), OutOfMemory>
+    ensures { OnOk result (out.new ≡ out.old ++ line_text (binary.now ∷ compared_words (compared.Equal length))) }
+{
+    out.extend(binary.bytes())?;
+    out.extend(b" equal ")?;
+    put_decimal(out, length)?;
+    out.push(b'\n')
+}
+
+#[tactic(auto, using(crate::proofs::Written::written))]
+fn put_difference(
+    out: &mut Bytes,
+    binary: &Name,
+    offset: u64,
+    ours: u64,
+    theirs: u64,
+) -> Result<(), OutOfMemory>
+    ensures { OnOk result (out.new ≡ out.old ++ line_text (binary.now ∷ compared_words (compared.Differs offset ours theirs))) }
+{
+    out.extend(binary.bytes())?;
+    out.extend(b" differs ")?;
+    put_decimal(out, offset)?;
+    put_lengths(out, ours, theirs)
+}
+
+#[tactic(auto, using(crate::proofs::Written::written))]
+fn put_lengths(out: &mut Bytes, ours: u64, theirs: u64) -> Result<(), OutOfMemory>
+    ensures { OnOk result (out.new ≡ out.old ++ (32 ∷ line_text (decimal ours ∷ decimal theirs ∷ []))) }
+{
+    out.push(b' ')?;
+    put_decimal(out, ours)?;
+    out.push(b' ')?;
+    put_decimal(out, theirs)?;
+    out.push(b'\n')
+}

@@ -1,0 +1,1 @@
+//! Laws of checks. Each law is the contract of a function that does nothing.

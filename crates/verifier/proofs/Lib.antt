@@ -1,0 +1,9 @@
+mod DoneStages
+mod Ends
+mod LeftFiles
+mod Looping
+mod MarkTests
+mod OneReport
+mod Placing
+mod Rightness
+mod StageRules

@@ -1,0 +1,9 @@
+use Rattle.std.proofs.Common.{◌∙◌, ap}
+use Rattle.std.specs.Prelude.{bytes_eq}
+use Rattle.verifier.proofs.Rightness.{value-right}
+use Rattle.verifier.proofs.checking.is_value.Goals as goal
+
+pub returns-in-Ok : goal.returns-in-Ok
+returns-in-Ok c = λ meant links.
+    c.eq.ensures ∙ ap (λ bytes. bytes_eq bytes c.args.made.now) c.as_slice.ensures
+    ∙ value-right c.args.value c.in-Ok.bytes c.args.made.now meant c.in-Ok.is links

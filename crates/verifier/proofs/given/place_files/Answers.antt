@@ -1,0 +1,35 @@
+use Rattle.std.proofs.Common.{◌≡◌, ◌≤◌, ◌∙◌, ℕ, List, length, arith, sym, ap, subst}
+use Rattle.std.specs.FinMap as finite
+use Rattle.std.specs.List.{fold}
+use Rattle.mem_files.specs.Limits.{most_content}
+use Rattle.guest_run.specs.Setting.{Setting}
+use Rattle.wheeler.specs.Contents.{with_file}
+use Rattle.wheeler.proofs.GivenBoxes.{content-is}
+use Rattle.verifier.specs.Inside.Holdings.{so_far}
+use Rattle.verifier.proofs.Placing.{turn}
+use Rattle.verifier.proofs.given.place_files.Goals as goal
+
+pub place-requires-clause-small : goal.place-requires-clause-small
+place-requires-clause-small c =
+    let is = content-is c.args.held.now.recipe.now (so_far c.args.held.now) c.file-item.result.from (record { inputs = c.requires.held.inputs; artefacts = c.requires.held.artefacts }) in
+    subst (λ (bytes : List ℕ). length bytes ≤ most_content) (sym c.bytes.ensures) is.small
+
+pub loop-file-preserved : goal.loop-file-preserved
+loop-file-preserved c =
+    let before = c.loop-file.invariant.2 in
+    let done = c.in_ok-place.ensures in
+    let next =
+    turn c.args.held.now.recipe.now (so_far c.args.held.now) c.loop-file.given.files c.place.new.given.files c.args.files.now c.loop-file.file-index c.file-item.result
+      (fold (with_file c.args.held.now.recipe.now (so_far c.args.held.now)) c.args.given.now.files c.args.files.now)
+      (omega arith) c.file-item.is c.loop-file.invariant.0 c.loop-file.invariant.1
+      (ap (λ (s : Setting). s.files) done ∙ (λ i. finite.insert c.loop-file.given.files (c.as_slice.ensures i) (c.bytes.ensures i))) in (
+      next.0,
+      next.1,
+      done
+      ∙ (λ i. record {
+        args = ap (λ (s : Setting). s.args) before i;
+        env = ap (λ (s : Setting). s.env) before i;
+        files = sym (ap (λ (s : Setting). s.files) done) i;
+        heap = ap (λ (s : Setting). s.heap) before i;
+      }),
+    )

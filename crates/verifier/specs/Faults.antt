@@ -1,0 +1,178 @@
+-- The first fault of a report, part by part in the order of docs/reference/verify.md, which says the same for people.
+-- A stage's recorded step is judged and not searched for, and programs and files are the bytes that the earlier runs left.
+use Rattle.std.specs.Prelude.{ℕ, ◌+◌, ◌==◌, Bool, true, false, ◌&&◌, if◌then◌else◌, nat_le, bytes_eq, Option, None, Some, Result, Ok, Err, List, [], ◌∷◌, ◌++◌, length, sum_by}
+use Rattle.sha2.specs.Sha256.{sha256}
+use Rattle.ddc_base.specs.Difference.{first_difference}
+use Rattle.languages.specs.declared.Language.{Language}
+use Rattle.languages.specs.declared.Language.TheVariants.{Hex0, Hex1, Hex2, M1}
+use Rattle.mem_files.specs.World.{World}
+use Rattle.mem_files.specs.Outputs.{left, out}
+use Rattle.guest_run.specs.State.{GuestState}
+use Rattle.guest_run.specs.Start.{Refusal, start_of}
+use Rattle.guest_run.specs.Run.{End, Exited, end_at}
+use Rattle.recipe.specs.declared.contents.Said.{Said}
+use Rattle.recipe.specs.declared.parts.Input.{Input}
+use Rattle.recipe.specs.declared.parts.Stage.{Stage}
+use Rattle.report.specs.declared.types.CompareLine.{CompareLine}
+use Rattle.report.specs.declared.types.Compared.{Compared}
+use Rattle.report.specs.declared.types.Compared.TheVariants.{Equal, Differs}
+use Rattle.report.specs.declared.types.InputLine.{InputLine}
+use Rattle.report.specs.declared.types.LeftLine.{LeftLine}
+use Rattle.report.specs.declared.types.Mark.{Mark}
+use Rattle.report.specs.declared.types.Report.{Report}
+use Rattle.report.specs.declared.types.StageLine.{StageLine}
+use Rattle.source_check.specs.declared.cause.CheckCause.{CheckCause}
+use Rattle.wheeler.specs.Contents.{Contents, box_of, check_language, check_of, content, program_of}
+use Rattle.wheeler.specs.Stages.{output_of}
+use Rattle.verifier.specs.declared.part.Part.{Part}
+use Rattle.verifier.specs.declared.part.Part.TheVariants as part
+
+-- a mark is that of some bytes: it says how many they are, and their digest
+unfoldable pub is_mark_of : Mark → List ℕ → Bool
+is_mark_of mark bytes = mark.length == length bytes && bytes_eq mark.digest.0 (sha256 bytes)
+
+-- ---- header: what the report says of the recipe is what the recipe says
+
+-- both are no language, or the same one
+abbrev pub same_language : Option Language → Option Language → Bool
+same_language None None = true
+same_language (Some Hex0) (Some Hex0) = true
+same_language (Some Hex1) (Some Hex1) = true
+same_language (Some Hex2) (Some Hex2) = true
+same_language (Some M1) (Some M1) = true
+same_language _ _ = false
+
+-- a line for each input, with its name, in order
+abbrev pub names_inputs : List Input → List InputLine → Bool
+names_inputs [] [] = true
+names_inputs (input ∷ inputs) (line ∷ lines) = bytes_eq input.name line.name && names_inputs inputs lines
+names_inputs _ _ = false
+
+-- a line for each stage, with its name and the language in which its artefact is checked, in order
+abbrev pub names_stages : Said → List Stage → List StageLine → Bool
+names_stages recipe [] [] = true
+names_stages recipe (stage ∷ stages) (line ∷ lines) =
+    bytes_eq stage.name line.name && same_language (check_language recipe stage) line.checked && names_stages recipe stages lines
+names_stages recipe _ _ = false
+
+abbrev pub names_compared : Said → CompareLine → Bool
+names_compared recipe line = bytes_eq recipe.compare.stage line.stage && bytes_eq recipe.compare.binary line.binary
+
+unfoldable pub is_header : Said → Report → Bool
+is_header recipe report =
+    bytes_eq recipe.digest.0 report.recipe.0 && names_inputs recipe.inputs report.inputs
+    && names_stages recipe recipe.stages report.stages && names_compared recipe report.compare
+
+-- ---- inputs: each has the length and the digest of its line
+
+-- the first that has not, of those from this number on
+abbrev pub inputs_fault : ℕ → List (List ℕ) → List InputLine → Option (Part × ℕ)
+inputs_fault number (bytes ∷ inputs) (line ∷ lines) =
+    if is_mark_of line.mark bytes then inputs_fault (number + 1) inputs lines else Some (part.Input, number)
+inputs_fault number _ _ = None
+
+-- ---- stages, each after those whose artefacts are there
+
+-- the files that an exit with 0 leaves; none where the run ends otherwise
+abbrev pub exit_of : Option (End × GuestState) → Option World
+exit_of (Some (Exited status, last)) = if status == 0 then Some last.world else None
+exit_of _ = None
+
+-- the files that are left by a run whose first end is an exit with 0 at exactly this step, which is from 1 to the limit. An end at a
+-- step is the first one, since a run goes no further
+abbrev pub left_at : Result GuestState Refusal → ℕ → ℕ → Option World
+left_at (Err why) limit step = None
+left_at (Ok start) limit step = if nat_le 1 step && nat_le step limit then exit_of (end_at start step) else None
+
+-- a line for each file that is left, with its name and its mark, in the order of the names
+abbrev pub names_left : List LeftLine → List (List ℕ × List ℕ) → Bool
+names_left [] [] = true
+names_left (line ∷ lines) (file ∷ files) = bytes_eq line.name file.0 && is_mark_of line.mark file.1 && names_left lines files
+names_left _ _ = false
+
+-- what a run left is what the stage's line says: both streams, and all files
+unfoldable pub has_left : StageLine → World → Bool
+has_left line world =
+    is_mark_of line.stream1 world.stream1 && is_mark_of line.stream2 world.stream2 && names_left line.left (left world)
+
+-- the bytes of the artefacts so far
+abbrev pub size_of : Contents → ℕ
+size_of so_far = sum_by length so_far.artefacts
+
+-- the artefact, where it is there, has the mark of the stage's line, and with the earlier ones has at most 1,073,741,824 bytes
+abbrev pub made_as : Contents → StageLine → Option (List ℕ) → Option (List ℕ)
+made_as so_far line None = None
+made_as so_far line (Some made) =
+    if is_mark_of line.made made && nat_le (size_of so_far + length made) 1_073_741_824 then Some made else None
+
+abbrev pub recorded : Contents → Stage → StageLine → World → Option (List ℕ)
+recorded so_far stage line world = if has_left line world then made_as so_far line (out world (output_of stage.output)) else None
+
+-- what is there, or this part fails
+abbrev pub or_fails : {A : Type 0} → Part → Option A → Result A Part
+or_fails part None = Err part
+or_fails part (Some found) = Ok found
+
+-- an artefact in which its check found nothing wrong
+abbrev pub assembled : List ℕ → Option CheckCause → Result (List ℕ) Part
+assembled made None = Ok made
+assembled made (Some why) = Err part.Assembled
+
+infixl 10 ◌>>=◌
+abbrev pub ◌>>=◌ : {A B : Type 0} → Result A Part → (A → Result B Part) → Result B Part
+Ok value >>= rest = rest value
+Err part >>= rest = Err part
+
+-- a stage's line, judged by a replay: the artefact, or the part that fails
+unfoldable pub replayed : Said → Contents → Stage → StageLine → Result (List ℕ) Part
+replayed recipe so_far stage line = do
+  world ← or_fails part.Run (left_at (start_of (program_of recipe so_far stage) (box_of recipe so_far stage)) stage.steps line.steps)
+  made ← or_fails part.Files (recorded so_far stage line world)
+  assembled made (check_of recipe so_far stage made)
+
+-- ---- comparison: the line says what the bytes say
+
+abbrev pub is_at : ℕ → Option ℕ → Bool
+is_at offset None = false
+is_at offset (Some found) = offset == found
+
+-- equal bytes, so many; or different ones with their lengths, and the first offset at which they differ or one has ended
+abbrev pub says : Compared → List ℕ → List ℕ → Bool
+says (Equal count) made binary = bytes_eq made binary && count == length made
+says (Differs offset ours theirs) made binary =
+    is_at offset (first_difference made binary) && ours == length made && theirs == length binary
+
+abbrev pub compare_fault : Said → Contents → Compared → Option (Part × ℕ)
+compare_fault recipe all line =
+    if says line (content recipe all recipe.compare.stage) (content recipe all recipe.compare.binary) then None
+    else Some (part.Compare, 0)
+
+-- ---- all parts
+
+abbrev pub with_artefact : Contents → List ℕ → Contents
+with_artefact so_far made = record { inputs = so_far.inputs; artefacts = so_far.artefacts ++ made ∷ [] }
+
+-- the stage of this number is right and what follows is judged, or it has the first fault
+abbrev pub after_stage : ℕ → Result (List ℕ) Part → (List ℕ → Option (Part × ℕ)) → Option (Part × ℕ)
+after_stage number (Err part) rest = Some (part, number)
+after_stage number (Ok made) rest = rest made
+
+-- the first fault of the stages that are left, and of the comparison after them
+abbrev pub stages_fault : Said → Compared → Contents → List Stage → List StageLine → Option (Part × ℕ)
+stages_fault recipe compare so_far (stage ∷ stages) (line ∷ lines) =
+    after_stage (length so_far.artefacts + 1) (replayed recipe so_far stage line) (λ made. stages_fault recipe compare (with_artefact so_far made) stages lines)
+stages_fault recipe compare so_far _ _ = compare_fault recipe so_far compare
+
+-- the former fault, where there is one, else the latter
+abbrev pub first_of_both : Option (Part × ℕ) → Option (Part × ℕ) → Option (Part × ℕ)
+first_of_both (Some fault) later = Some fault
+first_of_both None later = later
+
+-- the first part of a report that fails, with its place: the number of the input or of the stage from 1, and 0 for the header and the
+-- comparison; none where every word of the report is true
+unfoldable pub first_fault : Said → List (List ℕ) → Report → Option (Part × ℕ)
+first_fault recipe inputs report =
+    if is_header recipe report
+    then first_of_both (inputs_fault 1 inputs report.inputs)
+        (stages_fault recipe report.compare.result (record { inputs = inputs; artefacts = [] }) recipe.stages report.stages)
+    else Some (part.Header, 0)

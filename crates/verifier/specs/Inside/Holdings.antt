@@ -1,0 +1,44 @@
+-- What a replay holds, as the definitions say it. No promise rests on its being read.
+use Rattle.std.specs.Prelude.{◌≡◌, ℕ, ◌+◌, ◌≤◌, false, bytes_eq, IsTrue, Result, Ok, Err, List, length, map, All}
+use Rattle.std.specs.List.{IsDistinct}
+use Rattle.std.specs.FinMap as finite
+use Rattle.mem_files.specs.Names.{is_stripped_name}
+use Rattle.mem_files.specs.Outputs.{IsContent}
+use Rattle.guest_run.specs.Setting.{FileMap}
+use Rattle.recipe.specs.Kept.{IsRecipe}
+use Rattle.recipe.specs.declared.parts.Output.{Output}
+use Rattle.recipe.specs.declared.parts.Output.TheVariants.{Stream, File}
+use Rattle.recipe.specs.declared.parts.StageFile.{StageFile}
+use Rattle.wheeler.specs.Contents.{Contents}
+use Rattle.verifier.specs.declared.held.Held.{Held}
+use Rattle.verifier.specs.declared.part.Part.{Part}
+use Rattle.verifier.specs.declared.stop.Stop.{Stop}
+use Rattle.verifier.specs.declared.stop.Stop.TheVariants.{Refuted, OutOfMemory}
+
+-- the contents so far
+abbrev pub so_far : Held → Contents
+so_far held = record { inputs = held.inputs.now; artefacts = held.artefacts.now }
+
+-- the recipe keeps its rules, and no content is too long
+pub record IsHeld (held : Held) : Type 0 where
+  pub recipe : IsRecipe held.recipe.now
+  pub inputs : All IsContent held.inputs.now
+  pub artefacts : All IsContent held.artefacts.now
+
+-- these files can be placed one after the other
+pub record CanPlace (held : FileMap) (files : List StageFile) : Type 0 where
+  pub named : All (λ file. IsTrue (is_stripped_name file.path)) files
+  pub absent : All (λ file. finite.contains_key held file.path ≡ false) files
+  pub distinct : IsDistinct bytes_eq (map (λ file. file.path) files)
+  pub few : finite.len held + length files ≤ 256
+
+-- an output in a file is at a name as files hold it
+abbrev pub IsOutputName : Output → Type 0
+IsOutputName Stream = Unit {0}
+IsOutputName (File path) = IsTrue (is_stripped_name path)
+
+-- what a step of a replay answers, by what it is to come to
+abbrev pub Judged : {A B : Type 0} → (B → A) → Result A Part → Result B Stop → Type 0
+Judged view meant (Ok found) = meant ≡ Ok (view found)
+Judged view meant (Err (Refuted part)) = meant ≡ Err part
+Judged view meant (Err OutOfMemory) = Unit {0}

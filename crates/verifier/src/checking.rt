@@ -1,0 +1,244 @@
+//! Whether an artefact is what its source stands for.
+ghost use Rattle.hex_items.specs.Reading.{Reads, items_of};
+ghost use Rattle.hex_items.specs.declared.item.Item.{Item as RowItem};
+ghost use Rattle.hex_items.specs.declared.reader.HexRefusal.{HexRefusal as Refusal};
+ghost use Rattle.hex_items.specs.declared.token.Dialect.TheVariants as dialect;
+ghost use Rattle.hex_link.specs.Link.{Links};
+ghost use Rattle.hex_link.specs.Values.{linked};
+ghost use Rattle.source_check.specs.Causes.{cause_of_hex, cause_of_m1};
+ghost use Rattle.source_check.specs.Checks.{check, checked, first_other_item, hex_value, items_against, joined, m1_value, same_item, same_kind};
+ghost use Rattle.std.specs.Prelude.{◌≡◌, ◌≤◌, ◌^◌, is_none, ℕ, List, Result, IfOk};
+ghost use Rattle.verifier.specs.Inside.Holdings.{IsHeld, so_far};
+ghost use Rattle.wheeler.specs.Contents.{check_of, text_of};
+
+use crate::held::Held;
+use ddc_base::{Bytes, OutOfMemory};
+use hex_items::{HexRefusal, Item, Items, Kind, items1, items2};
+use hex_langs::hex0;
+use hex_link::link;
+use languages::Language;
+use m1_lang::{M1Refusal, expand};
+use recipe::{Source, SourceLanguage, Stage};
+use std::alloc::Global;
+
+/// Whether an artefact is right by its stage's check, or unchecked.
+#[tactic(auto, unfolding(wheeler::specs::Contents::check_of))]
+pub(crate) fn is_right(
+    alloc: Global,
+    held: &Held<'_>,
+    stage: &Stage,
+    made: &[u8],
+) -> Result<bool, OutOfMemory>
+    requires { IsHeld held.now }
+    ensures { IfOk result (λ right. right ≡ is_none (check_of held.now.recipe.now (so_far held.now) stage.now made.now)) }
+{
+    let Some(name) = &stage.check else {
+        return Ok(true);
+    };
+    let Some(source) = held.recipe.source(name) else {
+        return Ok(true);
+    };
+    match source.lang {
+        SourceLanguage::Defined(language) => gives_text(alloc, held, source, language, made),
+        SourceLanguage::Other => Ok(true),
+    }
+}
+
+/// Whether a source's language accepts its text and gives an artefact. A text of one file is that file, and isn't copied.
+#[tactic(auto, unfolding(wheeler::specs::Contents::text_of))]
+fn gives_text(
+    alloc: Global,
+    held: &Held<'_>,
+    source: &Source,
+    language: Language,
+    made: &[u8],
+) -> Result<bool, OutOfMemory>
+    requires { source.now.base ≤ 2 ^ 37 }
+    ensures { IfOk result (λ right. right ≡ is_none (check language source.now.base (joined (text_of held.now.recipe.now (so_far held.now) source.now).files) made.now)) }
+{
+    if let [only] = source.files.as_slice() {
+        return gives(alloc, language, source.base, held.bytes(only), made);
+    }
+    let text = joined(alloc, held, source)?;
+    gives(alloc, language, source.base, text.as_slice(), made)
+}
+
+/// The text of a source: its files, with one LF between neighbours.
+#[tactic(auto, unfolding(wheeler::specs::Contents::text_of))]
+fn joined(alloc: Global, held: &Held<'_>, source: &Source) -> Result<Bytes, OutOfMemory>
+    ensures { IfOk result (λ text. text ≡ joined (text_of held.now.recipe.now (so_far held.now) source.now).files) }
+{
+    let [first, others @ ..] = source.files.as_slice() else {
+        return Ok(Bytes::new(alloc));
+    };
+    let mut text = Bytes::from_slice(alloc, held.bytes(first))?;
+    for name in others {
+        text.push(b'\n')?;
+        text.extend(held.bytes(name))?;
+    }
+    Ok(text)
+}
+
+/// Whether a language accepts a source and gives an artefact.
+#[tactic(auto, unfolding(source_check::specs::Checks::check))]
+fn gives(
+    alloc: Global,
+    language: Language,
+    base: u64,
+    source: &[u8],
+    made: &[u8],
+) -> Result<bool, OutOfMemory>
+    requires { base ≤ 2 ^ 37 }
+    ensures { IfOk result (λ right. right ≡ is_none (check language base source.now made.now)) }
+{
+    match language {
+        Language::Hex0 => Ok(hex0(alloc, source)?.as_slice() == made),
+        Language::Hex1 => links_to(alloc, items1(alloc, source), base, made),
+        Language::Hex2 => links_to(alloc, items2(alloc, source), base, made),
+        Language::M1 => match expand(alloc, source) {
+            Ok(items) => reads_as(alloc, &items, made),
+            Err(M1Refusal::OutOfMemory) => Err(OutOfMemory),
+            Err(
+                M1Refusal::BadDefine(_)
+                | M1Refusal::DoubleDefine(_)
+                | M1Refusal::OpenString(_)
+                | M1Refusal::UnknownWord(_)
+                | M1Refusal::NumberRange(_)
+                | M1Refusal::Dangling(_)
+                | M1Refusal::TooLong,
+            ) => Ok(false),
+        },
+    }
+}
+
+/// Whether items, if there are any, are the bytes of an artefact when they are linked at a base.
+fn links_to(
+    alloc: Global,
+    items: Result<Items<'_>, HexRefusal>,
+    base: u64,
+    made: &[u8],
+) -> Result<bool, OutOfMemory>
+    requires { base ≤ 2 ^ 37 }
+    ensures { (meant : Result (List RowItem) Refusal) → Reads meant items.entry → IfOk result (λ right. right ≡ is_none (checked (hex_value (linked base meant)) made.now)) }
+{
+    match items {
+        Ok(items) => is_value(link(alloc, &items, base), made),
+        Err(HexRefusal::OutOfMemory) => Err(OutOfMemory),
+        Err(
+            HexRefusal::OddDigits(_)
+            | HexRefusal::BadField(_)
+            | HexRefusal::Dangling(_)
+            | HexRefusal::DoubleLabel(_)
+            | HexRefusal::NoLabel(_)
+            | HexRefusal::OutOfReach(_)
+            | HexRefusal::TooLong,
+        ) => Ok(false),
+    }
+}
+
+/// Whether a linked value, if there is one, is an artefact.
+fn is_value(value: Result<Bytes, HexRefusal>, made: &[u8]) -> Result<bool, OutOfMemory>
+    ensures { (meant : Result (List ℕ) Refusal) → Links value meant → IfOk result (λ right. right ≡ is_none (checked (hex_value meant) made.now)) }
+{
+    match value {
+        Ok(bytes) => Ok(bytes.as_slice() == made),
+        Err(HexRefusal::OutOfMemory) => Err(OutOfMemory),
+        Err(
+            HexRefusal::OddDigits(_)
+            | HexRefusal::BadField(_)
+            | HexRefusal::Dangling(_)
+            | HexRefusal::DoubleLabel(_)
+            | HexRefusal::NoLabel(_)
+            | HexRefusal::OutOfReach(_)
+            | HexRefusal::TooLong,
+        ) => Ok(false),
+    }
+}
+
+/// Whether an artefact is a hex2 text of these items.
+fn reads_as(alloc: Global, items: &Items<'_>, made: &[u8]) -> Result<bool, OutOfMemory>
+    ensures { IfOk result (λ right. right ≡ is_none (items_against items.now (items_of dialect.Hex2 made.now))) }
+{
+    match items2(alloc, made) {
+        Ok(found) => Ok(same_items(items, &found)),
+        Err(HexRefusal::OutOfMemory) => Err(OutOfMemory),
+        Err(
+            HexRefusal::OddDigits(_)
+            | HexRefusal::BadField(_)
+            | HexRefusal::Dangling(_)
+            | HexRefusal::DoubleLabel(_)
+            | HexRefusal::NoLabel(_)
+            | HexRefusal::OutOfReach(_)
+            | HexRefusal::TooLong,
+        ) => Ok(false),
+    }
+}
+
+/// Whether both are the same items in the same order.
+fn same_items(ours: &Items<'_>, theirs: &Items<'_>) -> bool
+    ensures { result ≡ is_none (first_other_item ours.now theirs.now) }
+{
+    if ours.len() != theirs.len() {
+        return false;
+    }
+    for index in 0..ours.len() {
+        let Some(item) = ours.get(index) else {
+            return false;
+        };
+        let Some(other) = theirs.get(index) else {
+            return false;
+        };
+        if !same_item(&item, &other) {
+            return false;
+        }
+    }
+    true
+}
+
+/// Whether both are the same item.
+#[tactic(auto, unfolding(source_check::specs::Checks::same_item))]
+fn same_item(ours: &Item<'_>, theirs: &Item<'_>) -> bool
+    ensures { result ≡ same_item ours.now theirs.now }
+{
+    match ours {
+        Item::Byte(ours) => match theirs {
+            Item::Byte(theirs) => ours == theirs,
+            Item::Label(_) | Item::Word(..) | Item::Rel(_) | Item::Gap(..) | Item::Abs(_) | Item::Pad => false,
+        },
+        Item::Label(ours) => match theirs {
+            Item::Label(theirs) => ours.bytes() == theirs.bytes(),
+            Item::Byte(_) | Item::Word(..) | Item::Rel(_) | Item::Gap(..) | Item::Abs(_) | Item::Pad => false,
+        },
+        Item::Word(ours, our_kind, our_name) => match theirs {
+            Item::Word(theirs, their_kind, their_name) => {
+                ours == theirs && same_kind(*our_kind, *their_kind) && our_name.bytes() == their_name.bytes()
+            }
+            Item::Byte(_) | Item::Label(_) | Item::Rel(_) | Item::Gap(..) | Item::Abs(_) | Item::Pad => false,
+        },
+        Item::Rel(ours) => match theirs {
+            Item::Rel(theirs) => ours.bytes() == theirs.bytes(),
+            Item::Byte(_) | Item::Label(_) | Item::Word(..) | Item::Gap(..) | Item::Abs(_) | Item::Pad => false,
+        },
+        Item::Gap(ours, our_other) => match theirs {
+            Item::Gap(theirs, their_other) => {
+                ours.bytes() == theirs.bytes() && our_other.bytes() == their_other.bytes()
+            }
+            Item::Byte(_) | Item::Label(_) | Item::Word(..) | Item::Rel(_) | Item::Abs(_) | Item::Pad => false,
+        },
+        Item::Abs(ours) => match theirs {
+            Item::Abs(theirs) => ours.bytes() == theirs.bytes(),
+            Item::Byte(_) | Item::Label(_) | Item::Word(..) | Item::Rel(_) | Item::Gap(..) | Item::Pad => false,
+        },
+        Item::Pad => match theirs {
+            Item::Pad => true,
+            Item::Byte(_) | Item::Label(_) | Item::Word(..) | Item::Rel(_) | Item::Gap(..) | Item::Abs(_) => false,
+        },
+    }
+}
+
+/// Whether both are the same kind of reference.
+fn same_kind(ours: Kind, theirs: Kind) -> bool
+    ensures { result ≡ same_kind ours theirs }
+{
+    ours == theirs
+}

@@ -1,0 +1,77 @@
+//! What a report says of its recipe, beside the recipe.
+ghost use Rattle.std.specs.Prelude.{◌≡◌};
+ghost use Rattle.verifier.specs.Faults.{is_header, names_compared, names_inputs, names_stages, same_language};
+ghost use Rattle.wheeler.specs.Contents.{check_language, defined};
+
+use languages::Language;
+use recipe::{Input, Recipe, SourceLanguage, Stage};
+use report::{CompareLine, InputLine, Report, StageLine};
+
+/// Whether a report has the recipe's digest, its names in order, and the languages of its checks.
+#[tactic(auto, unfolding(crate::specs::Faults::is_header))]
+pub(crate) fn is_header(recipe: &Recipe, report: &Report) -> bool
+    ensures { result ≡ is_header recipe.now report.now }
+{
+    recipe.digest().0 == report.recipe.0
+        && names_inputs(recipe.inputs().as_slice(), report.inputs.as_slice())
+        && names_stages(recipe, recipe.stages().as_slice(), report.stages.as_slice())
+        && names_compared(recipe, &report.compare)
+}
+
+/// Whether there is a line for each input, with its name.
+fn names_inputs(inputs: &[Input], lines: &[InputLine]) -> bool
+    ensures { result ≡ names_inputs inputs.now lines.now }
+{
+    match inputs {
+        [] => lines.is_empty(),
+        [input, inputs @ ..] => match lines {
+            [] => false,
+            [line, lines @ ..] => input.name == line.name && names_inputs(inputs, lines),
+        },
+    }
+}
+
+/// Whether there is a line for each stage, with its name and the language of its check.
+fn names_stages(recipe: &Recipe, stages: &[Stage], lines: &[StageLine]) -> bool
+    ensures { result ≡ names_stages recipe.now stages.now lines.now }
+{
+    match stages {
+        [] => lines.is_empty(),
+        [stage, stages @ ..] => match lines {
+            [] => false,
+            [line, lines @ ..] => {
+                stage.name == line.name
+                    && same_language(check_language(recipe, stage), line.checked)
+                    && names_stages(recipe, stages, lines)
+            }
+        },
+    }
+}
+
+/// Whether the compare line names what the recipe compares.
+fn names_compared(recipe: &Recipe, line: &CompareLine) -> bool
+    ensures { result ≡ names_compared recipe.now line.now }
+{
+    let compare = recipe.compare();
+    compare.stage == line.stage && compare.binary == line.binary
+}
+
+/// The language in which a stage is checked, if it is.
+#[tactic(auto, unfolding(wheeler::specs::Contents::check_language))]
+fn check_language(recipe: &Recipe, stage: &Stage) -> Option<Language>
+    ensures { result ≡ check_language recipe.now stage.now }
+{
+    let name = stage.check.as_ref()?;
+    let source = recipe.source(name)?;
+    match source.lang {
+        SourceLanguage::Defined(language) => Some(language),
+        SourceLanguage::Other => None,
+    }
+}
+
+/// Whether both are the same language, or none.
+fn same_language(ours: Option<Language>, theirs: Option<Language>) -> bool
+    ensures { result ≡ same_language ours theirs }
+{
+    ours == theirs
+}

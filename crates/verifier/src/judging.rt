@@ -1,0 +1,177 @@
+//! The verdict on a report: its parts in order, up to the first that is not true.
+ghost use Rattle.mem_files.specs.Outputs.{IsContent};
+ghost use Rattle.recipe.specs.Kept.{IsRecipe};
+ghost use Rattle.std.specs.Option.{option_map};
+ghost use Rattle.std.specs.Prelude.{◌≡◌, ◌+◌, ◌<◌, ◌^◌, length, All};
+ghost use Rattle.verifier.specs.Faults.{compare_fault, first_fault, inputs_fault, is_at, says};
+ghost use Rattle.verifier.specs.Inside.Holdings.{IsHeld, so_far};
+ghost use Rattle.verifier.specs.Inside.Replays.{Replays};
+ghost use Rattle.verifier.specs.Verdicts.{IsReplaying, Judges, OnWant, verdict_of};
+ghost use Rattle.verifier.specs.declared.part.Part.TheVariants as part;
+ghost use Rattle.wheeler.specs.Valid.{IsInputs};
+
+use crate::header::is_header;
+use crate::held::Held;
+use crate::marks::is_mark_of;
+use crate::part::{Part, Verdict};
+use crate::replay::replay;
+use crate::stop::Stop;
+use ddc_base::{Bytes, ListOf, OutOfMemory, first_difference};
+use recipe::{Inputs, Recipe, Stage};
+use report::{Compared, InputLine, Report, StageLine};
+use std::alloc::Global;
+
+/// Replays a report, which it doesn't believe.
+///
+/// `Refuted` names the first part that is not true, judged on the bytes that the earlier runs left. Otherwise it is `Yes` where the report
+/// says that the artefact and the binary are equal, and `TrueButDiffers` where it says that they differ. Want of memory comes only while a
+/// stage is replayed: the header, the inputs and the stages before it were right by then.
+///
+/// The inputs are as many as the recipe's, each with at most 268,435,456 bytes. docs/reference/verify.md has the rules.
+pub fn verify(alloc: Global, recipe: &Recipe, inputs: &Inputs, report: &Report) -> Verdict
+    requires { IsInputs recipe.now inputs.now }
+    ensures value { Judges (first_fault recipe.now inputs.now report.now) report.now.compare.result result }
+    ensures memory { OnWant result (IsReplaying recipe.now inputs.now report.now) }
+{
+    judge(alloc, recipe, inputs.as_slice(), report)
+}
+
+/// The same, of inputs that are lent.
+#[tactic(auto, unfolding(crate::specs::Faults::first_fault))]
+fn judge(alloc: Global, recipe: &Recipe, inputs: &[Bytes], report: &Report) -> Verdict
+    requires { IsInputs recipe.now inputs.now }
+    ensures value { Judges (first_fault recipe.now inputs.now report.now) report.now.compare.result result }
+    ensures memory { OnWant result (IsReplaying recipe.now inputs.now report.now) }
+{
+    let stages = recipe.stages().as_slice();
+    if !is_header(recipe, report) {
+        return Verdict::Refuted {
+            part: Part::Header,
+            place: 0,
+        };
+    }
+    if let Some(place) = wrong_input(1, inputs, report.inputs.as_slice()) {
+        return Verdict::Refuted {
+            part: Part::Input,
+            place,
+        };
+    }
+    match replay_all(alloc, recipe, stages, inputs, report.stages.as_slice()) {
+        Ok(artefacts) => {
+            let held = Held {
+                recipe,
+                inputs,
+                artefacts: artefacts.as_slice(),
+            };
+            compared(&held, report.compare.result)
+        }
+        Err(verdict) => verdict,
+    }
+}
+
+/// The number of the first input that is not as its line says, of those from a number on.
+fn wrong_input(number: u32, inputs: &[Bytes], lines: &[InputLine]) -> Option<u32>
+    requires { number + length inputs.now < 2 ^ 32 }
+    ensures { inputs_fault number inputs.now lines.now ≡ option_map (λ place. (part.Input, place)) result }
+{
+    match inputs {
+        [] => None,
+        [bytes, inputs @ ..] => match lines {
+            [] => None,
+            [line, lines @ ..] => {
+                if is_mark_of(&line.mark, bytes.as_slice()) {
+                    wrong_input(number + 1, inputs, lines)
+                } else {
+                    Some(number)
+                }
+            }
+        },
+    }
+}
+
+/// The artefacts of all stages, each of which is replayed over those before it; or the verdict that ends the replay.
+fn replay_all(
+    alloc: Global,
+    recipe: &Recipe,
+    stages: &[Stage],
+    inputs: &[Bytes],
+    lines: &[StageLine],
+) -> Result<ListOf<Bytes>, Verdict>
+    requires recipe { IsRecipe recipe.now }
+    requires stages { stages.now ≡ recipe.now.stages }
+    requires inputs { All IsContent inputs.now }
+    ensures { Replays recipe.now inputs.now lines.now result }
+{
+    let mut artefacts = ListOf::new(alloc);
+    let mut total = 0;
+    for (index, line) in lines.iter().enumerate() {
+        let Some(stage) = stages.get(index) else {
+            return Ok(artefacts);
+        };
+        let held = Held {
+            recipe,
+            inputs,
+            artefacts: artefacts.as_slice(),
+        };
+        match replay(alloc, &held, stage, line, total) {
+            Ok(made) => {
+                total += made.len() as u64;
+                match artefacts.push(made) {
+                    Ok(()) => {}
+                    Err(OutOfMemory) => return Err(Verdict::OutOfMemory),
+                }
+            }
+            Err(Stop::Refuted(part)) => {
+                return Err(
+                    Verdict::Refuted {
+                        part,
+                        place: index as u32 + 1,
+                    },
+                );
+            }
+            Err(Stop::OutOfMemory) => return Err(Verdict::OutOfMemory),
+        }
+    }
+    Ok(artefacts)
+}
+
+/// The verdict on a report of which all but the comparison is true.
+fn compared(held: &Held<'_>, line: Compared) -> Verdict
+    ensures { result ≡ verdict_of (compare_fault held.now.recipe.now (so_far held.now) line) line }
+{
+    let compare = held.recipe.compare();
+    if !says(line, held.bytes(&compare.stage), held.bytes(&compare.binary)) {
+        return Verdict::Refuted {
+            part: Part::Compare,
+            place: 0,
+        };
+    }
+    match line {
+        Compared::Equal(_) => Verdict::Yes,
+        Compared::Differs(..) => Verdict::TrueButDiffers,
+    }
+}
+
+/// Whether a compare line says what the bytes say.
+fn says(line: Compared, made: &[u8], binary: &[u8]) -> bool
+    ensures { result ≡ says line made.now binary.now }
+{
+    match line {
+        Compared::Equal(count) => made == binary && count == made.len() as u64,
+        Compared::Differs(offset, ours, theirs) => {
+            is_at(offset, first_difference(made, binary))
+                && ours == made.len() as u64
+                && theirs == binary.len() as u64
+        }
+    }
+}
+
+/// Whether this is the offset.
+fn is_at(offset: u64, found: Option<u64>) -> bool
+    ensures { result ≡ is_at offset found }
+{
+    match found {
+        Some(found) => offset == found,
+        None => false,
+    }
+}

@@ -1,0 +1,27 @@
+//! Laws of the definitions. Each law is the contract of a function that does nothing.
+ghost use Rattle.guest_run.specs.Program.{Run};
+ghost use Rattle.guest_run.specs.Setting.{Setting};
+ghost use Rattle.guest_run.specs.Start.{start_of};
+ghost use Rattle.mem_files.specs.World.{World};
+ghost use Rattle.recipe.specs.Kept.{IsRecipe};
+ghost use Rattle.recipe.specs.declared.contents.Said.{Said};
+ghost use Rattle.report.specs.declared.types.Report.{Report};
+ghost use Rattle.std.specs.Prelude.{◌≡◌, ◌≤◌, ◌↔◌, ℕ, List, None, Some};
+ghost use Rattle.verifier.specs.Faults.{first_fault, left_at};
+ghost use Rattle.wheeler.specs.Bench.{bench};
+ghost use Rattle.wheeler.specs.Valid.{IsInputs};
+ghost use Rattle.wheeler.specs.declared.answer.Answer.TheVariants.{Completes};
+
+/// One report: of a recipe that keeps its rules and of inputs within their limits, a report has no fault exactly where the bench reaches
+/// its end with this report.
+pub fn one_report()
+    ensures { (recipe : Said) (inputs : List (List ℕ)) (report : Report) → IsRecipe recipe → IsInputs recipe inputs
+        → (first_fault recipe inputs report ≡ None) ↔ (bench recipe inputs ≡ Completes report) }
+{}
+
+/// What is judged of a stage's run: that the program with its box has a run which ends at exactly the recorded step, from 1 to the limit,
+/// by an exit with 0, and leaves these files.
+pub fn a_judged_run_is_a_run()
+    ensures { (program : List ℕ) (setting : Setting) (limit step : ℕ) (world : World)
+        → (left_at (start_of program setting) limit step ≡ Some world) ↔ ((1 ≤ step) × (step ≤ limit) × Run program setting step 0 world) }
+{}

@@ -1,0 +1,50 @@
+//! What a run left, beside a stage's line.
+ghost use Rattle.mem_files.specs.Calls.{content_at};
+ghost use Rattle.mem_files.specs.Names.{is_stripped_name};
+ghost use Rattle.mem_files.specs.Outputs.{left};
+ghost use Rattle.mem_files.specs.Sound.{IsSound};
+ghost use Rattle.std.specs.Prelude.{◌≡◌, IsTrue, IsSome, Some, [], unwrap_or};
+ghost use Rattle.verifier.specs.Faults.{has_left, names_left};
+
+use crate::marks::is_mark_of;
+use mem_files::Files;
+use report::{LeftLine, StageLine};
+
+/// Whether both streams and all files that are left are as the line says.
+#[tactic(auto, unfolding(crate::specs::Faults::has_left))]
+pub(crate) fn has_left(line: &StageLine, files: &Files) -> bool
+    ensures { result ≡ has_left line.now files.now }
+{
+    is_mark_of(&line.stream1, files.stream(1))
+        && is_mark_of(&line.stream2, files.stream(2))
+        && names_left(line.left.as_slice(), files)
+}
+
+/// Whether the lines are those of the files that are left: walks along the names that are there, each of which the next line has to say.
+fn names_left(lines: &[LeftLine], files: &Files) -> bool
+    requires { IsSound files.now }
+    ensures { result ≡ names_left lines.now (left files.now) }
+{
+    let mut last: Option<&[u8]> = None;
+    for line in lines {
+        let Some(name) = files.name_after(last) else {
+            return false;
+        };
+        if line.name.as_slice() != name {
+            return false;
+        }
+        if !is_mark_of(&line.mark, bytes_of(files, name)) {
+            return false;
+        }
+        last = Some(name);
+    }
+    files.name_after(last).is_none()
+}
+
+/// The bytes of the file of a name that is there.
+fn bytes_of<'f>(files: &'f Files, name: &[u8]) -> &'f [u8]
+    requires { IsTrue (is_stripped_name name.now) }
+    ensures { result.now ≡ unwrap_or (content_at files.now name.now) [] }
+{
+    files.content(name).unwrap_or(&[])
+}

@@ -1,0 +1,20 @@
+//! The replay of a report, which believes nothing of it.
+//!
+//! Its rules for people: docs/reference/verify.md. It has no code in common with the crate that runs an audit: both meet the definitions
+//! of `wheeler` and stand on the layers below (docs/ARCHITECTURE.md).
+#![tactic(auto)]
+
+mod checking;
+mod given;
+mod header;
+mod held;
+mod judging;
+pub mod laws;
+mod left;
+mod marks;
+mod part;
+mod replay;
+mod stop;
+
+pub use judging::verify;
+pub use part::{Part, Verdict};

@@ -1,0 +1,133 @@
+//! A stage's line, judged by a replay.
+ghost use Rattle.guest_run.specs.Run.{end_at};
+ghost use Rattle.guest_run.specs.Start.{start_of};
+ghost use Rattle.mem_files.specs.Outputs.{out};
+ghost use Rattle.std.specs.Option.{option_copied};
+ghost use Rattle.std.specs.Prelude.{◌≡◌, ◌+◌, ◌≤◌, ◌^◌, Contains, IfOk};
+ghost use Rattle.verifier.specs.Faults.{exit_of, left_at, or_fails, recorded, replayed, size_of};
+ghost use Rattle.verifier.specs.Inside.Holdings.{IsHeld, IsOutputName, Judged, so_far};
+ghost use Rattle.verifier.specs.declared.part.Part.TheVariants as part;
+ghost use Rattle.wheeler.specs.Contents.{Contents, box_of, program_of};
+ghost use Rattle.wheeler.specs.Stages.{output_of};
+
+use crate::checking::is_right;
+use crate::given::box_of;
+use crate::held::Held;
+use crate::left::has_left;
+use crate::marks::is_mark_of;
+use crate::part::Part;
+use crate::stop::Stop;
+use ddc_base::{Bytes, OutOfMemory};
+use guest_run::{Guest, RunEnd, RunRam, StartRefusal};
+use mem_files::Files;
+use recipe::{Output, Stage};
+use report::StageLine;
+use std::alloc::Global;
+use wheeler::MAX_ARTEFACTS;
+
+/// The artefact of a stage whose line is true; `total` is the bytes of the artefacts so far.
+#[tactic(auto, unfolding(crate::specs::Faults::replayed))]
+pub(crate) fn replay(
+    alloc: Global,
+    held: &Held<'_>,
+    stage: &Stage,
+    line: &StageLine,
+    total: u64,
+) -> Result<Bytes, Stop>
+    requires held { IsHeld held.now }
+    requires known { Contains held.now.recipe.now.stages stage.now }
+    requires total { total ≡ size_of (so_far held.now) }
+    requires small { total ≤ MAX_ARTEFACTS }
+    ensures { Judged (λ made. made) (replayed held.now.recipe.now (so_far held.now) stage.now line.now) result }
+{
+    let guest = exited(alloc, held, stage, line.steps)?;
+    let Some(made) = recorded(stage, line, total, guest.files()) else {
+        return Err(Stop::Refuted(Part::Files));
+    };
+    if !is_right(alloc, held, stage, made)? {
+        return Err(Stop::Refuted(Part::Assembled));
+    }
+    Ok(Bytes::from_slice(alloc, made)?)
+}
+
+/// The guest of a stage's program, which has exited with 0 at exactly this step.
+fn exited(
+    alloc: Global,
+    held: &Held<'_>,
+    stage: &Stage,
+    step: u64,
+) -> Result<Guest<RunRam>, Stop>
+    requires held { IsHeld held.now }
+    requires known { Contains held.now.recipe.now.stages stage.now }
+    ensures { Judged (λ guest. guest.world) (or_fails part.Run (left_at (start_of (program_of held.now.recipe.now (so_far held.now) stage.now) (box_of held.now.recipe.now (so_far held.now) stage.now)) stage.now.steps step)) result }
+{
+    if step == 0 || step > stage.steps {
+        return Err(Stop::Refuted(Part::Run));
+    }
+    let given = box_of(alloc, held, stage)?;
+    match Guest::<RunRam>::start(alloc, held.bytes(&stage.program), &given) {
+        Ok(guest) => run_to(guest, step),
+        Err(StartRefusal::Elf(_)) => Err(Stop::Refuted(Part::Run)),
+        Err(StartRefusal::ArgsTooLong) => Err(Stop::Refuted(Part::Run)),
+        Err(StartRefusal::BoxTooLarge) => Err(Stop::Refuted(Part::Run)),
+        Err(StartRefusal::OutOfMemory) => Err(Stop::OutOfMemory),
+    }
+}
+
+/// Runs a fresh guest for so many steps, the last of which has to be its exit with 0.
+fn run_to(guest: Guest<RunRam>, step: u64) -> Result<Guest<RunRam>, Stop>
+    requires fresh { guest.steps ≡ 0 }
+    requires some { 1 ≤ step }
+    requires few { step ≤ 2 ^ 48 }
+    ensures { Judged (λ guest. guest.world) (or_fails part.Run (exit_of (end_at guest step))) result }
+{
+    let mut guest = guest;
+    match guest.run(step) {
+        RunEnd::Exited(status) => {
+            if status != 0 {
+                return Err(Stop::Refuted(Part::Run));
+            }
+            if guest.steps() + 1 != step {
+                return Err(Stop::Refuted(Part::Run));
+            }
+            Ok(guest)
+        }
+        RunEnd::Trapped(_) => Err(Stop::Refuted(Part::Run)),
+        RunEnd::UnknownCall(_) => Err(Stop::Refuted(Part::Run)),
+        RunEnd::Spent => Err(Stop::Refuted(Part::Run)),
+        RunEnd::OutOfMemory => Err(Stop::OutOfMemory),
+    }
+}
+
+/// The artefact among what a run left, where all of it is as the line says and the artefacts stay within their limit.
+fn recorded<'f>(
+    stage: &Stage,
+    line: &StageLine,
+    total: u64,
+    files: &'f Files,
+) -> Option<&'f [u8]>
+    requires named { IsOutputName stage.now.output }
+    requires small { total ≤ MAX_ARTEFACTS }
+    ensures { (so_far : Contents) → total ≡ size_of so_far → option_copied result ≡ recorded so_far stage.now line.now files.now }
+{
+    if !has_left(line, files) {
+        return None;
+    }
+    let made = artefact(&stage.output, files)?;
+    if is_mark_of(&line.made, made) && total + made.len() as u64 <= MAX_ARTEFACTS {
+        Some(made)
+    } else {
+        None
+    }
+}
+
+/// The bytes at a stage's output, if they are there.
+fn artefact<'f>(output: &Output, files: &'f Files) -> Option<&'f [u8]>
+    requires { IsOutputName output.now }
+    ensures { option_copied result ≡ out files.now (output_of output.now) }
+{
+    match output {
+        Output::Stream => Some(files.stream(1)),
+        Output::File(path) => files.content(path.as_slice()),
+    }
+}

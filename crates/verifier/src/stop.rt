@@ -1,0 +1,21 @@
+//! Why a stage's replay stops.
+ghost use Rattle.std.specs.Prelude.{◌≡◌};
+ghost use Rattle.verifier.specs.declared.stop.Stop.TheVariants.{OutOfMemory};
+
+use crate::part::Part;
+
+/// What stops the replay of a stage.
+#[derive(Clone, Copy, Debug, PartialEq, Eq)]
+pub(crate) enum Stop {
+    /// This part is not true.
+    Refuted(Part),
+    OutOfMemory,
+}
+
+impl From<ddc_base::OutOfMemory> for Stop {
+    ghost from_gives = { λ _ stop. stop ≡ OutOfMemory };
+
+    fn from(_error: ddc_base::OutOfMemory) -> Stop {
+        Stop::OutOfMemory
+    }
+}

@@ -1,0 +1,81 @@
+-- The bench: the stages in order, and the comparison; and the report of it. docs/reference/audit.md says the same for people.
+use Rattle.std.specs.Prelude.{ℕ, suc, Option, None, Some, Result, Ok, Err, List, [], ◌∷◌, ◌++◌, length}
+use Rattle.ddc_base.specs.Difference.{first_difference}
+use Rattle.ddc_base.specs.declared.digests.Digest.{Digest}
+use Rattle.recipe.specs.declared.contents.Said.{Said}
+use Rattle.recipe.specs.declared.parts.Input.{Input}
+use Rattle.recipe.specs.declared.parts.Stage.{Stage}
+use Rattle.report.specs.declared.types.CompareLine.{CompareLine}
+use Rattle.report.specs.declared.types.Compared.{Compared}
+use Rattle.report.specs.declared.types.Compared.TheVariants.{Equal, Differs}
+use Rattle.report.specs.declared.types.InputLine.{InputLine}
+use Rattle.report.specs.declared.types.Report.{Report}
+use Rattle.report.specs.declared.types.StageLine.{StageLine}
+use Rattle.wheeler.specs.declared.answer.Answer.{Answer}
+use Rattle.wheeler.specs.declared.answer.Answer.TheVariants.{Completes, Fails}
+use Rattle.wheeler.specs.declared.answer.Fault.{Fault}
+use Rattle.wheeler.specs.declared.answer.Finished.{Finished}
+use Rattle.wheeler.specs.Contents.{Contents, check_language, content}
+use Rattle.wheeler.specs.Stages.{contents, mark_of, stage_result}
+
+-- the lines of the inputs, with what was given for each
+abbrev pub input_lines : List Input → List (List ℕ) → List InputLine
+input_lines (input ∷ rest) (bytes ∷ inputs) = record { name = input.name; mark = mark_of bytes } ∷ input_lines rest inputs
+input_lines _ _ = []
+
+-- the lines of stages that are done
+abbrev pub stage_line : Said → Stage → Finished → StageLine
+stage_line recipe stage f = record {
+  name = stage.name;
+  steps = f.steps;
+  stream1 = f.stream1;
+  stream2 = f.stream2;
+  left = f.left;
+  made = mark_of f.made;
+  checked = check_language recipe stage;
+}
+
+abbrev pub stage_lines : Said → List Stage → List Finished → List StageLine
+stage_lines recipe (stage ∷ stages) (f ∷ done) = stage_line recipe stage f ∷ stage_lines recipe stages done
+stage_lines recipe _ _ = []
+
+-- how an artefact and a binary compare: equal, with their length; or the first offset at which they differ or one has ended, and both
+-- lengths
+abbrev pub compared_at : Option ℕ → List ℕ → List ℕ → Compared
+compared_at None made binary = Equal (length made)
+compared_at (Some offset) made binary = Differs offset (length made) (length binary)
+
+abbrev pub compared : List ℕ → List ℕ → Compared
+compared made binary = compared_at (first_difference made binary) made binary
+
+-- what the recipe asks to compare
+abbrev pub comparison : Said → Contents → CompareLine
+comparison recipe all = record {
+  stage = recipe.compare.stage;
+  binary = recipe.compare.binary;
+  result = compared (content recipe all recipe.compare.stage) (content recipe all recipe.compare.binary);
+}
+
+-- the report of all stages
+unfoldable pub report_of : Said → List (List ℕ) → List Finished → Report
+report_of recipe inputs done = record {
+  recipe = recipe.digest;
+  inputs = input_lines recipe.inputs inputs;
+  stages = stage_lines recipe recipe.stages done;
+  compare = comparison recipe (contents inputs done);
+}
+
+-- the stage of this number is done and what follows goes on, or the audit is over
+abbrev pub after_stage : ℕ → Result Finished Fault → (Finished → Answer) → Answer
+after_stage number (Err fault) next = Fails number fault
+after_stage number (Ok f) next = next f
+
+-- what the stages that are left come to, after those that are done
+abbrev pub bench_from : Said → List (List ℕ) → List Finished → List Stage → Answer
+bench_from recipe inputs done [] = Completes (report_of recipe inputs done)
+bench_from recipe inputs done (stage ∷ stages) =
+    after_stage (suc (length done)) (stage_result recipe inputs done stage) (λ f. bench_from recipe inputs (done ++ f ∷ []) stages)
+
+-- what an audit comes to
+abbrev pub bench : Said → List (List ℕ) → Answer
+bench recipe inputs = bench_from recipe inputs [] recipe.stages

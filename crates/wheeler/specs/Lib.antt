@@ -1,0 +1,5 @@
+pub mod Contents
+pub mod Stages
+pub mod Bench
+pub mod Positions
+pub mod Valid

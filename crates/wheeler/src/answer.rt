@@ -1,0 +1,37 @@
+use crate::cause::RunCause;
+use ddc_base::Bytes;
+use report::{LeftLines, Mark, Report};
+use source_check::CheckCause;
+
+/// A stage that is done.
+#[derive(Debug, Drop)]
+pub struct Finished {
+    /// The step at which its program exited, counted from 1.
+    pub steps: u64,
+    /// What its program wrote to its standard output.
+    pub stream1: Mark,
+    /// What its program wrote to its standard error.
+    pub stream2: Mark,
+    /// The files that its program left, ascending by the bytes of their names.
+    pub left: LeftLines,
+    /// Its artefact.
+    pub made: Bytes,
+}
+
+/// Why a stage is not done.
+#[derive(Clone, Copy, Debug, PartialEq, Eq)]
+pub enum Fault {
+    /// Its run made no artefact: the cause, and the step, which is 0 where the program did not start.
+    Runs(RunCause, u64),
+    /// Its artefact is not what its source stands for.
+    Checks(CheckCause),
+}
+
+/// How an audit is over.
+#[derive(Debug, Drop)]
+pub enum Answer {
+    /// Every stage is done, and the artefact was compared.
+    Completes(Report),
+    /// The stage of this number, from 1, is not done.
+    Fails(u32, Fault),
+}

@@ -1,0 +1,18 @@
+//! What an audit is: the contents, boxes and texts of its stages, the bench that runs them, its report, and the positions on the way.
+//!
+//! Its rules for people: docs/reference/audit.md. The crates that run an audit or judge its report have code of their own, which meets
+//! these definitions.
+#![tactic(auto)]
+
+mod answer;
+mod cause;
+pub mod laws;
+
+pub use answer::{Answer, Fault, Finished};
+pub use cause::{RunCause, StartCause};
+
+/// The most bytes of all artefacts together.
+pub const MAX_ARTEFACTS: u64 = 1_073_741_824;
+
+/// The most bytes of an input.
+pub const MAX_INPUT: u64 = 268_435_456;
