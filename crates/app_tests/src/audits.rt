@@ -9,12 +9,14 @@ use std::process::Abort;
 use std::test::Fail;
 
 /// exit.elf: header, one program header, and three instructions that exit with status 0.
-const EXIT: &str = "7f454c460201010000000000000000000200f30001000000780001000000000040000000000000000000000000000000000000004000380001000000\
+const EXIT: &str =
+    "7f454c460201010000000000000000000200f30001000000780001000000000040000000000000000000000000000000000000004000380001000000\
     000000000100000007000000000000000000000000000100000000000000010000000000840000000000000084000000000000000010000000000000\
     130500009308d00573000000";
 
 /// copy.elf, which copies the file `in` to `out`, with a line's end: its source in hex0.
-const COPY: &str = "7f454c460201010000000000000000000200f30001000000780001000000000040000000000000000000000000000000000000004000380001000000\
+const COPY: &str =
+    "7f454c460201010000000000000000000200f30001000000780001000000000040000000000000000000000000000000000000004000380001000000\
     000000000100000007000000000000000000000000000100000000000000010000000000e800000000000000e80000000000000000100000000000001305c0f9b70501009385050e1306000093088003730000001305c0f9b70501009385350e\
     130610247300000037140000b30481401305300093850400130604009308f00373000000630c0500130605001305400093080004730000006ff09ffd\
     9308d00573000000696e006f75740000\n";
@@ -79,12 +81,15 @@ const fn row(
 }
 
 /// The inputs, sources and stages of the recipe with a last stage that is checked against a source in M1.
-const MORE_INPUTS: &str = "[[input]]\nname = \"text\"\npath = \"copy.hex0\"\n[[input]]\nname = \"src\"\npath = \"a.bin\"\n[[input]]\nname = \"bin\"\npath = \"b.bin\"\n\
+const MORE_INPUTS: &str =
+    "[[input]]\nname = \"text\"\npath = \"copy.hex0\"\n[[input]]\nname = \"src\"\npath = \"a.bin\"\n[[input]]\nname = \"bin\"\npath = \"b.bin\"\n\
     [[input]]\nname = \"mac\"\npath = \"m.M1\"\n[[input]]\nname = \"lst\"\npath = \"m.hex2\"\n";
 
-const MORE_SOURCES: &str = "[[source]]\nname = \"copy_src\"\nlang = \"hex0\"\nfiles = [\"text\"]\n[[source]]\nname = \"mac_src\"\nlang = \"m1\"\nfiles = [\"mac\"]\n";
+const MORE_SOURCES: &str =
+    "[[source]]\nname = \"copy_src\"\nlang = \"hex0\"\nfiles = [\"text\"]\n[[source]]\nname = \"mac_src\"\nlang = \"m1\"\nfiles = [\"mac\"]\n";
 
-const MORE_STAGES: &str = "[[stage]]\nname = \"two\"\nprogram = \"one\"\nargs = [\"copy\"]\nfiles = [{ path = \"in\", from = \"src\" }]\noutput = \"out\"\nsteps = 100000\n\
+const MORE_STAGES: &str =
+    "[[stage]]\nname = \"two\"\nprogram = \"one\"\nargs = [\"copy\"]\nfiles = [{ path = \"in\", from = \"src\" }]\noutput = \"out\"\nsteps = 100000\n\
     [[stage]]\nname = \"three\"\nprogram = \"one\"\nargs = [\"copy\"]\nfiles = [{ path = \"in\", from = \"lst\" }]\noutput = \"out\"\nsteps = 100000\ncheck = \"mac_src\"\n";
 
 static MORE: [(usize, &str); 3] = [(1, MORE_INPUTS), (2, MORE_SOURCES), (6, MORE_STAGES)];
@@ -93,39 +98,150 @@ const MACROS: (&str, &str) = ("m.M1", "DEFINE x 7F45\nx\n");
 
 static ROWS: [Row; 21] = [
     row(&[], &[], Status::Yes, "equal two bin 3\n"),
-    row(&[], &[("b.bin", "abd")], Status::Differs, "differs two bin 2 3 3\n"),
-    row(&[], &[("b.bin", "ab")], Status::Differs, "differs two bin 2 3 2\n"),
-    row(&[], &[("b.bin", "")], Status::Differs, "differs two bin 0 3 0\n"),
-    row(&[(4, "steps = 32\n")], &[], Status::Yes, "equal two bin 3\n"),
-    row(&[(4, "steps = 31\n")], &[], Status::RunFailed, "run failed one spent step 31\n"),
-    row(&[(0, "format = 1\n[[input]]\nname = \"prog\"\npath = \"exit.elf\"\n")], &[], Status::RunFailed, "run failed one no-output step 3\n"),
-    row(&[(0, "format = 1\n[[input]]\nname = \"prog\"\npath = \"copy.hex0\"\n")], &[], Status::RunFailed, "run failed one start elf 2 step 0\n"),
-    row(&[(0, "format = 1\n[[input]]\nname = \"prog\"\npath = \"none\"\n")], &[], Status::FileRefused, "file refused none absent\n"),
-    row(&[(0, "format = 1\n[[input]]\nname = \"prog\"\npath = \"r\"\n")], &[], Status::Usage, "usage\n"),
-    row(&[(5, "")], &[], Status::RecipeRefused, "recipe refused 2 input 1 implements\n"),
-    row(&[(7, "")], &[], Status::RecipeRefused, "recipe refused 2 top 0 compare\n"),
-    row(&[(7, "compare")], &[], Status::RecipeRefused, "recipe refused 1\n"),
-    row(&[(7, "[compare]\nstage = \"two\"\nbinary = \"bin\"\nsteps = 1\n")], &[], Status::RecipeRefused, "recipe refused 3 compare 0\n"),
-    row(&[], &[("copy.hex0", "6f")], Status::CheckFailed, "check failed one differs 0\n"),
-    row(&[(2, "[[source]]\nname = \"copy_src\"\nlang = \"hex2\"\nfiles = [\"text\"]\n")], &[], Status::Yes, "equal two bin 3\n"),
     row(
-        &[(2, "[[source]]\nname = \"copy_src\"\nlang = \"m1\"\nfiles = [\"text\"]\n")],
+        &[],
+        &[("b.bin", "abd")],
+        Status::Differs,
+        "differs two bin 2 3 3\n",
+    ),
+    row(
+        &[],
+        &[("b.bin", "ab")],
+        Status::Differs,
+        "differs two bin 2 3 2\n",
+    ),
+    row(
+        &[],
+        &[("b.bin", "")],
+        Status::Differs,
+        "differs two bin 0 3 0\n",
+    ),
+    row(
+        &[(4, "steps = 32\n")],
+        &[],
+        Status::Yes,
+        "equal two bin 3\n",
+    ),
+    row(
+        &[(4, "steps = 31\n")],
+        &[],
+        Status::RunFailed,
+        "run failed one spent step 31\n",
+    ),
+    row(
+        &[(
+            0,
+            "format = 1\n[[input]]\nname = \"prog\"\npath = \"exit.elf\"\n",
+        )],
+        &[],
+        Status::RunFailed,
+        "run failed one no-output step 3\n",
+    ),
+    row(
+        &[(
+            0,
+            "format = 1\n[[input]]\nname = \"prog\"\npath = \"copy.hex0\"\n",
+        )],
+        &[],
+        Status::RunFailed,
+        "run failed one start elf 2 step 0\n",
+    ),
+    row(
+        &[(
+            0,
+            "format = 1\n[[input]]\nname = \"prog\"\npath = \"none\"\n",
+        )],
+        &[],
+        Status::FileRefused,
+        "file refused none absent\n",
+    ),
+    row(
+        &[(0, "format = 1\n[[input]]\nname = \"prog\"\npath = \"r\"\n")],
+        &[],
+        Status::Usage,
+        "usage\n",
+    ),
+    row(
+        &[(5, "")],
+        &[],
+        Status::RecipeRefused,
+        "recipe refused 2 input 1 implements\n",
+    ),
+    row(
+        &[(7, "")],
+        &[],
+        Status::RecipeRefused,
+        "recipe refused 2 top 0 compare\n",
+    ),
+    row(
+        &[(7, "compare")],
+        &[],
+        Status::RecipeRefused,
+        "recipe refused 1\n",
+    ),
+    row(
+        &[(
+            7,
+            "[compare]\nstage = \"two\"\nbinary = \"bin\"\nsteps = 1\n",
+        )],
+        &[],
+        Status::RecipeRefused,
+        "recipe refused 3 compare 0\n",
+    ),
+    row(
+        &[],
+        &[("copy.hex0", "6f")],
+        Status::CheckFailed,
+        "check failed one differs 0\n",
+    ),
+    row(
+        &[(
+            2,
+            "[[source]]\nname = \"copy_src\"\nlang = \"hex2\"\nfiles = [\"text\"]\n",
+        )],
+        &[],
+        Status::Yes,
+        "equal two bin 3\n",
+    ),
+    row(
+        &[(
+            2,
+            "[[source]]\nname = \"copy_src\"\nlang = \"m1\"\nfiles = [\"text\"]\n",
+        )],
         &[],
         Status::RecipeRefused,
         "recipe refused 2 stage 1 becomes\n",
     ),
     row(
         &[
-            (2, "[[source]]\nname = \"copy_src\"\nlang = \"m1\"\nfiles = [\"text\"]\n"),
+            (
+                2,
+                "[[source]]\nname = \"copy_src\"\nlang = \"m1\"\nfiles = [\"text\"]\n",
+            ),
             (5, "check = \"copy_src\"\nbecomes = \"copy_src\"\n"),
         ],
         &[],
         Status::CheckFailed,
         "check failed one items 2 0\n",
     ),
-    row(&MORE, &[MACROS, ("m.hex2", "7f 45\n")], Status::Yes, "equal two bin 3\n"),
-    row(&MORE, &[MACROS, ("m.hex2", "7f 46\n")], Status::CheckFailed, "check failed three differs 1\n"),
-    row(&MORE, &[MACROS, ("m.hex2", "7\n")], Status::CheckFailed, "check failed three items 1 0\n"),
+    row(
+        &MORE,
+        &[MACROS, ("m.hex2", "7f 45\n")],
+        Status::Yes,
+        "equal two bin 3\n",
+    ),
+    row(
+        &MORE,
+        &[MACROS, ("m.hex2", "7f 46\n")],
+        Status::CheckFailed,
+        "check failed three differs 1\n",
+    ),
+    row(
+        &MORE,
+        &[MACROS, ("m.hex2", "7\n")],
+        Status::CheckFailed,
+        "check failed three items 1 0\n",
+    ),
 ];
 
 /// The bytes of a text of hexadecimal digits.
@@ -192,7 +308,10 @@ fn the_report_is_saved(rt: HostRuntime) -> Result<(), Fail> {
     let alloc = rt.alloc();
     let mut shelf = audit_shelf(alloc, &ROWS[0])?;
     let mut out = MemSink::new(alloc);
-    assert_eq!(rt; run(alloc, &["audit", "a.toml", "r"], &mut shelf, &mut out), Status::Yes);
+    assert_eq!(rt;
+        run(alloc, &["audit", "a.toml", "r"], &mut shelf, &mut out),
+        Status::Yes
+    );
     assert_eq!(rt; shelf.get("r").unwrap_or(&[]), REPORT.as_bytes());
     Ok(())
 }
@@ -203,7 +322,10 @@ fn a_failed_put_leaves_the_report(rt: HostRuntime) -> Result<(), Fail> {
     let mut shelf = audit_shelf(alloc, &ROWS[0])?;
     let mut out = MemSink::new(alloc);
     out.fail_put(1)?;
-    assert_eq!(rt; run(alloc, &["audit", "a.toml", "r"], &mut shelf, &mut out), Status::OutFault);
+    assert_eq!(rt;
+        run(alloc, &["audit", "a.toml", "r"], &mut shelf, &mut out),
+        Status::OutFault
+    );
     assert_eq!(rt; shelf.get("r").unwrap_or(&[]), REPORT.as_bytes());
     Ok(())
 }

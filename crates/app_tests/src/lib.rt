@@ -1,8 +1,8 @@
 //! Tests of the commands and of the top call, and a command that saves, by which the rules of saves are tried.
 #![tactic(auto)]
 
-pub mod copying;
 #[cfg(test)]
 mod audits;
+pub mod copying;
 #[cfg(test)]
 mod tests;

@@ -40,7 +40,12 @@ pub fn check(
 }
 
 #[tactic(auto, unfolding(source_check::specs::Checks::check))]
-fn check_hex0(alloc: Global, base: u64, source: &[u8], made: &[u8]) -> Result<Option<CheckCause>, OutOfMemory>
+fn check_hex0(
+    alloc: Global,
+    base: u64,
+    source: &[u8],
+    made: &[u8],
+) -> Result<Option<CheckCause>, OutOfMemory>
     ensures { IfOk result (λ cause. cause ≡ check_of language.Hex0 base source.now made.now) }
 {
     let value = hex0(alloc, source)?;
@@ -48,7 +53,12 @@ fn check_hex0(alloc: Global, base: u64, source: &[u8], made: &[u8]) -> Result<Op
 }
 
 #[tactic(auto, unfolding(source_check::specs::Checks::check))]
-fn check_hex1(alloc: Global, base: u64, source: &[u8], made: &[u8]) -> Result<Option<CheckCause>, OutOfMemory>
+fn check_hex1(
+    alloc: Global,
+    base: u64,
+    source: &[u8],
+    made: &[u8],
+) -> Result<Option<CheckCause>, OutOfMemory>
     requires { base ≤ 2 ^ 37 }
     ensures { IfOk result (λ cause. cause ≡ check_of language.Hex1 base source.now made.now) }
 {
@@ -59,7 +69,12 @@ fn check_hex1(alloc: Global, base: u64, source: &[u8], made: &[u8]) -> Result<Op
 }
 
 #[tactic(auto, unfolding(source_check::specs::Checks::check))]
-fn check_hex2(alloc: Global, base: u64, source: &[u8], made: &[u8]) -> Result<Option<CheckCause>, OutOfMemory>
+fn check_hex2(
+    alloc: Global,
+    base: u64,
+    source: &[u8],
+    made: &[u8],
+) -> Result<Option<CheckCause>, OutOfMemory>
     requires { base ≤ 2 ^ 37 }
     ensures { IfOk result (λ cause. cause ≡ check_of language.Hex2 base source.now made.now) }
 {
@@ -70,7 +85,12 @@ fn check_hex2(alloc: Global, base: u64, source: &[u8], made: &[u8]) -> Result<Op
 }
 
 #[tactic(auto, unfolding(source_check::specs::Checks::check))]
-fn check_m1(alloc: Global, base: u64, source: &[u8], made: &[u8]) -> Result<Option<CheckCause>, OutOfMemory>
+fn check_m1(
+    alloc: Global,
+    base: u64,
+    source: &[u8],
+    made: &[u8],
+) -> Result<Option<CheckCause>, OutOfMemory>
     ensures { IfOk result (λ cause. cause ≡ check_of language.M1 base source.now made.now) }
 {
     match expand(alloc, source) {
@@ -80,7 +100,12 @@ fn check_m1(alloc: Global, base: u64, source: &[u8], made: &[u8]) -> Result<Opti
 }
 
 /// The check of the bytes of items at a base.
-fn check_linked(alloc: Global, base: u64, items: &Items<'_>, made: &[u8]) -> Result<Option<CheckCause>, OutOfMemory>
+fn check_linked(
+    alloc: Global,
+    base: u64,
+    items: &Items<'_>,
+    made: &[u8],
+) -> Result<Option<CheckCause>, OutOfMemory>
     requires { base ≤ 2 ^ 37 }
     ensures { IfOk result (λ cause. cause ≡ checked (hex_value (link_of items.now base)) made.now) }
 {
@@ -91,7 +116,11 @@ fn check_linked(alloc: Global, base: u64, items: &Items<'_>, made: &[u8]) -> Res
 }
 
 /// The check of an artefact that is to be a hex2 text with these items.
-fn check_items(alloc: Global, items: &Items<'_>, made: &[u8]) -> Result<Option<CheckCause>, OutOfMemory>
+fn check_items(
+    alloc: Global,
+    items: &Items<'_>,
+    made: &[u8],
+) -> Result<Option<CheckCause>, OutOfMemory>
     ensures { IfOk result (λ cause. cause ≡ items_against items.now (items_of dialect.Hex2 made.now)) }
 {
     match items2(alloc, made) {

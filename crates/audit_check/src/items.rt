@@ -42,7 +42,9 @@ fn same_item(one: &Item<'_>, other: &Item<'_>) -> bool
     match (one, other) {
         (Item::Byte(a), Item::Byte(b)) => a == b,
         (Item::Label(x), Item::Label(y)) => same_name(x, y),
-        (Item::Word(a, j, x), Item::Word(b, k, y)) => a == b && same_kind(*j, *k) && same_name(x, y),
+        (Item::Word(a, j, x), Item::Word(b, k, y)) => a == b
+            && same_kind(*j, *k)
+            && same_name(x, y),
         (Item::Rel(x), Item::Rel(y)) => same_name(x, y),
         (Item::Gap(x, z), Item::Gap(y, w)) => same_name(x, y) && same_name(z, w),
         (Item::Abs(x), Item::Abs(y)) => same_name(x, y),

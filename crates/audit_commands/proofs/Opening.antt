@@ -33,7 +33,7 @@ module _ (recipe file : List ℕ) (old new : ShelfState) where
   opens_on bytes (Ok said) f o = record {
     by_result = λ next final result p.
         let goes : with_recipe file next (recipe_of bytes) ≡ next said =
-          ap (with_recipe file next) o.by_result.0 ∙ ap (λ b. cond b usage (next said)) o.by_result.1 in
+        ap (with_recipe file next) o.by_result.0 ∙ ap (λ b. cond b usage (next said)) o.by_result.1 in
         after bytes next final result f (subst (λ plan. Performs plan new final result) (sym goes) p);
   }
   opens_on bytes (Err ending) f o = record {

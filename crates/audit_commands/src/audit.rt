@@ -187,7 +187,13 @@ fn compared(alloc: Global, compare: &CompareLine) -> Result<Answer, OutOfMemory>
 {
     let text = texts::compared(alloc, compare)?;
     match compare.result {
-        Compared::Equal(_) => Ok(Answer { status: Status::Yes, text }),
-        Compared::Differs(_, _, _) => Ok(Answer { status: Status::Differs, text }),
+        Compared::Equal(_) => Ok(Answer {
+            status: Status::Yes,
+            text,
+        }),
+        Compared::Differs(_, _, _) => Ok(Answer {
+            status: Status::Differs,
+            text,
+        }),
     }
 }

@@ -69,7 +69,11 @@ fn apart(alloc: Global, recipe: Recipe, file: &str) -> Result<Recipe, Stop>
 fn is_input(recipe: &Recipe, file: &str) -> bool
     ensures { result ≡ is_input recipe.now file.now }
 {
-    recipe.inputs().as_slice().iter().any(|input| input.path.as_str() == file)
+    recipe
+        .inputs()
+        .as_slice()
+        .iter()
+        .any(|input| input.path.as_str() == file)
 }
 
 /// The end of a command whose recipe is refused.
@@ -96,11 +100,7 @@ pub(crate) fn fetch_inputs<S: Shelf>(
 }
 
 /// Fetches these inputs, in order.
-fn fetch_each<S: Shelf>(
-    alloc: Global,
-    shelf: &mut S,
-    inputs: &[Input],
-) -> Result<Inputs, Stop>
+fn fetch_each<S: Shelf>(alloc: Global, shelf: &mut S, inputs: &[Input]) -> Result<Inputs, Stop>
     ensures loads { Obtains (needs_all 268_435_456 1_073_741_824 (map (λ input. input.path) inputs.now))
         (S.state shelf.old) (S.state shelf.new) result }
     ensures count { IfOk result (λ contents. length contents ≡ length inputs.now) }

@@ -57,7 +57,9 @@ fn refused_key(alloc: Global, number: u8, place: Place, key: Key) -> Result<Byte
     let table = place.table.word();
     let item = place.number;
     let key = key.word();
-    Ok(Bytes::from_vec(format!(in alloc; "recipe refused {number} {table} {item} {key}\n")?.into_bytes()))
+    Ok(Bytes::from_vec(format!(in alloc;
+        "recipe refused {number} {table} {item} {key}\n"
+    )?.into_bytes()))
 }
 
 /// The name of the stage of this number, from 1.
@@ -73,7 +75,12 @@ pub fn stage_name(recipe: &Recipe, number: u32) -> &[u8]
 
 /// A stage made no artefact.
 #[tactic(auto, using(crate::proofs::Written::written), unfolding(crate::specs::Texts::run_failed_line))]
-pub fn run_failed(alloc: Global, stage: &[u8], cause: RunCause, step: u64) -> Result<Bytes, OutOfMemory>
+pub fn run_failed(
+    alloc: Global,
+    stage: &[u8],
+    cause: RunCause,
+    step: u64,
+) -> Result<Bytes, OutOfMemory>
     ensures { IfOk result (λ text. text ≡ run_failed_line stage.now cause step) }
 {
     let cause = run_cause(alloc, cause)?;

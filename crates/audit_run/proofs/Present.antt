@@ -78,13 +78,13 @@ pub same-stage : (recipe : Said) (p : Position) (stage : Stage) (stages : List S
 same-stage recipe p stage stages (other, rest, ok) left =
     let both : other ∷ rest ≡ stage ∷ stages = sym ok.left ∙ left in
     subst (λ (s : Stage). IsAt recipe p s stages) (ap (head other) both) (subst (λ (ss : List Stage). IsAt recipe p other ss) (ap tail both) ok) where
-  head : Stage → List Stage → Stage
-  head d [] = d
-  head d (x ∷ xs) = x
+      head : Stage → List Stage → Stage
+      head d [] = d
+      head d (x ∷ xs) = x
 
-  tail : List Stage → List Stage
-  tail [] = []
-  tail (x ∷ xs) = xs
+      tail : List Stage → List Stage
+      tail [] = []
+      tail (x ∷ xs) = xs
 
 -- where steps from a position come to is valid
 pub stays : (recipe : Said) (inputs : List (List ℕ)) (p : Position) (count : ℕ) (to : Standing) → kept.IsRecipe recipe → IsInputs recipe inputs → IsPosition recipe p

@@ -100,13 +100,16 @@ module _ (recipe : Said) (inputs : List (List ℕ)) (done : List Finished) (stag
     by_result (Ok f) meant =
         let between : taken - 1 ≡ there.count = omega (arith, same, there.counted) in
         let result = ended recipe inputs done stage end new f (sym meant) in
-        let exits : next new ≡ Ends (Exited 0) = there.ends ∙ ap Ends result.exit in
-        ((
-          whole (Ok f) meant,
-          ap (forward recipe inputs (at done old)) between ∙ there.reached,
-          wants-by recipe (at done new) stage stages (Ends (Exited 0)) there.place exits (record { good = refl; made = result.made; there = result.there; small = result.small }),
-          done-more recipe (rules recipe is_recipe) inputs given (at done new) stage stages end f there.place (sym meant),
-        ), omega (arith, same), omega (arith, same, there.fewer, there.counted))
+        let exits : next new ≡ Ends (Exited 0) = there.ends ∙ ap Ends result.exit in (
+          (
+            whole (Ok f) meant,
+            ap (forward recipe inputs (at done old)) between ∙ there.reached,
+            wants-by recipe (at done new) stage stages (Ends (Exited 0)) there.place exits (record { good = refl; made = result.made; there = result.there; small = result.small }),
+            done-more recipe (rules recipe is_recipe) inputs given (at done new) stage stages end f there.place (sym meant),
+          ),
+          omega (arith, same),
+          omega (arith, same, there.fewer, there.counted),
+        )
 
   pub slices-end-out : (most slice status : ℕ) (error : OutOfMemory) → first_end old slice ≡ Some (Exited status, new) → slice ≤ most
       → old.steps + slice ≤ stage.steps → Makes stage done status new.world

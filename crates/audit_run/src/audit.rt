@@ -109,7 +109,12 @@ impl Audit {
         match &self.place {
             Place::Over(_) => Ok(None),
             Place::Ready | Place::Running(_) => {
-                setting_of(alloc, &self.recipe, self.inputs.as_slice(), self.done.as_slice())
+                setting_of(
+                    alloc,
+                    &self.recipe,
+                    self.inputs.as_slice(),
+                    self.done.as_slice(),
+                )
             }
         }
     }

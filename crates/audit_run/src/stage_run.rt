@@ -55,7 +55,16 @@ pub(crate) fn run_slice(
         }
         RunEnd::Exited(status) => {
             let step = guest.steps() + 1;
-            match exited(alloc, recipe, stage, inputs, done, guest.files(), status, step) {
+            match exited(
+                alloc,
+                recipe,
+                stage,
+                inputs,
+                done,
+                guest.files(),
+                status,
+                step,
+            ) {
                 Ok(result) => Ok((step - before, Moved::Ended(result))),
                 Err(OutOfMemory) => Err(OutOfMemory),
             }

@@ -85,8 +85,8 @@ pub not-held : (recipe : Said) (all : Contents) (files : List StageFile) (index 
 not-held recipe all files index file distinct at =
     unheld recipe all (take index files) fin.empty file.path (fin.get-empty bytes_cmp file.path)
     (λ i other there same.
-      let before = slice_get-take files index i other there in
-      false≢true (sym (apart-at files i index other file distinct before.0 before.1 at) ∙ (bytes_eq-Decides other.path file.path).1 (sym same)))
+    let before = slice_get-take files index i other there in
+    false≢true (sym (apart-at files i index other file distinct before.0 before.1 at) ∙ (bytes_eq-Decides other.path file.path).1 (sym same)))
 
 -- how many are held
 few-held : (recipe : Said) (all : Contents) (files : List StageFile) (held : FileMap) → fin.len (fold (with_file recipe all) held files) ≤ fin.len held + length files
@@ -94,11 +94,11 @@ few-held recipe all [] held = omega arith
 few-held recipe all (file ∷ files) held =
     let rest = few-held recipe all files (with_file recipe all held file) in
     by_name (fin.contains_key held file.path) (fin.len-insert nat_list_cmp_total held file.path (content recipe all file.from)) rest where
-  by_name : (b : Bool) → fin.len (with_file recipe all held file) ≡ cond b (fin.len held) (fin.len held + 1)
-      → fin.len (fold (with_file recipe all) (with_file recipe all held file) files) ≤ fin.len (with_file recipe all held file) + length files
-      → fin.len (fold (with_file recipe all) held (file ∷ files)) ≤ fin.len held + length (file ∷ files)
-  by_name true is rest = omega (arith, is, rest)
-  by_name false is rest = omega (arith, is, rest)
+      by_name : (b : Bool) → fin.len (with_file recipe all held file) ≡ cond b (fin.len held) (fin.len held + 1)
+          → fin.len (fold (with_file recipe all) (with_file recipe all held file) files) ≤ fin.len (with_file recipe all held file) + length files
+          → fin.len (fold (with_file recipe all) held (file ∷ files)) ≤ fin.len held + length (file ∷ files)
+      by_name true is rest = omega (arith, is, rest)
+      by_name false is rest = omega (arith, is, rest)
 
 length-take : (files : List StageFile) (count : ℕ) → length (take count files) ≤ length files
 length-take files zero = omega arith

@@ -12,7 +12,10 @@ use crate::sources::{check_source, defined};
 use ddc_base::{Bytes, OutOfMemory, first_difference};
 use languages::Language;
 use recipe::{Input, Recipe, Stage};
-use report::{CompareLine, Compared, InputLine, InputLines, LeftLine, LeftLines, Report, StageLine, StageLines};
+use report::{
+    CompareLine, Compared, InputLine, InputLines, LeftLine, LeftLines, Report, StageLine,
+    StageLines,
+};
 use std::alloc::Global;
 
 /// The report of all stages, with the comparison.

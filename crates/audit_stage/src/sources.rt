@@ -71,7 +71,13 @@ fn check_text(
     ensures { IfOk result (λ cause. cause ≡ text_check (text_of recipe.now (contents inputs.now done.now) source.now) (Some language) made.now) }
 {
     match source.files.as_slice() {
-        [name] => check(alloc, language, source.base, content(recipe, inputs, done, name), made),
+        [name] => check(
+            alloc,
+            language,
+            source.base,
+            content(recipe, inputs, done, name),
+            made,
+        ),
         names => {
             let text = joined(alloc, recipe, names, inputs, done)?;
             check(alloc, language, source.base, text.as_slice(), made)

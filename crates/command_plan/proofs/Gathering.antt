@@ -32,15 +32,15 @@ module _ (plan : (List (List ℕ) → Plan) → Plan) (most room : ℕ) (content
       → Fetches name (min most room) now mid (Ok content) → LeadsOn plan (rest_of most (room - length content) (contents ++ content ∷ []) names) old mid
   more name names mid content leads f = λ next final result p.
       leads next final result (goes_on_after_fetch name (min most room) (λ c. needs_all most (room - length c) names (λ more. next (contents ++ c ∷ more))) now mid final content result f
-        (subst (λ (n : List (List ℕ) → Plan). Performs (needs_all most (room - length content) names n) mid final result)
-        (λ i more. next (append_assoc contents (content ∷ []) more i)) p))
+      (subst (λ (n : List (List ℕ) → Plan). Performs (needs_all most (room - length content) names n) mid final result)
+      (λ i more. next (append_assoc contents (content ∷ []) more i)) p))
 
   -- a load that ends the command
   stops : (name : List ℕ) (names : List (List ℕ)) (new : ShelfState) (ending : Stop) → LeadsOn plan (rest_of most room contents (name ∷ names)) old now
       → Fetches name (min most room) now new (Err ending) → Obtains plan old new (Err ending)
   stops name names new ending leads f = record {
     by_result = λ next. leads next new (Err ending)
-      (ends_at_fetch name (min most room) (λ c. needs_all most (room - length c) names (λ more. next (contents ++ c ∷ more))) now new ending f);
+        (ends_at_fetch name (min most room) (λ c. needs_all most (room - length c) names (λ more. next (contents ++ c ∷ more))) now new ending f);
   }
 
   -- want of memory between two loads
@@ -53,7 +53,7 @@ module _ (plan : (List (List ℕ) → Plan) → Plan) (most room : ℕ) (content
     pub ends : LeadsOn plan (rest_of most room contents (drop index (map name values))) old now → length values ≤ index → Obtains plan old now (Ok contents)
     ends leads le =
         let none : drop index (map name values) ≡ [] =
-          drop_all index (map name values) (let same : length (map name values) ≡ length values = length-map values name in omega (arith, le, same)) in
+        drop_all index (map name values) (let same : length (map name values) ≡ length values = length-map values name in omega (arith, le, same)) in
         let led : LeadsOn plan (rest_of most room contents []) old now = subst (λ names. LeadsOn plan (rest_of most room contents names) old now) none leads in
         record {
           by_result = λ next final result p. led next final result (subst (λ c. Performs (next c) now final result) (sym (append-nil contents)) p);

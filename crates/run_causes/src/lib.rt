@@ -2,6 +2,7 @@
 //!
 //! Their rules for people: docs/reference/command-line.md.
 #![tactic(auto)]
+
 ghost use Rattle.std.specs.Prelude.{◌≡◌, ◌∷◌, [], IfOk, codes, string_bytes};
 ghost use Rattle.hex.specs.Hex.{encode_lower};
 ghost use Rattle.run_causes.specs.Texts.{hex_word, hex_address, spaced, trap_text, call_text, elf_text, args_text, box_text, spent_text};

@@ -269,13 +269,13 @@ done-replayed recipe inputs done stage line world made ok left mark =
     let small : size_of (contents inputs done) + length made ≤ 1_073_741_824 = omega (arith, ok.small, size) in
     ap (λ s. or_fails part.Run (left_at s stage.steps line.steps) >>= files) ok.started
     ∙ ap (λ b. or_fails part.Run (if b then exit_of (end_at ok.guest line.steps) else None) >>= files)
-      (and_from (nat_le 1 line.steps) (nat_le line.steps stage.steps) (le-leb 1 line.steps (some-step ok.guest (Exited 0, ok.last) line.steps ok.ended)) (le-leb line.steps stage.steps ok.within))
+    (and_from (nat_le 1 line.steps) (nat_le line.steps stage.steps) (le-leb 1 line.steps (some-step ok.guest (Exited 0, ok.last) line.steps ok.ended)) (le-leb line.steps stage.steps ok.within))
     ∙ ap (λ o. or_fails part.Run (exit_of o) >>= files) ok.ended
     ∙ ap files ok.leaves
     ∙ ap (λ b. check (or_fails part.Files (if b then made_as (contents inputs done) line (out world (output_of stage.output)) else None))) left
     ∙ ap (λ o. check (or_fails part.Files (made_as (contents inputs done) line o))) ok.there
     ∙ ap (λ b. check (or_fails part.Files (if b then Some made else None)))
-      (and_from (is_mark_of line.made made) (nat_le (size_of (contents inputs done) + length made) 1_073_741_824) mark (le-leb (size_of (contents inputs done) + length made) 1_073_741_824 small))
+    (and_from (is_mark_of line.made made) (nat_le (size_of (contents inputs done) + length made) 1_073_741_824) mark (le-leb (size_of (contents inputs done) + length made) 1_073_741_824 small))
     ∙ ap (assembled made) ok.right
 
 -- ---- a judged run

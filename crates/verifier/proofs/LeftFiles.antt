@@ -226,9 +226,9 @@ pub line-end : (lines : List LeftLine) (index : ℕ) (w : World) (given : Option
     → names_left (drop index lines) (left_after w given) ≡ is_none (find (is_after given) (finite.keys w.names))
 line-end lines index w given past =
     at_drop_all (λ l. names_left l (left_after w given)) lines index past ∙ by_next (find (is_after given) (finite.keys w.names)) refl where
-  by_next : (next : Option (List ℕ)) → find (is_after given) (finite.keys w.names) ≡ next → names_left [] (left_after w given) ≡ is_none next
-  by_next None none = ap (names_left []) (left-end w given none)
-  by_next (Some name) found = ap (names_left []) (left-turn w given name found)
+      by_next : (next : Option (List ℕ)) → find (is_after given) (finite.keys w.names) ≡ next → names_left [] (left_after w given) ≡ is_none next
+      by_next None none = ap (names_left []) (left-end w given none)
+      by_next (Some name) found = ap (names_left []) (left-turn w given name found)
 
 pub not-true : (b : Bool) → true ≡ not b → b ≡ false
 not-true true is = absurd cc

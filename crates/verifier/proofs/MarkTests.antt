@@ -57,7 +57,7 @@ left-names-Decides (line ∷ lines) [] = (λ t. absurd cc, λ e. absurd cc)
 left-names-Decides (line ∷ lines) (file ∷ files) =
     changed (bytes_eq line.name file.0 && is_mark_of line.mark file.1 && names_left lines files)
     (both (bytes_eq line.name file.0 && is_mark_of line.mark file.1) (names_left lines files)
-      (both (bytes_eq line.name file.0) (is_mark_of line.mark file.1) (bytes_eq-Decides line.name file.0) (mark-Decides line.mark file.1)) (left-names-Decides lines files))
+    (both (bytes_eq line.name file.0) (is_mark_of line.mark file.1) (bytes_eq-Decides line.name file.0) (mark-Decides line.mark file.1)) (left-names-Decides lines files))
     (λ h. λ i. record { name = h.0.0 i; mark = h.0.1 i } ∷ h.1 i)
     (λ e. let p = heads line (left_line file) lines (map left_line files) e in ((ap (λ (l : LeftLine). l.name) p.0, ap (λ (l : LeftLine). l.mark) p.0), p.1))
 
@@ -72,8 +72,8 @@ unfolding has_left
 left-Decides line world =
     changed (is_mark_of line.stream1 world.stream1 && is_mark_of line.stream2 world.stream2 && names_left line.left (left world))
     (both (is_mark_of line.stream1 world.stream1 && is_mark_of line.stream2 world.stream2) (names_left line.left (left world))
-      (both (is_mark_of line.stream1 world.stream1) (is_mark_of line.stream2 world.stream2) (mark-Decides line.stream1 world.stream1) (mark-Decides line.stream2 world.stream2))
-      (left-names-Decides line.left (left world)))
+    (both (is_mark_of line.stream1 world.stream1) (is_mark_of line.stream2 world.stream2) (mark-Decides line.stream1 world.stream1) (mark-Decides line.stream2 world.stream2))
+    (left-names-Decides line.left (left world)))
     (λ h. record { stream1 = h.0.0; stream2 = h.0.1; files = h.1 })
     (λ l. ((l.stream1, l.stream2), l.files))
 
@@ -95,13 +95,13 @@ compared-Decides (Equal count) made binary =
     (both (bytes_eq made binary) (count == length made) (bytes_eq-Decides made binary) (number-Decides count (length made)))
     (λ h. ap (λ o. compared_at o made binary) (ap (first_difference made) (sym h.0) ∙ first_difference-same made) ∙ ap Equal (sym h.1))
     (λ e. by_difference (first_difference made binary) refl e) where
-  count_of : ℕ → Compared → ℕ
-  count_of d (Equal n) = n
-  count_of d (Differs x y z) = d
+      count_of : ℕ → Compared → ℕ
+      count_of d (Equal n) = n
+      count_of d (Differs x y z) = d
 
-  by_difference : (o : Option ℕ) → first_difference made binary ≡ o → compared_at o made binary ≡ Equal count → (made ≡ binary) × (count ≡ length made)
-  by_difference None none e = (none-equal made binary none, sym (ap (count_of (length made)) e))
-  by_difference (Some n) some e = absurd cc
+      by_difference : (o : Option ℕ) → first_difference made binary ≡ o → compared_at o made binary ≡ Equal count → (made ≡ binary) × (count ≡ length made)
+      by_difference None none e = (none-equal made binary none, sym (ap (count_of (length made)) e))
+      by_difference (Some n) some e = absurd cc
 compared-Decides (Differs offset ours theirs) made binary = (
   λ t.
       let parts = and_parts (is_at offset (first_difference made binary) && ours == length made) (theirs == length binary) t in

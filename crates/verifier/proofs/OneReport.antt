@@ -34,14 +34,14 @@ inputs-are number (row ∷ rows) inputs [] named none counted = absurd cc
 inputs-are number (row ∷ rows) [] (line ∷ lines) named none counted = absurd (omega (arith, counted))
 inputs-are number (row ∷ rows) (bytes ∷ inputs) (line ∷ lines) named none counted =
     by_test (is_mark_of line.mark bytes) refl none (λ later. inputs-are (number + 1) rows inputs lines parts.1 later (omega (arith, counted))) where
-  parts : (bytes_eq row.name line.name ≡ true) × (names_inputs rows lines ≡ true)
-  parts = and_parts (bytes_eq row.name line.name) (names_inputs rows lines) named
+      parts : (bytes_eq row.name line.name ≡ true) × (names_inputs rows lines ≡ true)
+      parts = and_parts (bytes_eq row.name line.name) (names_inputs rows lines) named
 
-  by_test : (b : Bool) → is_mark_of line.mark bytes ≡ b → (if b then inputs_fault (number + 1) inputs lines else Some (part.Input, number)) ≡ None
-      → (inputs_fault (number + 1) inputs lines ≡ None → lines ≡ input_lines rows inputs) → line ∷ lines ≡ input_lines (row ∷ rows) (bytes ∷ inputs)
-  by_test true mark none later =
-      λ i. record { name = sym ((bytes_eq-Decides row.name line.name).0 parts.0) i; mark = (mark-Decides line.mark bytes).0 mark i } ∷ later none i
-  by_test false mark none later = absurd cc
+      by_test : (b : Bool) → is_mark_of line.mark bytes ≡ b → (if b then inputs_fault (number + 1) inputs lines else Some (part.Input, number)) ≡ None
+          → (inputs_fault (number + 1) inputs lines ≡ None → lines ≡ input_lines rows inputs) → line ∷ lines ≡ input_lines (row ∷ rows) (bytes ∷ inputs)
+      by_test true mark none later =
+          λ i. record { name = sym ((bytes_eq-Decides row.name line.name).0 parts.0) i; mark = (mark-Decides line.mark bytes).0 mark i } ∷ later none i
+      by_test false mark none later = absurd cc
 
 named-inputs : (rows : List Input) (inputs : List (List ℕ)) → length inputs ≡ length rows → names_inputs rows (input_lines rows inputs) ≡ true
 named-inputs [] inputs counted = refl
@@ -149,27 +149,27 @@ none-stands recipe inputs line done [] (first ∷ lines) named is = absurd cc
 none-stands recipe inputs line done (stage ∷ stages) [] named is = absurd cc
 none-stands recipe inputs line done (stage ∷ stages) (first ∷ lines) named is =
     by_replay (replayed recipe (contents inputs done) stage first) refl is (λ d. none-stands recipe inputs line d stages lines rest.1) where
-  rest : ((bytes_eq stage.name first.name && same_language (check_language recipe stage) first.checked) ≡ true) × (names_stages recipe stages lines ≡ true)
-  rest = and_parts (bytes_eq stage.name first.name && same_language (check_language recipe stage) first.checked) (names_stages recipe stages lines) named
+      rest : ((bytes_eq stage.name first.name && same_language (check_language recipe stage) first.checked) ≡ true) × (names_stages recipe stages lines ≡ true)
+      rest = and_parts (bytes_eq stage.name first.name && same_language (check_language recipe stage) first.checked) (names_stages recipe stages lines) named
 
-  here : (bytes_eq stage.name first.name ≡ true) × (same_language (check_language recipe stage) first.checked ≡ true)
-  here = and_parts (bytes_eq stage.name first.name) (same_language (check_language recipe stage) first.checked) rest.0
+      here : (bytes_eq stage.name first.name ≡ true) × (same_language (check_language recipe stage) first.checked ≡ true)
+      here = and_parts (bytes_eq stage.name first.name) (same_language (check_language recipe stage) first.checked) rest.0
 
-  by_replay : (r : Result (List ℕ) Part) → replayed recipe (contents inputs done) stage first ≡ r
-      → after_stage (length (contents inputs done).artefacts + 1) r (λ made. stages_fault recipe line (with_artefact (contents inputs done) made) stages lines) ≡ None
-      → ((d : List Finished) → stages_fault recipe line (contents inputs d) stages lines ≡ None → Stands recipe inputs line d stages lines)
-      → Stands recipe inputs line done (stage ∷ stages) (first ∷ lines)
-  by_replay (Err why) at is later = absurd cc
-  by_replay (Ok made) at is later =
-      let ok = right recipe inputs done stage first made here.0 here.1 at in
-      let more = later (done ++ ok.f ∷ []) (ap (λ all. stages_fault recipe line all stages lines) (sym (more-contents inputs done ok.f made ok.made_is)) ∙ is) in (
-        ok.f ∷ more.0,
-        ap (λ r. bench_after (suc (length done)) r (λ g. bench_from recipe inputs (done ++ g ∷ []) stages)) ok.result
-        ∙ more.1
-        ∙ ap (λ d. Completes (report_of recipe inputs d)) (one_more done more.0 ok.f),
-        (λ i. ok.line_is i ∷ more.2 i),
-        ap (λ d. comes_to recipe (contents inputs d)) (sym (one_more done more.0 ok.f)) ∙ more.3,
-      )
+      by_replay : (r : Result (List ℕ) Part) → replayed recipe (contents inputs done) stage first ≡ r
+          → after_stage (length (contents inputs done).artefacts + 1) r (λ made. stages_fault recipe line (with_artefact (contents inputs done) made) stages lines) ≡ None
+          → ((d : List Finished) → stages_fault recipe line (contents inputs d) stages lines ≡ None → Stands recipe inputs line d stages lines)
+          → Stands recipe inputs line done (stage ∷ stages) (first ∷ lines)
+      by_replay (Err why) at is later = absurd cc
+      by_replay (Ok made) at is later =
+          let ok = right recipe inputs done stage first made here.0 here.1 at in
+          let more = later (done ++ ok.f ∷ []) (ap (λ all. stages_fault recipe line all stages lines) (sym (more-contents inputs done ok.f made ok.made_is)) ∙ is) in (
+            ok.f ∷ more.0,
+            ap (λ r. bench_after (suc (length done)) r (λ g. bench_from recipe inputs (done ++ g ∷ []) stages)) ok.result
+                ∙ more.1
+                ∙ ap (λ d. Completes (report_of recipe inputs d)) (one_more done more.0 ok.f),
+            (λ i. ok.line_is i ∷ more.2 i),
+            ap (λ d. comes_to recipe (contents inputs d)) (sym (one_more done more.0 ok.f)) ∙ more.3,
+          )
 
 -- what stands behind a bench that reaches its end
 abbrev Reached : Said → List (List ℕ) → List Finished → List Stage → Report → Type 0
@@ -202,9 +202,9 @@ reaches recipe inputs done (stage ∷ stages) report is = by_result (stage_resul
         f ∷ more.0,
         more.1 ∙ ap (report_of recipe inputs) (one_more done more.0 f),
         and_from (bytes_eq stage.name stage.name && same_language (check_language recipe stage) (check_language recipe stage)) (names_stages recipe stages (stage_lines recipe stages more.0))
-        (and_from (bytes_eq stage.name stage.name) (same_language (check_language recipe stage) (check_language recipe stage))
-          ((bytes_eq-Decides stage.name stage.name).1 refl) ((language-Decides (check_language recipe stage) (check_language recipe stage)).1 refl))
-        more.2,
+            (and_from (bytes_eq stage.name stage.name) (same_language (check_language recipe stage) (check_language recipe stage))
+            ((bytes_eq-Decides stage.name stage.name).1 refl) ((language-Decides (check_language recipe stage) (check_language recipe stage)).1 refl))
+            more.2,
         λ line same.
             ap (λ r. after_stage (length (contents inputs done).artefacts + 1) r (λ made. stages_fault recipe line (with_artefact (contents inputs done) made) stages (stage_lines recipe stages more.0)))
             (own-line recipe inputs done stage f at)

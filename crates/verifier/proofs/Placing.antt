@@ -42,18 +42,18 @@ not-refused : (files : FileMap) (path content : List ℕ) → IsTrue (is_strippe
 not-refused files path content named absent small few =
     ap (λ p. place_refusal files p content) (stripped-stays path named)
     ∙ by_tests (is_file_name path) (finite.contains_key files path) (nat_lt most_content (length content)) (nat_le most_names (finite.len files))
-      (and_parts (is_file_name path) (not (begins_with_dot_slash path)) named).0 absent (le-ltb _ _ small) (by_few (nat_le most_names (finite.len files)) refl) where
-  by_few : (b : Bool) → nat_le most_names (finite.len files) ≡ b → b ≡ false
-  by_few false is = refl
-  by_few true is = absurd (omega (arith, leb-true most_names (finite.len files) is, few))
+    (and_parts (is_file_name path) (not (begins_with_dot_slash path)) named).0 absent (le-ltb _ _ small) (by_few (nat_le most_names (finite.len files)) refl) where
+      by_few : (b : Bool) → nat_le most_names (finite.len files) ≡ b → b ≡ false
+      by_few false is = refl
+      by_few true is = absurd (omega (arith, leb-true most_names (finite.len files) is, few))
 
-  by_tests : (good held large full : Bool) → good ≡ true → held ≡ false → large ≡ false → full ≡ false
-      → ◌≡◌ {A = Option PlaceRefusal} (if not good then Some BadName else (if held then Some Twice else (if large || full then Some Full else None))) None
-  by_tests true false false false a b c d = refl
-  by_tests false held large full a b c d = absurd cc
-  by_tests true true large full a b c d = absurd cc
-  by_tests true false true full a b c d = absurd cc
-  by_tests true false false true a b c d = absurd cc
+      by_tests : (good held large full : Bool) → good ≡ true → held ≡ false → large ≡ false → full ≡ false
+          → ◌≡◌ {A = Option PlaceRefusal} (if not good then Some BadName else (if held then Some Twice else (if large || full then Some Full else None))) None
+      by_tests true false false false a b c d = refl
+      by_tests false held large full a b c d = absurd cc
+      by_tests true true large full a b c d = absurd cc
+      by_tests true false true full a b c d = absurd cc
+      by_tests true false false true a b c d = absurd cc
 
 -- so a refusal is want of memory
 pub only-want : (files : FileMap) (path content : List ℕ) (r : Result (Unit {0}) PlaceRefusal) (new : FileMap) (why : PlaceRefusal)
@@ -61,12 +61,12 @@ pub only-want : (files : FileMap) (path content : List ℕ) (r : Result (Unit {0
     → PlacesIn files (stripped path) content r new → r ≡ Err why → why ≡ OutOfMemory
 only-want files path content r new why named absent small few places is =
     by_answer r (not-refused files path content named absent small few) places is where
-  by_answer : (r : Result (Unit {0}) PlaceRefusal) → place_refusal files (stripped path) content ≡ None → PlacesIn files (stripped path) content r new → r ≡ Err why → why ≡ OutOfMemory
-  by_answer (Ok done) none places is = absurd cc
-  by_answer (Err BadName) none places is = absurd (let e = sym none ∙ places.0 in cc)
-  by_answer (Err Twice) none places is = absurd (let e = sym none ∙ places.0 in cc)
-  by_answer (Err Full) none places is = absurd (let e = sym none ∙ places.0 in cc)
-  by_answer (Err OutOfMemory) none places is = cc
+      by_answer : (r : Result (Unit {0}) PlaceRefusal) → place_refusal files (stripped path) content ≡ None → PlacesIn files (stripped path) content r new → r ≡ Err why → why ≡ OutOfMemory
+      by_answer (Ok done) none places is = absurd cc
+      by_answer (Err BadName) none places is = absurd (let e = sym none ∙ places.0 in cc)
+      by_answer (Err Twice) none places is = absurd (let e = sym none ∙ places.0 in cc)
+      by_answer (Err Full) none places is = absurd (let e = sym none ∙ places.0 in cc)
+      by_answer (Err OutOfMemory) none places is = cc
 
 pub placed-new : (old : FileMap) (path content : List ℕ) (r : Result (Unit {0}) PlaceRefusal) (new : FileMap) (done : Unit {0}) → IsTrue (is_stripped_name path)
     → PlacesIn old (stripped path) content r new → r ≡ Ok done → new ≡ finite.insert old path content

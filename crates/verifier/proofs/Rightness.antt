@@ -96,9 +96,9 @@ item-turn [] ys index x y is is' = absurd cc
 item-turn (x' ∷ xs) [] index x y is is' = absurd cc
 item-turn (x' ∷ xs) (y' ∷ ys) zero x y is is' =
     (λ i. is_none (first_other_item (same_Some x' x is i ∷ xs) (same_Some y' y is' i ∷ ys))) ∙ by_test (same_item x y) where
-  by_test : (b : Bool) → is_none (cond b (option_map suc (first_other_item xs ys)) (Some 0)) ≡ (b && is_none (first_other_item xs ys))
-  by_test true = none-later (first_other_item xs ys)
-  by_test false = refl
+      by_test : (b : Bool) → is_none (cond b (option_map suc (first_other_item xs ys)) (Some 0)) ≡ (b && is_none (first_other_item xs ys))
+      by_test true = none-later (first_other_item xs ys)
+      by_test false = refl
 item-turn (x' ∷ xs) (y' ∷ ys) (suc index) x y is is' =
     let next : suc index + 1 ≡ suc (index + 1) = omega arith in
     item-turn xs ys index x y is is'

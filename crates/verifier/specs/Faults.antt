@@ -174,5 +174,5 @@ unfoldable pub first_fault : Said → List (List ℕ) → Report → Option (Par
 first_fault recipe inputs report =
     if is_header recipe report
     then first_of_both (inputs_fault 1 inputs report.inputs)
-        (stages_fault recipe report.compare.result (record { inputs = inputs; artefacts = [] }) recipe.stages report.stages)
+    (stages_fault recipe report.compare.result (record { inputs = inputs; artefacts = [] }) recipe.stages report.stages)
     else Some (part.Header, 0)

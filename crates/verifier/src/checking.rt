@@ -203,35 +203,72 @@ fn same_item(ours: &Item<'_>, theirs: &Item<'_>) -> bool
     match ours {
         Item::Byte(ours) => match theirs {
             Item::Byte(theirs) => ours == theirs,
-            Item::Label(_) | Item::Word(..) | Item::Rel(_) | Item::Gap(..) | Item::Abs(_) | Item::Pad => false,
+            Item::Label(_)
+            | Item::Word(..)
+            | Item::Rel(_)
+            | Item::Gap(..)
+            | Item::Abs(_)
+            | Item::Pad => false,
         },
         Item::Label(ours) => match theirs {
             Item::Label(theirs) => ours.bytes() == theirs.bytes(),
-            Item::Byte(_) | Item::Word(..) | Item::Rel(_) | Item::Gap(..) | Item::Abs(_) | Item::Pad => false,
+            Item::Byte(_)
+            | Item::Word(..)
+            | Item::Rel(_)
+            | Item::Gap(..)
+            | Item::Abs(_)
+            | Item::Pad => false,
         },
         Item::Word(ours, our_kind, our_name) => match theirs {
             Item::Word(theirs, their_kind, their_name) => {
-                ours == theirs && same_kind(*our_kind, *their_kind) && our_name.bytes() == their_name.bytes()
+                ours == theirs
+                    && same_kind(*our_kind, *their_kind)
+                    && our_name.bytes() == their_name.bytes()
             }
-            Item::Byte(_) | Item::Label(_) | Item::Rel(_) | Item::Gap(..) | Item::Abs(_) | Item::Pad => false,
+            Item::Byte(_)
+            | Item::Label(_)
+            | Item::Rel(_)
+            | Item::Gap(..)
+            | Item::Abs(_)
+            | Item::Pad => false,
         },
         Item::Rel(ours) => match theirs {
             Item::Rel(theirs) => ours.bytes() == theirs.bytes(),
-            Item::Byte(_) | Item::Label(_) | Item::Word(..) | Item::Gap(..) | Item::Abs(_) | Item::Pad => false,
+            Item::Byte(_)
+            | Item::Label(_)
+            | Item::Word(..)
+            | Item::Gap(..)
+            | Item::Abs(_)
+            | Item::Pad => false,
         },
         Item::Gap(ours, our_other) => match theirs {
             Item::Gap(theirs, their_other) => {
                 ours.bytes() == theirs.bytes() && our_other.bytes() == their_other.bytes()
             }
-            Item::Byte(_) | Item::Label(_) | Item::Word(..) | Item::Rel(_) | Item::Abs(_) | Item::Pad => false,
+            Item::Byte(_)
+            | Item::Label(_)
+            | Item::Word(..)
+            | Item::Rel(_)
+            | Item::Abs(_)
+            | Item::Pad => false,
         },
         Item::Abs(ours) => match theirs {
             Item::Abs(theirs) => ours.bytes() == theirs.bytes(),
-            Item::Byte(_) | Item::Label(_) | Item::Word(..) | Item::Rel(_) | Item::Gap(..) | Item::Pad => false,
+            Item::Byte(_)
+            | Item::Label(_)
+            | Item::Word(..)
+            | Item::Rel(_)
+            | Item::Gap(..)
+            | Item::Pad => false,
         },
         Item::Pad => match theirs {
             Item::Pad => true,
-            Item::Byte(_) | Item::Label(_) | Item::Word(..) | Item::Rel(_) | Item::Gap(..) | Item::Abs(_) => false,
+            Item::Byte(_)
+            | Item::Label(_)
+            | Item::Word(..)
+            | Item::Rel(_)
+            | Item::Gap(..)
+            | Item::Abs(_) => false,
         },
     }
 }

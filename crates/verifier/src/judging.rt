@@ -122,12 +122,10 @@ fn replay_all(
                 }
             }
             Err(Stop::Refuted(part)) => {
-                return Err(
-                    Verdict::Refuted {
-                        part,
-                        place: index as u32 + 1,
-                    },
-                );
+                return Err(Verdict::Refuted {
+                    part,
+                    place: index as u32 + 1,
+                });
             }
             Err(Stop::OutOfMemory) => return Err(Verdict::OutOfMemory),
         }
@@ -140,7 +138,11 @@ fn compared(held: &Held<'_>, line: Compared) -> Verdict
     ensures { result ≡ verdict_of (compare_fault held.now.recipe.now (so_far held.now) line) line }
 {
     let compare = held.recipe.compare();
-    if !says(line, held.bytes(&compare.stage), held.bytes(&compare.binary)) {
+    if !says(
+        line,
+        held.bytes(&compare.stage),
+        held.bytes(&compare.binary),
+    ) {
         return Verdict::Refuted {
             part: Part::Compare,
             place: 0,

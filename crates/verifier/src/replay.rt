@@ -51,12 +51,7 @@ pub(crate) fn replay(
 }
 
 /// The guest of a stage's program, which has exited with 0 at exactly this step.
-fn exited(
-    alloc: Global,
-    held: &Held<'_>,
-    stage: &Stage,
-    step: u64,
-) -> Result<Guest<RunRam>, Stop>
+fn exited(alloc: Global, held: &Held<'_>, stage: &Stage, step: u64) -> Result<Guest<RunRam>, Stop>
     requires held { IsHeld held.now }
     requires known { Contains held.now.recipe.now.stages stage.now }
     ensures { Judged (λ guest. guest.world) (or_fails part.Run (left_at (start_of (program_of held.now.recipe.now (so_far held.now) stage.now) (box_of held.now.recipe.now (so_far held.now) stage.now)) stage.now.steps step)) result }
@@ -100,12 +95,7 @@ fn run_to(guest: Guest<RunRam>, step: u64) -> Result<Guest<RunRam>, Stop>
 }
 
 /// The artefact among what a run left, where all of it is as the line says and the artefacts stay within their limit.
-fn recorded<'f>(
-    stage: &Stage,
-    line: &StageLine,
-    total: u64,
-    files: &'f Files,
-) -> Option<&'f [u8]>
+fn recorded<'f>(stage: &Stage, line: &StageLine, total: u64, files: &'f Files) -> Option<&'f [u8]>
     requires named { IsOutputName stage.now.output }
     requires small { total ≤ MAX_ARTEFACTS }
     ensures { (so_far : Contents) → total ≡ size_of so_far → option_copied result ≡ recorded so_far stage.now line.now files.now }

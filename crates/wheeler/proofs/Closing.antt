@@ -57,16 +57,16 @@ advance-enough recipe inputs p is ok = enough-over recipe inputs p (2 ^ 64 - 1) 
 pub beginning-enough : (recipe : Said) (inputs : List (List ℕ)) → kept.IsRecipe recipe → position recipe inputs (2 ^ 64 - 1) ≡ Over (bench recipe inputs)
 beginning-enough recipe inputs is =
     by_place (beginning recipe inputs) (enter-place recipe (may-step recipe is) inputs [] recipe.stages refl) (position-bench recipe (may-step recipe is) inputs (2 ^ 64 - 1)) where
-  over : (o : Standing) (answer : Answer) → o ≡ Over answer → finish recipe inputs o ≡ bench recipe inputs → o ≡ Over (bench recipe inputs)
-  over o answer same meant = same ∙ ap Over (sym (ap (finish recipe inputs) same) ∙ meant)
+      over : (o : Standing) (answer : Answer) → o ≡ Over answer → finish recipe inputs o ≡ bench recipe inputs → o ≡ Over (bench recipe inputs)
+      over o answer same meant = same ∙ ap Over (sym (ap (finish recipe inputs) same) ∙ meant)
 
-  by_place : (o : Standing) → IsPlace recipe o → finish recipe inputs (forward_from recipe inputs o (2 ^ 64 - 1)) ≡ bench recipe inputs
-      → forward_from recipe inputs o (2 ^ 64 - 1) ≡ Over (bench recipe inputs)
-  by_place (Over answer) ok meant = ap Over meant
-  by_place (On p) (stage, stages, ok) meant =
-      let over_by = enough recipe (may-step recipe is) inputs (2 ^ 64 - 1) p stage stages ok
-      (subst (λ (s : List Stage). limits s ≤ p.at.steps + (2 ^ 64 - 1)) ok.left (all-few recipe p is)) in
-      over (forward recipe inputs p (2 ^ 64 - 1)) over_by.0 over_by.1 meant
+      by_place : (o : Standing) → IsPlace recipe o → finish recipe inputs (forward_from recipe inputs o (2 ^ 64 - 1)) ≡ bench recipe inputs
+          → forward_from recipe inputs o (2 ^ 64 - 1) ≡ Over (bench recipe inputs)
+      by_place (Over answer) ok meant = ap Over meant
+      by_place (On p) (stage, stages, ok) meant =
+          let over_by = enough recipe (may-step recipe is) inputs (2 ^ 64 - 1) p stage stages ok
+          (subst (λ (s : List Stage). limits s ≤ p.at.steps + (2 ^ 64 - 1)) ok.left (all-few recipe p is)) in
+          over (forward recipe inputs p (2 ^ 64 - 1)) over_by.0 over_by.1 meant
 
 pub bench-report : (recipe : Said) (inputs : List (List ℕ)) (report : Report) → kept.IsRecipe recipe → IsInputs recipe inputs
     → bench recipe inputs ≡ Completes report → IsReport report

@@ -43,41 +43,41 @@ pub enough : (recipe : Said) → AllMayStep recipe → (inputs : List (List ℕ)
 enough recipe all inputs zero p stage stages ok le = absurd (omega (arith, ok.within, le))
 enough recipe all inputs (suc fuel) p stage stages ok le =
     by_next (next p.at) refl (λ q stage' stages' ok' le'. enough recipe all inputs fuel q stage' stages' ok' le') where
-  Again : Type 0
-  Again = (q : Position) (stage' : Stage) (stages' : List Stage) → IsHere recipe q stage' stages' → limits (stage' ∷ stages') ≤ q.at.steps + fuel → IsOver recipe inputs q fuel
+      Again : Type 0
+      Again = (q : Position) (stage' : Stage) (stages' : List Stage) → IsHere recipe q stage' stages' → limits (stage' ∷ stages') ≤ q.at.steps + fuel → IsOver recipe inputs q fuel
 
-  over : (answer : Answer) → step recipe inputs p ≡ Over answer → IsOver recipe inputs p (suc fuel)
-  over answer is = (answer, forward-front recipe inputs p fuel (Over answer) is)
+      over : (answer : Answer) → step recipe inputs p ≡ Over answer → IsOver recipe inputs p (suc fuel)
+      over answer is = (answer, forward-front recipe inputs p fuel (Over answer) is)
 
-  on : (q : Position) → step recipe inputs p ≡ On q → IsOver recipe inputs q fuel → IsOver recipe inputs p (suc fuel)
-  on q is later = (later.0, forward-front recipe inputs p fuel (On q) is ∙ later.1)
+      on : (q : Position) → step recipe inputs p ≡ On q → IsOver recipe inputs q fuel → IsOver recipe inputs p (suc fuel)
+      on q is later = (later.0, forward-front recipe inputs p fuel (On q) is ∙ later.1)
 
-  rest : limits stages ≤ fuel
-  rest = omega (arith, ok.within, le)
+      rest : limits stages ≤ fuel
+      rest = omega (arith, ok.within, le)
 
-  by_begin : (done : List Finished) (stage' : Stage) (stages' : List Stage) (s : Result GuestState Refusal) → todo recipe done ≡ stage' ∷ stages' → limits (stage' ∷ stages') ≤ fuel
-      → start_stage recipe (contents inputs done) stage' ≡ s → step recipe inputs p ≡ entered done s → Again → IsOver recipe inputs p (suc fuel)
-  by_begin done stage' stages' (Err why) left le' started is again = over _ is
-  by_begin done stage' stages' (Ok guest) left le' started is again =
-      let zero_steps = fresh _ _ guest started in
-      let may = first_may recipe all done stage' stages' left in
-      on (at done guest) is (again (at done guest) stage' stages' (record { left = left; within = omega arith }) (omega (arith, le')))
+      by_begin : (done : List Finished) (stage' : Stage) (stages' : List Stage) (s : Result GuestState Refusal) → todo recipe done ≡ stage' ∷ stages' → limits (stage' ∷ stages') ≤ fuel
+          → start_stage recipe (contents inputs done) stage' ≡ s → step recipe inputs p ≡ entered done s → Again → IsOver recipe inputs p (suc fuel)
+      by_begin done stage' stages' (Err why) left le' started is again = over _ is
+      by_begin done stage' stages' (Ok guest) left le' started is again =
+          let zero_steps = fresh _ _ guest started in
+          let may = first_may recipe all done stage' stages' left in
+          on (at done guest) is (again (at done guest) stage' stages' (record { left = left; within = omega arith }) (omega (arith, le')))
 
-  by_rest : (done : List Finished) (todo' : List Stage) → todo recipe done ≡ todo' → limits todo' ≤ fuel → step recipe inputs p ≡ enter recipe inputs done todo' → Again → IsOver recipe inputs p (suc fuel)
-  by_rest done [] left le' is again = over _ is
-  by_rest done (stage' ∷ stages') left le' is again = by_begin done stage' stages' (start_stage recipe (contents inputs done) stage') left le' refl is again
+      by_rest : (done : List Finished) (todo' : List Stage) → todo recipe done ≡ todo' → limits todo' ≤ fuel → step recipe inputs p ≡ enter recipe inputs done todo' → Again → IsOver recipe inputs p (suc fuel)
+      by_rest done [] left le' is again = over _ is
+      by_rest done (stage' ∷ stages') left le' is again = by_begin done stage' stages' (start_stage recipe (contents inputs done) stage') left le' refl is again
 
-  by_result : (r : Result Finished Fault) → step recipe inputs p ≡ closed recipe inputs p.done stages r → Again → IsOver recipe inputs p (suc fuel)
-  by_result (Err fault) is again = over _ is
-  by_result (Ok f) is again = by_rest (p.done ++ f ∷ []) stages (todo-next recipe p.done f stage stages ok.left) rest is again
+      by_result : (r : Result Finished Fault) → step recipe inputs p ≡ closed recipe inputs p.done stages r → Again → IsOver recipe inputs p (suc fuel)
+      by_result (Err fault) is again = over _ is
+      by_result (Ok f) is again = by_rest (p.done ++ f ∷ []) stages (todo-next recipe p.done f stage stages ok.left) rest is again
 
-  by_next : (n : Next) → next p.at ≡ n → Again → IsOver recipe inputs p (suc fuel)
-  by_next (Ends why) is again =
-      by_result (ending recipe inputs p.done stage why p.at) (step-next recipe inputs p stage stages (Ends why) ok.left is) again
-  by_next (Goes to) is again =
-      let counted = next-counted p.at to is in
-      let went = step-next recipe inputs p stage stages (Goes to) ok.left is in
-      elim (cases_lt to.steps stage.steps) [
-        | inl lt ↦ on (at p.done to) (went ∙ went-on p.done stage to lt) (again (at p.done to) stage stages (record { left = ok.left; within = lt }) (omega (arith, le, counted)))
-        | inr ge ↦ over _ (went ∙ went-spent p.done stage to ge)
-      ]
+      by_next : (n : Next) → next p.at ≡ n → Again → IsOver recipe inputs p (suc fuel)
+      by_next (Ends why) is again =
+          by_result (ending recipe inputs p.done stage why p.at) (step-next recipe inputs p stage stages (Ends why) ok.left is) again
+      by_next (Goes to) is again =
+          let counted = next-counted p.at to is in
+          let went = step-next recipe inputs p stage stages (Goes to) ok.left is in
+          elim (cases_lt to.steps stage.steps) [
+            | inl lt ↦ on (at p.done to) (went ∙ went-on p.done stage to lt) (again (at p.done to) stage stages (record { left = ok.left; within = lt }) (omega (arith, le, counted)))
+            | inr ge ↦ over _ (went ∙ went-spent p.done stage to ge)
+          ]

@@ -70,9 +70,9 @@ file-added recipe all held most file are files is =
           (record { named = is.path.name; name_bytes = is.path.bytes; small = made.small; content_bytes = made.bytes }) files.each);
       few = by_name (fin.contains_key held file.path) (fin.len-insert nat_list_cmp_total held file.path (content recipe all file.from));
     } where
-  by_name : (b : Bool) → fin.len (with_file recipe all held file) ≡ cond b (fin.len held) (fin.len held + 1) → fin.len (with_file recipe all held file) ≤ most + 1
-  by_name true is = omega (arith, files.few)
-  by_name false is = omega (arith, files.few)
+      by_name : (b : Bool) → fin.len (with_file recipe all held file) ≡ cond b (fin.len held) (fin.len held + 1) → fin.len (with_file recipe all held file) ≤ most + 1
+      by_name true is = omega (arith, files.few)
+      by_name false is = omega (arith, files.few)
 
 -- all files of a stage
 files-added : (recipe : Said) (all : Contents) (held : FileMap) (most : ℕ) (files : List StageFile) → AreContents all → AreFiles held most → All kept.IsStageFile files

@@ -1,4 +1,3 @@
-pub mod Digests
 pub mod Rules
 pub mod Here
 pub mod Slices

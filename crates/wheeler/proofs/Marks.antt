@@ -5,10 +5,10 @@ use Rattle.report.specs.declared.types.Mark.{Mark}
 use Rattle.report.specs.Reports.{IsMark}
 use Rattle.wheeler.specs.Stages.{mark_of}
 use Rattle.wheeler.specs.Valid.{IsSmallMark}
-use Rattle.wheeler.proofs.Digests.{sha256-is}
+use Rattle.report.proofs.Marks.{is_digest}
 
 pub mark-small : (bytes : List ℕ) → IsContent bytes → IsSmallMark (mark_of bytes)
-mark-small bytes is = record { length = (let small = is.small in omega arith); digest = sha256-is bytes }
+mark-small bytes is = record { length = (let small = is.small in omega arith); digest = is_digest bytes }
 
 pub small-mark : (mark : Mark) → IsSmallMark mark → IsMark mark
 small-mark mark is = record { length = (let small = is.length in omega arith); digest = is.digest }

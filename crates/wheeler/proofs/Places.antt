@@ -137,14 +137,17 @@ module _ (recipe : Said) (is : kept.IsRecipe recipe) (inputs : List (List ℕ)) 
     by_begin (Err why) begins = tt
     by_begin (Ok guest) begins =
         let valid = starts-valid (content recipe (contents inputs done) stage.program) (box_of recipe (contents inputs done) stage) guest
-        ((content-is recipe (contents inputs done) stage.program all).bytes) (box-is recipe (contents inputs done) stage all rules) begins in
-        (stage, stages, record {
-          left = left;
-          within = omega (arith, rules.some_steps, valid.1);
-          heap = start-heap _ (box_of recipe (contents inputs done) stage) guest begins ∙ box-heap recipe (contents inputs done) stage;
-          valid = valid.0;
-          done = are;
-        })
+        ((content-is recipe (contents inputs done) stage.program all).bytes) (box-is recipe (contents inputs done) stage all rules) begins in (
+          stage,
+          stages,
+          record {
+            left = left;
+            within = omega (arith, rules.some_steps, valid.1);
+            heap = start-heap _ (box_of recipe (contents inputs done) stage) guest begins ∙ box-heap recipe (contents inputs done) stage;
+            valid = valid.0;
+            done = are;
+          },
+        )
 
   -- a stage more is done
   pub done-more : (p : Position) (stage : Stage) (stages : List Stage) (end : End) (f : Finished) → IsAt recipe p stage stages
@@ -178,14 +181,17 @@ module _ (recipe : Said) (is : kept.IsRecipe recipe) (inputs : List (List ℕ)) 
     by_next (Goes to) is =
         subst (IsStanding recipe) (sym (step-next recipe inputs p stage stages (Goes to) ok.left is))
         (elim (cases_lt to.steps stage.steps) [
-          | inl less ↦ subst (IsStanding recipe) (sym (went-on p.done stage to less))
-              (stage, stages, record {
-                left = ok.left;
-                within = less;
-                heap = heap-kept p.at to ok.valid is ∙ ok.heap;
-                valid = after-valid p.at to 1 ok.valid (after-on p.at p.at to 0 (after-none p.at) is);
-                done = ok.done;
-              })
+          | inl less ↦ subst (IsStanding recipe) (sym (went-on p.done stage to less)) (
+            stage,
+            stages,
+            record {
+              left = ok.left;
+              within = less;
+              heap = heap-kept p.at to ok.valid is ∙ ok.heap;
+              valid = after-valid p.at to 1 ok.valid (after-on p.at p.at to 0 (after-none p.at) is);
+              done = ok.done;
+            },
+          )
           | inr past ↦ subst (IsStanding recipe) (sym (went-spent p.done stage to past)) tt
         ])
 

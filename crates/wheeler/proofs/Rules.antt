@@ -11,7 +11,7 @@ use Rattle.ddc_base.specs.Names.{IsName}
 use Rattle.mem_files.specs.Names.{is_stripped_name}
 use Rattle.mem_files.specs.Sound.{AreBytes}
 use Rattle.guest_run.specs.Setting.{IsText}
-use Rattle.recipe_text.specs.Reading.{is_path, is_path_byte, is_word}
+use Rattle.recipe_text.specs.Reading.{is_path, is_path_byte, is_word, is_word_byte}
 use Rattle.recipe.specs.declared.contents.Said.{Said}
 use Rattle.recipe.specs.declared.parts.Input.{Input}
 use Rattle.recipe.specs.declared.parts.Output.{Output}
@@ -22,7 +22,7 @@ use Rattle.recipe.specs.declared.parts.StageFile.{StageFile}
 use Rattle.recipe.specs.Lookups.{input_at, stage_at}
 use Rattle.recipe.specs.Kept as kept
 use Rattle.report.specs.Reports.{IsDigest}
-use Rattle.wheeler.proofs.Digests.{sha256-is}
+use Rattle.report.proofs.Marks.{is_digest}
 
 pub record IsWord (text : List ℕ) : Type 0 where
   pub bytes : AreBytes text
@@ -70,19 +70,19 @@ bytes-all p small (byte ∷ text) is =
     let parts = and_parts (p byte) (list_all p text) is in
     All-cons (λ byte. byte < 256) byte text (small byte parts.0) (bytes-all p small text parts.1)
 
-no-zero : (text : List ℕ) → list_all (λ byte. nat_le 1 byte && nat_le byte 255) text ≡ true → IsText text
+no-zero : (text : List ℕ) → list_all is_word_byte text ≡ true → IsText text
 no-zero [] is = refl
 no-zero (byte ∷ text) is =
-    let parts = and_parts (nat_le 1 byte && nat_le byte 255) (list_all (λ b. nat_le 1 b && nat_le b 255) text) is in
+    let parts = and_parts (nat_le 1 byte && nat_le byte 255) (list_all is_word_byte text) is in
     let some = leb-true _ _ (and_parts (nat_le 1 byte) (nat_le byte 255) parts.0).0 in
     ap (λ b. not (b || list_any (λ b. b == 0) text)) (ne_eqb byte 0 (λ zero_is. omega arith)) ∙ no-zero text parts.1
 
 pub word-is : (text : List ℕ) → IsTrue (is_word text) → IsWord text
 unfolding is_word
 word-is text is =
-    let parts = and_parts (nat_le (length text) 255) (list_all (λ byte. nat_le 1 byte && nat_le byte 255) text) is in
+    let parts = and_parts (nat_le (length text) 255) (list_all is_word_byte text) is in
     record {
-      bytes = bytes-all (λ byte. nat_le 1 byte && nat_le byte 255) (λ byte t. let most = leb-true _ _ (and_parts (nat_le 1 byte) (nat_le byte 255) t).1 in omega arith) text parts.1;
+      bytes = bytes-all is_word_byte (λ byte t. let most = leb-true _ _ (and_parts (nat_le 1 byte) (nat_le byte 255) t).1 in omega arith) text parts.1;
       whole = no-zero text parts.1;
     }
 
@@ -130,7 +130,7 @@ rules said is =
     let stages : All IsStage said.stages =
     λ k d less. stage-is said (take k said.stages) (get_or said.stages k d) (is.stages k (get_or said.stages k d) (slice_get-get_or said.stages k d less)) in
     record {
-      digest = subst IsDigest (λ i. record { 0 = sym is.digest.1 i }) (sha256-is is.digest.0);
+      digest = subst IsDigest (λ i. record { 0 = sym is.digest.1 i }) (is_digest is.digest.0);
       some_inputs = is.some_inputs;
       few_inputs = is.few_inputs;
       inputs = inputs;

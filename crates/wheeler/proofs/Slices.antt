@@ -79,12 +79,12 @@ pub end-place : (guest : GuestState) (most : ℕ) (end : End × GuestState) → 
 end-place guest most end is =
     let found = first_end-at guest most end is in
     by_number found.0 found.1 found.2 where
-  by_number : (number : ℕ) → number ≤ most → end_at guest number ≡ Some end
-      → (count : ℕ) × (count < most) × (after guest count ≡ Some end.1) × (next end.1 ≡ Ends end.0)
-  by_number zero le is = absurd (no_end-zero guest end is)
-  by_number (suc count) le is =
-      let ends = ends_after guest count end is in
-      (count, omega arith, ends.0, ends.1)
+      by_number : (number : ℕ) → number ≤ most → end_at guest number ≡ Some end
+          → (count : ℕ) × (count < most) × (after guest count ≡ Some end.1) × (next end.1 ≡ Ends end.0)
+      by_number zero le is = absurd (no_end-zero guest end is)
+      by_number (suc count) le is =
+          let ends = ends_after guest count end is in
+          (count, omega arith, ends.0, ends.1)
 
 -- an end within the limit
 pub slice-end : (recipe : Said) (inputs : List (List ℕ)) (done : List Finished) (stage : Stage) (stages : List Stage)

@@ -33,11 +33,13 @@ all-inputs [] [] same names small = (refl, All-nil IsInput)
 all-inputs [] (bytes ∷ given) same names small = absurd (omega (arith, same))
 all-inputs (input ∷ inputs) [] same names small = absurd (omega (arith, same))
 all-inputs (input ∷ inputs) (bytes ∷ given) same names small =
-    let rest = all-inputs inputs given (omega (arith, same)) (All-tail kept.IsInput input inputs names) (All-tail IsContent bytes given small) in
-    (omega (arith, rest.0), All-cons IsInput _ _ (record {
-      name = (All-head kept.IsInput input inputs names).name;
-      mark = mark-is bytes (All-head IsContent bytes given small);
-    }) rest.1)
+    let rest = all-inputs inputs given (omega (arith, same)) (All-tail kept.IsInput input inputs names) (All-tail IsContent bytes given small) in (
+      omega (arith, rest.0),
+      All-cons IsInput _ _ (record {
+        name = (All-head kept.IsInput input inputs names).name;
+        mark = mark-is bytes (All-head IsContent bytes given small);
+      }) rest.1,
+    )
 
 -- a line of a file that is left
 named-long : (name : List ℕ) → IsTrue (is_stripped_name name) → (1 ≤ length name) × (length name ≤ 255)

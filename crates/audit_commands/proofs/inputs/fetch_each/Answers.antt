@@ -26,7 +26,7 @@ pub returns-in-Err-push-clause-loads : goal.returns-in-Err-push-clause-loads
 returns-in-Err-push-clause-loads g c =
     wants _ 268_435_456 _ _ _ _ _
     (goes_on _ 268_435_456 c.loop-input.room c.min.result c.loop-input.contents (λ (input : Input). input.path) c.args.inputs.now c.loop-input.input-index c.input-item.result c.as_str.result.now
-      _ _ _ c.in-Ok.content _ _ c.loop-input.invariant.leads c.loop-input-test.true c.input-item.is c.as_str.ensures.value c.min.ensures c.in-Ok.ensures refl refl)
+    _ _ _ c.in-Ok.content _ _ c.loop-input.invariant.leads c.loop-input-test.true c.input-item.is c.as_str.ensures.value c.min.ensures c.in-Ok.ensures refl refl)
 
 pub loop-input-preserved : goal.loop-input-preserved
 loop-input-preserved g c =

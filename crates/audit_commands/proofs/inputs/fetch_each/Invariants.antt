@@ -15,5 +15,5 @@ abbrev pub invariant-loop-input : goal.invariant-loop-input
 invariant-loop-input g l =
     Fetched
     (LeadsOn (needs_all 268_435_456 1_073_741_824 (map (λ (input : Input). input.path) l.inputs))
-      (rest_of 268_435_456 l.room l.contents (drop l.input-index (map (λ (input : Input). input.path) l.inputs))) (g.S.Shelf.state l.fn.shelf) (g.S.Shelf.state l.shelf))
+    (rest_of 268_435_456 l.room l.contents (drop l.input-index (map (λ (input : Input). input.path) l.inputs))) (g.S.Shelf.state l.fn.shelf) (g.S.Shelf.state l.shelf))
     l.contents l.input-index

@@ -8,4 +8,4 @@ pub returns-in-Ok-Started-clause-stands : goal.returns-in-Ok-Started-clause-stan
 returns-in-Ok-Started-clause-stands c =
     subst (λ e. IsStanding c.args.recipe.now (entry_standing c.args.done.now e)) c.in-Ok-Started.field-0-is
     (entry-stands c.args.recipe.now c.args.inputs.now c.args.done.now c.in-Ok-Started.field-0 c.enter.ensures.kept c.requires.given
-      (ready-done c.args.recipe.now c.args.done.now c.args.place.now c.in-Ready.is c.requires.place) c.in-Ok-Started.ensures.entered)
+    (ready-done c.args.recipe.now c.args.done.now c.args.place.now c.in-Ready.is c.requires.place) c.in-Ok-Started.ensures.entered)

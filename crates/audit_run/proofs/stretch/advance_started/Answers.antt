@@ -13,9 +13,9 @@ loop-left-preserved c = (
   c.in-Ok.ensures.started,
   c.in-Ok.ensures.stands,
   c.in-Ok.ensures.steps.0
-  ∙ ap (λ from. forward_from c.args.recipe.now c.args.inputs.now from c.in-Ok.taken) c.loop-left.invariant.3
-  ∙ forward_from-sum _ _ _ (c.args.most - c.loop-left.left) c.in-Ok.taken (c.args.most - (c.loop-left.left - c.in-Ok.taken))
-    (omega (arith, c.loop-left.invariant.0, c.in-Ok.ensures.steps.2)),
+      ∙ ap (λ from. forward_from c.args.recipe.now c.args.inputs.now from c.in-Ok.taken) c.loop-left.invariant.3
+      ∙ forward_from-sum _ _ _ (c.args.most - c.loop-left.left) c.in-Ok.taken (c.args.most - (c.loop-left.left - c.in-Ok.taken))
+      (omega (arith, c.loop-left.invariant.0, c.in-Ok.ensures.steps.2)),
 )
 
 pub returns-in-Err-clause-err : goal.returns-in-Err-clause-err

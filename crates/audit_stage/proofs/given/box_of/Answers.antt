@@ -30,7 +30,7 @@ pub place-requires-clause-fits : goal.place-requires-clause-fits
 place-requires-clause-fits c =
     rw (c.as_slice-in-loop-file.ensures, c.content-bytes.ensures, c.loop-file.invariant)
     (file-fits c.args.recipe.now c.args.inputs.now c.args.done.now c.args.stage.now c.requires.stage.0 _ c.loop-file.file-index c.file-item.result
-      c.requires.stage.1 c.requires.inputs c.requires.done c.as_slice-file-items.ensures c.loop-file-test.true c.file-item.is)
+    c.requires.stage.1 c.requires.inputs c.requires.done c.as_slice-file-items.ensures c.loop-file-test.true c.file-item.is)
 
 pub returns : goal.returns
 unfolding box_of

@@ -16,5 +16,5 @@ pub returns-in-Defined : goal.returns-in-Defined
 returns-in-Defined c =
     let is =
     check-is c.args.held.now.recipe.now (so_far c.args.held.now) c.args.stage.now c.in-Some.name c.in-Some-source.source.now c.in-Defined.language
-      c.args.made.now c.in-Some.is (sym c.source.ensures ∙ ap (option_map (λ x. x.now)) c.in-Some-source.is) c.in-Defined.is in
+    c.args.made.now c.in-Some.is (sym c.source.ensures ∙ ap (option_map (λ x. x.now)) c.in-Some-source.is) c.in-Defined.is in
     subst (λ (o : Option CheckCause). IfOk c.gives_text.result (λ right. right ≡ is_none o)) (sym is) c.gives_text.ensures

@@ -16,8 +16,8 @@ returns-in_default-get c = absurd (past c.args.theirs.now c.loop-index.index (sy
 pub returns-then-not-same_item : goal.returns-then-not-same_item
 returns-then-not-same_item c =
     sym (c.loop-index.invariant
-      ∙ item-turn c.args.ours.now c.args.theirs.now c.loop-index.index c.in-Some.item c.in-Some-get.other (sym c.get.ensures ∙ c.in-Some.is) (sym c.get-in-loop-index.ensures ∙ c.in-Some-get.is)
-      ∙ ap (λ b. b && is_none (first_other_item (drop (c.loop-index.index + 1) c.args.ours.now) (drop (c.loop-index.index + 1) c.args.theirs.now))) (sym c.if-not-same_item.ensures))
+    ∙ item-turn c.args.ours.now c.args.theirs.now c.loop-index.index c.in-Some.item c.in-Some-get.other (sym c.get.ensures ∙ c.in-Some.is) (sym c.get-in-loop-index.ensures ∙ c.in-Some-get.is)
+    ∙ ap (λ b. b && is_none (first_other_item (drop (c.loop-index.index + 1) c.args.ours.now) (drop (c.loop-index.index + 1) c.args.theirs.now))) (sym c.if-not-same_item.ensures))
 
 pub loop-index-preserved : goal.loop-index-preserved
 loop-index-preserved c =

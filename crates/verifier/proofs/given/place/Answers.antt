@@ -8,7 +8,7 @@ unreachable-requires c =
     let want : BadName ≡ OutOfMemory =
     sym c.in-Err-BadName.field-0-is
     ∙ only-want c.args.given.now.files c.args.path.now c.args.content.now c.place.result c.place.new.self.files c.in-Err-BadName.field-0
-      c.requires.named c.requires.absent c.requires.small c.requires.few c.place.ensures.files c.in-Err-BadName.is in
+    c.requires.named c.requires.absent c.requires.small c.requires.few c.place.ensures.files c.in-Err-BadName.is in
     cc
 
 pub unreachable-requires-in-Err-Twice : goal.unreachable-requires-in-Err-Twice
@@ -16,7 +16,7 @@ unreachable-requires-in-Err-Twice c =
     let want : Twice ≡ OutOfMemory =
     sym c.in-Err-Twice.field-0-is
     ∙ only-want c.args.given.now.files c.args.path.now c.args.content.now c.place.result c.place.new.self.files c.in-Err-Twice.field-0
-      c.requires.named c.requires.absent c.requires.small c.requires.few c.place.ensures.files c.in-Err-Twice.is in
+    c.requires.named c.requires.absent c.requires.small c.requires.few c.place.ensures.files c.in-Err-Twice.is in
     cc
 
 pub unreachable-requires-in-Err-Full : goal.unreachable-requires-in-Err-Full
@@ -24,7 +24,7 @@ unreachable-requires-in-Err-Full c =
     let want : Full ≡ OutOfMemory =
     sym c.in-Err-Full.field-0-is
     ∙ only-want c.args.given.now.files c.args.path.now c.args.content.now c.place.result c.place.new.self.files c.in-Err-Full.field-0
-      c.requires.named c.requires.absent c.requires.small c.requires.few c.place.ensures.files c.in-Err-Full.is in
+    c.requires.named c.requires.absent c.requires.small c.requires.few c.place.ensures.files c.in-Err-Full.is in
     cc
 
 pub returns-in-Ok : goal.returns-in-Ok

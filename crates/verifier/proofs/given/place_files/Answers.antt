@@ -20,16 +20,16 @@ loop-file-preserved c =
     let done = c.in_ok-place.ensures in
     let next =
     turn c.args.held.now.recipe.now (so_far c.args.held.now) c.loop-file.given.files c.place.new.given.files c.args.files.now c.loop-file.file-index c.file-item.result
-      (fold (with_file c.args.held.now.recipe.now (so_far c.args.held.now)) c.args.given.now.files c.args.files.now)
-      (omega arith) c.file-item.is c.loop-file.invariant.0 c.loop-file.invariant.1
-      (ap (λ (s : Setting). s.files) done ∙ (λ i. finite.insert c.loop-file.given.files (c.as_slice.ensures i) (c.bytes.ensures i))) in (
+    (fold (with_file c.args.held.now.recipe.now (so_far c.args.held.now)) c.args.given.now.files c.args.files.now)
+    (omega arith) c.file-item.is c.loop-file.invariant.0 c.loop-file.invariant.1
+    (ap (λ (s : Setting). s.files) done ∙ (λ i. finite.insert c.loop-file.given.files (c.as_slice.ensures i) (c.bytes.ensures i))) in (
       next.0,
       next.1,
       done
-      ∙ (λ i. record {
-        args = ap (λ (s : Setting). s.args) before i;
-        env = ap (λ (s : Setting). s.env) before i;
-        files = sym (ap (λ (s : Setting). s.files) done) i;
-        heap = ap (λ (s : Setting). s.heap) before i;
-      }),
+          ∙ (λ i. record {
+            args = ap (λ (s : Setting). s.args) before i;
+            env = ap (λ (s : Setting). s.env) before i;
+            files = sym (ap (λ (s : Setting). s.files) done) i;
+            heap = ap (λ (s : Setting). s.heap) before i;
+          }),
     )

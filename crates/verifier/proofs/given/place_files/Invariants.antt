@@ -8,5 +8,5 @@ abbrev pub invariant-loop-file : goal.invariant-loop-file
 invariant-loop-file l =
     CanPlace l.given.files (drop l.file-index l.files)
     × (fold (with_file l.held.recipe.now (so_far l.held)) l.given.files (drop l.file-index l.files)
-      ≡ fold (with_file l.held.recipe.now (so_far l.held)) l.fn.given.files l.files)
+    ≡ fold (with_file l.held.recipe.now (so_far l.held)) l.fn.given.files l.files)
     × (l.given ≡ record { args = l.fn.given.args; env = l.fn.given.env; files = l.given.files; heap = l.fn.given.heap })

@@ -27,7 +27,7 @@ returns-in-Err c =
       ahead = λ compare.
           c.loop-index.invariant.4 compare
           ∙ at_stage c.args.recipe.now compare all c.args.stages.now c.args.lines.now c.loop-index.index c.in-Some.stage.now c.index-lines-index.result
-            found (omega arith) c.index-lines-index.is;
+          found (omega arith) c.index-lines-index.is;
     }
 
 pub returns-in-Err-OutOfMemory : goal.returns-in-Err-OutOfMemory
@@ -45,7 +45,7 @@ returns-in-Err-OutOfMemory c =
       ahead = λ compare.
           c.loop-index.invariant.4 compare
           ∙ at_stage c.args.recipe.now compare all c.args.stages.now c.args.lines.now c.loop-index.index c.in-Some.stage.now c.index-lines-index.result
-            found (omega arith) c.index-lines-index.is;
+          found (omega arith) c.index-lines-index.is;
     }
 
 pub loop-index-preserved : goal.loop-index-preserved

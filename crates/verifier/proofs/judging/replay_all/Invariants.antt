@@ -9,4 +9,4 @@ abbrev pub invariant-loop-index : goal.invariant-loop-index
 invariant-loop-index l =
     (length l.artefacts ≡ l.index) × (l.total ≡ sum_by length l.artefacts) × (l.total ≤ 1073741824) × All IsContent l.artefacts
     × ((compare : Compared) → whole_fault l.recipe l.inputs l.lines compare
-      ≡ stages_fault l.recipe compare (record { inputs = l.inputs; artefacts = l.artefacts }) (drop l.index l.stages) (drop l.index l.lines))
+    ≡ stages_fault l.recipe compare (record { inputs = l.inputs; artefacts = l.artefacts }) (drop l.index l.stages) (drop l.index l.lines))
