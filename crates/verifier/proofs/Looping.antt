@@ -1,21 +1,16 @@
 -- The stages' lines, one after the other.
-use Rattle.std.proofs.Common.{◌≡◌, ℕ, zero, suc, ◌+◌, ◌<◌, ◌≤◌, Option, None, Some, Result, Ok, Err, List, [], ◌∷◌, ◌++◌, length, drop, get_or, refl, sym, ap, ◌∙◌, subst, arith, All, inl, inr}
-use Rattle.std.specs.Prelude.{Contains, slice_get, sum_by}
+use Rattle.std.proofs.Common.{◌≡◌, ℕ, zero, suc, ◌+◌, ◌<◌, ◌≤◌, None, Some, Ok, Err, List, [], ◌∷◌, length, drop, get_or, refl, sym, ap, ◌∙◌, arith, inl, inr}
+use Rattle.std.specs.Prelude.{Contains, slice_get}
 use Rattle.std.proofs.lemmas.Bool.{cases_lt}
 use Rattle.std.proofs.lemmas.Option.{same_Some, slice_get-get_or, slice_get_past}
 use Rattle.std.proofs.lemmas.List.{at_drop_all, at_drop_more}
-use Rattle.std.proofs.lemmas.List.Elements.{All-push}
-use Rattle.std.proofs.lemmas.List.Sums.{sum_by_push}
-use Rattle.mem_files.specs.Outputs.{IsContent}
 use Rattle.recipe.specs.declared.contents.Said.{Said}
 use Rattle.recipe.specs.declared.parts.Stage.{Stage}
-use Rattle.recipe.specs.Kept.{IsRecipe}
 use Rattle.report.specs.declared.types.Compared.{Compared}
 use Rattle.report.specs.declared.types.StageLine.{StageLine}
 use Rattle.wheeler.specs.Contents.{Contents}
 use Rattle.verifier.specs.declared.part.Part.{Part}
 use Rattle.verifier.specs.Faults.{after_stage, compare_fault, replayed, stages_fault, with_artefact}
-use Rattle.verifier.specs.Inside.Replays.{whole_fault}
 
 drop-found : {A : Type 0} (xs : List A) (index : ℕ) (x : A) → slice_get xs index ≡ Some x → drop index xs ≡ x ∷ drop (index + 1) xs
 drop-found [] index x is = absurd cc

@@ -1,5 +1,5 @@
 -- A report has no fault exactly where it is the bench's.
-use Rattle.std.proofs.Common.{◌≡◌, ℕ, suc, ◌+◌, ◌&&◌, Bool, true, false, if◌then◌else◌, Option, None, Some, Result, Ok, Err, List, [], ◌∷◌, ◌++◌, length, map, refl, sym, ap, ◌∙◌, subst, arith}
+use Rattle.std.proofs.Common.{◌≡◌, ℕ, suc, ◌+◌, ◌&&◌, Bool, true, false, if◌then◌else◌, Option, None, Some, Result, Ok, Err, List, [], ◌∷◌, ◌++◌, length, map, refl, sym, ap, ◌∙◌, arith}
 use Rattle.std.specs.Prelude.{bytes_eq}
 use Rattle.std.proofs.lemmas.Bool.{and_parts, and_from}
 use Rattle.std.proofs.lemmas.List.{append_assoc, append-nil, map_push}
@@ -17,10 +17,10 @@ use Rattle.wheeler.specs.declared.answer.Fault.{Fault}
 use Rattle.wheeler.specs.declared.answer.Finished.{Finished}
 use Rattle.wheeler.specs.Contents.{Contents, check_language, content}
 use Rattle.wheeler.specs.Stages.{contents, finished, mark_of, stage_result}
-use Rattle.wheeler.specs.Bench.{after_stage as bench_after, bench, bench_from, compared, comparison, input_lines, report_of, stage_line, stage_lines}
+use Rattle.wheeler.specs.Bench.{after_stage as bench_after, bench, bench_from, compared, input_lines, report_of, stage_line, stage_lines}
 use Rattle.verifier.specs.declared.part.Part.{Part}
 use Rattle.verifier.specs.declared.part.Part.TheVariants as part
-use Rattle.verifier.specs.Faults.{after_stage, compare_fault, first_fault, first_of_both, has_left, inputs_fault, is_header, is_mark_of, names_compared, names_inputs, names_stages, replayed, same_language, says, stages_fault, with_artefact}
+use Rattle.verifier.specs.Faults.{after_stage, compare_fault, first_fault, first_of_both, inputs_fault, is_header, is_mark_of, names_compared, names_inputs, names_stages, replayed, same_language, says, stages_fault, with_artefact}
 use Rattle.verifier.proofs.DoneStages.{done-replayed, done-result, replayed-done, result-done}
 use Rattle.verifier.proofs.MarkTests.{compared-Decides, language-Decides, left-Decides, mark-Decides}
 

@@ -1,5 +1,5 @@
 -- The files of a stage are placed one after the other.
-use Rattle.std.proofs.Common.{◌≡◌, ℕ, suc, ◌+◌, ◌<◌, ◌≤◌, ◌==◌, ◌&&◌, ◌||◌, Bool, true, false, cond, if◌then◌else◌, IsTrue, Option, None, Some, Result, Ok, Err, List, [], ◌∷◌, length, drop, get_or, map, not, nat_le, nat_lt, refl, sym, ap, ◌∙◌, subst, arith, All}
+use Rattle.std.proofs.Common.{◌≡◌, ℕ, ◌+◌, ◌<◌, ◌≤◌, ◌||◌, Bool, true, false, cond, if◌then◌else◌, IsTrue, Option, None, Some, Result, Ok, Err, List, [], ◌∷◌, length, drop, get_or, map, not, nat_le, nat_lt, refl, sym, ap, ◌∙◌, subst, arith, All}
 use Rattle.std.specs.Prelude.{bytes_eq, is_some}
 use Rattle.std.specs.List.{AllByRecursion, IsDistinct, fold}
 use Rattle.std.specs.FinMap as finite

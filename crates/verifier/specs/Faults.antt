@@ -65,7 +65,7 @@ is_header recipe report =
 
 -- ---- inputs: each has the length and the digest of its line
 
--- the first that has not, of those from this number on
+-- the first that has not, of those from this number on; a header says that there are as many lines
 abbrev pub inputs_fault : ℕ → List (List ℕ) → List InputLine → Option (Part × ℕ)
 inputs_fault number (bytes ∷ inputs) (line ∷ lines) =
     if is_mark_of line.mark bytes then inputs_fault (number + 1) inputs lines else Some (part.Input, number)
@@ -157,7 +157,7 @@ abbrev pub after_stage : ℕ → Result (List ℕ) Part → (List ℕ → Option
 after_stage number (Err part) rest = Some (part, number)
 after_stage number (Ok made) rest = rest made
 
--- the first fault of the stages that are left, and of the comparison after them
+-- the first fault of the stages that are left, and of the comparison after them; a header says that there are as many lines
 abbrev pub stages_fault : Said → Compared → Contents → List Stage → List StageLine → Option (Part × ℕ)
 stages_fault recipe compare so_far (stage ∷ stages) (line ∷ lines) =
     after_stage (length so_far.artefacts + 1) (replayed recipe so_far stage line) (λ made. stages_fault recipe compare (with_artefact so_far made) stages lines)

@@ -1,20 +1,19 @@
 //! Whether an artefact is what its source stands for.
 ghost use Rattle.hex_items.specs.Reading.{Reads, items_of};
 ghost use Rattle.hex_items.specs.declared.item.Item.{Item as RowItem};
-ghost use Rattle.hex_items.specs.declared.item.Item.TheVariants as row;
 ghost use Rattle.hex_items.specs.declared.reader.HexRefusal.{HexRefusal as Refusal};
 ghost use Rattle.hex_items.specs.declared.token.Dialect.TheVariants as dialect;
 ghost use Rattle.hex_link.specs.Link.{Links};
 ghost use Rattle.hex_link.specs.Values.{linked};
 ghost use Rattle.source_check.specs.Causes.{cause_of_hex, cause_of_m1};
 ghost use Rattle.source_check.specs.Checks.{check, checked, first_other_item, hex_value, items_against, joined, m1_value, same_item, same_kind};
-ghost use Rattle.std.specs.Prelude.{◌≡◌, ◌≤◌, ◌^◌, is_none, ℕ, List, Result, IfOk};
+ghost use Rattle.std.specs.Prelude.{◌≡◌, ◌≤◌, ◌^◌, bytes_eq, is_none, ℕ, List, Result, IfOk};
 ghost use Rattle.verifier.specs.Inside.Holdings.{IsHeld, so_far};
 ghost use Rattle.wheeler.specs.Contents.{check_of, text_of};
 
 use crate::held::Held;
 use ddc_base::{Bytes, OutOfMemory};
-use hex_items::{HexRefusal, Item, Items, Kind, items1, items2};
+use hex_items::{HexRefusal, Item, Items, Kind, Name, items1, items2};
 use hex_langs::hex0;
 use hex_link::link;
 use languages::Language;
@@ -197,116 +196,32 @@ fn same_items(ours: &Items<'_>, theirs: &Items<'_>) -> bool
 }
 
 /// Whether both are the same item.
+#[tactic(auto, unfolding(source_check::specs::Checks::same_item))]
 fn same_item(ours: &Item<'_>, theirs: &Item<'_>) -> bool
     ensures { result ≡ same_item ours.now theirs.now }
 {
     match ours {
-        Item::Byte(byte) => is_byte(theirs, *byte),
-        Item::Label(name) => is_label(theirs, name.bytes()),
-        Item::Word(value, kind, name) => is_word(theirs, *value, *kind, name.bytes()),
-        Item::Rel(name) => is_rel(theirs, name.bytes()),
-        Item::Gap(name, other) => is_gap(theirs, name.bytes(), other.bytes()),
-        Item::Abs(name) => is_abs(theirs, name.bytes()),
-        Item::Pad => is_pad(theirs),
-    }
-}
-
-/// Whether an item is this byte.
-#[tactic(auto, unfolding(source_check::specs::Checks::same_item))]
-fn is_byte(item: &Item<'_>, byte: u8) -> bool
-    ensures { result ≡ same_item (row.Byte byte) item.now }
-{
-    match item {
-        Item::Byte(other) => byte == *other,
-        Item::Label(_) | Item::Word(..) | Item::Rel(_) | Item::Gap(..) | Item::Abs(_) | Item::Pad =>
-            false,
-    }
-}
-
-/// Whether an item defines this label.
-#[tactic(auto, unfolding(source_check::specs::Checks::same_item))]
-fn is_label(item: &Item<'_>, name: &[u8]) -> bool
-    ensures { result ≡ same_item (row.Label name.now) item.now }
-{
-    match item {
-        Item::Label(other) => name == other.bytes(),
-        Item::Byte(_) | Item::Word(..) | Item::Rel(_) | Item::Gap(..) | Item::Abs(_) | Item::Pad =>
-            false,
-    }
-}
-
-/// Whether an item is this word.
-#[tactic(auto, unfolding(source_check::specs::Checks::same_item))]
-fn is_word(item: &Item<'_>, value: u32, kind: Kind, name: &[u8]) -> bool
-    ensures { result ≡ same_item (row.Word value kind name.now) item.now }
-{
-    match item {
-        Item::Word(other, other_kind, other_name) => {
-            value == *other && same_kind(kind, *other_kind) && name == other_name.bytes()
+        Item::Byte(ours) => matches!(theirs, Item::Byte(theirs) if ours == theirs),
+        Item::Label(ours) => matches!(theirs, Item::Label(theirs) if same_name(ours, theirs)),
+        Item::Word(ours, kind, name) => {
+            matches!(theirs, Item::Word(theirs, their_kind, their_name)
+                if ours == theirs && same_kind(*kind, *their_kind) && same_name(name, their_name))
         }
-        Item::Byte(_) | Item::Label(_) | Item::Rel(_) | Item::Gap(..) | Item::Abs(_) | Item::Pad =>
-            false,
+        Item::Rel(ours) => matches!(theirs, Item::Rel(theirs) if same_name(ours, theirs)),
+        Item::Gap(ours, from) => {
+            matches!(theirs, Item::Gap(theirs, their_from)
+                if same_name(ours, theirs) && same_name(from, their_from))
+        }
+        Item::Abs(ours) => matches!(theirs, Item::Abs(theirs) if same_name(ours, theirs)),
+        Item::Pad => matches!(theirs, Item::Pad),
     }
 }
 
-/// Whether an item is how far this label is.
-#[tactic(auto, unfolding(source_check::specs::Checks::same_item))]
-fn is_rel(item: &Item<'_>, name: &[u8]) -> bool
-    ensures { result ≡ same_item (row.Rel name.now) item.now }
+/// Whether both are the same name.
+fn same_name(ours: &Name<'_>, theirs: &Name<'_>) -> bool
+    ensures { result ≡ bytes_eq ours.now theirs.now }
 {
-    match item {
-        Item::Rel(other) => name == other.bytes(),
-        Item::Byte(_)
-        | Item::Label(_)
-        | Item::Word(..)
-        | Item::Gap(..)
-        | Item::Abs(_)
-        | Item::Pad => false,
-    }
-}
-
-/// Whether an item is how far the first of these labels is from the second.
-#[tactic(auto, unfolding(source_check::specs::Checks::same_item))]
-fn is_gap(item: &Item<'_>, first: &[u8], second: &[u8]) -> bool
-    ensures { result ≡ same_item (row.Gap first.now second.now) item.now }
-{
-    match item {
-        Item::Gap(other, another) => first == other.bytes() && second == another.bytes(),
-        Item::Byte(_) | Item::Label(_) | Item::Word(..) | Item::Rel(_) | Item::Abs(_) | Item::Pad =>
-            false,
-    }
-}
-
-/// Whether an item is this label's address.
-#[tactic(auto, unfolding(source_check::specs::Checks::same_item))]
-fn is_abs(item: &Item<'_>, name: &[u8]) -> bool
-    ensures { result ≡ same_item (row.Abs name.now) item.now }
-{
-    match item {
-        Item::Abs(other) => name == other.bytes(),
-        Item::Byte(_)
-        | Item::Label(_)
-        | Item::Word(..)
-        | Item::Rel(_)
-        | Item::Gap(..)
-        | Item::Pad => false,
-    }
-}
-
-/// Whether an item is a pad.
-#[tactic(auto, unfolding(source_check::specs::Checks::same_item))]
-fn is_pad(item: &Item<'_>) -> bool
-    ensures { result ≡ same_item (row.Pad) item.now }
-{
-    match item {
-        Item::Pad => true,
-        Item::Byte(_)
-        | Item::Label(_)
-        | Item::Word(..)
-        | Item::Rel(_)
-        | Item::Gap(..)
-        | Item::Abs(_) => false,
-    }
+    ours.bytes() == theirs.bytes()
 }
 
 /// Whether both are the same kind of reference.

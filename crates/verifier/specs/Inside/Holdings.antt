@@ -1,5 +1,5 @@
 -- What a replay holds, as the definitions say it. No promise rests on its being read.
-use Rattle.std.specs.Prelude.{◌≡◌, ℕ, ◌+◌, ◌≤◌, false, bytes_eq, IsTrue, Result, Ok, Err, List, length, map, All}
+use Rattle.std.specs.Prelude.{◌≡◌, ◌+◌, ◌≤◌, false, bytes_eq, IsTrue, Result, Ok, Err, List, length, map, All}
 use Rattle.std.specs.List.{IsDistinct}
 use Rattle.std.specs.FinMap as finite
 use Rattle.mem_files.specs.Names.{is_stripped_name}

@@ -1,4 +1,4 @@
-use Rattle.std.proofs.Common.{◌≡◌, ◌≤◌, ◌-◌, ◌∙◌, arith, ap, drop, length, length-drop, map, take}
+use Rattle.std.proofs.Common.{◌≤◌, ◌-◌, ◌∙◌, arith, ap, drop, length, length-drop, map, take}
 use Rattle.std.specs.List.{join_with_byte}
 use Rattle.std.proofs.lemmas.List.{take_all}
 use Rattle.wheeler.specs.Contents.{content, text_of}
