@@ -1,5 +1,5 @@
 -- The first item at which two lists differ, found by going over both.
-use Rattle.std.proofs.Common.{◌≡◌, ◌≢◌, ℕ, zero, suc, ◌<◌, ◌≤◌, Bool, true, false, if◌then◌else◌, Option, None, Some, List, [], ◌∷◌, length, get_or, min, refl, sym, ap, ◌∙◌, arith}
+use Rattle.std.proofs.Common.{◌≡◌, ◌≢◌, ℕ, zero, suc, ◌<◌, true, false, if◌then◌else◌, None, Some, List, [], ◌∷◌, length, get_or, min, refl, ap, ◌∙◌, arith}
 use Rattle.std.specs.Prelude.{option_map}
 use Rattle.hex_items.specs.declared.item.Item.{Item}
 use Rattle.source_check.specs.Checks.{first_other_item, same_item}

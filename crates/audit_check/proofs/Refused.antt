@@ -1,5 +1,5 @@
 -- A language's refusal is the check's answer.
-use Rattle.std.proofs.Common.{◌≡◌, ℕ, Option, None, Some, Result, Ok, Err, IsErr, IfOk, List, refl, sym, ap, ◌∙◌, subst}
+use Rattle.std.proofs.Common.{◌≡◌, ℕ, Option, Some, Result, Ok, Err, IsErr, IfOk, List, refl, sym, ap, ◌∙◌, subst}
 use Rattle.std.proofs.lemmas.Bool.{false≢true}
 use Rattle.ddc_base.specs.declared.byte_list.OutOfMemory.{OutOfMemory}
 use Rattle.hex_items.specs.Reading.{Reads}
@@ -13,8 +13,6 @@ use Rattle.m1_lang.specs.declared.refusal.M1Refusal.TheVariants as m1
 use Rattle.m1_lang.specs.Expansion.{Expands}
 use Rattle.source_check.specs.declared.cause.CheckCause.{CheckCause}
 use Rattle.source_check.specs.declared.cause.CheckCause.TheVariants as cause
-use Rattle.source_check.specs.declared.cause.HexCause.{HexCause}
-use Rattle.source_check.specs.declared.cause.M1Cause.{M1Cause}
 use Rattle.source_check.specs.Checks.{checked, hex_value, items_against, m1_value}
 use Rattle.audit_check.specs.Inside.Refusing.{RefusesHex, RefusesM1}
 

@@ -1,5 +1,5 @@
 -- No source comes to want of memory.
-use Rattle.std.proofs.Common.{◌≡◌, ◌≢◌, ℕ, ◌+◌, Bool, true, false, if◌then◌else◌, nat_lt, Option, None, Some, Result, Ok, Err, List, [], ◌∷◌, ◌++◌, length, is_some, not, refl, sym, ap, ◌∙◌, subst}
+use Rattle.std.proofs.Common.{◌≢◌, ℕ, ◌+◌, Bool, true, false, if◌then◌else◌, nat_lt, Option, None, Some, Result, Ok, Err, List, [], ◌∷◌, ◌++◌, length, is_some, not, subst}
 use Rattle.hex_items.specs.declared.item.Item.{Item}
 use Rattle.hex_items.specs.declared.item.Kind.{Kind}
 use Rattle.hex_items.specs.declared.reader.HexRefusal.{HexRefusal}
@@ -26,7 +26,7 @@ use Rattle.m1_words.specs.Words.{Word, Words, open_quote, words_of, word_list}
 use Rattle.m1_lang.specs.declared.refusal.M1Refusal.{M1Refusal}
 use Rattle.m1_lang.specs.declared.refusal.M1Refusal.TheVariants as m1
 use Rattle.m1_lang.specs.Definitions.{Cut, Defined, Defines, Part, Plain, defined_with, definitions, definitions_in, is_value, parts, plain_words, unless_open, value_in, with_defined}
-use Rattle.m1_lang.specs.Expansion.{counted_items, expansion_by, expansion_of, unless_refused, words_reading}
+use Rattle.m1_lang.specs.Expansion.{expansion_by, expansion_of, unless_refused, words_reading}
 
 -- a word's halt that is none for want of memory
 abbrev NotHalt : Halt → Type 0

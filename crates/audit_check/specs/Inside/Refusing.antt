@@ -1,5 +1,5 @@
 -- What a check answers to a language's refusal: its cause, and want of memory to want of memory.
-use Rattle.std.specs.Prelude.{◌≡◌, Option, Some, Result, Ok, Err, IsErr}
+use Rattle.std.specs.Prelude.{◌≡◌, Result, Ok, IsErr}
 use Rattle.ddc_base.specs.declared.byte_list.OutOfMemory.{OutOfMemory}
 use Rattle.hex_items.specs.declared.reader.HexRefusal.{HexRefusal}
 use Rattle.hex_items.specs.declared.reader.HexRefusal.TheVariants as hex

@@ -1,4 +1,4 @@
-use Rattle.std.proofs.Common.{◌≡◌, ℕ, ◌<◌, sym, ◌∙◌, arith}
+use Rattle.std.proofs.Common.{sym, ◌∙◌, arith}
 use Rattle.audit_check.proofs.Others.{other-at, other-end, other-none}
 use Rattle.audit_check.proofs.items.first_other_item.Goals as goal
 
