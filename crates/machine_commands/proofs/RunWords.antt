@@ -1,5 +1,5 @@
 -- A number of steps, from a word's decimal.
-use Rattle.std.proofs.Common.{◌≡◌, ℕ, ◌<◌, ◌≤◌, ◌^◌, Option, Some, None, List, refl, sym, ap, ◌∙◌, arith}
+use Rattle.std.proofs.Common.{◌≡◌, ℕ, ◌<◌, ◌≤◌, ◌^◌, Some, None, List, sym, ap, ◌∙◌, arith}
 use Rattle.std.proofs.lemmas.Bool.Decides.{nat_tests}
 use Rattle.ddc_base.specs.Decimals.{as_decimal}
 use Rattle.machine_commands.specs.RunProgram.{as_steps, within_steps}

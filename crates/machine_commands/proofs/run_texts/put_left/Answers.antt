@@ -1,5 +1,6 @@
 use Rattle.std.proofs.Common.{◌++◌, sym, refl, ap, ◌∙◌}
-use Rattle.machine_commands.proofs.LeftNames.{walk-start, walk-name, walk-step, walk-shorter, walk-whole, name_lines-left}
+use Rattle.mem_files.proofs.Walks.{walk-start, walk-name, walk-shorter}
+use Rattle.machine_commands.proofs.LeftNames.{walk-step, walk-whole, name_lines-left}
 use Rattle.machine_commands.proofs.run_texts.put_left.Goals as goal
 
 pub loop-name-init : goal.loop-name-init
