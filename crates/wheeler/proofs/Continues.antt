@@ -1,5 +1,5 @@
 -- Every position on the way has the bench's answer.
-use Rattle.std.proofs.Common.{◌≡◌, ℕ, zero, suc, ◌+◌, ◌-◌, ◌<◌, ◌≤◌, Bool, true, false, nat_lt, if◌then◌else◌, Option, None, Some, Result, Ok, Err, List, [], ◌∷◌, ◌++◌, length, drop, All, refl, sym, ap, ◌∙◌, arith, subst, inl, inr}
+use Rattle.std.proofs.Common.{◌≡◌, ℕ, zero, suc, ◌+◌, ◌-◌, ◌≤◌, Bool, true, false, nat_lt, if◌then◌else◌, Option, None, Some, Result, Ok, Err, List, [], ◌∷◌, ◌++◌, length, drop, All, refl, sym, ap, ◌∙◌, arith, subst, inl, inr}
 use Rattle.std.proofs.lemmas.Bool.{cases_lt}
 use Rattle.std.proofs.lemmas.List.{length-append, drop-drop}
 use Rattle.std.proofs.lemmas.List.Elements.{All-drop}
@@ -11,24 +11,20 @@ use Rattle.mem_files.specs.Limits.{most_total}
 use Rattle.guest_run.specs.Start.{Refusal, ArgsTooLong, BoxTooLarge, start_of, start_state, started}
 use Rattle.guest_run.specs.Setting.{Setting, files_size}
 use Rattle.guest_run.specs.Stack.{start_size}
-use Rattle.guest_run.specs.Run.{End, Next, Goes, Ends, after, end_at, first_end, next}
+use Rattle.guest_run.specs.Run.{End, Next, Goes, Ends, first_end, next}
 use Rattle.guest_run.proofs.Stepping.{next-counted}
 use Rattle.guest_run.proofs.Running.{after-none, after-on, found}
 use Rattle.guest_run.proofs.RunLaws.{first_end-sum}
-use Rattle.wheeler.specs.declared.cause.RunCause.TheVariants as run
 use Rattle.recipe.specs.declared.parts.Stage.{Stage}
 use Rattle.recipe.specs.declared.contents.Said.{Said}
 use Rattle.wheeler.specs.declared.answer.Finished.{Finished}
 use Rattle.wheeler.specs.declared.answer.Fault.{Fault}
-use Rattle.wheeler.specs.declared.answer.Fault.TheVariants.{Runs}
 use Rattle.wheeler.specs.declared.answer.Answer.{Answer}
-use Rattle.wheeler.specs.declared.answer.Answer.TheVariants.{Completes, Fails}
 use Rattle.wheeler.specs.Stages.{by_end, by_start, contents, ending, start_stage}
-use Rattle.wheeler.specs.Bench.{after_stage, bench, bench_from, report_of}
-use Rattle.wheeler.specs.Positions.{Position, Standing, On, Over, at, beginning, closed, continue, continue_among, enter, entered, finish, forward, onward, position, step, todo, went, moved}
+use Rattle.wheeler.specs.Bench.{after_stage, bench, bench_from}
+use Rattle.wheeler.specs.Positions.{Position, Standing, On, Over, at, beginning, closed, continue, continue_among, enter, entered, finish, forward, onward, position, step, todo}
 use Rattle.wheeler.proofs.Slices.{step-next, went-on, went-spent}
 use Rattle.wheeler.proofs.Here.{IsHere}
-use Rattle.wheeler.proofs.Forwards.{forward-sum}
 
 -- the first end, by the first step
 first_end-goes : (guest to : GuestState) (most : ℕ) → next guest ≡ Goes to → first_end guest (suc most) ≡ first_end to most

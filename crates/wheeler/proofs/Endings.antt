@@ -1,5 +1,5 @@
 -- A stage that is done keeps the rules of finished stages.
-use Rattle.std.proofs.Common.{◌≡◌, ℕ, zero, suc, ◌+◌, ◌<◌, ◌≤◌, ◌^◌, ◌==◌, ◌&&◌, Bool, true, false, T, IsTrue, if◌then◌else◌, nat_lt, Option, None, Some, Result, Ok, Err, List, [], ◌∷◌, ◌++◌, length, map, drop, get_or, refl, sym, ap, ◌∙◌, subst, arith, All}
+use Rattle.std.proofs.Common.{◌≡◌, ℕ, ◌+◌, ◌≤◌, ◌==◌, Bool, true, false, IsTrue, if◌then◌else◌, nat_lt, Option, None, Some, Result, Ok, Err, List, [], ◌∷◌, length, map, refl, sym, ap, ◌∙◌, arith}
 use Rattle.std.specs.List.{Contains}
 use Rattle.std.specs.Ordering.{is_lt}
 use Rattle.std.specs.FinMap.{is_sorted}
@@ -9,9 +9,8 @@ use Rattle.std.proofs.lemmas.List.{length-map}
 use Rattle.std.proofs.lemmas.List.Elements.{All-map, All-weaker}
 use Rattle.std.proofs.lemmas.Option.{same_Some}
 use Rattle.std.proofs.Math.ListN.{get_or-map}
-use Rattle.std.proofs.lemmas.List.Sums.{sum_by-append}
 use Rattle.mem_files.specs.Names.{bytes_cmp}
-use Rattle.mem_files.specs.Outputs.{IsContent, IsLeftFile, AreLeft, left, out, FirstStream, AtPath}
+use Rattle.mem_files.specs.Outputs.{IsLeftFile, left, out}
 use Rattle.mem_files.specs.Sound.{IsSound}
 use Rattle.mem_files.specs.World.{World}
 use Rattle.mem_files.proofs.Leftovers.{left-are, output-is, path-left, streams-are}
@@ -21,7 +20,6 @@ use Rattle.recipe.specs.declared.contents.Said.{Said}
 use Rattle.recipe.specs.declared.parts.Output.{Output}
 use Rattle.recipe.specs.declared.parts.Output.TheVariants.{Stream, File}
 use Rattle.recipe.specs.declared.parts.Stage.{Stage}
-use Rattle.report.specs.declared.types.LeftLine.{LeftLine}
 use Rattle.report.specs.Reports.{ascend}
 use Rattle.source_check.specs.declared.cause.CheckCause.{CheckCause}
 use Rattle.wheeler.specs.declared.answer.Fault.{Fault}
@@ -29,7 +27,7 @@ use Rattle.wheeler.specs.declared.answer.Fault.TheVariants.{Runs}
 use Rattle.wheeler.specs.declared.answer.Finished.{Finished}
 use Rattle.wheeler.specs.declared.cause.RunCause.TheVariants as run
 use Rattle.wheeler.specs.Contents.{check_of}
-use Rattle.wheeler.specs.Stages.{artefact_bytes, checked_by, contents, ending, exited_with, finished, left_line, made_by, mark_of, output_of}
+use Rattle.wheeler.specs.Stages.{artefact_bytes, checked_by, contents, ending, finished, left_line, made_by, mark_of, output_of}
 use Rattle.wheeler.specs.Valid.{HasMark, IsFinished, IsLeftLine}
 use Rattle.wheeler.proofs.Marks.{mark-small}
 

@@ -1,5 +1,5 @@
 -- With as many steps as the limits allow an audit is over.
-use Rattle.std.proofs.Common.{◌≡◌, ℕ, zero, suc, ◌+◌, ◌<◌, ◌≤◌, Option, Result, Ok, Err, List, [], ◌∷◌, ◌++◌, All, refl, sym, ap, ◌∙◌, arith, inl, inr}
+use Rattle.std.proofs.Common.{◌≡◌, ℕ, zero, suc, ◌+◌, ◌≤◌, Result, Ok, Err, List, [], ◌∷◌, ◌++◌, refl, ap, ◌∙◌, arith, inl, inr}
 use Rattle.std.proofs.lemmas.Bool.{cases_lt}
 use Rattle.guest_run.specs.State.{GuestState}
 use Rattle.guest_run.specs.Start.{Refusal}
@@ -9,17 +9,14 @@ use Rattle.recipe.specs.declared.parts.Stage.{Stage}
 use Rattle.recipe.specs.declared.contents.Said.{Said}
 use Rattle.wheeler.specs.declared.answer.Finished.{Finished}
 use Rattle.wheeler.specs.declared.answer.Fault.{Fault}
-use Rattle.wheeler.specs.declared.answer.Fault.TheVariants.{Runs}
 use Rattle.wheeler.specs.declared.answer.Answer.{Answer}
-use Rattle.wheeler.specs.declared.answer.Answer.TheVariants.{Completes, Fails}
 use Rattle.wheeler.specs.Stages.{contents, ending, start_stage}
-use Rattle.wheeler.specs.Bench.{bench}
-use Rattle.wheeler.specs.Positions.{Position, Standing, On, Over, at, beginning, closed, continue, enter, entered, finish, forward, onward, position, step, todo}
+use Rattle.wheeler.specs.Positions.{Position, Standing, On, Over, at, closed, enter, entered, forward, onward, step, todo}
 use Rattle.wheeler.specs.Valid.{limits}
 use Rattle.wheeler.proofs.Here.{IsHere}
 use Rattle.wheeler.proofs.Forwards.{forward-over, forward-sum}
 use Rattle.wheeler.proofs.Slices.{step-next, went-on, went-spent}
-use Rattle.wheeler.proofs.Continues.{AllMayStep, first_may, fresh, position-bench, todo-next}
+use Rattle.wheeler.proofs.Continues.{AllMayStep, first_may, fresh, todo-next}
 
 forward-one : (recipe : Said) (inputs : List (List ℕ)) (p : Position) → forward recipe inputs p 1 ≡ step recipe inputs p
 unfolding forward

@@ -1,11 +1,7 @@
 -- Laws of many steps of an audit.
 use Rattle.std.proofs.Common.{◌≡◌, ℕ, zero, suc, ◌+◌, List, refl, sym, ap, ◌∙◌, arith}
 use Rattle.recipe.specs.declared.contents.Said.{Said}
-use Rattle.wheeler.specs.declared.answer.Finished.{Finished}
-use Rattle.wheeler.specs.declared.answer.Fault.{Fault}
-use Rattle.wheeler.specs.declared.answer.Fault.TheVariants.{Runs}
 use Rattle.wheeler.specs.declared.answer.Answer.{Answer}
-use Rattle.wheeler.specs.declared.answer.Answer.TheVariants.{Completes, Fails}
 use Rattle.wheeler.specs.Positions.{Position, Standing, On, Over, forward, forward_from, onward, step}
 
 pub forward-sum : (recipe : Said) (inputs : List (List ℕ)) (p q : Position) (first more : ℕ)

@@ -1,5 +1,5 @@
 -- What names stand for keeps the limits of contents, and so every box is valid.
-use Rattle.std.proofs.Common.{◌≡◌, ℕ, zero, suc, ◌+◌, ◌<◌, ◌≤◌, ◌^◌, Bool, true, false, cond, Option, None, Some, Result, Ok, Err, List, [], ◌∷◌, ◌++◌, length, map, get_or, refl, sym, ap, ◌∙◌, subst, arith, All, inl, inr}
+use Rattle.std.proofs.Common.{◌≡◌, ℕ, ◌+◌, ◌<◌, ◌≤◌, Bool, true, false, cond, Option, None, Some, List, [], ◌∷◌, length, get_or, refl, sym, ◌∙◌, subst, arith, All, inl, inr}
 use Rattle.std.specs.List.{fold}
 use Rattle.std.specs.FinMap as fin
 use Rattle.std.specs.Cmp.Lexicographic.{nat_list_cmp_total}
@@ -7,10 +7,9 @@ use Rattle.std.specs.declared.cmp.Ordering.{Ordering}
 use Rattle.std.specs.declared.cmp.Ordering.TheVariants.{Less, Equal, Greater}
 use Rattle.std.proofs.lemmas.Bool.{cases_lt}
 use Rattle.std.proofs.lemmas.List.{get_or_past}
-use Rattle.std.proofs.lemmas.List.Elements.{All-nil, All-cons, All-head, All-tail, All-get_or, All-weaker, All-map}
+use Rattle.std.proofs.lemmas.List.Elements.{All-nil, All-cons, All-head, All-tail, All-get_or, All-weaker}
 use Rattle.std.specs.FinMap.Entries.{by_order}
 use Rattle.mem_files.proofs.Directory.{bytes_cmp-IsAntisymmetric}
-use Rattle.mem_files.specs.Limits.{most_content, most_names}
 use Rattle.mem_files.specs.Names.{bytes_cmp}
 use Rattle.mem_files.specs.Outputs.{IsContent}
 use Rattle.mem_files.specs.Sound.{AreBytes}
@@ -22,7 +21,7 @@ use Rattle.recipe.specs.declared.parts.Stage.{Stage}
 use Rattle.recipe.specs.declared.parts.StageFile.{StageFile}
 use Rattle.wheeler.proofs.Rules as kept
 use Rattle.recipe.specs.Lookups.{content_of}
-use Rattle.wheeler.specs.Contents.{Contents, box_of, bytes_at, bytes_named, content, with_file}
+use Rattle.wheeler.specs.Contents.{Contents, box_of, bytes_named, content, with_file}
 
 -- contents that keep their limits
 pub record AreContents (all : Contents) : Type 0 where

@@ -1,5 +1,5 @@
 -- The marks of contents.
-use Rattle.std.proofs.Common.{◌≡◌, ℕ, zero, suc, ◌+◌, ◌<◌, ◌≤◌, ◌^◌, ◌%◌, ◌/◌, List, [], ◌∷◌, length, refl, sym, ap, ◌∙◌, arith, All, get_or}
+use Rattle.std.proofs.Common.{ℕ, List, arith}
 use Rattle.mem_files.specs.Outputs.{IsContent}
 use Rattle.report.specs.declared.types.Mark.{Mark}
 use Rattle.report.specs.Reports.{IsMark}

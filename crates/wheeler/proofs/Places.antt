@@ -1,5 +1,5 @@
 -- A step keeps a position valid, or the audit is over.
-use Rattle.std.proofs.Common.{◌≡◌, ℕ, zero, suc, ◌+◌, ◌<◌, ◌≤◌, Bool, true, false, if◌then◌else◌, nat_lt, Option, None, Some, Result, Ok, Err, List, [], ◌∷◌, ◌++◌, length, map, drop, refl, sym, ap, ◌∙◌, subst, arith, All, inl, inr}
+use Rattle.std.proofs.Common.{◌≡◌, ℕ, zero, suc, ◌+◌, Bool, true, false, if◌then◌else◌, nat_lt, Result, Ok, Err, List, [], ◌∷◌, ◌++◌, length, map, drop, refl, sym, ap, ◌∙◌, subst, arith, All, inl, inr}
 use Rattle.std.proofs.lemmas.Bool.{cases_lt}
 use Rattle.std.proofs.lemmas.List.Elements.{All-cons, All-drop, All-map, All-nil}
 use Rattle.std.proofs.lemmas.List.Sums.{sum_by-append}
@@ -14,28 +14,26 @@ use Rattle.mem_files.specs.Outputs.{IsContent}
 use Rattle.mem_files.specs.World.{World}
 use Rattle.rv64_machine.specs.Hart.{Act, act}
 use Rattle.rv64_machine.specs.Hart as hart
-use Rattle.guest_run.specs.Run.{End, Exited, Next, Goes, Ends, step_of_act, step_of_call, call_arguments, call_number, next, outcome_of}
+use Rattle.guest_run.specs.Run.{End, Next, Goes, Ends, step_of_act, step_of_call, call_arguments, call_number, next, outcome_of}
 use Rattle.guest_run.specs.Setting.{Setting, files_size}
 use Rattle.guest_run.specs.Stack.{start_size}
 use Rattle.guest_run.specs.Start.{Refusal, ArgsTooLong, BoxTooLarge, start_of, start_state, started}
 use Rattle.guest_run.specs.State.{GuestState}
 use Rattle.guest_run.specs.Valid.{IsValid}
 use Rattle.guest_run.proofs.Running.{after-none, after-on}
-use Rattle.guest_run.proofs.Stepping.{next-counted}
 use Rattle.guest_run.proofs.StartLaw.{starts-valid}
 use Rattle.guest_run.proofs.Validity.{after-valid}
 use Rattle.recipe.specs.declared.contents.Said.{Said}
 use Rattle.recipe.specs.declared.parts.Stage.{Stage}
 use Rattle.wheeler.proofs.Rules as kept
-use Rattle.wheeler.specs.declared.answer.Answer.{Answer}
 use Rattle.wheeler.specs.declared.answer.Fault.{Fault}
 use Rattle.wheeler.specs.declared.answer.Finished.{Finished}
 use Rattle.wheeler.specs.Contents.{Contents, box_of, content}
 use Rattle.wheeler.specs.Stages.{artefact_bytes, contents, ending, finished, start_stage}
-use Rattle.wheeler.specs.Positions.{Position, Standing, On, Over, at, beginning, closed, enter, entered, forward, forward_from, moved, onward, step, todo, went}
+use Rattle.wheeler.specs.Positions.{Position, Standing, On, Over, beginning, closed, enter, entered, forward, forward_from, onward, step, todo}
 use Rattle.wheeler.specs.Valid.{AreDone, AreFinished, IsAt, IsFinished, IsInputs, IsPosition, IsStanding}
-use Rattle.wheeler.proofs.Continues.{fresh, todo-next}
-use Rattle.wheeler.proofs.Endings.{Ended, ended, finished-is}
+use Rattle.wheeler.proofs.Continues.{todo-next}
+use Rattle.wheeler.proofs.Endings.{ended, finished-is}
 use Rattle.wheeler.proofs.GivenBoxes.{AreContents, box-is, content-is}
 use Rattle.wheeler.proofs.WellFormed.{report-is}
 use Rattle.wheeler.proofs.Slices.{step-next, went-on, went-spent}

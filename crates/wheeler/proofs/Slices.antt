@@ -1,22 +1,19 @@
 -- What a run of the present guest means for the position.
-use Rattle.std.proofs.Common.{◌≡◌, ℕ, zero, suc, ◌+◌, ◌-◌, ◌<◌, ◌≤◌, Bool, true, false, nat_lt, if◌then◌else◌, Option, None, Some, List, ◌∷◌, refl, sym, ap, ◌∙◌, arith, subst, length}
+use Rattle.std.proofs.Common.{◌≡◌, ℕ, zero, suc, ◌+◌, ◌-◌, ◌<◌, ◌≤◌, if◌then◌else◌, Some, List, ◌∷◌, sym, ap, ◌∙◌, arith, length}
 use Rattle.std.proofs.lemmas.Option.{same_Some}
-use Rattle.std.proofs.lemmas.Bool.{lt-ltb, ltb-false, le-ltb}
+use Rattle.std.proofs.lemmas.Bool.{lt-ltb, le-ltb}
 use Rattle.guest_run.specs.State.{GuestState}
 use Rattle.guest_run.specs.Run.{End, Next, Goes, Ends, after, end_at, first_end, next}
-use Rattle.guest_run.proofs.Stepping.{next-counted}
 use Rattle.guest_run.proofs.Running.{after-none, after-counted, before}
 use Rattle.guest_run.proofs.RunLaws.{ends_after, first_end-at}
 use Rattle.wheeler.specs.declared.cause.RunCause.TheVariants as run
 use Rattle.recipe.specs.declared.parts.Stage.{Stage}
 use Rattle.recipe.specs.declared.contents.Said.{Said}
 use Rattle.wheeler.specs.declared.answer.Finished.{Finished}
-use Rattle.wheeler.specs.declared.answer.Fault.{Fault}
 use Rattle.wheeler.specs.declared.answer.Fault.TheVariants.{Runs}
-use Rattle.wheeler.specs.declared.answer.Answer.{Answer}
-use Rattle.wheeler.specs.declared.answer.Answer.TheVariants.{Completes, Fails}
+use Rattle.wheeler.specs.declared.answer.Answer.TheVariants.{Fails}
 use Rattle.wheeler.specs.Stages.{ending}
-use Rattle.wheeler.specs.Positions.{Position, Standing, On, Over, at, closed, forward, onward, step, step_among, moved, todo, went}
+use Rattle.wheeler.specs.Positions.{Position, On, Over, at, closed, forward, onward, step, step_among, moved, todo, went}
 
 -- a step, by the guest's
 pub step-next : (recipe : Said) (inputs : List (List ℕ)) (p : Position) (stage : Stage) (stages : List Stage) (n : Next)

@@ -1,5 +1,5 @@
 -- The report of all stages is well formed.
-use Rattle.std.proofs.Common.{◌≡◌, ℕ, zero, suc, ◌+◌, ◌-◌, ◌<◌, ◌≤◌, ◌^◌, ◌==◌, ◌⊎◌, Bool, true, false, if◌then◌else◌, Option, None, Some, List, [], ◌∷◌, length, drop, refl, sym, ap, ◌∙◌, subst, arith, All, inl, inr}
+use Rattle.std.proofs.Common.{◌≡◌, ℕ, suc, ◌<◌, ◌≤◌, ◌==◌, ◌⊎◌, Bool, true, false, if◌then◌else◌, Option, None, Some, List, [], ◌∷◌, length, drop, refl, ap, arith, All, inl, inr}
 use Rattle.std.specs.Prelude.{option_map, nat_le, not, ◌&&◌, IsTrue}
 use Rattle.std.specs.List.{list_any}
 use Rattle.std.proofs.lemmas.Bool.{and_parts, leb-true}
@@ -9,7 +9,6 @@ use Rattle.mem_files.specs.Names.{begins_with_dot_slash, is_file_name, is_stripp
 use Rattle.std.proofs.lemmas.List.{length-drop}
 use Rattle.std.proofs.lemmas.List.Elements.{All-cons, All-head, All-nil, All-tail, All-weaker}
 use Rattle.ddc_base.specs.Difference.{first_difference}
-use Rattle.ddc_base.specs.Names.{IsName}
 use Rattle.mem_files.specs.Outputs.{IsContent}
 use Rattle.recipe.specs.declared.contents.Said.{Said}
 use Rattle.recipe.specs.declared.parts.Input.{Input}
@@ -18,7 +17,7 @@ use Rattle.wheeler.proofs.Rules as kept
 use Rattle.report.specs.declared.types.LeftLine.{LeftLine}
 use Rattle.report.specs.Reports.{IsCompared, IsInput, IsLeft, IsReport, IsStage}
 use Rattle.wheeler.specs.declared.answer.Finished.{Finished}
-use Rattle.wheeler.specs.Contents.{Contents, content}
+use Rattle.wheeler.specs.Contents.{content}
 use Rattle.wheeler.specs.Stages.{contents}
 use Rattle.wheeler.specs.Bench.{compared, compared_at, input_lines, report_of, stage_line, stage_lines}
 use Rattle.wheeler.specs.Positions.{todo}

@@ -1,7 +1,6 @@
 -- The bench: the stages in order, and the comparison; and the report of it. docs/reference/audit.md says the same for people.
 use Rattle.std.specs.Prelude.{ℕ, suc, Option, None, Some, Result, Ok, Err, List, [], ◌∷◌, ◌++◌, length}
 use Rattle.ddc_base.specs.Difference.{first_difference}
-use Rattle.ddc_base.specs.declared.digests.Digest.{Digest}
 use Rattle.recipe.specs.declared.contents.Said.{Said}
 use Rattle.recipe.specs.declared.parts.Input.{Input}
 use Rattle.recipe.specs.declared.parts.Stage.{Stage}

@@ -1,8 +1,7 @@
 -- What a recipe's names stand for: contents by name, what a stage's program is given, and the text of a source.
 -- docs/reference/audit.md says the same for people.
-use Rattle.std.specs.Prelude.{ℕ, Option, Some, None, unwrap_or, option_and_then, List, [], map, get_or}
+use Rattle.std.specs.Prelude.{ℕ, Option, Some, None, option_and_then, List, [], map, get_or}
 use Rattle.std.specs.List.{fold}
-use Rattle.std.specs.Option.{option_map}
 use Rattle.std.specs.FinMap as files
 use Rattle.languages.specs.declared.Language.{Language}
 use Rattle.guest_run.specs.Setting.{FileMap, Setting}

@@ -1,7 +1,6 @@
 -- One stage: the start of its program, its run, and what its end comes to. docs/reference/audit.md says the same for people.
-use Rattle.std.specs.Prelude.{ℕ, ◌+◌, ◌==◌, Bool, true, false, if◌then◌else◌, nat_lt, Option, None, Some, Result, Ok, Err, List, [], ◌∷◌, length, map, sum_by}
+use Rattle.std.specs.Prelude.{ℕ, ◌+◌, ◌==◌, if◌then◌else◌, nat_lt, Option, None, Some, Result, Ok, Err, List, length, map, sum_by}
 use Rattle.sha2.specs.Sha256.{sha256}
-use Rattle.ddc_base.specs.declared.digests.Digest.{Digest}
 use Rattle.mem_files.specs.World.{World}
 use Rattle.mem_files.specs.Outputs.{FirstStream, AtPath, left, out}
 use Rattle.mem_files.specs.Outputs as outputs
@@ -18,7 +17,6 @@ use Rattle.source_check.specs.declared.cause.CheckCause.{CheckCause}
 use Rattle.wheeler.specs.declared.answer.Fault.{Fault}
 use Rattle.wheeler.specs.declared.answer.Fault.TheVariants.{Runs, Checks}
 use Rattle.wheeler.specs.declared.answer.Finished.{Finished}
-use Rattle.wheeler.specs.declared.cause.RunCause.{RunCause}
 use Rattle.wheeler.specs.declared.cause.RunCause.TheVariants as run
 use Rattle.wheeler.specs.declared.cause.StartCause.{StartCause}
 use Rattle.wheeler.specs.declared.cause.StartCause.TheVariants as start
