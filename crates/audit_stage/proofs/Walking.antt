@@ -1,11 +1,11 @@
 -- The lines of what is left, taken name by name.
-use Rattle.std.proofs.Common.{◌≡◌, ℕ, ◌<◌, Option, Some, None, List, [], ◌∷◌, ◌++◌, length, map, filter, find, unwrap_or, append_assoc, refl, sym, ap, ◌∙◌}
+use Rattle.std.proofs.Common.{◌≡◌, ℕ, Option, Some, None, List, [], ◌∷◌, ◌++◌, map, filter, find, unwrap_or, append_assoc, refl, sym, ap, ◌∙◌}
 use Rattle.std.specs.FinMap as finite
 use Rattle.std.proofs.lemmas.List.{append-nil}
 use Rattle.mem_files.specs.Calls.{content_at, is_after}
 use Rattle.mem_files.specs.Outputs.{left}
 use Rattle.mem_files.specs.World.{World}
-use Rattle.mem_files.proofs.Walks.{named_at, names-left, names-rise, walk-end, walk-start, walk-turn}
+use Rattle.mem_files.proofs.Walks.{named_at, names-left, names-rise, walk-end, walk-turn}
 use Rattle.report.specs.declared.types.LeftLine.{LeftLine}
 use Rattle.wheeler.specs.Stages.{left_line}
 

@@ -1,8 +1,7 @@
-use Rattle.std.proofs.Common.{◌≡◌, ◌<◌, ◌≤◌, IsTrue, length, refl, sym, ap, ◌∙◌, subst, arith, take_all}
+use Rattle.std.proofs.Common.{IsTrue, length, sym, ap, ◌∙◌, subst, arith, take_all}
 use Rattle.std.specs.List.{fold}
 use Rattle.std.specs.FinMap as fin
-use Rattle.mem_files.specs.Names.{stripped}
-use Rattle.guest_run.specs.Setting.{IsText, place_refusal}
+use Rattle.guest_run.specs.Setting.{IsText}
 use Rattle.recipe_text.specs.Reading.{is_word}
 use Rattle.recipe.specs.Kept as kept
 use Rattle.wheeler.specs.Contents.{box_of, with_file}

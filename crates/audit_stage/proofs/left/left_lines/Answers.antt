@@ -1,4 +1,4 @@
-use Rattle.std.proofs.Common.{◌++◌, map, sym, refl, ap, ◌∙◌}
+use Rattle.std.proofs.Common.{map, sym, ap}
 use Rattle.std.specs.FinMap as finite
 use Rattle.mem_files.proofs.Walks.{walk-start, walk-name, walk-shorter}
 use Rattle.audit_stage.proofs.Walking.{line_at, lines-step, lines-whole}

@@ -1,4 +1,4 @@
-use Rattle.std.proofs.Common.{◌≡◌, ◌≤◌, arith}
+use Rattle.std.proofs.Common.{arith}
 use Rattle.audit_stage.proofs.Lines.{inputs-made}
 use Rattle.audit_stage.proofs.reporting.input_lines.Goals as goal
 

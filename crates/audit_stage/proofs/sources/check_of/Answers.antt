@@ -1,4 +1,4 @@
-use Rattle.std.proofs.Common.{◌≡◌, sym, ap, ◌∙◌}
+use Rattle.std.proofs.Common.{sym}
 use Rattle.audit_stage.proofs.Placing.{check-based}
 use Rattle.audit_stage.proofs.sources.check_of.Goals as goal
 

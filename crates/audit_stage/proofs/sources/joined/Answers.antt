@@ -1,4 +1,4 @@
-use Rattle.std.proofs.Common.{◌≡◌, ◌<◌, ◌≤◌, ◌++◌, [], ◌∷◌, sym, ap, ◌∙◌, arith}
+use Rattle.std.proofs.Common.{◌++◌, [], ◌∷◌, sym, ap, ◌∙◌, arith}
 use Rattle.wheeler.specs.Contents.{content}
 use Rattle.wheeler.specs.Stages.{contents}
 use Rattle.audit_stage.proofs.Joining.{joined-first, joined-more}
