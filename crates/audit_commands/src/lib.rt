@@ -6,5 +6,6 @@
 pub mod audit;
 mod causes;
 mod inputs;
+pub mod laws;
 pub mod show;
 pub mod texts;
