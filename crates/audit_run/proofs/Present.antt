@@ -1,16 +1,13 @@
 -- The present stage is the recipe's at the number of stages that are done.
-use Rattle.std.proofs.Common.{◌≡◌, ℕ, zero, suc, ◌+◌, ◌-◌, ◌<◌, ◌≤◌, ◌^◌, Option, None, Some, List, [], ◌∷◌, ◌++◌, length, drop, take, get_or, refl, sym, ap, ◌∙◌, subst, arith, All}
+use Rattle.std.proofs.Common.{◌≡◌, ℕ, zero, suc, ◌+◌, ◌<◌, ◌≤◌, None, Some, List, [], ◌∷◌, length, drop, take, get_or, refl, sym, ap, ◌∙◌, subst, arith}
 use Rattle.std.specs.Prelude.{slice_get, nat_lt as ltb, true}
 use Rattle.std.proofs.lemmas.Bool.{ltb-true}
-use Rattle.std.proofs.lemmas.List.{length-drop, length-append}
 use Rattle.std.proofs.lemmas.Option.{none-some, same_Some, slice_get-get_or}
-use Rattle.mem_files.specs.Outputs.{IsContent}
-use Rattle.guest_run.specs.State.{GuestState}
 use Rattle.recipe.specs.declared.contents.Said.{Said}
 use Rattle.recipe.specs.declared.parts.Stage.{Stage}
 use Rattle.recipe.specs.Kept as kept
 use Rattle.wheeler.specs.declared.answer.Finished.{Finished}
-use Rattle.wheeler.specs.Positions.{Position, Standing, at, forward, todo}
+use Rattle.wheeler.specs.Positions.{Position, Standing, forward, todo}
 use Rattle.wheeler.specs.Valid.{AreDone, AreFinished, IsAt, IsInputs, IsPosition, IsStanding}
 use Rattle.wheeler.proofs.Places.{all-made, forward-standing}
 use Rattle.wheeler.proofs.Rules.{rules}

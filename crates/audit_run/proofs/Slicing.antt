@@ -1,10 +1,10 @@
 -- What a slice of a stage's run means.
-use Rattle.std.proofs.Common.{◌≡◌, ℕ, zero, suc, ◌+◌, ◌-◌, ◌<◌, ◌≤◌, ◌==◌, Bool, true, false, if◌then◌else◌, Option, None, Some, Result, Ok, Err, List, ◌∷◌, length, IsTrue, refl, sym, ap, ◌∙◌, arith, subst}
+use Rattle.std.proofs.Common.{◌≡◌, ℕ, zero, suc, ◌+◌, ◌-◌, ◌<◌, ◌≤◌, true, Some, Result, Ok, Err, List, IsTrue, refl, sym, ap, ◌∙◌, arith, subst}
 use Rattle.std.proofs.lemmas.Bool.{false≢true}
 use Rattle.ddc_base.specs.declared.byte_list.OutOfMemory.{OutOfMemory}
 use Rattle.guest_run.specs.State.{GuestState}
 use Rattle.guest_run.specs.declared.run.RunEnd.TheVariants as answer
-use Rattle.guest_run.specs.Run.{End, Exited, Next, Goes, Ends, StepTakesMemory, after, first_end, goes, next, Runs as RunsBy, steps_between}
+use Rattle.guest_run.specs.Run.{End, Exited, Next, Goes, Ends, StepTakesMemory, first_end, goes, next, Runs as RunsBy, steps_between}
 use Rattle.guest_run.proofs.Running.{after-counted}
 use Rattle.recipe.specs.declared.contents.Said.{Said}
 use Rattle.recipe.specs.declared.parts.Stage.{Stage}
@@ -21,9 +21,8 @@ use Rattle.wheeler.proofs.Places.{done-more}
 use Rattle.wheeler.proofs.Rules.{rules}
 use Rattle.wheeler.proofs.Slices.{end-place, slice-end, slice-on, slice-spent}
 use Rattle.audit_stage.specs.Makes.{Makes}
-use Rattle.audit_run.specs.declared.place.Moved.{Moved}
 use Rattle.audit_run.specs.declared.place.Moved.TheVariants as moved
-use Rattle.audit_run.specs.Advances.{StopsAt, Wants, WantsBy}
+use Rattle.audit_run.specs.Advances.{Wants, WantsBy}
 use Rattle.audit_run.specs.Inside.Parts.{Slices}
 use Rattle.audit_run.proofs.Present.{same-stage, stays}
 

@@ -1,5 +1,5 @@
 -- Stretches in a row, and where they leave an audit.
-use Rattle.std.proofs.Common.{◌≡◌, ℕ, ◌+◌, ◌-◌, ◌<◌, ◌≤◌, Result, Ok, Err, List, [], ◌∷◌, ◌++◌, length, refl, sym, ap, ◌∙◌, arith, subst}
+use Rattle.std.proofs.Common.{◌≡◌, ℕ, ◌+◌, ◌-◌, ◌≤◌, Result, Ok, List, [], refl, sym, ap, ◌∙◌, arith, subst}
 use Rattle.guest_run.specs.State.{GuestState}
 use Rattle.recipe.specs.declared.contents.Said.{Said}
 use Rattle.recipe.specs.Kept as kept

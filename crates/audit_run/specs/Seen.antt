@@ -11,10 +11,10 @@ use Rattle.report.specs.declared.types.Report.{Report}
 use Rattle.wheeler.specs.contracts.answer.Answer as answers
 use Rattle.wheeler.specs.contracts.answer.Finished as finished
 use Rattle.wheeler.specs.declared.answer.Answer.{Answer}
-use Rattle.wheeler.specs.declared.answer.Answer.TheVariants.{Completes, Fails}
+use Rattle.wheeler.specs.declared.answer.Answer.TheVariants.{Completes}
 use Rattle.wheeler.specs.declared.answer.Finished.{Finished}
 use Rattle.wheeler.specs.Contents.{Contents, box_of, program_of}
-use Rattle.wheeler.specs.Positions.{Position, Standing, On, Over, at, beginning, todo}
+use Rattle.wheeler.specs.Positions.{Standing, On, Over, at, beginning, todo}
 use Rattle.wheeler.specs.Stages.{contents}
 
 -- a recipe, its inputs, and where the audit stands; None: no advance was made

@@ -1,15 +1,12 @@
 -- Where the parts of an audit stand.
-use Rattle.std.specs.Prelude.{◌≡◌, ◌<◌, ◌≤◌, ◌+◌, ◌-◌, ℕ, suc, Option, None, Some, Result, Ok, Err, List, [], ◌∷◌, ◌++◌, length, drop, slice_get}
+use Rattle.std.specs.Prelude.{◌≡◌, ◌≤◌, ◌+◌, ◌-◌, ℕ, Option, None, Some, Result, Ok, Err, List, [], ◌∷◌, ◌++◌, length, drop}
 use Rattle.ddc_base.specs.declared.byte_list.OutOfMemory.{OutOfMemory}
 use Rattle.guest_run.specs.State.{GuestState}
 use Rattle.recipe.specs.declared.contents.Said.{Said}
 use Rattle.recipe.specs.declared.parts.Stage.{Stage}
-use Rattle.wheeler.specs.declared.answer.Answer.{Answer}
-use Rattle.wheeler.specs.declared.answer.Answer.TheVariants.{Completes, Fails}
-use Rattle.wheeler.specs.declared.answer.Fault.{Fault}
 use Rattle.wheeler.specs.declared.answer.Finished.{Finished}
-use Rattle.wheeler.specs.Positions.{Position, Standing, On, Over, at, beginning, closed, forward, forward_from, todo}
-use Rattle.wheeler.specs.Valid.{AreDone, IsAt, IsInputs, IsStanding}
+use Rattle.wheeler.specs.Positions.{Standing, On, Over, at, beginning, closed, forward, forward_from}
+use Rattle.wheeler.specs.Valid.{AreDone, IsInputs, IsStanding}
 use Rattle.audit_run.specs.declared.place.Place.{Place}
 use Rattle.audit_run.specs.declared.place.Place.TheVariants as place
 use Rattle.audit_run.specs.declared.place.Entry.{Entry}

@@ -1,4 +1,4 @@
-use Rattle.std.proofs.Common.{◌≡◌, subst}
+use Rattle.std.proofs.Common.{subst}
 use Rattle.wheeler.specs.Valid.{IsStanding}
 use Rattle.audit_run.specs.Inside.Parts.{entry_standing}
 use Rattle.audit_run.proofs.Stretching.{entry-stands, ready-done}

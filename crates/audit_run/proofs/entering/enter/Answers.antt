@@ -1,4 +1,4 @@
-use Rattle.std.proofs.Common.{◌≡◌, length, ◌∙◌}
+use Rattle.std.proofs.Common.{length, ◌∙◌}
 use Rattle.audit_run.proofs.Present.{found-rules, made}
 use Rattle.audit_run.proofs.entering.enter.Goals as goal
 

@@ -1,4 +1,4 @@
-use Rattle.std.proofs.Common.{◌≡◌, ◌+◌, ◌-◌, ◌<◌, ◌≤◌, ℕ, Some, Ok, Err, arith, refl, sym, ap, ◌∙◌, subst}
+use Rattle.std.proofs.Common.{◌+◌, ◌-◌, Err, arith, ap, ◌∙◌, subst}
 use Rattle.guest_run.specs.Run.{Exited, Trapped, UnknownCall}
 use Rattle.wheeler.specs.declared.answer.Fault.TheVariants.{Runs}
 use Rattle.wheeler.specs.declared.cause.RunCause.TheVariants as run

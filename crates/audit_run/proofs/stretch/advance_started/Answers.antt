@@ -1,4 +1,4 @@
-use Rattle.std.proofs.Common.{◌≡◌, ◌+◌, ◌-◌, ◌<◌, ◌≤◌, ℕ, arith, refl, sym, ap, ◌∙◌}
+use Rattle.std.proofs.Common.{◌-◌, arith, sym, ap, ◌∙◌}
 use Rattle.wheeler.specs.Positions.{forward_from}
 use Rattle.wheeler.proofs.Forwards.{forward_from-none, forward_from-sum}
 use Rattle.audit_run.proofs.Stretching.{stops-later}

@@ -1,4 +1,4 @@
-use Rattle.std.proofs.Common.{◌≡◌, ◌+◌, ◌-◌, ◌≤◌}
+use Rattle.std.proofs.Common.{◌≡◌, ◌-◌, ◌≤◌}
 use Rattle.wheeler.specs.Positions.{forward_from}
 use Rattle.audit_run.specs.Inside.Parts.{IsPlace, IsStarted, stands}
 use Rattle.audit_run.proofs.stretch.advance_started.Given as goal

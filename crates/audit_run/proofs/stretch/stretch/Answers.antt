@@ -1,4 +1,3 @@
-use Rattle.std.proofs.Common.{sym, ap, ◌∙◌}
 use Rattle.audit_run.proofs.Stretching.{closed-stands, closing-stands, closing-stops, goes-stands, out-stands}
 use Rattle.audit_run.proofs.stretch.stretch.Goals as goal
 
