@@ -8,7 +8,7 @@ use Rattle.std.proofs.lemmas.List.{length-map}
 use Rattle.ddc_base.specs.declared.outside.Loaded.TheVariants.{Bytes, TooLong}
 use Rattle.ddc_base.specs.Outside.{Files, loaded, loaded_of}
 use Rattle.recipe_text.specs.declared.refusal.RecipeRefusal.{RecipeRefusal as Refusal}
-use Rattle.recipe_text.specs.Reading.{◌>>◌, ◌>>=◌}
+use Rattle.recipe_text.specs.Reading.{◌>>◌}
 use Rattle.recipe_text.proofs.Accepted.{bound}
 use Rattle.recipe.specs.Kept.{IsRecipe}
 use Rattle.recipe.specs.Reading.{first_walk, recipe_of}
@@ -22,18 +22,15 @@ use Rattle.report.specs.Reports.{IsReport, report_text}
 use Rattle.report.proofs.Lengths.{short}
 use Rattle.report.proofs.Readings.{read_text}
 use Rattle.wheeler.specs.Bench.{bench}
-use Rattle.wheeler.specs.Valid.{IsInputs}
 use Rattle.wheeler.specs.declared.answer.Answer.{Answer}
 use Rattle.wheeler.specs.declared.answer.Answer.TheVariants.{Completes, Fails}
-use Rattle.wheeler.specs.declared.answer.Fault.{Fault}
 use Rattle.wheeler.specs.declared.answer.Fault.TheVariants.{Runs, Checks}
 use Rattle.wheeler.proofs.Closing.{bench-report}
 use Rattle.wheeler.proofs.Rules.{rules}
-use Rattle.verifier.specs.Faults.{first_fault}
 use Rattle.verifier.proofs.OneReport.{none-fault}
 use Rattle.command_plan.specs.Plan.{Plan, Outcome, needs, outcome}
 use Rattle.command_plan.specs.Words.{are_two_files, is_file_word, usage}
-use Rattle.audit_commands.specs.Audit.{audit_files, audit_recipe, audited, compared_status, completed, is_input, needs_inputs, paths, with_recipe}
+use Rattle.audit_commands.specs.Audit.{audit_files, audit_recipe, audited, completed, is_input, needs_inputs, paths, with_recipe}
 use Rattle.verify_command.specs.Verify.{judged, verified, verify_files, verify_recipe, verify_report, with_report}
 use Rattle.ddc_app.specs.Accepting.{HoldBytes, audit, is_compared, verify}
 use Rattle.ddc_app.proofs.Loads.{AreHeld, as_many, are_contents, follow_all, follows, found, found_all, found_again, other_held, set_held}

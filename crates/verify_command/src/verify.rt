@@ -85,12 +85,7 @@ fn verify_report<S: Shelf>(
 }
 
 /// Replays the report, and says what it comes to.
-fn answer(
-    alloc: Global,
-    recipe: &Recipe,
-    inputs: &Inputs,
-    report: &Report,
-) -> Result<Answer, Stop>
+fn answer(alloc: Global, recipe: &Recipe, inputs: &Inputs, report: &Report) -> Result<Answer, Stop>
     requires { IsInputs recipe.now inputs.now }
     ensures { Says (verified recipe.now inputs.now report.now) result }
 {
