@@ -5,7 +5,7 @@
 
 pub mod audit;
 mod causes;
-mod inputs;
+pub mod inputs;
 pub mod laws;
 pub mod show;
 pub mod texts;
