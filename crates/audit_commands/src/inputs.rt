@@ -25,7 +25,7 @@ const RECIPE_LIMIT: u64 = 1_048_576;
 const INPUTS_LIMIT: u64 = 1_073_741_824;
 
 /// Fetches a recipe and reads it; `file` is to be no input's path.
-pub(crate) fn fetch_recipe<S: Shelf>(
+pub fn fetch_recipe<S: Shelf>(
     alloc: Global,
     shelf: &mut S,
     recipe: &str,
@@ -87,7 +87,7 @@ fn refused(alloc: Global, refusal: RecipeRefusal, file: &str) -> Result<Recipe, 
 }
 
 /// Fetches the inputs of a recipe, in order.
-pub(crate) fn fetch_inputs<S: Shelf>(
+pub fn fetch_inputs<S: Shelf>(
     alloc: Global,
     shelf: &mut S,
     recipe: &Recipe,

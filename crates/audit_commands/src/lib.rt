@@ -5,6 +5,6 @@
 
 pub mod audit;
 mod causes;
-mod inputs;
+pub mod inputs;
 pub mod show;
 pub mod texts;

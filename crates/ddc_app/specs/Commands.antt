@@ -8,6 +8,7 @@ use Rattle.language_commands.specs.Asm.{asm_plan}
 use Rattle.language_commands.specs.Hex0.{hex0_plan}
 use Rattle.machine_commands.specs.List.{list_plan}
 use Rattle.machine_commands.specs.RunProgram.{run_plan}
+use Rattle.verify_command.specs.Verify.{verify_plan}
 
 -- what a command line does
 abbrev pub plan_of : List (List ℕ) → Plan
@@ -19,4 +20,5 @@ plan_of (command ∷ words) =
     else (if bytes_eq command (codes "run") then run_plan words
     else (if bytes_eq command (codes "audit") then audit_plan words
     else (if bytes_eq command (codes "show") then show_plan words
-    else usage)))))
+    else (if bytes_eq command (codes "verify") then verify_plan words
+    else usage))))))

@@ -1,3 +1,4 @@
 pub mod Commands
 pub mod Run
 pub mod Concluding
+pub mod Accepting

@@ -1,6 +1,7 @@
 //! The top call: everything that the program ddc does.
 #![tactic(auto)]
 
+pub mod laws;
 mod top_call;
 
 pub use command_plan::Status;

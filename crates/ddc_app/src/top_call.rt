@@ -12,6 +12,7 @@ use ddc_base::{PutFail, Shelf, Sink};
 use language_commands::{asm, hex0};
 use machine_commands::{list, run};
 use std::alloc::Global;
+use verify_command::verify;
 
 /// Everything that the program does: it takes the words of the command line, without the program's own name, and answers the
 /// status that the program ends with. docs/reference/command-line.md has the commands and the statuses.
@@ -62,6 +63,7 @@ fn perform<S: Shelf>(alloc: Global, words: &[&str], shelf: &mut S) -> Result<Ans
         "run" => run::perform(alloc, words, shelf),
         "audit" => audit::perform(alloc, words, shelf),
         "show" => show::perform(alloc, words, shelf),
+        "verify" => verify::perform(alloc, words, shelf),
         _ => usage(alloc),
     }
 }

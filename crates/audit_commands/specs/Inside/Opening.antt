@@ -20,3 +20,8 @@ OpensBy file reading (Err ending) = (next : Said → Plan) → IsEnding (with_re
 -- a recipe was read, and the file is none of its inputs; or the command is ended
 pub record Opens (file : List ℕ) (reading : Result Said Refusal) (result : Result Said Stop) : Type 0 where
   pub by_result : OpensBy file reading result
+
+-- what follows a load is what follows this value, whatever that is, or ends the command
+abbrev pub LeadsTo : {A : Type 0} → ((A → Plan) → Plan) → Result A Stop → Type 0
+LeadsTo {A} plan (Ok value) = (next : A → Plan) → plan next ≡ next value
+LeadsTo {A} plan (Err ending) = (next : A → Plan) → IsEnding (plan next) ending

@@ -1,0 +1,129 @@
+-- What a plan's loads find, and find again after another name was set.
+use Rattle.std.proofs.Common.{◌≡◌, ◌≢◌, ℕ, ◌-◌, ◌≤◌, ◌||◌, Bool, true, false, cond, IsTrue, Option, Some, None, List, [], ◌∷◌, length, map, min, nat_le, le_trans, refl, ap, ◌∙◌, subst, arith}
+use Rattle.std.specs.List.{list_any}
+use Rattle.std.specs.Prelude.{All, bytes_eq}
+use Rattle.std.specs.Cmp.Lexicographic.{nat_list_cmp_total}
+use Rattle.std.specs.FinMap as finite
+use Rattle.std.proofs.Math.Nat.{min-le_left}
+use Rattle.std.proofs.lemmas.Bool.{leb-true}
+use Rattle.std.proofs.lemmas.List.Elements.{All-cons, All-nil}
+use Rattle.std.proofs.lemmas.Map.Text.{is_eq-slice_cmp}
+use Rattle.std.proofs.lemmas.Slice.Eq.{bytes_eq-Decides}
+use Rattle.ddc_base.specs.declared.outside.Loaded.{Loaded}
+use Rattle.ddc_base.specs.declared.outside.Loaded.TheVariants.{Bytes, Absent, TooLong}
+use Rattle.ddc_base.specs.Outside.{Files, loaded, loaded_of}
+use Rattle.ddc_base.proofs.StoredFiles.{others-insert}
+use Rattle.mem_files.specs.Outputs.{IsContent}
+use Rattle.command_plan.specs.declared.status.Status.TheVariants.{FileRefused}
+use Rattle.command_plan.specs.Plan.{Plan, Outcome, needs, needs_all, follow, outcome}
+use Rattle.ddc_app.specs.Accepting.{HoldBytes, is_compared}
+
+-- ---- one load
+
+-- what a plan comes to that needs what is held is what it goes on to
+pub follows : (name : List ℕ) (limit : ℕ) (next : List ℕ → Plan) (files : Files) (content : List ℕ) → loaded files name limit ≡ Bytes content
+    → outcome (needs name limit next) files ≡ outcome (next content) files
+follows name limit next files content held =
+    ap (λ l. follow l (λ c. outcome (next c) files) (λ text. record { status = FileRefused; text = text; files = files }) name) held
+
+-- a load after which a plan comes to a comparison was answered
+pub record Found (name : List ℕ) (limit : ℕ) (files : Files) : Type 0 where
+  pub content : List ℕ
+  pub held : loaded files name limit ≡ Bytes content
+
+pub found : (name : List ℕ) (limit : ℕ) (next : List ℕ → Plan) (files : Files) → IsTrue (is_compared (outcome (needs name limit next) files).status)
+    → Found name limit files
+found name limit next files compared = by (loaded files name limit) refl compared where
+  by : (l : Loaded) → loaded files name limit ≡ l
+      → IsTrue (is_compared (follow l (λ c. outcome (next c) files) (λ text. record { status = FileRefused; text = text; files = files }) name).status)
+      → Found name limit files
+  by (Bytes content) is compared = record { content = content; held = is }
+  by Absent is compared = absurd cc
+  by TooLong is compared = absurd cc
+
+-- what was loaded is held, within the limit
+within : (limit : ℕ) (held : Option (List ℕ)) (content : List ℕ) → loaded_of limit held ≡ Bytes content → (held ≡ Some content) × (length content ≤ limit)
+within limit None content is = absurd cc
+within limit (Some c) content is = by (nat_le (length c) limit) refl is where
+  by : (b : Bool) → nat_le (length c) limit ≡ b → cond b (Bytes c) TooLong ≡ Bytes content → (Some c ≡ Some content) × (length content ≤ limit)
+  by true fits is = let same : c ≡ content = cc in (ap Some same, subst (λ x. length x ≤ limit) same (leb-true (length c) limit fits))
+  by false fits is = absurd cc
+
+-- a name that was set is held, and others are as before
+pub set_held : (files : Files) (name content : List ℕ) → finite.get (finite.insert files name content) name ≡ Some content
+set_held files name content =
+    finite.get-insert nat_list_cmp_total files name content name
+    ∙ ap (λ b. cond b (Some content) (finite.get files name)) (is_eq-slice_cmp name name ∙ (bytes_eq-Decides name name).1 refl)
+
+pub other_held : (files : Files) (name content other : List ℕ) (limit : ℕ) → bytes_eq other name ≡ false
+    → loaded (finite.insert files name content) other limit ≡ loaded files other limit
+other_held files name content other limit apart =
+    ap (loaded_of limit) ((others-insert files name content).others other (λ same. let equal = (bytes_eq-Decides other name).1 same in cc))
+
+-- ---- loads in a row
+
+-- these names have these contents, each within the limits
+abbrev pub AreHeld : ℕ → ℕ → Files → List (List ℕ) → List (List ℕ) → Type 0
+AreHeld most room files [] [] = Unit {0}
+AreHeld most room files (name ∷ names) (content ∷ contents) =
+    (loaded files name (min most room) ≡ Bytes content) × AreHeld most (room - length content) files names contents
+AreHeld most room files _ _ = ⊥
+
+pub follow_all : (most room : ℕ) (files : Files) (names contents : List (List ℕ)) (next : List (List ℕ) → Plan) → AreHeld most room files names contents
+    → outcome (needs_all most room names next) files ≡ outcome (next contents) files
+follow_all most room files [] [] next held = refl
+follow_all most room files (name ∷ names) [] next held = absurd held
+follow_all most room files [] (content ∷ contents) next held = absurd held
+follow_all most room files (name ∷ names) (content ∷ contents) next held =
+    follows name (min most room) (λ content. needs_all most (room - length content) names (λ contents. next (content ∷ contents))) files content held.0
+    ∙ follow_all most (room - length content) files names contents (λ contents. next (content ∷ contents)) held.1
+
+pub record FoundAll (most room : ℕ) (names : List (List ℕ)) (files : Files) : Type 0 where
+  pub contents : List (List ℕ)
+  pub held : AreHeld most room files names contents
+
+pub found_all : (most room : ℕ) (names : List (List ℕ)) (next : List (List ℕ) → Plan) (files : Files)
+    → IsTrue (is_compared (outcome (needs_all most room names next) files).status) → FoundAll most room names files
+found_all most room [] next files compared = record { contents = []; held = tt }
+found_all most room (name ∷ names) next files compared =
+    let rest : List ℕ → Plan = λ content. needs_all most (room - length content) names (λ contents. next (content ∷ contents)) in
+    let first = found name (min most room) rest files compared in
+    let later = found_all most (room - length first.content) names (λ contents. next (first.content ∷ contents)) files
+        (subst (λ (o : Outcome). IsTrue (is_compared o.status)) (follows name (min most room) rest files first.content first.held) compared) in
+    record { contents = first.content ∷ later.contents; held = (first.held, later.held) }
+
+-- they are found again where none of them was set
+pub found_again : {A : Type 0} (most room : ℕ) (files : Files) (name content : List ℕ) (path : A → List ℕ) (values : List A) (contents : List (List ℕ))
+    → list_any (λ value. bytes_eq (path value) name) values ≡ false → AreHeld most room files (map path values) contents
+    → AreHeld most room (finite.insert files name content) (map path values) contents
+found_again most room files name content path [] contents apart held = none contents held where
+  none : (contents : List (List ℕ)) → AreHeld most room files [] contents → AreHeld most room (finite.insert files name content) [] contents
+  none [] held = tt
+  none (c ∷ contents) held = held
+found_again most room files name content path (value ∷ values) [] apart held = held
+found_again most room files name content path (value ∷ values) (first ∷ contents) apart held =
+    by (bytes_eq (path value) name) refl apart (λ later. found_again most (room - length first) files name content path values contents later held.1) where
+      others : Bool
+      others = list_any (λ value. bytes_eq (path value) name) values
+
+      by : (b : Bool) → bytes_eq (path value) name ≡ b → (b || others) ≡ false
+          → (others ≡ false → AreHeld most (room - length first) (finite.insert files name content) (map path values) contents)
+          → AreHeld most room (finite.insert files name content) (map path (value ∷ values)) (first ∷ contents)
+      by true is apart later = absurd cc
+      by false is apart later = (other_held files name content (path value) (min most room) is ∙ held.0, later apart)
+
+-- as many contents as names, each small and of bytes
+pub as_many : (most room : ℕ) (files : Files) (names contents : List (List ℕ)) → AreHeld most room files names contents → length contents ≡ length names
+as_many most room files [] [] held = refl
+as_many most room files (name ∷ names) [] held = absurd held
+as_many most room files [] (content ∷ contents) held = absurd held
+as_many most room files (name ∷ names) (content ∷ contents) held = omega (arith, as_many most (room - length content) files names contents held.1)
+
+pub are_contents : (room : ℕ) (files : Files) (names contents : List (List ℕ)) → HoldBytes files → AreHeld 268_435_456 room files names contents → All IsContent contents
+are_contents room files names [] bytes held = All-nil IsContent
+are_contents room files [] (content ∷ contents) bytes held = absurd held
+are_contents room files (name ∷ names) (content ∷ contents) bytes held =
+    let one = within (min 268_435_456 room) (finite.get files name) content held.0 in
+    All-cons IsContent content contents
+    (record { bytes = bytes name content one.0; small = le_trans one.1 (min-le_left 268_435_456 room) })
+    (are_contents (room - length content) files names contents bytes held.1)

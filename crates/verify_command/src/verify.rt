@@ -1,0 +1,130 @@
+//! `verify RECIPE REPORT`: a report is judged by a replay.
+ghost use Rattle.std.specs.Prelude.{map, None};
+ghost use Rattle.ddc_base.specs.Outside.{IsFileName};
+ghost use Rattle.wheeler.specs.Valid.{IsInputs};
+ghost use Rattle.command_plan.specs.declared.status.Status.TheVariants.{Refuted};
+ghost use Rattle.command_plan.specs.Performs.{Performs};
+ghost use Rattle.command_plan.specs.Plan.{answers};
+ghost use Rattle.command_plan.specs.Steps.{Says};
+ghost use Rattle.verify_command.specs.Verify.{judged, verified, verify_files, verify_plan, verify_recipe, verify_report};
+ghost use Rattle.verify_command.specs.Texts.{refuted_line};
+
+use crate::fetching::fetch_report;
+use crate::texts;
+use audit_commands::inputs::{fetch_inputs, fetch_recipe};
+use command_plan::words::are_two_files;
+use command_plan::{Answer, Status, Stop, usage};
+use ddc_base::Shelf;
+use recipe::{Inputs, Recipe};
+use report::{CompareLine, Compared, Report};
+use std::alloc::Global;
+use verifier::{Part, Verdict};
+
+/// Performs the command on the words after its name.
+#[tactic(auto, using(command_plan::proofs::Performing::performing))]
+pub fn perform<S: Shelf>(alloc: Global, words: &[&str], shelf: &mut S) -> Result<Answer, Stop>
+    ensures { Performs (verify_plan (map (λ w. w.now) words.now)) (S.state shelf.old) (S.state shelf.new) result }
+{
+    match words {
+        [recipe, report] if are_two_files(recipe, report) => {
+            verify_files(alloc, recipe, report, shelf)
+        }
+        _ => usage(alloc),
+    }
+}
+
+/// Fetches the recipe, and goes on with it.
+#[tactic(auto, using(command_plan::proofs::Gathering::obtaining), unfolding(crate::specs::Verify::verify_files))]
+fn verify_files<S: Shelf>(
+    alloc: Global,
+    recipe: &str,
+    report: &str,
+    shelf: &mut S,
+) -> Result<Answer, Stop>
+    requires recipe { IsFileName recipe.now }
+    requires report { IsFileName report.now }
+    ensures { Performs (verify_files recipe.now report.now) (S.state shelf.old) (S.state shelf.new) result }
+{
+    match fetch_recipe(alloc, shelf, recipe, report) {
+        Ok(recipe) => verify_recipe(alloc, &recipe, report, shelf),
+        Err(stop) => Err(stop),
+    }
+}
+
+/// Fetches the report, and goes on with it.
+#[tactic(auto, using(command_plan::proofs::Gathering::obtaining), unfolding(crate::specs::Verify::verify_recipe))]
+fn verify_recipe<S: Shelf>(
+    alloc: Global,
+    recipe: &Recipe,
+    report: &str,
+    shelf: &mut S,
+) -> Result<Answer, Stop>
+    requires { IsFileName report.now }
+    ensures { Performs (verify_recipe report.now recipe.now) (S.state shelf.old) (S.state shelf.new) result }
+{
+    match fetch_report(alloc, shelf, report) {
+        Ok(report) => verify_report(alloc, recipe, &report, shelf),
+        Err(stop) => Err(stop),
+    }
+}
+
+/// Fetches the inputs, and goes on with them.
+#[tactic(auto, using(command_plan::proofs::Gathering::obtaining), unfolding(crate::specs::Verify::verify_report))]
+fn verify_report<S: Shelf>(
+    alloc: Global,
+    recipe: &Recipe,
+    report: &Report,
+    shelf: &mut S,
+) -> Result<Answer, Stop>
+    ensures { Performs (verify_report recipe.now report.now) (S.state shelf.old) (S.state shelf.new) result }
+{
+    match fetch_inputs(alloc, shelf, recipe) {
+        Ok(inputs) => answer(alloc, recipe, &inputs, report),
+        Err(stop) => Err(stop),
+    }
+}
+
+/// Replays the report, and says what it comes to.
+fn answer(
+    alloc: Global,
+    recipe: &Recipe,
+    inputs: &Inputs,
+    report: &Report,
+) -> Result<Answer, Stop>
+    requires { IsInputs recipe.now inputs.now }
+    ensures { Says (verified recipe.now inputs.now report.now) result }
+{
+    match verifier::verify(alloc, recipe, inputs, report) {
+        Verdict::Yes => accepted(alloc, &report.compare),
+        Verdict::TrueButDiffers => accepted(alloc, &report.compare),
+        Verdict::Refuted { part, place } => refuted(alloc, part, place),
+        Verdict::OutOfMemory => Err(Stop::OutOfMemory),
+    }
+}
+
+/// The answer to a report that is true.
+fn accepted(alloc: Global, compare: &CompareLine) -> Result<Answer, Stop>
+    ensures { Says (judged compare.now None) result }
+{
+    let text = texts::accepted(alloc, compare)?;
+    match compare.result {
+        Compared::Equal(_) => Ok(Answer {
+            status: Status::Yes,
+            text,
+        }),
+        Compared::Differs(..) => Ok(Answer {
+            status: Status::Differs,
+            text,
+        }),
+    }
+}
+
+/// The answer to a report of which this part is not true.
+fn refuted(alloc: Global, part: Part, place: u32) -> Result<Answer, Stop>
+    ensures { Says (answers Refuted (refuted_line part place)) result }
+{
+    Ok(Answer {
+        status: Status::Refuted,
+        text: texts::refuted(alloc, part, place)?,
+    })
+}
