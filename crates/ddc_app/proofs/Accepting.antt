@@ -133,14 +133,14 @@ module _ (recipe report : List ℕ) (files : Files) where
 
   -- the same loads lead a replay of the saved report to its verdict
   module _ (w : Went recipe report files) (bytes : HoldBytes files) where
-    after : Files
+    abbrev after : Files
     after = finite.insert files report (report_text w.made)
 
     is_recipe : IsRecipe w.said
     is_recipe = said_keeps w.bytes w.said w.reads
 
     counted : length w.inputs ≡ length w.said.inputs
-    counted = as_many 268_435_456 1_073_741_824 files (paths w.said) w.inputs w.inputs_held ∙ length-map (λ (input : Input). input.path) w.said.inputs
+    counted = as_many 268_435_456 1_073_741_824 files (paths w.said) w.inputs w.inputs_held ∙ length-map w.said.inputs (λ (input : Input). input.path)
 
     is_report : IsReport w.made
     is_report = bench-report w.said w.inputs w.made (rules w.said is_recipe)

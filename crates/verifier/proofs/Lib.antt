@@ -3,7 +3,7 @@ mod Ends
 mod LeftFiles
 mod Looping
 mod MarkTests
-mod OneReport
+pub mod OneReport
 mod Placing
 mod Rightness
 mod StageRules
