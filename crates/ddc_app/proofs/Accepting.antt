@@ -8,7 +8,7 @@ use Rattle.std.proofs.lemmas.List.{length-map}
 use Rattle.ddc_base.specs.declared.outside.Loaded.TheVariants.{Bytes, TooLong}
 use Rattle.ddc_base.specs.Outside.{Files, loaded, loaded_of}
 use Rattle.recipe_text.specs.declared.refusal.RecipeRefusal.{RecipeRefusal as Refusal}
-use Rattle.recipe_text.specs.Reading.{◌>>◌, ◌>>=◌}
+use Rattle.recipe_text.specs.Reading.{◌>>◌}
 use Rattle.recipe_text.proofs.Accepted.{bound}
 use Rattle.recipe.specs.Kept.{IsRecipe}
 use Rattle.recipe.specs.Reading.{first_walk, recipe_of}
@@ -22,18 +22,15 @@ use Rattle.report.specs.Reports.{IsReport, report_text}
 use Rattle.report.proofs.Lengths.{short}
 use Rattle.report.proofs.Readings.{read_text}
 use Rattle.wheeler.specs.Bench.{bench}
-use Rattle.wheeler.specs.Valid.{IsInputs}
 use Rattle.wheeler.specs.declared.answer.Answer.{Answer}
 use Rattle.wheeler.specs.declared.answer.Answer.TheVariants.{Completes, Fails}
-use Rattle.wheeler.specs.declared.answer.Fault.{Fault}
 use Rattle.wheeler.specs.declared.answer.Fault.TheVariants.{Runs, Checks}
 use Rattle.wheeler.proofs.Closing.{bench-report}
 use Rattle.wheeler.proofs.Rules.{rules}
-use Rattle.verifier.specs.Faults.{first_fault}
 use Rattle.verifier.proofs.OneReport.{none-fault}
 use Rattle.command_plan.specs.Plan.{Plan, Outcome, needs, outcome}
 use Rattle.command_plan.specs.Words.{are_two_files, is_file_word, usage}
-use Rattle.audit_commands.specs.Audit.{audit_files, audit_recipe, audited, compared_status, completed, is_input, needs_inputs, paths, with_recipe}
+use Rattle.audit_commands.specs.Audit.{audit_files, audit_recipe, audited, completed, is_input, needs_inputs, paths, with_recipe}
 use Rattle.verify_command.specs.Verify.{judged, verified, verify_files, verify_recipe, verify_report, with_report}
 use Rattle.ddc_app.specs.Accepting.{HoldBytes, audit, is_compared, verify}
 use Rattle.ddc_app.proofs.Loads.{AreHeld, as_many, are_contents, follow_all, follows, found, found_all, found_again, other_held, set_held}
@@ -47,7 +44,7 @@ not_equal true is = cc
 not_equal false is = refl
 
 -- what bytes say that read as a recipe keeps its rules
-said_keeps : (bytes : List ℕ) (said : Said) → recipe_of bytes ≡ Ok said → IsRecipe said
+pub said_keeps : (bytes : List ℕ) (said : Said) → recipe_of bytes ≡ Ok said → IsRecipe said
 unfolding recipe_of
 said_keeps bytes said is = bound (IsRecipe said) (first_walk bytes) (λ read. second_walk read >> Ok read) said is (λ read walked ends. by read walked (second_walk read) refl ends) where
   by : (read : Said) → first_walk bytes ≡ Ok read → (second : Result (Unit {0}) Refusal) → second_walk read ≡ second → (second >> Ok read) ≡ Ok said → IsRecipe said
@@ -71,11 +68,11 @@ pub record Went (recipe report : List ℕ) (files : Files) : Type 0 where
   pub leads : audit recipe report files ≡ outcome (completed report made) files
 
 -- a plan comes to a comparison
-abbrev Compares : Plan → Files → Type 0
+abbrev pub Compares : Plan → Files → Type 0
 Compares plan files = IsTrue (is_compared (outcome plan files).status)
 
 -- a plan that comes to the same comparison
-on_to : (first second : Plan) (files : Files) → outcome first files ≡ outcome second files → Compares first files → Compares second files
+pub on_to : (first second : Plan) (files : Files) → outcome first files ≡ outcome second files → Compares first files → Compares second files
 on_to first second files leads compared = subst (λ (o : Outcome). IsTrue (is_compared o.status)) leads compared
 
 module _ (recipe report : List ℕ) (files : Files) where
@@ -154,21 +151,21 @@ module _ (recipe report : List ℕ) (files : Files) where
     apart : bytes_eq recipe report ≡ false
     apart = not_equal (bytes_eq recipe report) (and_parts (is_file_word recipe && is_file_word report) (not (bytes_eq recipe report)) w.two).1
 
-    verdict : outcome (verify_report w.said w.made) after ≡ outcome (judged w.made.compare None) after
+    verdict : outcome (verify_report w.said w.made) after ≡ outcome (judged w.said w.made.compare None) after
     unfolding verify_report
     verdict =
         follow_all 268_435_456 1_073_741_824 after (paths w.said) w.inputs (λ inputs. verified w.said inputs w.made)
         (found_again 268_435_456 1_073_741_824 files report (report_text w.made) (λ (input : Input). input.path) w.said.inputs w.inputs w.apart w.inputs_held)
-        ∙ ap (λ fault. outcome (judged w.made.compare fault) after) (none-fault w.said w.inputs w.made counted w.comes)
+        ∙ ap (λ fault. outcome (judged w.said w.made.compare fault) after) (none-fault w.said w.inputs w.made counted w.comes)
 
-    replayed : outcome (verify_recipe report w.said) after ≡ outcome (judged w.made.compare None) after
+    replayed : outcome (verify_recipe report w.said) after ≡ outcome (judged w.said w.made.compare None) after
     unfolding verify_recipe
     replayed =
         follows report 1_073_741_824 (λ text. with_report (verify_report w.said) (report_of text)) after (report_text w.made) report_loaded
         ∙ ap (λ reading. outcome (with_report (verify_report w.said) reading) after) (read_text (report_text w.made) w.made is_report refl)
         ∙ verdict
 
-    judges : verify recipe report after ≡ outcome (judged w.made.compare None) after
+    judges : verify recipe report after ≡ outcome (judged w.said w.made.compare None) after
     unfolding verify_files
     judges =
         ap (λ two. outcome (cond two (verify_files recipe report) usage) after) w.two

@@ -1,6 +1,5 @@
 -- What the top call leaves, from how its command ended and what was said of that.
-use Rattle.std.proofs.Common.{◌≡◌, ℕ, IsTrue, inl, inr, Result, Ok, Err, List, true, false, refl, sym, ap, subst, ◌∙◌}
-use Rattle.ddc_base.specs.declared.outside.Operation.{Operation}
+use Rattle.std.proofs.Common.{◌≡◌, ℕ, IsTrue, inl, inr, Result, Ok, Err, List, true, false, refl, sym, ap, ◌∙◌}
 use Rattle.ddc_base.specs.Outside.{ShelfState, SinkState, PutFails, after_piece}
 use Rattle.command_plan.specs.declared.status.Status.{Status}
 use Rattle.command_plan.specs.declared.status.Status.TheVariants.{ShelfFault, OutFault, OutOfMemory}
@@ -9,7 +8,7 @@ use Rattle.command_plan.specs.declared.stop.Stop.{Stop}
 use Rattle.command_plan.specs.declared.stop.Stop.TheVariants as stop
 use Rattle.command_plan.specs.Answered.{is_answer}
 use Rattle.command_plan.specs.Plan.{Plan, outcome, IsSettled}
-use Rattle.command_plan.specs.Endings.{Completes, Stops, Fails}
+use Rattle.command_plan.specs.Endings.{Completes}
 use Rattle.command_plan.specs.Performs.{Answers, Faults, WantsMemory, Performs}
 use Rattle.command_plan.proofs.Performing.{stops_complete}
 use Rattle.ddc_app.specs.Run.{TakesOne, NamesFault, LosesText}

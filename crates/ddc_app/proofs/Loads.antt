@@ -1,5 +1,5 @@
 -- What a plan's loads find, and find again after another name was set.
-use Rattle.std.proofs.Common.{◌≡◌, ◌≢◌, ℕ, ◌-◌, ◌≤◌, ◌||◌, Bool, true, false, cond, IsTrue, Option, Some, None, List, [], ◌∷◌, length, map, min, nat_le, le_trans, refl, ap, ◌∙◌, subst, arith}
+use Rattle.std.proofs.Common.{◌≡◌, ℕ, ◌-◌, ◌≤◌, ◌||◌, Bool, true, false, cond, IsTrue, Option, Some, None, List, [], ◌∷◌, length, map, min, nat_le, le_trans, refl, ap, ◌∙◌, subst, arith}
 use Rattle.std.specs.List.{list_any}
 use Rattle.std.specs.Prelude.{All, bytes_eq}
 use Rattle.std.specs.Cmp.Lexicographic.{nat_list_cmp_total}
@@ -42,7 +42,7 @@ found name limit next files compared = by (loaded files name limit) refl compare
   by TooLong is compared = absurd cc
 
 -- what was loaded is held, within the limit
-within : (limit : ℕ) (held : Option (List ℕ)) (content : List ℕ) → loaded_of limit held ≡ Bytes content → (held ≡ Some content) × (length content ≤ limit)
+pub within : (limit : ℕ) (held : Option (List ℕ)) (content : List ℕ) → loaded_of limit held ≡ Bytes content → (held ≡ Some content) × (length content ≤ limit)
 within limit None content is = absurd cc
 within limit (Some c) content is = by (nat_le (length c) limit) refl is where
   by : (b : Bool) → nat_le (length c) limit ≡ b → cond b (Bytes c) TooLong ≡ Bytes content → (Some c ≡ Some content) × (length content ≤ limit)
@@ -89,7 +89,7 @@ found_all most room (name ∷ names) next files compared =
     let rest : List ℕ → Plan = λ content. needs_all most (room - length content) names (λ contents. next (content ∷ contents)) in
     let first = found name (min most room) rest files compared in
     let later = found_all most (room - length first.content) names (λ contents. next (first.content ∷ contents)) files
-        (subst (λ (o : Outcome). IsTrue (is_compared o.status)) (follows name (min most room) rest files first.content first.held) compared) in
+    (subst (λ (o : Outcome). IsTrue (is_compared o.status)) (follows name (min most room) rest files first.content first.held) compared) in
     record { contents = first.content ∷ later.contents; held = (first.held, later.held) }
 
 -- they are found again where none of them was set
