@@ -87,11 +87,7 @@ fn refused(alloc: Global, refusal: RecipeRefusal, file: &str) -> Result<Recipe, 
 }
 
 /// Fetches the inputs of a recipe, in order.
-pub fn fetch_inputs<S: Shelf>(
-    alloc: Global,
-    shelf: &mut S,
-    recipe: &Recipe,
-) -> Result<Inputs, Stop>
+pub fn fetch_inputs<S: Shelf>(alloc: Global, shelf: &mut S, recipe: &Recipe) -> Result<Inputs, Stop>
     ensures loads { Obtains (needs_inputs recipe.now) (S.state shelf.old) (S.state shelf.new) result }
     ensures inputs { IfOk result (IsInputs recipe.now) }
     ensures kept { IsRecipe recipe.now }

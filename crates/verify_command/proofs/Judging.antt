@@ -1,11 +1,10 @@
 -- What is said of a report, from the verdict on it.
-use Rattle.std.proofs.Common.{◌≡◌, ℕ, Option, Some, None, Result, sym, subst}
+use Rattle.std.proofs.Common.{◌≡◌, ℕ, Option, Some, None, Result, subst}
 use Rattle.recipe.specs.declared.contents.Said.{Said}
 use Rattle.report.specs.declared.types.CompareLine.{CompareLine}
 use Rattle.report.specs.declared.types.Compared.{Compared}
 use Rattle.report.specs.declared.types.Compared.TheVariants.{Equal, Differs}
 use Rattle.verifier.specs.declared.part.Part.{Part}
-use Rattle.verifier.specs.declared.part.Verdict.{Verdict}
 use Rattle.verifier.specs.declared.part.Verdict.TheVariants as verdict
 use Rattle.verifier.specs.Verdicts.{Judges, true_verdict}
 use Rattle.command_plan.specs.declared.answer.Answer.{Answer}
