@@ -1,28 +1,48 @@
-//! An audit of one recipe over the files of a worked program.
+//! Audits of one recipe over the files of a worked program, and of that recipe with one change.
 //! What they come to was written down from the rules, and the digests are those of `sha256sum`.
+use crate::worked::{COPY, EXIT, decoded, with};
 use ddc_app::{Status, run};
-use ddc_base::{Bytes, MemShelf, MemSink, OutOfMemory, read_hex};
+use ddc_base::{MemShelf, MemSink, OutOfMemory};
 use std::alloc::Global;
 use std::test::Fail;
 
-/// copy.elf, which copies the file `in` to `out`, with a line's end: its source in hex0.
-const COPY: &str =
-    "7f454c460201010000000000000000000200f30001000000780001000000000040000000000000000000000000000000000000004000380001000000\
-    000000000100000007000000000000000000000000000100000000000000010000000000e800000000000000e80000000000000000100000000000001305c0f9b70501009385050e1306000093088003730000001305c0f9b70501009385350e\
-    130610247300000037140000b30481401305300093850400130604009308f00373000000630c0500130605001305400093080004730000006ff09ffd\
-    9308d00573000000696e006f75740000\n";
-
 /// The recipe: `one` copies the copier, and what it made is checked and copies three bytes.
-static RECIPE: [&str; 8] = [
-    "format = 1\n[[input]]\nname = \"prog\"\npath = \"copy.elf\"\n",
-    "[[input]]\nname = \"text\"\npath = \"copy.hex0\"\n[[input]]\nname = \"src\"\npath = \"a.bin\"\n[[input]]\nname = \"bin\"\npath = \"b.bin\"\n",
-    "[[source]]\nname = \"copy_src\"\nlang = \"hex0\"\nfiles = [\"text\"]\n",
-    "[[stage]]\nname = \"one\"\nprogram = \"prog\"\nargs = [\"copy\"]\nfiles = [{ path = \"in\", from = \"prog\" }]\noutput = \"out\"\n",
-    "steps = 100000\n",
-    "check = \"copy_src\"\n",
-    "[[stage]]\nname = \"two\"\nprogram = \"one\"\nargs = [\"copy\"]\nfiles = [{ path = \"in\", from = \"src\" }]\noutput = \"out\"\nsteps = 100000\n",
-    "[compare]\nstage = \"two\"\nbinary = \"bin\"\n",
-];
+const RECIPE: &str = r#"format = 1
+[[input]]
+name = "prog"
+path = "copy.elf"
+[[input]]
+name = "text"
+path = "copy.hex0"
+[[input]]
+name = "src"
+path = "a.bin"
+[[input]]
+name = "bin"
+path = "b.bin"
+[[source]]
+name = "copy_src"
+lang = "hex0"
+files = ["text"]
+[[stage]]
+name = "one"
+program = "prog"
+args = ["copy"]
+files = [{ path = "in", from = "prog" }]
+output = "out"
+steps = 100000
+check = "copy_src"
+[[stage]]
+name = "two"
+program = "one"
+args = ["copy"]
+files = [{ path = "in", from = "src" }]
+output = "out"
+steps = 100000
+[compare]
+stage = "two"
+binary = "bin"
+"#;
 
 /// Its report.
 const REPORT: &str = "ddc-report 1\n\
@@ -48,33 +68,175 @@ const REPORT: &str = "ddc-report 1\n\
     compare two bin equal 3\n\
     end\n";
 
-/// The bytes of a text of hexadecimal digits.
-fn decoded(alloc: Global, text: &str) -> Result<Bytes, OutOfMemory> {
-    match read_hex(alloc, text.trim_end().as_bytes()) {
-        Ok(bytes) => Ok(bytes),
-        Err(_) => Err(OutOfMemory),
-    }
-}
+/// The ends of the input `bin`'s line and of the comparison, where that file is `abd`.
+const ABD: (&str, &str) = (
+    "input bin 3 a52d159f262b2c6ddb724a61840befc36eb30c88877a4030b65cbe86298449c9\n",
+    "compare two bin differs 2 3 3\n",
+);
 
-/// A shelf with the recipe and its files.
-fn audit_shelf(alloc: Global) -> Result<MemShelf, OutOfMemory> {
+/// What is changed in the recipe, into what, and the status and the text of its audit.
+type Row = (&'static str, &'static str, Status, &'static str);
+
+static ROWS: [Row; 22] = [
+    ("", "", Status::Yes, "equal two bin 3\n"),
+    // the compared binary: the last byte, one less, one more, none
+    (
+        "\"b.bin\"",
+        "\"abd\"",
+        Status::Differs,
+        "differs two bin 2 3 3\n",
+    ),
+    (
+        "\"b.bin\"",
+        "\"ab\"",
+        Status::Differs,
+        "differs two bin 2 3 2\n",
+    ),
+    (
+        "\"b.bin\"",
+        "\"abcd\"",
+        Status::Differs,
+        "differs two bin 3 3 4\n",
+    ),
+    (
+        "\"b.bin\"",
+        "\"empty\"",
+        Status::Differs,
+        "differs two bin 0 3 0\n",
+    ),
+    // `one` exits at step 32
+    (
+        "steps = 100000",
+        "steps = 32",
+        Status::Yes,
+        "equal two bin 3\n",
+    ),
+    (
+        "steps = 100000",
+        "steps = 31",
+        Status::RunFailed,
+        "run failed one spent step 31\n",
+    ),
+    (
+        "steps = 100000",
+        "steps = 281474976710656",
+        Status::Yes,
+        "equal two bin 3\n",
+    ),
+    // another program in the first input
+    (
+        "\"copy.elf\"",
+        "\"exit.elf\"",
+        Status::RunFailed,
+        "run failed one no-output step 3\n",
+    ),
+    (
+        "\"copy.elf\"",
+        "\"copy.hex0\"",
+        Status::RunFailed,
+        "run failed one start elf 2 step 0\n",
+    ),
+    (
+        "\"copy.elf\"",
+        "\"none\"",
+        Status::FileRefused,
+        "file refused none absent\n",
+    ),
+    ("\"copy.elf\"", "\"r\"", Status::Usage, "usage\n"),
+    // `./r` is not `r`, whatever the host makes of it
+    (
+        "\"copy.elf\"",
+        "\"./r\"",
+        Status::FileRefused,
+        "file refused ./r absent\n",
+    ),
+    // `one` makes other bytes than its source stands for
+    (
+        "from = \"prog\"",
+        "from = \"src\"",
+        Status::CheckFailed,
+        "check failed one differs 0\n",
+    ),
+    // an altered source of the check, and the check in other languages
+    (
+        "\"copy.hex0\"",
+        "\"altered.hex0\"",
+        Status::CheckFailed,
+        "check failed one differs 0\n",
+    ),
+    ("\"hex0\"", "\"hex1\"", Status::Yes, "equal two bin 3\n"),
+    ("\"hex0\"", "\"hex2\"", Status::Yes, "equal two bin 3\n"),
+    (
+        "check = \"copy_src\"",
+        "check = \"copy_src\"\nbecomes = \"copy_src\"",
+        Status::Yes,
+        "equal two bin 3\n",
+    ),
+    // no recipes
+    (
+        "\ncheck = \"copy_src\"",
+        "",
+        Status::RecipeRefused,
+        "recipe refused 2 input 1 implements\n",
+    ),
+    (
+        "\"hex0\"",
+        "\"m1\"",
+        Status::RecipeRefused,
+        "recipe refused 2 stage 1 becomes\n",
+    ),
+    (
+        "format = 1",
+        "format = 1\nformat = 1",
+        Status::RecipeRefused,
+        "recipe refused 1\n",
+    ),
+    (
+        "binary = \"bin\"",
+        "binary = \"bin\"\nsteps = 1",
+        Status::RecipeRefused,
+        "recipe refused 3 compare 0\n",
+    ),
+];
+
+/// A shelf with the recipe, changed once, and the files.
+fn audit_shelf(alloc: Global, old: &str, new: &str) -> Result<MemShelf, OutOfMemory> {
     let mut shelf = MemShelf::new(alloc);
+    shelf.set("exit.elf", &EXIT)?;
     shelf.set("copy.elf", decoded(alloc, COPY)?.as_slice())?;
     shelf.set("copy.hex0", COPY.as_bytes())?;
+    shelf.set("altered.hex0", with(alloc, COPY, "7", "6")?.as_bytes())?;
     shelf.set("a.bin", b"abc")?;
     shelf.set("b.bin", b"abc")?;
-    let mut recipe = Bytes::new(alloc);
-    for part in RECIPE {
-        recipe.extend(part.as_bytes())?;
+    for other in ["abd", "ab", "abcd"] {
+        shelf.set(other, other.as_bytes())?;
     }
-    shelf.set("a.toml", recipe.as_slice())?;
+    shelf.set("empty", b"")?;
+    shelf.set("a.toml", with(alloc, RECIPE, old, new)?.as_bytes())?;
     Ok(shelf)
+}
+
+#[test]
+fn recipes_are_audited(rt: HostRuntime) -> Result<(), Fail> {
+    let alloc = rt.alloc();
+    for &(old, new, status, text) in &ROWS {
+        let mut shelf = audit_shelf(alloc, old, new)?;
+        let mut out = MemSink::new(alloc);
+        assert_eq!(rt;
+            run(alloc, &["audit", "a.toml", "r"], &mut shelf, &mut out),
+            status
+        );
+        assert_eq!(rt; out.written(), text.as_bytes());
+        let saved = matches!(status, Status::Yes | Status::Differs);
+        assert_eq!(rt; shelf.get("r").is_some(), saved);
+    }
+    Ok(())
 }
 
 #[test]
 fn the_report_is_saved(rt: HostRuntime) -> Result<(), Fail> {
     let alloc = rt.alloc();
-    let mut shelf = audit_shelf(alloc)?;
+    let mut shelf = audit_shelf(alloc, "", "")?;
     let mut out = MemSink::new(alloc);
     assert_eq!(rt;
         run(alloc, &["audit", "a.toml", "r"], &mut shelf, &mut out),
@@ -85,9 +247,27 @@ fn the_report_is_saved(rt: HostRuntime) -> Result<(), Fail> {
 }
 
 #[test]
+fn the_report_says_what_differs(rt: HostRuntime) -> Result<(), Fail> {
+    let alloc = rt.alloc();
+    let mut shelf = audit_shelf(alloc, "", "")?;
+    shelf.set("b.bin", b"abd")?;
+    let mut out = MemSink::new(alloc);
+    assert_eq!(rt;
+        run(alloc, &["audit", "a.toml", "r"], &mut shelf, &mut out),
+        Status::Differs
+    );
+    let (input, compare) = ABD;
+    let old = "input bin 3 ba7816bf8f01cfea414140de5dae2223b00361a396177a9cb410ff61f20015ad\n";
+    let report = with(alloc, REPORT, old, input)?;
+    let report = with(alloc, report.as_str(), "compare two bin equal 3\n", compare)?;
+    assert_eq!(rt; shelf.get("r").unwrap_or(&[]), report.as_bytes());
+    Ok(())
+}
+
+#[test]
 fn a_failed_put_leaves_the_report(rt: HostRuntime) -> Result<(), Fail> {
     let alloc = rt.alloc();
-    let mut shelf = audit_shelf(alloc)?;
+    let mut shelf = audit_shelf(alloc, "", "")?;
     let mut out = MemSink::new(alloc);
     out.fail_put(1)?;
     assert_eq!(rt;
@@ -98,10 +278,43 @@ fn a_failed_put_leaves_the_report(rt: HostRuntime) -> Result<(), Fail> {
     Ok(())
 }
 
+/// The recipe is load 1, the inputs are loads 2 to 5, and the report is save 1.
+#[test]
+fn faults_of_the_shelf_are_said(rt: HostRuntime) -> Result<(), Fail> {
+    let alloc = rt.alloc();
+    let table: [(u64, &str); 5] = [
+        (1, "shelf fault a.toml\n"),
+        (2, "shelf fault copy.elf\n"),
+        (3, "shelf fault copy.hex0\n"),
+        (4, "shelf fault a.bin\n"),
+        (5, "shelf fault b.bin\n"),
+    ];
+    for (failing_load, text) in table {
+        let mut shelf = audit_shelf(alloc, "", "")?;
+        shelf.fail_load(failing_load)?;
+        let mut out = MemSink::new(alloc);
+        assert_eq!(rt;
+            run(alloc, &["audit", "a.toml", "r"], &mut shelf, &mut out),
+            Status::ShelfFault
+        );
+        assert_eq!(rt; out.written(), text.as_bytes());
+        assert!(rt; shelf.get("r").is_none());
+    }
+    let mut shelf = audit_shelf(alloc, "", "")?;
+    shelf.fail_save(1)?;
+    let mut out = MemSink::new(alloc);
+    assert_eq!(rt;
+        run(alloc, &["audit", "a.toml", "r"], &mut shelf, &mut out),
+        Status::ShelfFault
+    );
+    assert_eq!(rt; out.written(), "shelf fault r\n".as_bytes());
+    Ok(())
+}
+
 #[test]
 fn the_words_of_an_audit_are_judged(rt: HostRuntime) -> Result<(), Fail> {
     let alloc = rt.alloc();
-    let mut shelf = audit_shelf(alloc)?;
+    let mut shelf = audit_shelf(alloc, "", "")?;
     let lines: [&[&str]; 6] = [
         &["audit"],
         &["audit", "a.toml"],

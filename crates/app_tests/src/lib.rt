@@ -3,6 +3,10 @@
 
 #[cfg(test)]
 mod audits;
+#[cfg(test)]
+mod causes;
 pub mod copying;
 #[cfg(test)]
 mod tests;
+#[cfg(test)]
+mod worked;
