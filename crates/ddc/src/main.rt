@@ -1,8 +1,10 @@
-//! The program ddc: it hands its words and the host's files and output to the top call, and ends with its status.
+//! The program ddc: it hands its words and the host's files and output to the top call, and ends with its status. The meaning of sources
+//! that it names is the one that needs no belief; the program does the same under every other.
 #![tactic(auto)]
 
 use ddc_app::{Status, run};
 use ddc_base::{DirShelf, OutOfMemory, WriterSink};
+use meaning::Assembly;
 use std::env;
 use std::io::{self, ErrorKind};
 use std::process::ExitCode;
@@ -33,7 +35,7 @@ fn run_on_host(rt: &HostRuntime) -> Result<Status, OutOfMemory> {
     }
     let mut shelf = DirShelf::new(rt);
     let mut out = WriterSink::new(io::writer(rt));
-    Ok(run(alloc, words.as_slice(), &mut shelf, &mut out))
+    Ok(run::<Assembly, _, _>(alloc, words.as_slice(), &mut shelf, &mut out))
 }
 
 fn main(rt: HostRuntime) -> ExitCode {

@@ -44,7 +44,7 @@ not_equal true is = cc
 not_equal false is = refl
 
 -- what bytes say that read as a recipe keeps its rules
-said_keeps : (bytes : List ℕ) (said : Said) → recipe_of bytes ≡ Ok said → IsRecipe said
+pub said_keeps : (bytes : List ℕ) (said : Said) → recipe_of bytes ≡ Ok said → IsRecipe said
 unfolding recipe_of
 said_keeps bytes said is = bound (IsRecipe said) (first_walk bytes) (λ read. second_walk read >> Ok read) said is (λ read walked ends. by read walked (second_walk read) refl ends) where
   by : (read : Said) → first_walk bytes ≡ Ok read → (second : Result (Unit {0}) Refusal) → second_walk read ≡ second → (second >> Ok read) ≡ Ok said → IsRecipe said
@@ -68,11 +68,11 @@ pub record Went (recipe report : List ℕ) (files : Files) : Type 0 where
   pub leads : audit recipe report files ≡ outcome (completed report made) files
 
 -- a plan comes to a comparison
-abbrev Compares : Plan → Files → Type 0
+abbrev pub Compares : Plan → Files → Type 0
 Compares plan files = IsTrue (is_compared (outcome plan files).status)
 
 -- a plan that comes to the same comparison
-on_to : (first second : Plan) (files : Files) → outcome first files ≡ outcome second files → Compares first files → Compares second files
+pub on_to : (first second : Plan) (files : Files) → outcome first files ≡ outcome second files → Compares first files → Compares second files
 on_to first second files leads compared = subst (λ (o : Outcome). IsTrue (is_compared o.status)) leads compared
 
 module _ (recipe report : List ℕ) (files : Files) where
@@ -151,21 +151,21 @@ module _ (recipe report : List ℕ) (files : Files) where
     apart : bytes_eq recipe report ≡ false
     apart = not_equal (bytes_eq recipe report) (and_parts (is_file_word recipe && is_file_word report) (not (bytes_eq recipe report)) w.two).1
 
-    verdict : outcome (verify_report w.said w.made) after ≡ outcome (judged w.made.compare None) after
+    verdict : outcome (verify_report w.said w.made) after ≡ outcome (judged w.said w.made.compare None) after
     unfolding verify_report
     verdict =
         follow_all 268_435_456 1_073_741_824 after (paths w.said) w.inputs (λ inputs. verified w.said inputs w.made)
         (found_again 268_435_456 1_073_741_824 files report (report_text w.made) (λ (input : Input). input.path) w.said.inputs w.inputs w.apart w.inputs_held)
-        ∙ ap (λ fault. outcome (judged w.made.compare fault) after) (none-fault w.said w.inputs w.made counted w.comes)
+        ∙ ap (λ fault. outcome (judged w.said w.made.compare fault) after) (none-fault w.said w.inputs w.made counted w.comes)
 
-    replayed : outcome (verify_recipe report w.said) after ≡ outcome (judged w.made.compare None) after
+    replayed : outcome (verify_recipe report w.said) after ≡ outcome (judged w.said w.made.compare None) after
     unfolding verify_recipe
     replayed =
         follows report 1_073_741_824 (λ text. with_report (verify_report w.said) (report_of text)) after (report_text w.made) report_loaded
         ∙ ap (λ reading. outcome (with_report (verify_report w.said) reading) after) (read_text (report_text w.made) w.made is_report refl)
         ∙ verdict
 
-    judges : verify recipe report after ≡ outcome (judged w.made.compare None) after
+    judges : verify recipe report after ≡ outcome (judged w.said w.made.compare None) after
     unfolding verify_files
     judges =
         ap (λ two. outcome (cond two (verify_files recipe report) usage) after) w.two

@@ -1,3 +1,4 @@
 pub mod Ending
 pub mod Loads
 pub mod Accepting
+pub mod Verifying

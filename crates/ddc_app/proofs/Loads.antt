@@ -42,7 +42,7 @@ found name limit next files compared = by (loaded files name limit) refl compare
   by TooLong is compared = absurd cc
 
 -- what was loaded is held, within the limit
-within : (limit : ℕ) (held : Option (List ℕ)) (content : List ℕ) → loaded_of limit held ≡ Bytes content → (held ≡ Some content) × (length content ≤ limit)
+pub within : (limit : ℕ) (held : Option (List ℕ)) (content : List ℕ) → loaded_of limit held ≡ Bytes content → (held ≡ Some content) × (length content ≤ limit)
 within limit None content is = absurd cc
 within limit (Some c) content is = by (nat_le (length c) limit) refl is where
   by : (b : Bool) → nat_le (length c) limit ≡ b → cond b (Bytes c) TooLong ≡ Bytes content → (Some c ≡ Some content) × (length content ≤ limit)

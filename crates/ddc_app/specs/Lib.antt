@@ -2,3 +2,4 @@ pub mod Commands
 pub mod Run
 pub mod Concluding
 pub mod Accepting
+pub mod Verified

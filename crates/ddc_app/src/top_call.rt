@@ -1,16 +1,20 @@
-ghost use Rattle.std.specs.Prelude.{◌≡◌, IsTrue};
+ghost use Rattle.std.specs.Prelude.{◌≡◌, [], ◌∷◌, ℕ, IsTrue, List, codes, map};
 ghost use Rattle.ddc_base.specs.Outside.{after_piece};
 ghost use Rattle.command_plan.specs.Answered.{is_answer};
 ghost use Rattle.command_plan.specs.Endings.{Completes};
 ghost use Rattle.command_plan.specs.Performs.{Performs, WantsMemory};
+ghost use Rattle.ddc_app.specs.Accepting.{HoldBytes, is_compared};
+ghost use Rattle.ddc_app.specs.Verified.{Verified};
 ghost use Rattle.ddc_app.specs.Run.{plan_for, due, IsDue, TakesOne, NamesFault, LosesText};
 ghost use Rattle.ddc_app.specs.Concluding.{PutEnds, Concludes};
 
+use crate::laws::verified;
 use audit_commands::{audit, show};
 use command_plan::{Answer, Status, Stop, usage};
 use ddc_base::{PutFail, Shelf, Sink};
 use language_commands::{asm, hex0};
 use machine_commands::{list, run};
+use meaning::Meaning;
 use std::alloc::Global;
 use verify_command::verify;
 
@@ -20,7 +24,14 @@ use verify_command::verify;
 /// What the command does is a plan over the files that the shelf holds. Where the shelf tells what it holds, or the plan asks
 /// nothing of it, the call comes to the plan's outcome, unless it ends in a fault that was counted in this call or for want of
 /// memory.
-pub fn run<S: Shelf, K: Sink>(alloc: Global, words: &[&str], shelf: &mut S, out: &mut K) -> Status
+///
+/// `M` is what sources mean. The call does the same under every meaning, and what follows from an answer of `verify` holds under each.
+pub fn run<M: Meaning, S: Shelf, K: Sink>(
+    alloc: Global,
+    words: &[&str],
+    shelf: &mut S,
+    out: &mut K,
+) -> Status
     // An answer is the plan's outcome, given in one piece after exactly the plan's calls, none of which failed.
     ensures status { IsDue words.now (S.state shelf.old) → IsTrue (is_answer result)
         → result ≡ (due words.now (S.state shelf.old)).status }
@@ -41,16 +52,26 @@ pub fn run<S: Shelf, K: Sink>(alloc: Global, words: &[&str], shelf: &mut S, out:
     ensures want { result ≡ Status.OutOfMemory
         → WantsMemory (plan_for words.now) (S.state shelf.old) (S.state shelf.new) }
 
+    // What an answer of `verify` shows, whatever sources mean, over files of bytes.
+    ensures shown { HoldBytes (S.state shelf.old).files → IsDue words.now (S.state shelf.old) → (recipe report : List ℕ)
+        → map (λ word. word.now) words.now ≡ codes "verify" ∷ recipe ∷ report ∷ [] → IsTrue (is_compared result)
+        → Verified M.prescribes M.compiles recipe report (S.state shelf.old).files (due words.now (S.state shelf.old)) }
+
     ensures shelf_tells { (S.state shelf.new).tells ≡ (S.state shelf.old).tells }
     ensures out_tells { (K.state out.new).tells ≡ (K.state out.old).tells }
 {
-    let ending = perform(alloc, words, shelf);
+    verified::<M>();
+    let ending = perform::<M, S>(alloc, words, shelf);
     conclude(out, ending)
 }
 
 /// Hands over to the command that the first word names.
 #[tactic(auto, using(command_plan::proofs::Performing::performing))]
-fn perform<S: Shelf>(alloc: Global, words: &[&str], shelf: &mut S) -> Result<Answer, Stop>
+fn perform<M: Meaning, S: Shelf>(
+    alloc: Global,
+    words: &[&str],
+    shelf: &mut S,
+) -> Result<Answer, Stop>
     ensures { Performs (plan_for words.now) (S.state shelf.old) (S.state shelf.new) result }
 {
     let Some((first, words)) = words.split_first() else {
@@ -63,7 +84,7 @@ fn perform<S: Shelf>(alloc: Global, words: &[&str], shelf: &mut S) -> Result<Ans
         "run" => run::perform(alloc, words, shelf),
         "audit" => audit::perform(alloc, words, shelf),
         "show" => show::perform(alloc, words, shelf),
-        "verify" => verify::perform(alloc, words, shelf),
+        "verify" => verify::perform::<M, S>(alloc, words, shelf),
         _ => usage(alloc),
     }
 }

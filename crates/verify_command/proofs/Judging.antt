@@ -1,5 +1,6 @@
 -- What is said of a report, from the verdict on it.
 use Rattle.std.proofs.Common.{◌≡◌, ℕ, Option, Some, None, Result, subst}
+use Rattle.recipe.specs.declared.contents.Said.{Said}
 use Rattle.report.specs.declared.types.CompareLine.{CompareLine}
 use Rattle.report.specs.declared.types.Compared.{Compared}
 use Rattle.report.specs.declared.types.Compared.TheVariants.{Equal, Differs}
@@ -14,14 +15,14 @@ use Rattle.command_plan.specs.Steps.{Says}
 use Rattle.verify_command.specs.Texts.{refuted_line}
 use Rattle.verify_command.specs.Verify.{judged}
 
-module _ (compare : CompareLine) (result : Result Answer Stop) where
+module _ (recipe : Said) (compare : CompareLine) (result : Result Answer Stop) where
   -- no fault is told as a yes, or as a difference
-  pub no_fault_equal : (fault : Option (Part × ℕ)) → Judges fault compare.result verdict.Yes → Says (judged compare None) result → Says (judged compare fault) result
+  pub no_fault_equal : (fault : Option (Part × ℕ)) → Judges fault compare.result verdict.Yes → Says (judged recipe compare None) result → Says (judged recipe compare fault) result
   no_fault_equal None is said = said
   no_fault_equal (Some (part, place)) is said = absurd cc
 
-  pub no_fault_differs : (fault : Option (Part × ℕ)) → Judges fault compare.result verdict.TrueButDiffers → Says (judged compare None) result
-      → Says (judged compare fault) result
+  pub no_fault_differs : (fault : Option (Part × ℕ)) → Judges fault compare.result verdict.TrueButDiffers → Says (judged recipe compare None) result
+      → Says (judged recipe compare fault) result
   no_fault_differs None is said = said
   no_fault_differs (Some (part, place)) is said = absurd cc
 
@@ -30,7 +31,7 @@ module _ (compare : CompareLine) (result : Result Answer Stop) where
   never_true (Differs offset made given) part place is = cc
 
   pub fault : (found : Option (Part × ℕ)) (part : Part) (place : ℕ) → Judges found compare.result (verdict.Refuted part place)
-      → Says (answers Refuted (refuted_line part place)) result → Says (judged compare found) result
+      → Says (answers Refuted (refuted_line part place)) result → Says (judged recipe compare found) result
   fault None part place is said = absurd (never_true compare.result part place is)
   fault (Some (first, at)) part place is said =
       let part_is : part ≡ first = cc in

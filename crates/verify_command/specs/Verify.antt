@@ -23,13 +23,13 @@ with_report next (Ok report) = next report
 abbrev pub needs_report : List ℕ → (Report → Plan) → Plan
 needs_report file next = needs file 1_073_741_824 (λ bytes. with_report next (report_of bytes))
 
--- a report without a fault is true, and its comparison is said; of any other the first part that is not true is named
-abbrev pub judged : CompareLine → Option (Part × ℕ) → Plan
-judged compare None = answers (compared_status compare.result) (true_text compare)
-judged compare (Some (part, place)) = answers Refuted (refuted_line part place)
+-- a report without a fault is true, and its comparison is said, with what is assumed; of any other the first part that is not true is named
+abbrev pub judged : Said → CompareLine → Option (Part × ℕ) → Plan
+judged recipe compare None = answers (compared_status compare.result) (true_text recipe compare)
+judged recipe compare (Some (part, place)) = answers Refuted (refuted_line part place)
 
 abbrev pub verified : Said → List (List ℕ) → Report → Plan
-verified recipe inputs report = judged report.compare (first_fault recipe inputs report)
+verified recipe inputs report = judged recipe report.compare (first_fault recipe inputs report)
 
 -- the inputs are needed, and then the report is judged
 unfoldable pub verify_report : Said → Report → Plan

@@ -1,10 +1,13 @@
 //! What the command prints.
 ghost use Rattle.audit_commands.specs.Texts.{compared_line};
-ghost use Rattle.std.specs.Prelude.{◌≡◌, ◌++◌, IfOk};
-ghost use Rattle.verify_command.specs.Texts.{refuted_line, true_text, yes_line};
+ghost use Rattle.ddc_base.specs.Lines.{line};
+ghost use Rattle.std.specs.Prelude.{◌≡◌, ◌++◌, [], ◌∷◌, IfOk, OnOk, codes, flat_map};
+ghost use Rattle.verify_command.specs.Texts.{assumption_line, headline, refuted_line, true_text, yes_line};
 
 use audit_commands::texts::compared;
-use ddc_base::{Bytes, OutOfMemory};
+use ddc_base::{Bytes, Name, OutOfMemory};
+use meaning::{Assumption, assumptions};
+use recipe::Recipe;
 use report::{CompareLine, Compared};
 use std::alloc::Global;
 use verifier::Part;
@@ -18,9 +21,20 @@ pub fn refuted(alloc: Global, part: Part, place: u32) -> Result<Bytes, OutOfMemo
     Ok(Bytes::from_vec(format!(in alloc; "refuted {part} {place}\n")?.into_bytes()))
 }
 
-/// A report is true: how the artefact and the binary compare, after a yes where they are the same.
-pub fn accepted(alloc: Global, compare: &CompareLine) -> Result<Bytes, OutOfMemory>
-    ensures { IfOk result (λ text. text ≡ true_text compare.now) }
+/// A report is true: how the artefact and the binary compare, after a yes where they are the same, and what is assumed of the recipe's
+/// programs.
+pub fn accepted(alloc: Global, recipe: &Recipe, compare: &CompareLine) -> Result<Bytes, OutOfMemory>
+    ensures { IfOk result (λ text. text ≡ true_text recipe.now compare.now) }
+{
+    let mut text = verdict(alloc, compare)?;
+    let lines = assumptions(alloc, recipe)?;
+    put_assumptions(alloc, &mut text, lines.as_slice())?;
+    Ok(text)
+}
+
+/// How the artefact and the binary compare, after a yes where they are the same.
+fn verdict(alloc: Global, compare: &CompareLine) -> Result<Bytes, OutOfMemory>
+    ensures { IfOk result (λ text. text ≡ headline compare.now.result ++ compared_line compare.now) }
 {
     match compare.result {
         Compared::Equal(_) => yes(alloc, compare),
@@ -36,5 +50,67 @@ fn yes(alloc: Global, compare: &CompareLine) -> Result<Bytes, OutOfMemory>
     let compared = compared(alloc, compare)?;
     let mut text = Bytes::from_slice(alloc, b"yes\n")?;
     text.extend(compared.as_slice())?;
+    Ok(text)
+}
+
+/// Adds a line for each assumption.
+fn put_assumptions(
+    alloc: Global,
+    text: &mut Bytes,
+    assumptions: &[Assumption],
+) -> Result<(), OutOfMemory>
+    ensures { OnOk result (text.new ≡ text.old ++ flat_map assumption_line assumptions.now) }
+{
+    for assumption in assumptions {
+        text.extend(assumed(alloc, assumption)?.as_slice())?;
+    }
+    Ok(())
+}
+
+/// What has to be believed of a program.
+#[tactic(auto, unfolding(crate::specs::Texts::assumption_line))]
+fn assumed(alloc: Global, assumption: &Assumption) -> Result<Bytes, OutOfMemory>
+    ensures { IfOk result (λ text. text ≡ assumption_line assumption.now) }
+{
+    match assumption {
+        Assumption::Implements { made, source } => implements(alloc, made, source),
+        Assumption::Compiles {
+            source,
+            stage,
+            becomes,
+        } => compiles(alloc, source, stage, becomes),
+    }
+}
+
+/// That it is one of its source.
+#[tactic(auto, using(crate::proofs::Written::written))]
+fn implements(alloc: Global, made: &Name, source: &Name) -> Result<Bytes, OutOfMemory>
+    ensures { IfOk result (λ text. text ≡ line (codes "assumes" ∷ codes "implements" ∷ made.now ∷ source.now ∷ [])) }
+{
+    let mut text = Bytes::from_slice(alloc, b"assumes implements ")?;
+    text.extend(made.bytes())?;
+    text.push(b' ')?;
+    text.extend(source.bytes())?;
+    text.push(b'\n')?;
+    Ok(text)
+}
+
+/// That a source compiles another in a stage.
+#[tactic(auto, using(crate::proofs::Written::written))]
+fn compiles(
+    alloc: Global,
+    source: &Name,
+    stage: &Name,
+    becomes: &Name,
+) -> Result<Bytes, OutOfMemory>
+    ensures { IfOk result (λ text. text ≡ line (codes "assumes" ∷ codes "compiles" ∷ source.now ∷ stage.now ∷ becomes.now ∷ [])) }
+{
+    let mut text = Bytes::from_slice(alloc, b"assumes compiles ")?;
+    text.extend(source.bytes())?;
+    text.push(b' ')?;
+    text.extend(stage.bytes())?;
+    text.push(b' ')?;
+    text.extend(becomes.bytes())?;
+    text.push(b'\n')?;
     Ok(text)
 }

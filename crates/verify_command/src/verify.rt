@@ -15,19 +15,24 @@ use audit_commands::inputs::{fetch_inputs, fetch_recipe};
 use command_plan::words::are_two_files;
 use command_plan::{Answer, Status, Stop, usage};
 use ddc_base::Shelf;
+use meaning::Meaning;
 use recipe::{Inputs, Recipe};
 use report::{CompareLine, Compared, Report};
 use std::alloc::Global;
 use verifier::{Part, Verdict};
 
-/// Performs the command on the words after its name.
+/// Performs the command on the words after its name. It does the same whatever sources mean.
 #[tactic(auto, using(command_plan::proofs::Performing::performing))]
-pub fn perform<S: Shelf>(alloc: Global, words: &[&str], shelf: &mut S) -> Result<Answer, Stop>
+pub fn perform<M: Meaning, S: Shelf>(
+    alloc: Global,
+    words: &[&str],
+    shelf: &mut S,
+) -> Result<Answer, Stop>
     ensures { Performs (verify_plan (map (λ w. w.now) words.now)) (S.state shelf.old) (S.state shelf.new) result }
 {
     match words {
         [recipe, report] if are_two_files(recipe, report) => {
-            verify_files(alloc, recipe, report, shelf)
+            verify_files::<M, S>(alloc, recipe, report, shelf)
         }
         _ => usage(alloc),
     }
@@ -35,7 +40,7 @@ pub fn perform<S: Shelf>(alloc: Global, words: &[&str], shelf: &mut S) -> Result
 
 /// Fetches the recipe, and goes on with it.
 #[tactic(auto, using(command_plan::proofs::Gathering::obtaining), unfolding(crate::specs::Verify::verify_files))]
-fn verify_files<S: Shelf>(
+fn verify_files<M: Meaning, S: Shelf>(
     alloc: Global,
     recipe: &str,
     report: &str,
@@ -46,14 +51,14 @@ fn verify_files<S: Shelf>(
     ensures { Performs (verify_files recipe.now report.now) (S.state shelf.old) (S.state shelf.new) result }
 {
     match fetch_recipe(alloc, shelf, recipe, report) {
-        Ok(recipe) => verify_recipe(alloc, &recipe, report, shelf),
+        Ok(recipe) => verify_recipe::<M, S>(alloc, &recipe, report, shelf),
         Err(stop) => Err(stop),
     }
 }
 
 /// Fetches the report, and goes on with it.
 #[tactic(auto, using(command_plan::proofs::Gathering::obtaining), unfolding(crate::specs::Verify::verify_recipe))]
-fn verify_recipe<S: Shelf>(
+fn verify_recipe<M: Meaning, S: Shelf>(
     alloc: Global,
     recipe: &Recipe,
     report: &str,
@@ -63,14 +68,14 @@ fn verify_recipe<S: Shelf>(
     ensures { Performs (verify_recipe report.now recipe.now) (S.state shelf.old) (S.state shelf.new) result }
 {
     match fetch_report(alloc, shelf, report) {
-        Ok(report) => verify_report(alloc, recipe, &report, shelf),
+        Ok(report) => verify_report::<M, S>(alloc, recipe, &report, shelf),
         Err(stop) => Err(stop),
     }
 }
 
 /// Fetches the inputs, and goes on with them.
 #[tactic(auto, using(command_plan::proofs::Gathering::obtaining), unfolding(crate::specs::Verify::verify_report))]
-fn verify_report<S: Shelf>(
+fn verify_report<M: Meaning, S: Shelf>(
     alloc: Global,
     recipe: &Recipe,
     report: &Report,
@@ -79,29 +84,34 @@ fn verify_report<S: Shelf>(
     ensures { Performs (verify_report recipe.now report.now) (S.state shelf.old) (S.state shelf.new) result }
 {
     match fetch_inputs(alloc, shelf, recipe) {
-        Ok(inputs) => answer(alloc, recipe, &inputs, report),
+        Ok(inputs) => answer::<M>(alloc, recipe, &inputs, report),
         Err(stop) => Err(stop),
     }
 }
 
 /// Replays the report, and says what it comes to.
-fn answer(alloc: Global, recipe: &Recipe, inputs: &Inputs, report: &Report) -> Result<Answer, Stop>
+fn answer<M: Meaning>(
+    alloc: Global,
+    recipe: &Recipe,
+    inputs: &Inputs,
+    report: &Report,
+) -> Result<Answer, Stop>
     requires { IsInputs recipe.now inputs.now }
     ensures { Says (verified recipe.now inputs.now report.now) result }
 {
-    match verifier::verify(alloc, recipe, inputs, report) {
-        Verdict::Yes => accepted(alloc, &report.compare),
-        Verdict::TrueButDiffers => accepted(alloc, &report.compare),
+    match conclusion::verify::<M>(alloc, recipe, inputs, report) {
+        Verdict::Yes => accepted(alloc, recipe, &report.compare),
+        Verdict::TrueButDiffers => accepted(alloc, recipe, &report.compare),
         Verdict::Refuted { part, place } => refuted(alloc, part, place),
         Verdict::OutOfMemory => Err(Stop::OutOfMemory),
     }
 }
 
 /// The answer to a report that is true.
-fn accepted(alloc: Global, compare: &CompareLine) -> Result<Answer, Stop>
-    ensures { Says (judged compare.now None) result }
+fn accepted(alloc: Global, recipe: &Recipe, compare: &CompareLine) -> Result<Answer, Stop>
+    ensures { Says (judged recipe.now compare.now None) result }
 {
-    let text = texts::accepted(alloc, compare)?;
+    let text = texts::accepted(alloc, recipe, compare)?;
     match compare.result {
         Compared::Equal(_) => Ok(Answer {
             status: Status::Yes,

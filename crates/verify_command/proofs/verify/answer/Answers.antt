@@ -2,10 +2,10 @@ use Rattle.verify_command.proofs.Judging.{fault, no_fault_equal, no_fault_differ
 use Rattle.verify_command.proofs.verify.answer.Goals as goal
 
 pub returns-in-Yes : goal.returns-in-Yes
-returns-in-Yes c = no_fault_equal c.args.report.now.compare _ _ c.in-Yes.ensures.value c.accepted.ensures
+returns-in-Yes g c = no_fault_equal c.args.recipe.now c.args.report.now.compare _ _ c.in-Yes.ensures.value c.accepted.ensures
 
 pub returns-in-TrueButDiffers : goal.returns-in-TrueButDiffers
-returns-in-TrueButDiffers c = no_fault_differs c.args.report.now.compare _ _ c.in-TrueButDiffers.ensures.value c.accepted-in-TrueButDiffers.ensures
+returns-in-TrueButDiffers g c = no_fault_differs c.args.recipe.now c.args.report.now.compare _ _ c.in-TrueButDiffers.ensures.value c.accepted-in-TrueButDiffers.ensures
 
 pub returns-in-Refuted : goal.returns-in-Refuted
-returns-in-Refuted c = fault c.args.report.now.compare _ _ _ _ c.in-Refuted.ensures.value c.refuted.ensures
+returns-in-Refuted g c = fault c.args.recipe.now c.args.report.now.compare _ _ _ _ c.in-Refuted.ensures.value c.refuted.ensures

@@ -1,0 +1,125 @@
+-- Both directions of Wheeler's argument, from the end of a bench.
+use Rattle.std.proofs.Common.{◌≡◌, ◌≢◌, ℕ, Bool, true, false, cond, Option, None, Some, List, [], ◌∷◌, refl, sym, ap, ◌∙◌, subst, All}
+use Rattle.std.specs.Prelude.{bytes_eq, find, option_and_then}
+use Rattle.std.proofs.lemmas.List.Elements.{All-head, All-tail}
+use Rattle.std.proofs.lemmas.Option.{same_Some}
+use Rattle.std.proofs.lemmas.Slice.Eq.{bytes_eq-Decides}
+use Rattle.ddc_base.specs.Difference.{first_difference}
+use Rattle.guest_run.specs.Setting.{IsBox}
+use Rattle.recipe.specs.declared.contents.Said.{Said}
+use Rattle.recipe.specs.declared.parts.Stage.{Stage}
+use Rattle.recipe.specs.Kept.{IsRecipe}
+use Rattle.recipe.specs.Lookups.{hex_check}
+use Rattle.report.specs.declared.types.Report.{Report}
+use Rattle.wheeler.specs.declared.answer.Answer.TheVariants.{Completes}
+use Rattle.wheeler.specs.Bench.{bench, compared_at}
+use Rattle.wheeler.specs.Contents.{Contents, box_of, content, program_of}
+use Rattle.wheeler.specs.Stages.{output_of}
+use Rattle.wheeler.specs.Valid.{IsInputs}
+use Rattle.wheeler.proofs.GivenBoxes.{box-is}
+use Rattle.wheeler.proofs.Rules as rules
+use Rattle.meaning.specs.AllContents.{all_contents, text_named}
+use Rattle.meaning.specs.Assumptions.{LinesHold}
+use Rattle.meaning.specs.Concludes.{Concludes, ConcludesDifferent, ConcludesEqual}
+use Rattle.meaning.specs.Differing.{IsExcluded, IsExcludedByOwn, IsNoValue}
+use Rattle.meaning.specs.Follows.{Follows, FollowsBy, HasParent, IsCompared, IsOnlyContent, PrescribesOnly, audited}
+use Rattle.meaning.specs.Meaning.{Compiles, Implements, Prescribes}
+use Rattle.meaning.specs.Values.{binary_of}
+use Rattle.meaning.proofs.Argument.{follows-law}
+use Rattle.meaning.proofs.Gathering.{Reached, reached}
+use Rattle.meaning.proofs.Ran.{Ran}
+use Rattle.meaning.proofs.Sound.{Laws}
+use Rattle.meaning.proofs.Values.{checked-value, no-difference, some-difference}
+
+-- what a search finds is an element that passes
+found : {X : Type 0} (test : X → Bool) (P : X → Type 0) (xs : List X) (x : X) → All P xs → find test xs ≡ Some x → P x × (test x ≡ true)
+found test P [] x all is = absurd cc
+found test P (y ∷ ys) x all is = by_test (test y) refl is (λ later. found test P ys x (All-tail P y ys all) later) where
+  by_test : (b : Bool) → test y ≡ b → cond b (Some y) (find test ys) ≡ Some x → (find test ys ≡ Some x → P x × (test x ≡ true)) → P x × (test x ≡ true)
+  by_test true was is later =
+      let same = same_Some y x is in
+      (subst P same (All-head P y ys all), ap test (sym same) ∙ was)
+  by_test false was is later = later is
+
+module _ (prescribes : Prescribes) (compiles : Compiles) (laws : Laws prescribes compiles) (recipe : Said) (inputs : List (List ℕ)) (report : Report) (ok : IsRecipe recipe)
+    (r : Reached recipe inputs report) where
+  abbrev all : Contents
+  all = all_contents recipe inputs
+
+  follows : LinesHold prescribes compiles recipe inputs → Follows prescribes recipe inputs
+  follows lines = follows-law prescribes compiles laws recipe all ok r.are r.ran lines
+
+  -- the compared stage: what holds of all stages holds of it
+  of-compared : (P : Stage → Type 0) (stage : Stage) → All P recipe.stages → IsCompared recipe stage → P stage
+  of-compared P stage each at = (found (λ (s : Stage). bytes_eq s.name recipe.compare.stage) P recipe.stages stage each at).0
+
+  own-name : (stage : Stage) → IsCompared recipe stage → stage.name ≡ recipe.compare.stage
+  own-name stage at =
+      (bytes_eq-Decides stage.name recipe.compare.stage).0
+      (found (λ (s : Stage). bytes_eq s.name recipe.compare.stage) (λ _. Unit {0}) recipe.stages stage (λ _ _ _. tt) at).1
+
+  ran : (stage : Stage) → IsCompared recipe stage → Ran recipe all stage (content recipe all stage.name)
+  ran stage at = of-compared (λ (s : Stage). Ran recipe all s (content recipe all s.name)) stage r.ran at
+
+  valid : (stage : Stage) → IsCompared recipe stage → IsBox (box_of recipe all stage)
+  valid stage at = box-is recipe all stage r.are (of-compared rules.IsStage stage (rules.rules recipe ok).stages at)
+
+  -- the parent source is the one that follows
+  prescribed : (stage : Stage) (source : List ℕ) → HasParent recipe stage source → Follows prescribes recipe inputs
+      → Implements prescribes (program_of recipe all stage) (text_named recipe all source) × PrescribesOnly prescribes recipe all stage source (content recipe all stage.name)
+  prescribed stage source parent each =
+      let here = subst (FollowsBy prescribes recipe all stage) parent.unchecked (of-compared (λ (s : Stage). FollowsBy prescribes recipe all s s.check) stage each parent.compared) in
+      let same = same_Some here.source source (sym here.parent ∙ parent.parent) in
+      subst (λ s. Implements prescribes (program_of recipe all stage) (text_named recipe all s) × PrescribesOnly prescribes recipe all stage s (content recipe all stage.name)) same
+      (here.implements, here.prescribed)
+
+  only : content recipe all recipe.compare.stage ≡ audited recipe inputs → LinesHold prescribes compiles recipe inputs → IsOnlyContent prescribes recipe inputs
+  only same lines stage source parent =
+      subst (PrescribesOnly prescribes recipe all stage source) (ap (content recipe all) (own-name stage parent.compared) ∙ same)
+      (prescribed stage source parent (follows lines)).1
+
+  differing : content recipe all recipe.compare.stage ≢ audited recipe inputs → (stage : Stage) → IsCompared recipe stage → content recipe all stage.name ≢ audited recipe inputs
+  differing differs stage at same = differs (sym (ap (content recipe all) (own-name stage at)) ∙ same)
+
+  excluded_by_own : content recipe all recipe.compare.stage ≢ audited recipe inputs → IsExcludedByOwn prescribes recipe inputs
+  excluded_by_own differs stage source parent own program leaves implements =
+      let text = text_named recipe all source in
+      let box = box_of recipe all stage in
+      let ok_box = valid stage parent.compared in
+      let mine = ran stage parent.compared in
+      let good = own box mine.step mine.world (output_of stage.output) (content recipe all stage.name) ok_box mine.runs mine.there in
+      let bad = implements box leaves.step leaves.world (output_of stage.output) (audited recipe inputs) ok_box leaves.runs leaves.there in
+      differing differs stage parent.compared (laws.fixed text box (output_of stage.output) (content recipe all stage.name) (audited recipe inputs) good bad)
+
+  excluded : content recipe all recipe.compare.stage ≢ audited recipe inputs → LinesHold prescribes compiles recipe inputs → IsExcluded prescribes recipe inputs
+  excluded differs lines stage source parent = excluded_by_own differs stage source parent (prescribed stage source parent (follows lines)).0
+
+  no_value : content recipe all recipe.compare.stage ≢ audited recipe inputs → IsNoValue recipe inputs
+  no_value differs stage source at is = by_check stage.check refl is where
+    by_check : (o : Option (List ℕ)) → stage.check ≡ o → option_and_then (hex_check recipe.sources) o ≡ Some source
+        → binary_of (text_named recipe all source) ≢ Some (audited recipe inputs)
+    by_check None was is value = absurd cc
+    by_check (Some check) was is value =
+        differing differs stage at
+        (same_Some (content recipe all stage.name) (audited recipe inputs)
+        (sym (checked-value recipe all stage check source (content recipe all stage.name) was is (ran stage at).right) ∙ value))
+
+  equal : content recipe all recipe.compare.stage ≡ audited recipe inputs → ConcludesEqual prescribes compiles recipe inputs
+  equal same = record { follows = follows; only = only same }
+
+  different : content recipe all recipe.compare.stage ≢ audited recipe inputs → ConcludesDifferent prescribes compiles recipe inputs
+  different differs = record { follows = follows; excluded = excluded differs; excluded_by_own = excluded_by_own differs; no_value = no_value differs }
+
+  by-line : (o : Option ℕ) → first_difference (content recipe all recipe.compare.stage) (audited recipe inputs) ≡ o
+      → Concludes prescribes compiles recipe inputs (compared_at o (content recipe all recipe.compare.stage) (audited recipe inputs))
+  by-line None none = equal (no-difference _ _ none)
+  by-line (Some offset) some = different (some-difference _ _ offset some)
+
+  pub concluded : Concludes prescribes compiles recipe inputs report.compare.result
+  concluded =
+      subst (Concludes prescribes compiles recipe inputs) r.line (by-line (first_difference (content recipe all recipe.compare.stage) (audited recipe inputs)) refl)
+
+pub concludes-law : (prescribes : Prescribes) (compiles : Compiles) → Laws prescribes compiles → (recipe : Said) (inputs : List (List ℕ)) (report : Report) → IsRecipe recipe
+    → IsInputs recipe inputs → bench recipe inputs ≡ Completes report → Concludes prescribes compiles recipe inputs report.compare.result
+concludes-law prescribes compiles laws recipe inputs report ok given is =
+    concluded prescribes compiles laws recipe inputs report ok (reached recipe inputs report ok given is)

@@ -1,0 +1,8 @@
+pub mod Naming
+pub mod Finding
+pub mod Ran
+pub mod Gathering
+pub mod Values
+pub mod Sound
+pub mod Argument
+pub mod Directions

@@ -1,0 +1,58 @@
+-- What follows of an audit's stages. docs/reference/argument.md says the same for people.
+use Rattle.std.specs.Prelude.{◌≡◌, ℕ, Option, None, Some, IfSome, List, All}
+use Rattle.recipe.specs.declared.contents.Said.{Said}
+use Rattle.recipe.specs.declared.parts.Stage.{Stage}
+use Rattle.recipe.specs.Lookups.{hex_check, source_of}
+use Rattle.wheeler.specs.Contents.{Contents, box_of, content, program_of}
+use Rattle.wheeler.specs.Stages.{output_of}
+use Rattle.meaning.specs.AllContents.{all_contents, stage_named, text_named}
+use Rattle.meaning.specs.Meaning.{Implements, Prescribes}
+
+-- the source of a name prescribes a content for a stage: in its box, at its output
+abbrev pub PrescribesFor : Prescribes → Said → Contents → Stage → List ℕ → List ℕ → Type 0
+PrescribesFor prescribes recipe all stage source made =
+    prescribes (text_named recipe all source) (box_of recipe all stage) (output_of stage.output) made
+
+-- this content and no other
+pub record PrescribesOnly (prescribes : Prescribes) (recipe : Said) (all : Contents) (stage : Stage) (source made : List ℕ) : Type 0 where
+  pub this : PrescribesFor prescribes recipe all stage source made
+  pub no_other : (other : List ℕ) → PrescribesFor prescribes recipe all stage source other → other ≡ made
+
+-- an unchecked stage: its program has a source and implements it, and that source prescribes the stage's artefact and nothing else
+pub record FollowsUnchecked (prescribes : Prescribes) (recipe : Said) (all : Contents) (stage : Stage) : Type 0 where
+  pub source : List ℕ
+  pub parent : source_of recipe stage.program ≡ Some source
+  pub implements : Implements prescribes (program_of recipe all stage) (text_named recipe all source)
+  pub prescribed : PrescribesOnly prescribes recipe all stage source (content recipe all stage.name)
+
+-- a checked stage: in hex0, hex1 and hex2 its artefact implements the check's source
+abbrev pub FollowsBy : Prescribes → Said → Contents → Stage → Option (List ℕ) → Type 0
+FollowsBy prescribes recipe all stage None = FollowsUnchecked prescribes recipe all stage
+FollowsBy prescribes recipe all stage (Some check) =
+    IfSome (hex_check recipe.sources check) (λ source. Implements prescribes (content recipe all stage.name) (text_named recipe all source))
+
+-- every stage of an audit follows
+abbrev pub Follows : Prescribes → Said → List (List ℕ) → Type 0
+Follows prescribes recipe inputs =
+    All (λ (stage : Stage). FollowsBy prescribes recipe (all_contents recipe inputs) stage stage.check) recipe.stages
+
+-- ---- the compared stage and the audited binary
+
+abbrev pub audited : Said → List (List ℕ) → List ℕ
+audited recipe inputs = content recipe (all_contents recipe inputs) recipe.compare.binary
+
+-- the compared stage is this one
+abbrev pub IsCompared : Said → Stage → Type 0
+IsCompared recipe stage = stage_named recipe.stages recipe.compare.stage ≡ Some stage
+
+-- it is this one, which is unchecked, and its program has this source: the parent source
+pub record HasParent (recipe : Said) (stage : Stage) (source : List ℕ) : Type 0 where
+  pub compared : IsCompared recipe stage
+  pub unchecked : stage.check ≡ None
+  pub parent : source_of recipe stage.program ≡ Some source
+
+-- the parent source prescribes the audited binary for the compared stage, and nothing else
+abbrev pub IsOnlyContent : Prescribes → Said → List (List ℕ) → Type 0
+IsOnlyContent prescribes recipe inputs =
+    (stage : Stage) (source : List ℕ) → HasParent recipe stage source
+    → PrescribesOnly prescribes recipe (all_contents recipe inputs) stage source (audited recipe inputs)

@@ -1,0 +1,9 @@
+pub mod Meaning
+pub mod Values
+pub mod Assembly
+pub mod AssemblyLaws
+pub mod AllContents
+pub mod Assumptions
+pub mod Follows
+pub mod Differing
+pub mod Concludes
