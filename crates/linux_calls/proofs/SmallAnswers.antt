@@ -9,7 +9,8 @@ use Rattle.paged_mem.specs.Memory.{Memory, IsWhole, bytes_at, maps}
 use Rattle.paged_mem.proofs.Maps.{get_in_bytes_at, length_of_bytes_at}
 use Rattle.mem_files.specs.declared.slot.Slot.{Slot}
 use Rattle.mem_files.specs.declared.slot.Slot.TheVariants.{Input, Stream1, Stream2, File}
-use Rattle.mem_files.specs.Limits.{may_read, most_descriptors, most_names}
+use Rattle.mem_files.specs.Access.{is_read}
+use Rattle.mem_files.specs.Limits.{most_descriptors, most_names}
 use Rattle.mem_files.specs.Linux.{ebadf, eexist, einval, emfile, enoent, enospc, o_accmode, o_creat, o_excl, o_trunc}
 use Rattle.mem_files.specs.World.{World, content_of, lowest_unused}
 use Rattle.mem_files.specs.Calls.{as_cursor, closed, emptied_if, has, opened, opened_at, ready, ready_at, removed, seek_base, sought, sought_at, with_cursor, with_descriptor, with_file, write_place, written}
@@ -137,7 +138,7 @@ ready-small w fd count bytes sound e = at_slot (get w.slots fd) e
     at_slot (Some Input) e = let none : [] ≡ bytes = cc in omega (arith, ap length none)
     at_slot (Some Stream1) e = cc
     at_slot (Some Stream2) e = cc
-    at_slot (Some (File number cursor flags)) e = readable (has flags may_read) number cursor e
+    at_slot (Some (File number cursor access)) e = readable (is_read access) number cursor e
 
 read-small : (s : State) (fd buffer count : ℕ) (r : Result (List ℕ) ℕ) → ready s.files fd count ≡ r → IsSound s.files → Small (read_at s fd buffer r)
 read-small s fd buffer count (Err errno) was sound = record { is = (an_error errno).is }
