@@ -65,7 +65,7 @@ all_of P (e ∷ es) sorted each =
     onto P e es (each e.0 e.1 (ap (λ o. cond (is_eq o) (Some e.1) (fin.find bytes_cmp e.0 es)) (tied_itself nat_list_cmp_total e.0)))
     (all_of P es parts.1 (λ name number found. each name number (found_behind e es name number parts.0 found)))
 
-all_names : (P : List ℕ × ℕ → Type 0) (w : World) → ((name : List ℕ) (number : ℕ) → fin.get w.names name ≡ Some number → P (name, number))
+pub all_names : (P : List ℕ × ℕ → Type 0) (w : World) → ((name : List ℕ) (number : ℕ) → fin.get w.names name ≡ Some number → P (name, number))
     → All P (fin.entries w.names)
 all_names P w each =
     all_of P (fin.entries w.names) (fin.entries_sorted w.names) (λ name number found. each name number (fin.get-entries w.names name ∙ found))
