@@ -1,7 +1,7 @@
 -- What each change of a table does to its world, and that the table stays consistent.
-use Rattle.std.proofs.Common.{◌≡◌, ◌≢◌, ℕ, zero, suc, ◌+◌, ◌-◌, ◌<◌, ◌≤◌, Bool, true, false, cond, not, eqb, T, List, [], ◌∷◌, ◌++◌, length, max, take, get_or, set, map, Option, Some, None, Result, Ok, Err, IsSome, is_some, unwrap_or, refl, sym, ap, ◌∙◌, subst, arith, inl, inr, eq-eqb, eqb-true}
+use Rattle.std.proofs.Common.{◌≡◌, ◌≢◌, ℕ, zero, suc, ◌+◌, ◌-◌, ◌<◌, ◌≤◌, Bool, true, false, cond, not, eqb, T, List, [], ◌∷◌, length, max, take, get_or, set, map, Option, Some, None, Result, Ok, Err, IsSome, is_some, unwrap_or, refl, sym, ap, ◌∙◌, subst, arith, inl, inr, eq-eqb, eqb-true}
 use Rattle.std.specs.Result.{OnErr}
-use Rattle.std.proofs.lemmas.List.{take_all, length-set, get_or_past, get_or-set_same, get_or-set_other, map-set, map-append, length-append, length-map}
+use Rattle.std.proofs.lemmas.List.{take_all, length-set, get_or_past, get_or-set_same, get_or-set_other, map-set, length-map}
 use Rattle.std.proofs.lemmas.Bool.{cases_lt, false≢true}
 use Rattle.std.proofs.Math.Seq.{map-set_same}
 use Rattle.std.proofs.lemmas.Bool.Decides.{nat_tests}
@@ -20,7 +20,7 @@ use Rattle.mem_files.specs.Inside.Cells.{map_of, SameCells}
 use Rattle.mem_files.specs.Inside.Counts.{opens_in}
 use Rattle.mem_files.specs.Inside.Table.{Parts, world_of, Uses, AreSlots, IsConsistent}
 use Rattle.mem_files.specs.Inside.Stored.{content_in, name_in}
-use Rattle.mem_files.proofs.Maps.{get-lowest_unused, below-lowest_unused, lowest_unused-is, lowest_unused-le-len, any_at, key_of_any}
+use Rattle.mem_files.proofs.Maps.{lowest_unused-is, any_at, key_of_any}
 use Rattle.mem_files.proofs.Counting.{any_opens, opens_few, opens_same, opens_set}
 use Rattle.mem_files.proofs.Keeping.{by_eq}
 use Rattle.mem_files.proofs.Totals.{total-insert, total-remove}
@@ -509,7 +509,6 @@ module _ (p : Parts) (w : World) (is : world_of p ≡ w) (ok : IsConsistent p) w
 
   pub keys-is : fin.keys w.names ≡ map (λ e. e.0) p.names
   keys-is = ap (λ (v : World). fin.keys v.names) (sym is) ∙ ap (map (λ e. e.0)) (fin.entries-from_sorted bytes_cmp p.names in_order)
-
 
 -- what is put at an unused descriptor, with room made for it
 module _ (p : Parts) (w : World) (is : world_of p ≡ w) (ok : IsConsistent p)

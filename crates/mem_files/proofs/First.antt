@@ -1,18 +1,16 @@
 -- The bare table, and the first three descriptors.
-use Rattle.std.proofs.Common.{◌≡◌, ℕ, zero, suc, ◌+◌, sum_by, map, Bool, true, false, List, [], ◌∷◌, length, set, get_or, replicate, Option, None, Some, is_some, refl, sym, ap, ◌∙◌, subst, arith, rules}
+use Rattle.std.proofs.Common.{◌≡◌, ℕ, ◌+◌, sum_by, map, Bool, false, List, [], ◌∷◌, length, get_or, replicate, None, Some, refl, sym, ap, ◌∙◌, arith, rules}
 use Rattle.std.proofs.lemmas.Option.{none-some}
 use Rattle.std.specs.Ordering.{nat_cmp}
 use Rattle.std.specs.FinMap as fin
-use Rattle.std.proofs.lemmas.List.{length-set, length-replicate}
+use Rattle.std.proofs.lemmas.List.{length-replicate}
 use Rattle.mem_files.specs.declared.slot.Slot.{Slot}
 use Rattle.mem_files.specs.declared.slot.Slot.TheVariants.{Input, Stream1, Stream2}
 use Rattle.mem_files.specs.Names.{bytes_cmp}
 use Rattle.mem_files.specs.Calls.{bare_world, first_world}
 use Rattle.mem_files.specs.Inside.Cells.{map_of}
 use Rattle.mem_files.specs.World.{total}
-use Rattle.mem_files.specs.Inside.Counts.{opens_in}
-use Rattle.mem_files.specs.Inside.Table.{Parts, world_of, Uses, IsConsistent}
-use Rattle.mem_files.proofs.Changes.{uses_set}
+use Rattle.mem_files.specs.Inside.Table.{Parts, world_of, IsConsistent}
 use Rattle.mem_files.proofs.Tournament.{unmarked}
 use Rattle.mem_files.proofs.Directory.{same_name_map}
 

@@ -1,5 +1,5 @@
 -- The world of lists, file by file and descriptor by descriptor.
-use Rattle.std.proofs.Common.{◌≡◌, ℕ, zero, suc, ◌+◌, ◌<◌, ◌≤◌, Bool, true, false, cond, T, List, [], ◌∷◌, ◌++◌, length, map, take, drop, get_or, sum_by, Option, Some, None, unwrap_or, refl, sym, ap, subst, ◌∙◌, arith, append-nil}
+use Rattle.std.proofs.Common.{◌≡◌, ℕ, zero, suc, ◌+◌, ◌<◌, ◌≤◌, true, false, cond, T, List, [], ◌∷◌, ◌++◌, length, map, take, drop, get_or, sum_by, Option, Some, None, unwrap_or, refl, sym, ap, subst, ◌∙◌, arith, append-nil}
 use Rattle.std.specs.Prelude.{All, IfSome}
 use Rattle.std.specs.List.{AllByRecursion, IsDistinct}
 use Rattle.std.specs.Ordering.{nat_cmp, eq_by_cmp}
@@ -13,7 +13,7 @@ use Rattle.std.proofs.lemmas.List.Sums.{sum_by-append, sum_by-cons}
 use Rattle.mem_files.specs.declared.view.FileView.{FileView}
 use Rattle.mem_files.specs.Names.{bytes_cmp}
 use Rattle.mem_files.specs.World.{World, total, content_of}
-use Rattle.mem_files.specs.Lists.{ListedFile, FileLists, listed, named, with_name, contents, with_title, with_listed, world_of}
+use Rattle.mem_files.specs.Lists.{ListedFile, listed, named, with_name, contents, with_title, with_listed, world_of}
 use Rattle.mem_files.proofs.Directory.{bytes_cmp-IsAntisymmetric}
 use Rattle.mem_files.proofs.Maps.{both, head_above, rest_above, find_apart}
 use Rattle.mem_files.proofs.Totals.{total-insert}

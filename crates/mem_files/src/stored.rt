@@ -16,11 +16,7 @@ pub struct Stored {
 ghost use Rattle.mem_files.specs.Inside.Stored.{name_in, content_in};
 
 impl Stored {
-    pub fn new(
-        alloc: Global,
-        name: Option<&[u8]>,
-        content: &[u8],
-    ) -> Result<Stored, AllocError>
+    pub fn new(alloc: Global, name: Option<&[u8]>, content: &[u8]) -> Result<Stored, AllocError>
         ensures name { IfOk result (λ file. name_in (Some file) ≡ option_copied name.entry) }
         ensures content { IfOk result (λ file. content_in (Some file) ≡ Some content.now) }
     {

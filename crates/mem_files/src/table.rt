@@ -236,12 +236,7 @@ impl Table {
     }
 
     /// A new file under an unused number.
-    pub fn put_named(
-        &mut self,
-        number: u32,
-        name: &[u8],
-        content: &[u8],
-    ) -> Result<(), AllocError>
+    pub fn put_named(&mut self, number: u32, name: &[u8], content: &[u8]) -> Result<(), AllocError>
         requires absent { map.get self.old.names name.now ≡ None }
         requires short { length name.now ≤ MAX_NAME }
         requires unused { map.get self.old.files number ≡ None }

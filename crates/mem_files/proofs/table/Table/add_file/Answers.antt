@@ -1,4 +1,4 @@
-use Rattle.std.proofs.Common.{arith, ap, ◌∙◌}
+use Rattle.std.proofs.Common.{ap, ◌∙◌}
 use Rattle.std.specs.FinMap as map
 use Rattle.mem_files.proofs.Maps.{get-lowest_unused}
 use Rattle.mem_files.proofs.table.Table.add_file.Goals as goal

@@ -1,5 +1,4 @@
-use Rattle.std.proofs.Common.{None, ◌≡◌, ap, sym, subst, ◌∙◌}
-use Rattle.std.specs.Ordering.{nat_cmp}
+use Rattle.std.proofs.Common.{ap, ◌∙◌}
 use Rattle.std.specs.FinMap as map
 use Rattle.mem_files.specs.declared.slot.Slot.TheVariants.{Stream1, Stream2}
 use Rattle.mem_files.specs.World.{World}

@@ -36,7 +36,7 @@ loop-file-preserved c =
     let file = listed (get_or c.args.files.now at blank) in
     let before : total (of_files (take at (map listed c.args.files.now))) ≡ sum_by size_of (take at (map listed c.args.files.now)) = ap total (sym c.loop-file.invariant.world) ∙ c.loop-file.invariant.total in
     let world : c.put_file.new.self ≡ of_files (take (at + 1) (map listed c.args.files.now)) =
-        c.in_ok-put_file.ensures ∙ ap (λ (w : World). with_listed w file) c.loop-file.invariant.world ∙ next_world c.args.files.now at blank c.loop-file-test.true c.requires.rise c.requires.distinct in
+    c.in_ok-put_file.ensures ∙ ap (λ (w : World). with_listed w file) c.loop-file.invariant.world ∙ next_world c.args.files.now at blank c.loop-file-test.true c.requires.rise c.requires.distinct in
     record {
       world = world;
       total = ap total world ∙ next_total c.args.files.now at blank c.loop-file-test.true c.requires.rise c.requires.distinct _ before ∙ sym (next_sum c.args.files.now at blank c.loop-file-test.true);

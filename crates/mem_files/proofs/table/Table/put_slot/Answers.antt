@@ -1,6 +1,6 @@
 use Rattle.std.proofs.Common.{arith}
 use Rattle.mem_files.proofs.CellMaps.{len-map_of}
-use Rattle.mem_files.proofs.Changes.{on_err, opens_small, slots_few, more_slots-consistent, more_slots-world, put_slot-used, put_slot-consistent, put_slot-world}
+use Rattle.mem_files.proofs.Changes.{on_err, opens_small, slots_few, more_slots-consistent, more_slots-world, put_slot-consistent, put_slot-world}
 use Rattle.mem_files.proofs.table.Table.put_slot.Goals as goal
 
 pub invariant_of-self : goal.invariant_of-self

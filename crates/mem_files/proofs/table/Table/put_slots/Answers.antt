@@ -1,4 +1,4 @@
-use Rattle.std.proofs.Common.{ap, sym, get_or, ◌∙◌}
+use Rattle.std.proofs.Common.{ap, get_or, ◌∙◌}
 use Rattle.std.specs.FinMap as map
 use Rattle.mem_files.specs.World.{World}
 use Rattle.mem_files.specs.declared.slot.Slot.TheVariants.{Input}
