@@ -5,14 +5,15 @@ use Rattle.std.specs.Option.{option_map_or}
 use Rattle.std.proofs.lemmas.Bool.{cases_lt, ne_eqb}
 use Rattle.std.proofs.lemmas.List.{get_or_past}
 use Rattle.std.proofs.lemmas.List.Sums.{sum_by-append, sum_by-cons, sum_by-set}
+use Rattle.mem_files.specs.declared.slot.Access.{Access}
 use Rattle.mem_files.specs.declared.slot.Slot.{Slot}
 use Rattle.mem_files.specs.declared.slot.Slot.TheVariants.{File}
 use Rattle.mem_files.specs.World.{is_of}
 use Rattle.mem_files.specs.Inside.Counts.{opens_in}
 
-pub counted_within : (counts : List ℕ) (number cursor flags : ℕ) → opens_in number (Some (File number cursor flags)) ≤ get_or counts number 0 → number < length counts
-counted_within counts number cursor flags some =
-    let one : opens_in number (Some (File number cursor flags)) ≡ 1 = ap (λ b. cond b 1 0) (eq-eqb number number refl) in
+pub counted_within : (counts : List ℕ) (number cursor : ℕ) (access : Access) → opens_in number (Some (File number cursor access)) ≤ get_or counts number 0 → number < length counts
+counted_within counts number cursor access some =
+    let one : opens_in number (Some (File number cursor access)) ≡ 1 = ap (λ b. cond b 1 0) (eq-eqb number number refl) in
     elim (cases_lt number (length counts)) as (λ _. number < length counts) [
       | inl h ↦ h
       | inr h ↦ absurd (omega (arith, get_or_past counts number 0 h))

@@ -17,3 +17,4 @@ pub mod Tournament
 pub mod Counting
 pub mod After
 pub mod Walks
+pub mod Shown

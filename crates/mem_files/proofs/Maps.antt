@@ -52,7 +52,7 @@ remove_absent m k none =
     ] refl)
 
 -- entries in order
-both : (a b : Bool) → T (a && b) → T a × T b
+pub both : (a b : Bool) → T (a && b) → T a × T b
 both true b h = (tt, h)
 both false b h = absurd h
 
@@ -77,7 +77,7 @@ pub find_here : {X : Type 0} (q : ℕ) (e : ℕ × X) (es : List (ℕ × X)) →
 find_here q e es h = ap (λ b. cond b (Some e.1) (find nat_cmp q es)) (unsigned_tied q e.0 ∙ eq-eqb q e.0 h)
 
 -- a number at most as great as one below all keys is no key
-find_low : {X : Type 0} (q x : ℕ) (es : List (ℕ × X)) → q ≤ x → T (below_all nat_cmp x es) → find nat_cmp q es ≡ None
+pub find_low : {X : Type 0} (q x : ℕ) (es : List (ℕ × X)) → q ≤ x → T (below_all nat_cmp x es) → find nat_cmp q es ≡ None
 find_low q x [] h below = refl
 find_low q x (e ∷ es) h below =
     let above = head_above x e es below in

@@ -1,7 +1,9 @@
 //! One file as it lies in memory.
 ghost use Rattle.std.specs.Prelude.{◌≡◌, ◌+◌, ◌-◌, ◌<◌, ◌≤◌, ◌^◌, IfOk, OnOk, OnErr, IsSome, Some, None, is_some, length, unwrap_or, take, drop, replicate, ◌++◌, []};
+ghost use Rattle.std.specs.Option.{option_copied};
 ghost use Rattle.mem_files.specs.Calls.{written_over};
 
+use crate::FileView;
 use std::alloc::{AllocError, Global};
 
 /// A file: its name, if it still has one, and its bytes.
@@ -30,6 +32,23 @@ impl Stored {
         ensures { content_in (Some self.now) ≡ Some result.now }
     {
         self.content.as_slice()
+    }
+
+    pub fn view(&self, number: u32) -> FileView<'_>
+        ensures number { result.number ≡ number }
+        ensures name { option_copied result.name ≡ name_in (Some self.now) }
+        ensures content { Some result.content.now ≡ content_in (Some self.now) }
+    {
+        let name = match &self.name {
+            Some(name) => Some(name.as_slice()),
+            None => None,
+        };
+        let content = self.content.as_slice();
+        FileView {
+            number,
+            name,
+            content,
+        }
     }
 
     pub fn is_named(&self) -> bool

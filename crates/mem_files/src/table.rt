@@ -1,19 +1,20 @@
 //! Names, files, descriptors and streams as they lie in memory: each call here is one change of the world.
-ghost use Rattle.std.specs.Prelude.{◌≡◌, ◌+◌, ◌-◌, ◌<◌, ◌^◌, IfOk, OnOk, OnErr, IsSome, Some, None, ℕ, ◌≤◌, List, length, false, find, map as map_list, [], ◌++◌};
+ghost use Rattle.std.specs.Prelude.{◌≡◌, ◌+◌, ◌-◌, ◌<◌, ◌^◌, IfOk, OnOk, OnErr, IsSome, Some, None, option_map, ℕ, ◌≤◌, List, length, false, find, map as map_list, [], ◌++◌};
 ghost use Rattle.std.specs.Option.{option_copied};
 ghost use Rattle.std.specs.FinMap as map;
 ghost use Rattle.mem_files.specs.World.{content_of, total, is_named, is_open, lowest_unused};
 ghost use Rattle.mem_files.specs.Calls.{first_world, with_file, written_over, stream, name_after, is_after};
+ghost use Rattle.mem_files.specs.Lists.{listed, file_from, slot_from};
 ghost use Rattle.mem_files.specs.Inside.Keys.{begins};
 ghost use Rattle.std.specs.List.{All};
 ghost use Rattle.mem_files.specs.Inside.Counts.{opens_in};
 
-use crate::cells::{cell, reach};
+use crate::cells::{cell, full_from, reach};
 use crate::counts::{count, count_of, uncount};
 use crate::names::{Key, key};
 use crate::numbers::Numbers;
 use crate::stored::{self, Stored};
-use crate::{MAX_NAME, MAX_NAMES, MAX_SLOTS, Slot};
+use crate::{FileView, MAX_NAME, MAX_NAMES, MAX_SLOTS, Slot};
 use std::alloc::{AllocError, Global};
 use std::collections::BTreeMap;
 use std::marker::Model;
@@ -286,6 +287,26 @@ impl Table {
         self.stream2.extend_from_slice(bytes)?;
         self.total += bytes.len() as u64;
         Ok(())
+    }
+
+    /// The file with the least number that isn't below the given one.
+    pub fn file_from(&self, number: u32) -> Option<FileView<'_>>
+        ensures { option_map listed result ≡ file_from self.now number }
+    {
+        match full_from(&self.files, number) {
+            Some((number, file)) => Some(file.view(number)),
+            None => None,
+        }
+    }
+
+    /// The least descriptor that isn't below the given one, with what it stands for.
+    pub fn slot_from(&self, fd: u32) -> Option<(u32, Slot)>
+        ensures { result ≡ slot_from self.now fd }
+    {
+        match full_from(&self.slots, fd) {
+            Some((fd, slot)) => Some((fd, *slot)),
+            None => None,
+        }
     }
 
     /// The least name that is greater than the given one; without one, the least of all.

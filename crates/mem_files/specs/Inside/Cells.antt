@@ -1,5 +1,5 @@
 -- A list of cells, of which some hold a value, as a map.
-use Rattle.std.specs.Prelude.{ℕ, suc, Option, Some, None, List, [], ◌∷◌, ◌++◌, map, length, ◌==◌, if◌then◌else◌}
+use Rattle.std.specs.Prelude.{◌≡◌, ◌<◌, ◌≤◌, slice_index_or, ℕ, suc, Option, Some, None, List, [], ◌∷◌, ◌++◌, map, length, ◌==◌, if◌then◌else◌}
 use Rattle.std.specs.Ordering.{nat_cmp}
 use Rattle.std.specs.FinMap.{FinMap, from_entries}
 
@@ -20,3 +20,11 @@ keyed view es = map (λ e. (view e.0, e.1)) es
 -- with an empty cell more, where the place is their count
 abbrev pub with_room : {X : Type 0} → List (Option X) → ℕ → List (Option X)
 with_room cells at = if at == length cells then cells ++ None ∷ [] else cells
+
+-- the cells from one place on, below another, are empty
+abbrev pub AreEmpty : {X : Type 0} → List (Option X) → ℕ → ℕ → Type 0
+AreEmpty cells from to = (at : ℕ) → from ≤ at → at < to → slice_index_or cells at None ≡ None
+
+-- the first cell from a place on that holds a value
+abbrev pub IsFirstFull : {X : Type 0} → List (Option X) → ℕ → ℕ → X → Type 0
+IsFirstFull cells from at value = (from ≤ at) × (slice_index_or cells at None ≡ Some value) × AreEmpty cells from at
