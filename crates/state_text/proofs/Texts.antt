@@ -8,11 +8,11 @@ use Rattle.std.proofs.lemmas.List.{append-nil}
 use Rattle.byte_fields.specs.Reader.{alike, blob, byte, bytes, done, u64}
 use Rattle.byte_fields.specs.Spelling.{Alike, IsBlob, blob_text, number_text}
 use Rattle.byte_fields.proofs.Spells.{AreBytes, whole_again, whole_takes, Nothing, Spells, all_read, spells, spells_alike, spells_blob16, spells_blob32, spells_byte, spells_bytes, spells_counted, spells_from, spells_that, spells_u32, spells_u64, then}
-use Rattle.state_text.specs.declared.slots.Access.{Access}
-use Rattle.state_text.specs.declared.slots.Mode.{Mode}
-use Rattle.state_text.specs.declared.slots.Mode.TheVariants as mode
-use Rattle.state_text.specs.declared.slots.Slot.{Slot}
-use Rattle.state_text.specs.declared.slots.Slot.TheVariants.{Input, Stream1, Stream2, File}
+use Rattle.mem_files.specs.declared.slot.Access.{Access}
+use Rattle.mem_files.specs.declared.slot.Mode.{Mode}
+use Rattle.mem_files.specs.declared.slot.Mode.TheVariants as mode
+use Rattle.mem_files.specs.declared.slot.Slot.{Slot}
+use Rattle.mem_files.specs.declared.slot.Slot.TheVariants.{Input, Stream1, Stream2, File}
 use Rattle.std.specs.Prelude.{IfOk}
 use Rattle.state_text.specs.declared.parts.Parts.{Parts}
 use Rattle.state_text.specs.declared.reading.TextRefusal.{TextRefusal}
@@ -241,14 +241,14 @@ pub spells_descriptor : (least : ℕ) → Spells (descriptor_at least) descripto
 unfolding descriptor_at
 spells_descriptor least =
     spells (
-    then {K = Nothing} (λ d. d.fd) (spells_from least) (λ fd f.
-    then {G = λ d. IsSlot d.slot × Unit {0}} (λ d. kind_of d.slot) (spells_that (λ kind. nat_le kind 3) spells_byte) (λ kind g.
-    spells (then (λ d. d.slot) (spells_slot kind (leb-true _ _ g.1)) (λ slot h.
-    all_read (record { fd = fd; slot = slot }) (λ d k. λ i. record { fd = k.0.0.1 i; slot = k.1 i }) (((tt, refl), h.1), refl)))
+    then {K = Nothing} (λ d. d.0) (spells_from least) (λ fd f.
+    then {G = λ d. IsSlot d.1 × Unit {0}} (λ d. kind_of d.1) (spells_that (λ kind. nat_le kind 3) spells_byte) (λ kind g.
+    spells (then (λ d. d.1) (spells_slot kind (leb-true _ _ g.1)) (λ slot h.
+    all_read (fd, slot) (λ d k. λ i. (k.0.0.1 i, k.1 i)) (((tt, refl), h.1), refl)))
     (λ d f. refl) (λ d f. (f.0, (f.1.0.0, tt))) (λ d f. (f.0, ((f.1.0, f.0.1), tt))))))
-    (λ d f. ap (λ (v : List ℕ). number_text w32 d.fd ++ (kind_of d.slot ∷ v)) (append-nil (slot_text d.slot)))
+    (λ d f. ap (λ (v : List ℕ). number_text w32 d.0 ++ (kind_of d.1 ∷ v)) (append-nil (slot_text d.1)))
     (λ d f. record { from = f.1.0.from; fd = f.1.0.below; slot = f.1.1.1.0 })
-    (λ d f. (tt, (record { from = f.from; below = f.fd }, (kind_below d.slot, (f.slot, tt)))))
+    (λ d f. (tt, (record { from = f.from; below = f.fd }, (kind_below d.1, (f.slot, tt)))))
 
 -- ---- the whole
 

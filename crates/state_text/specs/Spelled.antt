@@ -3,15 +3,15 @@ use Rattle.std.specs.Prelude.{◌≡◌, ℕ, ◌+◌, ◌^◌, ◌<◌, ◌≤�
 use Rattle.std.specs.List.{flat_map}
 use Rattle.std.specs.Int.{w16, w32, w64}
 use Rattle.byte_fields.specs.Spelling.{Alike, Counted, IsBlob, blob_text, list_text, number_text}
-use Rattle.state_text.specs.declared.slots.Slot.{Slot}
-use Rattle.state_text.specs.declared.slots.Slot.TheVariants as slot
-use Rattle.state_text.specs.declared.slots.Mode.{Mode}
-use Rattle.state_text.specs.declared.slots.Mode.TheVariants as mode
-use Rattle.state_text.specs.declared.slots.Access.{Access}
-use Rattle.state_text.specs.declared.slots.Heap.{Heap}
+use Rattle.mem_files.specs.Lists.{ListedFile}
+use Rattle.mem_files.specs.declared.slot.Slot.{Slot}
+use Rattle.mem_files.specs.declared.slot.Slot.TheVariants as slot
+use Rattle.mem_files.specs.declared.slot.Mode.{Mode}
+use Rattle.mem_files.specs.declared.slot.Mode.TheVariants as mode
+use Rattle.mem_files.specs.declared.slot.Access.{Access}
+use Rattle.linux_calls.specs.declared.Heap.{Heap}
 use Rattle.state_text.specs.declared.parts.Run.{Run}
-use Rattle.state_text.specs.declared.parts.Descriptor.{Descriptor}
-use Rattle.state_text.specs.StateText.{FileText, PageText, StateText, after_descriptor, after_file, after_page, after_run, is_page, magic}
+use Rattle.state_text.specs.StateText.{PageText, StateText, after_descriptor, after_file, after_page, after_run, is_page, magic}
 
 -- ---- how it is spelled
 
@@ -31,11 +31,11 @@ abbrev pub name_bytes : Option (List ℕ) → List ℕ
 name_bytes None = []
 name_bytes (Some name) = name
 
-abbrev pub file_text : FileText → List ℕ
+abbrev pub file_text : ListedFile → List ℕ
 file_text file = number_text w32 file.number ++ (blob_text w16 (name_bytes file.name) ++ blob_text w32 file.content)
 
 -- its name and its content have few enough bytes
-abbrev pub IsShort : FileText → Type 0
+abbrev pub IsShort : ListedFile → Type 0
 IsShort file = (length (name_bytes file.name) < 2 ^ 16) × (length file.content < 2 ^ 32)
 
 abbrev pub mode_bits : Mode → ℕ
@@ -58,8 +58,8 @@ slot_text slot.Stream1 = []
 slot_text slot.Stream2 = []
 slot_text (slot.File number cursor access) = number_text w32 number ++ (number_text w64 cursor ++ flags_of access ∷ [])
 
-abbrev pub descriptor_text : Descriptor → List ℕ
-descriptor_text d = number_text w32 d.fd ++ (kind_of d.slot ∷ slot_text d.slot)
+abbrev pub descriptor_text : ℕ × Slot → List ℕ
+descriptor_text d = number_text w32 d.0 ++ (kind_of d.1 ∷ slot_text d.1)
 
 unfoldable pub body_text : StateText → List ℕ
 body_text s =
@@ -94,7 +94,7 @@ abbrev pub IsName : Option (List ℕ) → Type 0
 IsName None = Unit {0}
 IsName (Some name) = (1 ≤ length name) × (length name < 2 ^ 16)
 
-pub record IsFile (least : ℕ) (file : FileText) : Type 0 where
+pub record IsFile (least : ℕ) (file : ListedFile) : Type 0 where
   pub from : least ≤ file.number
   pub number : file.number < 2 ^ 32
   pub name : IsName file.name
@@ -106,10 +106,10 @@ IsSlot slot.Stream1 = Unit {0}
 IsSlot slot.Stream2 = Unit {0}
 IsSlot (slot.File number cursor access) = (number < 2 ^ 32) × (cursor < 2 ^ 64)
 
-pub record IsDescriptor (least : ℕ) (d : Descriptor) : Type 0 where
-  pub from : least ≤ d.fd
-  pub fd : d.fd < 2 ^ 32
-  pub slot : IsSlot d.slot
+pub record IsDescriptor (least : ℕ) (d : ℕ × Slot) : Type 0 where
+  pub from : least ≤ d.0
+  pub fd : d.0 < 2 ^ 32
+  pub slot : IsSlot d.1
 
 pub record IsText (s : StateText) : Type 0 where
   pub steps : s.steps < 2 ^ 64

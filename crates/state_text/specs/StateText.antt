@@ -4,26 +4,20 @@ use Rattle.std.specs.List.{list_all}
 use Rattle.std.specs.Int.{w16, w32}
 use Rattle.std.specs.Str.{bytes_eq}
 use Rattle.byte_fields.specs.Reader.{Reader, ◌>>=◌, alike, blob, byte, bytes, counted, done, that, u32, u32_from, u64, whole}
-use Rattle.state_text.specs.declared.slots.Slot.{Slot}
-use Rattle.state_text.specs.declared.slots.Slot.TheVariants as slot
-use Rattle.state_text.specs.declared.slots.Mode.{Mode}
-use Rattle.state_text.specs.declared.slots.Mode.TheVariants as mode
-use Rattle.state_text.specs.declared.slots.Access.{Access}
-use Rattle.state_text.specs.declared.slots.Heap.{Heap}
+use Rattle.mem_files.specs.Lists.{ListedFile}
+use Rattle.mem_files.specs.declared.slot.Slot.{Slot}
+use Rattle.mem_files.specs.declared.slot.Slot.TheVariants as slot
+use Rattle.mem_files.specs.declared.slot.Mode.{Mode}
+use Rattle.mem_files.specs.declared.slot.Mode.TheVariants as mode
+use Rattle.mem_files.specs.declared.slot.Access.{Access}
+use Rattle.linux_calls.specs.declared.Heap.{Heap}
 use Rattle.state_text.specs.declared.parts.Run.{Run}
-use Rattle.state_text.specs.declared.parts.Descriptor.{Descriptor}
 
 -- ---- what a text says
 
 pub record PageText : Type 0 where
   pub number : ℕ
   pub bytes : List ℕ
-
--- a file may have lost its name
-pub record FileText : Type 0 where
-  pub number : ℕ
-  pub name : Option (List ℕ)
-  pub content : List ℕ
 
 -- the registers are x1 to x31
 pub record StateText : Type 0 where
@@ -33,8 +27,8 @@ pub record StateText : Type 0 where
   pub heap : Heap
   pub runs : List Run
   pub pages : List PageText
-  pub files : List FileText
-  pub descriptors : List Descriptor
+  pub files : List ListedFile
+  pub descriptors : List (ℕ × Slot)
   pub stream1 : List ℕ
   pub stream2 : List ℕ
 
@@ -85,14 +79,14 @@ abbrev pub name_of : List ℕ → Option (List ℕ)
 name_of [] = None
 name_of (byte ∷ more) = Some (byte ∷ more)
 
-unfoldable pub file_at : ℕ → Reader FileText
+unfoldable pub file_at : ℕ → Reader ListedFile
 file_at least = do
   number ← u32_from least
   name ← blob w16
   content ← blob w32
   done (record { number = number; name = name_of name; content = content })
 
-abbrev pub after_file : FileText → ℕ
+abbrev pub after_file : ListedFile → ℕ
 after_file file = file.number + 1
 
 -- bit 0: the file may be read, bit 1: it may be written, bit 2: each write goes to its end; one of the first two is set
@@ -123,15 +117,15 @@ slot_at (suc (suc (suc more))) = do
   access ← access_at
   done (slot.File number cursor access)
 
-unfoldable pub descriptor_at : ℕ → Reader Descriptor
+unfoldable pub descriptor_at : ℕ → Reader (ℕ × Slot)
 descriptor_at least = do
   fd ← u32_from least
   kind ← that (λ kind. nat_le kind 3) byte
   slot ← slot_at kind
-  done (record { fd = fd; slot = slot })
+  done (fd, slot)
 
-abbrev pub after_descriptor : Descriptor → ℕ
-after_descriptor descriptor = descriptor.fd + 1
+abbrev pub after_descriptor : ℕ × Slot → ℕ
+after_descriptor descriptor = descriptor.0 + 1
 
 -- what stands behind the magic
 unfoldable pub body_at : Reader StateText

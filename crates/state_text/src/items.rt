@@ -6,9 +6,9 @@ ghost use Rattle.state_text.specs.StateText.{access_at, access_of, are_flags, is
 ghost use Rattle.state_text.specs.Spelled.{flags_of, kind_of, slot_text};
 
 use crate::parts::{Descriptor, File, Page, Run};
-use crate::slots::{Access, Mode, Slot};
 use byte_fields::{Cursor, Item, Stop, put_blob16, put_blob32, put_u32, put_u64};
 use ddc_base::{Bytes, OutOfMemory};
+use mem_files::{Access, Mode, Slot};
 
 impl<'a> Item<'a> for Run {
     ghost use Rattle.state_text.specs.declared.parts.Run.{Run};
@@ -97,11 +97,12 @@ fn page_bytes<'a>(cursor: &mut Cursor<'a>) -> Result<&'a [u8], Stop>
 }
 
 impl<'a> Item<'a> for File<'a> {
-    ghost use Rattle.state_text.specs.StateText.{FileText, after_file, file_at};
+    ghost use Rattle.mem_files.specs.Lists.{ListedFile};
+    ghost use Rattle.state_text.specs.StateText.{after_file, file_at};
     ghost use Rattle.state_text.specs.Spelled.{IsShort, file_text};
     ghost use Rattle.state_text.specs.Seen.{file_view};
 
-    ghost Seen = { FileText };
+    ghost Seen = { ListedFile };
 
     ghost seen = { file_view };
 
@@ -136,12 +137,12 @@ impl<'a> Item<'a> for File<'a> {
     }
 }
 
-ghost use Rattle.std.specs.Option.{option_map};
+ghost use Rattle.std.specs.Option.{option_copied};
 ghost use Rattle.state_text.specs.StateText.{name_of};
 
 /// The name of a file: no bytes are none.
 fn name_of(bytes: &[u8]) -> Option<&[u8]>
-    ensures { option_map (λ name. name.now) result ≡ name_of bytes.now }
+    ensures { option_copied result ≡ name_of bytes.now }
 {
     match bytes {
         [] => None,
@@ -150,13 +151,15 @@ fn name_of(bytes: &[u8]) -> Option<&[u8]>
 }
 
 impl<'a> Item<'a> for Descriptor {
-    ghost use Rattle.state_text.specs.declared.parts.Descriptor.{Descriptor};
+    ghost use Rattle.std.specs.Prelude.{ℕ};
+    ghost use Rattle.mem_files.specs.declared.slot.Slot.{Slot};
     ghost use Rattle.state_text.specs.StateText.{after_descriptor, descriptor_at};
     ghost use Rattle.state_text.specs.Spelled.{descriptor_text};
+    ghost use Rattle.state_text.specs.Seen.{descriptor_view};
 
-    ghost Seen = { Descriptor };
+    ghost Seen = { ℕ × Slot };
 
-    ghost seen = { λ descriptor. descriptor };
+    ghost seen = { descriptor_view };
 
     ghost read_from = { descriptor_at };
 

@@ -7,10 +7,8 @@
 mod items;
 mod parts;
 mod reading;
-mod slots;
 mod writing;
 
 pub use parts::{Descriptor, File, Page, Parts, Run};
 pub use reading::{TextRefusal, parts_at, read};
-pub use slots::{Access, Heap, Mode, Slot};
 pub use writing::{put_parts, write};

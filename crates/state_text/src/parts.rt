@@ -1,4 +1,5 @@
-use crate::slots::{Heap, Slot};
+use linux_calls::Heap;
+use mem_files::Slot;
 
 /// Mapped pages in a row, with pages before and behind it that are not mapped.
 #[derive(Clone, Copy, Debug, PartialEq, Eq)]

@@ -6,8 +6,8 @@ ghost use Rattle.state_text.specs.Spelled.{IsText, text_of};
 ghost use Rattle.state_text.specs.Seen.{Reads, view};
 
 use crate::parts::Parts;
-use crate::slots::Heap;
 use byte_fields::{Cursor, Stop, counted};
+use linux_calls::Heap;
 use std::alloc::Global;
 
 /// The eight bytes that begin the text of a state.

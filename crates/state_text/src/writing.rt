@@ -5,9 +5,9 @@ ghost use Rattle.state_text.specs.Seen.{file_view, view};
 
 use crate::parts::{File, Parts};
 use crate::reading::MAGIC;
-use crate::slots::Heap;
 use byte_fields::{put_blob32, put_counted, put_u64};
 use ddc_base::{Bytes, OutOfMemory};
+use linux_calls::Heap;
 use std::alloc::Global;
 
 fn put_registers(out: &mut Bytes, registers: &[u64]) -> Result<(), OutOfMemory>
