@@ -6,7 +6,9 @@ use Rattle.std.proofs.lemmas.Bool.{cases_lt, ltb-false, le-ltb, leb-true, le-leb
 use Rattle.std.proofs.lemmas.List.{append-nil, take_at, drop_at, take-append-drop, length-append, length-take, get_or-drop, get_or-take, get_or_past, nil_from_length}
 use Rattle.std.proofs.lemmas.List.Concat.{flat_map-cons}
 use Rattle.std.proofs.lemmas.Nat.{le_bytes_2, le_bytes_4, le_bytes_8, from_le_bytes-to_le_bytes_2, from_le_bytes-to_le_bytes_4, from_le_bytes-to_le_bytes_8}
-use Rattle.byte_fields.specs.Reader.{Read, Reader, onward, ◌>>=◌, done, number, byte, bytes, tested, that, blob, several, alike, counted, ended, placed_in, whole, u32, u32_from, u64}
+use Rattle.std.specs.Str.{bytes_eq}
+use Rattle.std.specs.Cmp.Lexicographic.{same_text, nat_list_eq_equiv}
+use Rattle.byte_fields.specs.Reader.{Read, begun, Reader, onward, ◌>>=◌, done, number, byte, bytes, tested, that, blob, several, alike, counted, ended, placed_in, whole, u32, u32_from, u64}
 use Rattle.byte_fields.specs.Spelling.{number_text, blob_text, list_text, InTurn, Alike, Counted, IsBlob}
 
 -- each is a byte
@@ -325,6 +327,19 @@ pub record IsFrom (least n : ℕ) : Type 0 where
 
 pub spells_from : (least : ℕ) → Spells (u32_from least) (number_text w32) (IsFrom least)
 spells_from least = spells (spells_that (λ n. nat_le least n) spells_u32) (λ n f. refl) (λ n f. record { below = f.0; from = leb-true _ _ f.1 }) (λ n f. (f.below, le-leb _ _ f.from))
+
+-- the bytes that begin a text
+pub spells_begun : (magic : List ℕ) → length magic ≡ 8 → Spells (begun magic) (λ (u : Unit {0}). magic) Nothing
+spells_begun magic long =
+    spells (
+    then {K = Nothing} (λ (u : Unit {0}). magic) (spells_that (bytes_eq magic) (spells_bytes 8)) (λ found f.
+    all_read tt (λ u k. refl) (tt, sym (same_text magic found (sym f.1)))))
+    (λ u f. append-nil magic)
+    (λ u f. tt)
+    (λ u f. (tt, ((record { long = long }, same_bytes magic), tt)))
+  where
+    same_bytes : (xs : List ℕ) → bytes_eq xs xs ≡ true
+    same_bytes xs = nat_list_eq_equiv.refl xs
 
 -- ---- a whole text
 

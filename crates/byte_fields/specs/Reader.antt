@@ -1,6 +1,7 @@
 -- Reading a text from left to right, field by field.
 use Rattle.std.specs.Prelude.{◌≡◌, ℕ, zero, suc, ◌-◌, Bool, ◌==◌, nat_lt, nat_le, List, [], ◌∷◌, length, take, drop, slice_index, Result, Ok, Err, if◌then◌else◌}
 use Rattle.std.specs.Int.{Width, w16, w32, w64, byte_len, from_le_bytes}
+use Rattle.std.specs.Str.{bytes_eq}
 use Rattle.byte_fields.specs.declared.cursor.Stop.{Stop}
 use Rattle.byte_fields.specs.declared.cursor.Stop.TheVariants.{Wrong, OutOfMemory}
 
@@ -54,6 +55,12 @@ that test field left = tested test (field left) (length left)
 -- a number of 4 bytes that is at least this
 abbrev pub u32_from : ℕ → Reader ℕ
 u32_from least = that (λ n. nat_le least n) u32
+
+-- the eight bytes that begin each text of a form
+abbrev pub begun : List ℕ → Reader (Unit {0})
+begun magic = do
+  found ← that (bytes_eq magic) (bytes 8)
+  done tt
 
 -- a length, and that many bytes
 unfoldable pub blob : Width → Reader (List ℕ)

@@ -1,7 +1,7 @@
-ghost use Rattle.std.specs.Prelude.{◌≡◌, ℕ, List, length, nat_le, ◌≤◌};
+ghost use Rattle.std.specs.Prelude.{◌≡◌, ℕ, List, length, nat_le, ◌≤◌, IfOk};
 ghost use Rattle.std.specs.Int.{w16, w32, w64};
 ghost use Rattle.byte_fields.specs.declared.cursor.Stop.TheVariants.{OutOfMemory};
-ghost use Rattle.byte_fields.specs.Reader.{Gives, byte, bytes, blob, number, u16, u32, u32_from, u64};
+ghost use Rattle.byte_fields.specs.Reader.{Gives, begun, byte, bytes, blob, number, u16, u32, u32_from, u64};
 
 use std::alloc::{AllocError, AllocFailed};
 use std::marker::Model;
@@ -18,6 +18,14 @@ impl From<AllocError> for Stop {
     ghost from_gives = { λ _ e. e ≡ OutOfMemory };
 
     fn from(_e: AllocError) -> Stop {
+        Stop::OutOfMemory
+    }
+}
+
+impl From<ddc_base::OutOfMemory> for Stop {
+    ghost from_gives = { λ _ e. e ≡ OutOfMemory };
+
+    fn from(_e: ddc_base::OutOfMemory) -> Stop {
         Stop::OutOfMemory
     }
 }
@@ -74,7 +82,8 @@ impl<'a> Cursor<'a> {
     /// The next `count` bytes.
     #[tactic(auto, unfolding(crate::specs::Reader::bytes))]
     pub fn bytes(&mut self, count: usize) -> Result<&'a [u8], Stop>
-        ensures { Gives (λ x. x.now) result self.new (bytes count self.old) }
+        ensures read { Gives (λ x. x.now) result self.new (bytes count self.old) }
+        ensures long { IfOk result (λ x. length x.now ≡ count) }
     {
         if self.left.len() < count {
             return Err(Stop::Wrong(self.left.len()));
@@ -82,6 +91,18 @@ impl<'a> Cursor<'a> {
         let (front, rest) = self.left.split_at(count);
         self.left = rest;
         Ok(front)
+    }
+
+    /// The eight bytes that begin each text of a form.
+    pub fn begins_with(&mut self, magic: &[u8; 8]) -> Result<(), Stop>
+        ensures { Gives (λ x. x) result self.new (begun magic.now self.old) }
+    {
+        let start = self.len();
+        let found = self.bytes(8)?;
+        if found != magic.as_slice() {
+            return Err(Stop::Wrong(start));
+        }
+        Ok(())
     }
 
     /// A number of 2 bytes.

@@ -26,7 +26,7 @@ pub trait Item<'a>: Sized + Drop {
     ghost IsShort: { Seen → Type 0 };
 
     /// Reads it, where its first number must not be below `least`.
-    fn take(cursor: &mut Cursor<'a>, least: u64) -> Result<Self, Stop>
+    fn take(alloc: Global, cursor: &mut Cursor<'a>, least: u64) -> Result<Self, Stop>
         ensures { Gives seen result cursor.new (read_from least cursor.old) };
 
     /// The least number of the item behind it.
@@ -50,7 +50,7 @@ pub fn items<'a, T: Item<'a>>(
     let mut items = Vec::new(alloc);
     let mut least = 0;
     for _ in 0..count {
-        let item = T::take(cursor, least)?;
+        let item = T::take(alloc, cursor, least)?;
         least = item.least_after();
         items.push(item)?;
     }

@@ -1,13 +1,11 @@
 -- The fields of a state's text, one by one: how each is read and how it is spelled fit each other.
 use Rattle.std.proofs.Common.{◌≡◌, ℕ, zero, suc, ◌^◌, ◌<◌, ◌≤◌, Bool, true, false, nat_le, Option, None, Some, List, [], ◌∷◌, ◌++◌, length, Result, Ok, Err, refl, sym, ap, subst, ◌∙◌, arith, ltb, inl, inr}
 use Rattle.std.specs.Int.{w16, w32, w64}
-use Rattle.std.specs.Str.{bytes_eq}
-use Rattle.std.specs.Cmp.Lexicographic.{same_text}
 use Rattle.std.proofs.lemmas.Bool.{leb-true, le-ltb, cases_lt}
 use Rattle.std.proofs.lemmas.List.{append-nil}
 use Rattle.byte_fields.specs.Reader.{alike, blob, byte, bytes, done, u64}
 use Rattle.byte_fields.specs.Spelling.{Alike, IsBlob, blob_text, number_text}
-use Rattle.byte_fields.proofs.Spells.{AreBytes, whole_again, whole_takes, Nothing, Spells, all_read, spells, spells_alike, spells_blob16, spells_blob32, spells_byte, spells_bytes, spells_counted, spells_from, spells_that, spells_u32, spells_u64, then}
+use Rattle.byte_fields.proofs.Spells.{AreBytes, whole_again, whole_takes, Nothing, Spells, all_read, spells, spells_alike, spells_blob16, spells_blob32, spells_byte, spells_begun, spells_bytes, spells_counted, spells_from, spells_that, spells_u32, spells_u64, then}
 use Rattle.mem_files.specs.declared.slot.Access.{Access}
 use Rattle.mem_files.specs.declared.slot.Mode.{Mode}
 use Rattle.mem_files.specs.declared.slot.Mode.TheVariants as mode
@@ -17,7 +15,7 @@ use Rattle.std.specs.Prelude.{IfOk}
 use Rattle.state_text.specs.declared.parts.Parts.{Parts}
 use Rattle.state_text.specs.declared.reading.TextRefusal.{TextRefusal}
 use Rattle.state_text.specs.Seen.{Reads, view}
-use Rattle.state_text.specs.StateText.{StateText, formed, access_at, access_of, after_descriptor, after_file, after_page, after_run, are_flags, body_at, descriptor_at, file_at, heap_at, is_page, magic, magic_at, name_of, page_at, run_at, slot_at, state_at}
+use Rattle.state_text.specs.StateText.{StateText, formed, access_at, access_of, after_descriptor, after_file, after_page, after_run, are_flags, body_at, descriptor_at, file_at, heap_at, is_page, magic, name_of, page_at, run_at, slot_at, state_at}
 use Rattle.state_text.specs.Spelled.{IsDescriptor, IsFile, IsHeap, IsName, IsPage, IsRun, IsSlot, IsText, body_text, descriptor_text, file_text, flags_of, heap_text, kind_of, name_bytes, page_text, run_text, slot_text, text_of, u64s}
 
 pub spells_heap : Spells heap_at heap_text IsHeap
@@ -252,15 +250,6 @@ spells_descriptor least =
 
 -- ---- the whole
 
-pub spells_magic : Spells magic_at (λ (u : Unit {0}). magic) Nothing
-spells_magic =
-    spells (
-    then {K = Nothing} (λ (u : Unit {0}). magic) (spells_that (bytes_eq magic) (spells_bytes 8)) (λ found f.
-    all_read tt (λ u k. refl) (tt, sym (same_text magic found (sym f.1)))))
-    (λ u f. append-nil magic)
-    (λ u f. tt)
-    (λ u f. (tt, ((record { long = refl }, refl), tt)))
-
 spells_registers : Spells (alike u64 31) u64s (λ ns. (length ns ≡ 31) × Alike (λ n. n < 2 ^ 64) ns)
 spells_registers = spells_alike spells_u64 31
 
@@ -289,7 +278,7 @@ pub spells_state : Spells state_at text_of IsText
 unfolding state_at
 spells_state =
     spells (
-    then {K = Nothing} (λ s. tt) spells_magic (λ begun f.
+    then {K = Nothing} (λ s. tt) (spells_begun magic refl) (λ begun f.
     spells spells_body (λ s g. refl) (λ s g. ((tt, refl), g)) (λ s g. g.1)))
     (λ s f. refl) (λ s f. f.1.1) (λ s f. (tt, (tt, f)))
 

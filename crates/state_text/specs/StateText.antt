@@ -2,8 +2,7 @@
 use Rattle.std.specs.Prelude.{ℕ, zero, suc, ◌+◌, ◌%◌, Bool, ◌&&◌, not, ◌==◌, nat_le, nat_lt, Option, None, Some, List, [], ◌∷◌, Result}
 use Rattle.std.specs.List.{list_all}
 use Rattle.std.specs.Int.{w16, w32}
-use Rattle.std.specs.Str.{bytes_eq}
-use Rattle.byte_fields.specs.Reader.{Reader, ◌>>=◌, alike, blob, byte, bytes, counted, done, that, u32, u32_from, u64, whole}
+use Rattle.byte_fields.specs.Reader.{Reader, ◌>>=◌, alike, begun, blob, byte, bytes, counted, done, that, u32, u32_from, u64, whole}
 use Rattle.mem_files.specs.Lists.{ListedFile}
 use Rattle.mem_files.specs.declared.slot.Slot.{Slot}
 use Rattle.mem_files.specs.declared.slot.Slot.TheVariants as slot
@@ -37,11 +36,6 @@ pub record StateText : Type 0 where
 -- the eight bytes that begin each text: `ddcstat1`
 abbrev pub magic : List ℕ
 magic = 100 ∷ 100 ∷ 99 ∷ 115 ∷ 116 ∷ 97 ∷ 116 ∷ 49 ∷ []
-
-abbrev pub magic_at : Reader (Unit {0})
-magic_at = do
-  found ← that (bytes_eq magic) (bytes 8)
-  done tt
 
 unfoldable pub heap_at : Reader Heap
 heap_at = do
@@ -144,7 +138,7 @@ body_at = do
 
 unfoldable pub state_at : Reader StateText
 state_at = do
-  begun ← magic_at
+  start ← begun magic
   body_at
 
 -- what a text says, or the offset of its first wrong field: nothing follows the state

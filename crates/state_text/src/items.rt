@@ -9,6 +9,7 @@ use crate::parts::{Descriptor, File, Page, Run};
 use byte_fields::{Cursor, Item, Stop, put_blob16, put_blob32, put_u32, put_u64};
 use ddc_base::{Bytes, OutOfMemory};
 use mem_files::{Access, Mode, Slot};
+use std::alloc::Global;
 
 impl<'a> Item<'a> for Run {
     ghost use Rattle.state_text.specs.declared.parts.Run.{Run};
@@ -28,7 +29,7 @@ impl<'a> Item<'a> for Run {
     ghost IsShort = { λ _. Unit {0} };
 
     #[tactic(auto, unfolding(crate::specs::StateText::run_at))]
-    fn take(cursor: &mut Cursor<'a>, least: u64) -> Result<Run, Stop> {
+    fn take(_alloc: Global, cursor: &mut Cursor<'a>, least: u64) -> Result<Run, Stop> {
         let first = cursor.u32_from(least)?;
         let pages = cursor.u32_from(1)?;
         Ok(Run { first, pages })
@@ -62,7 +63,7 @@ impl<'a> Item<'a> for Page<'a> {
     ghost IsShort = { λ _. Unit {0} };
 
     #[tactic(auto, unfolding(crate::specs::StateText::page_at))]
-    fn take(cursor: &mut Cursor<'a>, least: u64) -> Result<Page<'a>, Stop> {
+    fn take(_alloc: Global, cursor: &mut Cursor<'a>, least: u64) -> Result<Page<'a>, Stop> {
         let number = cursor.u32_from(least)?;
         let bytes = page_bytes(cursor)?;
         Ok(Page { number, bytes })
@@ -115,7 +116,7 @@ impl<'a> Item<'a> for File<'a> {
     ghost IsShort = { IsShort };
 
     #[tactic(auto, unfolding(crate::specs::StateText::file_at))]
-    fn take(cursor: &mut Cursor<'a>, least: u64) -> Result<File<'a>, Stop> {
+    fn take(_alloc: Global, cursor: &mut Cursor<'a>, least: u64) -> Result<File<'a>, Stop> {
         let number = cursor.u32_from(least)?;
         let name = cursor.blob16()?;
         let content = cursor.blob32()?;
@@ -170,7 +171,7 @@ impl<'a> Item<'a> for Descriptor {
     ghost IsShort = { λ _. Unit {0} };
 
     #[tactic(auto, unfolding(crate::specs::StateText::descriptor_at))]
-    fn take(cursor: &mut Cursor<'a>, least: u64) -> Result<Descriptor, Stop> {
+    fn take(_alloc: Global, cursor: &mut Cursor<'a>, least: u64) -> Result<Descriptor, Stop> {
         let fd = cursor.u32_from(least)?;
         let kind = kind_of(cursor)?;
         let slot = slot_of(cursor, kind)?;

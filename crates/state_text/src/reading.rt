@@ -1,7 +1,6 @@
 ghost use Rattle.std.specs.Prelude.{◌≡◌, ◌≤◌, length, IfOk, Ok, Err};
-ghost use Rattle.std.specs.Str.{bytes_eq};
-ghost use Rattle.byte_fields.specs.Reader.{Gives, alike, bytes, that, u64};
-ghost use Rattle.state_text.specs.StateText.{StateText, body_at, formed, heap_at, magic, magic_at, state_at};
+ghost use Rattle.byte_fields.specs.Reader.{Gives, alike, u64};
+ghost use Rattle.state_text.specs.StateText.{StateText, body_at, formed, heap_at, state_at};
 ghost use Rattle.state_text.specs.Spelled.{IsText, text_of};
 ghost use Rattle.state_text.specs.Seen.{Reads, view};
 
@@ -19,17 +18,6 @@ pub enum TextRefusal {
     /// The field that begins at this offset is the first wrong one, or the first byte behind the last field.
     Form(u64),
     OutOfMemory,
-}
-
-fn magic_of(cursor: &mut Cursor<'_>) -> Result<(), Stop>
-    ensures { Gives (λ x. x) result cursor.new (magic_at cursor.old) }
-{
-    let at = cursor.len();
-    let found = cursor.bytes(8)?;
-    if found != MAGIC.as_slice() {
-        return Err(Stop::Wrong(at));
-    }
-    Ok(())
 }
 
 fn registers_of(cursor: &mut Cursor<'_>) -> Result<[u64; 31], Stop>
@@ -86,7 +74,7 @@ fn body_of<'a>(alloc: Global, cursor: &mut Cursor<'a>) -> Result<Parts<'a>, Stop
 pub fn parts_at<'a>(alloc: Global, cursor: &mut Cursor<'a>) -> Result<Parts<'a>, Stop>
     ensures { Gives view result cursor.new (state_at cursor.old) }
 {
-    magic_of(cursor)?;
+    cursor.begins_with(&MAGIC)?;
     body_of(alloc, cursor)
 }
 
