@@ -1,3 +1,5 @@
 pub mod Pushes
 pub mod Tests
 pub mod Meaning
+pub mod Walk
+pub mod SameWorld
