@@ -3,3 +3,5 @@ pub mod Tests
 pub mod Meaning
 pub mod Walk
 pub mod SameWorld
+pub mod SameLists
+pub mod GoodLists

@@ -1,24 +1,22 @@
 -- The lists of a world stand for that world.
-use Rattle.std.proofs.Common.{◌≡◌, ◌≢◌, ℕ, suc, ◌+◌, ◌<◌, ◌≤◌, Bool, true, false, cond, ◌||◌, eqb, eqb-true, eq-eqb, T, List, [], ◌∷◌, length, map, find, Option, Some, None, IsSome, is_some, option_map, refl, sym, ap, subst, ◌∙◌, arith}
+use Rattle.std.proofs.Common.{◌≡◌, ℕ, true, false, cond, eqb, eqb-true, eq-eqb, List, [], ◌∷◌, map, find, Option, Some, None, IsSome, is_some, option_map, refl, sym, ap, ◌∙◌}
 use Rattle.std.specs.Prelude.{All, IfSome}
-use Rattle.std.specs.List.{list_any, AllByRecursion, IsDistinct}
 use Rattle.std.specs.Ordering.{nat_cmp, eq_by_cmp, is_eq}
 use Rattle.std.specs.Cmp.{nat_cmp_total, tied_itself, unsigned_tied}
 use Rattle.std.specs.Cmp.Lexicographic.{nat_list_cmp_total}
 use Rattle.std.specs.FinMap as fin
-use Rattle.std.specs.FinMap.Entries.{below_all}
 use Rattle.std.proofs.lemmas.Bool.{false≢true}
 use Rattle.std.proofs.lemmas.Option.{none-some, same_Some}
-use Rattle.std.proofs.lemmas.List.Elements.{All-cons, All-nil, All-head, All-tail}
+use Rattle.std.proofs.lemmas.List.Elements.{All-cons, All-nil}
 use Rattle.mem_files.specs.Names.{bytes_cmp}
-use Rattle.mem_files.specs.World.{World, is_named}
+use Rattle.mem_files.specs.World.{World}
 use Rattle.mem_files.specs.Sound.{IsSound}
-use Rattle.mem_files.specs.Lists.{ListedFile, named, with_name, contents, name_of, listed_file, lists_of, world_of}
-use Rattle.mem_files.proofs.Directory.{equal, bytes_cmp-IsAntisymmetric, same_name_map}
+use Rattle.mem_files.specs.Lists.{named, with_name, contents, name_of, listed_file, lists_of, world_of}
+use Rattle.mem_files.proofs.Directory.{bytes_cmp-IsAntisymmetric, same_name_map}
 use Rattle.mem_files.proofs.Entries.{some_of}
 use Rattle.mem_files.proofs.Leftovers.{all_names}
 use Rattle.mem_files.proofs.ListRules.{chosen_some, found_all}
-use Rattle.mem_files.proofs.Maps.{any_at, both, find_apart, find_here, head_above, rest_above, same_nat_map}
+use Rattle.mem_files.proofs.Maps.{any_at, same_nat_map}
 use Rattle.mem_files.proofs.Shown.{found_entry, name-some}
 
 pub contents_listed : (w : World) (es : List (ℕ × List ℕ)) → contents (map (listed_file w) es) ≡ es
@@ -30,7 +28,7 @@ pub from_its_entries : {X : Type 0} (m : fin.FinMap nat_cmp X) → fin.from_entr
 from_its_entries m = same_nat_map _ m (λ q. fin.get-from_entries nat_cmp_total (fin.entries m) q ∙ sym (fin.get-entries m q))
 
 module _ (w : World) where
-  right_name : (n : ℕ) (o : Option (List ℕ)) → name_of w n ≡ o → IfSome o (λ name. fin.get w.names name ≡ Some n)
+  pub right_name : (n : ℕ) (o : Option (List ℕ)) → name_of w n ≡ o → IfSome o (λ name. fin.get w.names name ≡ Some n)
   right_name n o is = at (find (λ e. eqb e.1 n) (fin.entries w.names)) refl o is
     where
       at : (e : Option (List ℕ × ℕ)) → find (λ e. eqb e.1 n) (fin.entries w.names) ≡ e → (o : Option (List ℕ)) → option_map (λ e. e.0) e ≡ o → IfSome o (λ name. fin.get w.names name ≡ Some n)
@@ -86,7 +84,7 @@ module _ (w : World) where
         at name None none = none_of name (fin.find bytes_cmp name (named (map (listed_file w) (fin.entries w.files)))) refl none ∙ sym none
         at name (Some n) held =
             let there = some_of (fin.find bytes_cmp name (named (map (listed_file w) (fin.entries w.files))))
-                (present name n (its_name name n held) (fin.entries w.files) (sym (ap is_some (fin.get-entries w.files n)) ∙ sound.joined.held name n held)) in
+            (present name n (its_name name n held) (fin.entries w.files) (sym (ap is_some (fin.get-entries w.files n)) ∙ sound.joined.held name n held)) in
             there.1 ∙ sym (found_right name there.0 there.1)
 
     pub same_world : world_of (lists_of w) ≡ w

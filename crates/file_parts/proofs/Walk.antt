@@ -1,15 +1,14 @@
 -- A walk over numbers by "the least one from another on".
-use Rattle.std.proofs.Common.{◌≡◌, ℕ, suc, ◌+◌, ◌<◌, ◌≤◌, Bool, true, false, cond, ◌&&◌, T, nat_le, List, [], ◌∷◌, ◌++◌, map, filter, find, Option, Some, None, is_some, IsSome, option_map, refl, sym, ap, subst, ◌∙◌, arith, append_assoc, append-nil}
+use Rattle.std.proofs.Common.{◌≡◌, ℕ, ◌+◌, ◌<◌, ◌≤◌, Bool, true, false, cond, T, nat_le, List, [], ◌∷◌, ◌++◌, map, filter, find, Option, Some, None, is_some, IsSome, option_map, refl, sym, ap, subst, ◌∙◌, arith, append_assoc, append-nil}
 use Rattle.std.specs.Ordering.{eq_by_cmp, nat_cmp}
 use Rattle.std.specs.FinMap as fin
 use Rattle.std.specs.FinMap.Entries.{below_all}
 use Rattle.std.proofs.lemmas.Bool.Decides.{nat_tests}
 use Rattle.std.proofs.lemmas.Option.{none-some, same_Some}
-use Rattle.mem_files.specs.declared.view.FileView.{FileView}
 use Rattle.mem_files.specs.declared.slot.Slot.{Slot}
 use Rattle.mem_files.specs.Sound.{IsSound}
 use Rattle.mem_files.specs.World.{World}
-use Rattle.mem_files.specs.Lists.{ListedFile, listed, listed_file, first_from, file_from, slot_from}
+use Rattle.mem_files.specs.Lists.{ListedFile, listed_file, first_from, file_from, slot_from}
 use Rattle.mem_files.proofs.Maps.{both, find_here, head_above, rest_above}
 use Rattle.mem_files.proofs.Entries.{some_of}
 
@@ -113,11 +112,12 @@ pub file_listed : (w : World) (n : ℕ) (found : List ListedFile) (shown : Liste
     → (n ≤ shown.number) × (shown.number < 5120) × ((found ++ shown ∷ []) ++ map (listed_file w) (left_from (shown.number + 1) (fin.entries w.files)) ≡ map (listed_file w) (fin.entries w.files))
 file_listed w n found shown sound is so_far =
     let entry = file_found w n shown is in
-    let same : entry.0.0 ≡ shown.number = ap (λ (f : ListedFile). f.number) entry.2 in
-    (subst (λ k. n ≤ k) same (walk_rises w.files (listed_file w) n entry.0 entry.1),
-     subst (λ k. k < 5120) same (sound.within.low_numbers entry.0.0 (walk_finds w.files (listed_file w) n entry.0 entry.1)),
-     subst (λ k. (found ++ shown ∷ []) ++ map (listed_file w) (left_from (k + 1) (fin.entries w.files)) ≡ map (listed_file w) (fin.entries w.files)) same
-       (walk_goes_on w.files (listed_file w) n entry.0 found shown entry.1 entry.2 so_far))
+    let same : entry.0.0 ≡ shown.number = ap (λ (f : ListedFile). f.number) entry.2 in (
+      subst (λ k. n ≤ k) same (walk_rises w.files (listed_file w) n entry.0 entry.1),
+      subst (λ k. k < 5120) same (sound.within.low_numbers entry.0.0 (walk_finds w.files (listed_file w) n entry.0 entry.1)),
+      subst (λ k. (found ++ shown ∷ []) ++ map (listed_file w) (left_from (k + 1) (fin.entries w.files)) ≡ map (listed_file w) (fin.entries w.files)) same
+          (walk_goes_on w.files (listed_file w) n entry.0 found shown entry.1 entry.2 so_far),
+    )
 
 -- a descriptor more
 pub slot_low : (w : World) (n fd : ℕ) (slot : Slot) → IsSound w → slot_from w n ≡ Some (fd, slot) → fd < 1024

@@ -184,7 +184,7 @@ pub values_sum : (files : List ListedFile) → sum_by length (map (λ e. e.1) (c
 values_sum [] = refl
 values_sum (f ∷ files) = sum_by-cons length f.content (map (λ e. e.1) (contents files)) ∙ ap (λ n. length f.content + n) (values_sum files) ∙ sym (sum_by-cons size_of f files)
 
-two_sum : (streams : List (List ℕ)) → length streams ≡ 2 → sum_by length streams ≡ length (get_or streams 0 []) + length (get_or streams 1 [])
+pub two_sum : (streams : List (List ℕ)) → length streams ≡ 2 → sum_by length streams ≡ length (get_or streams 0 []) + length (get_or streams 1 [])
 two_sum [] two = absurd (omega arith)
 two_sum (a ∷ []) two = absurd (omega arith)
 two_sum (a ∷ (b ∷ [])) two = omega (arith, sum_by-cons length a (b ∷ []), sum_by-cons length b [])

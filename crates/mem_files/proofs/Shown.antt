@@ -74,7 +74,7 @@ found_entry P test (x ∷ es) e all is =
       | false ↦ λ _ later. found_entry P test es e (All-tail P x es all) later
     ] refl is
 
-is_some-found : (number : ℕ) (es : List (List ℕ × ℕ)) → is_some (find (λ e. eqb e.1 number) es) ≡ list_any (λ held. eqb held number) (map (λ e. e.1) es)
+pub is_some-found : (number : ℕ) (es : List (List ℕ × ℕ)) → is_some (find (λ e. eqb e.1 number) es) ≡ list_any (λ held. eqb held number) (map (λ e. e.1) es)
 is_some-found number [] = refl
 is_some-found number (e ∷ es) = elim (eqb e.1 number) as (λ b. is_some (cond b (Some e) (find (λ e. eqb e.1 number) es)) ≡ (b || list_any (λ held. eqb held number) (map (λ e. e.1) es))) [
   | true ↦ refl

@@ -1,7 +1,6 @@
 use Rattle.std.proofs.Common.{◌≡◌, ◌∙◌, ◌++◌, ◌+◌, [], ◌∷◌, List, map, ap, sym, subst, arith}
 use Rattle.std.proofs.lemmas.List.{map-append}
 use Rattle.std.specs.FinMap as fin
-use Rattle.mem_files.specs.declared.view.FileView.{FileView}
 use Rattle.mem_files.specs.Lists.{ListedFile, listed, listed_file}
 use Rattle.file_parts.proofs.Walk.{left_from, file_listed, file_none, walk_starts, walk_ends}
 use Rattle.file_parts.proofs.listing.files_of.Goals as goal

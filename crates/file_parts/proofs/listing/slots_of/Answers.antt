@@ -1,4 +1,4 @@
-use Rattle.std.proofs.Common.{◌≡◌, ◌∙◌, ◌++◌, ◌+◌, [], ◌∷◌, ℕ, List, map, ap, refl, sym, subst, arith}
+use Rattle.std.proofs.Common.{◌≡◌, ◌∙◌, ◌++◌, ◌+◌, ℕ, List, map, refl, sym, subst, arith}
 use Rattle.std.specs.FinMap as fin
 use Rattle.mem_files.specs.declared.slot.Slot.{Slot}
 use Rattle.file_parts.proofs.Walk.{left_from, same_map, slot_low, walk_starts, walk_goes_on, walk_ends, walk_rises}
@@ -14,8 +14,11 @@ overflow_add-least c = omega (arith, slot_low c.args.files.now c.loop-fd.least c
 
 pub loop-fd-smaller : goal.loop-fd-smaller
 loop-fd-smaller c =
-    omega (arith, slot_low c.args.files.now c.loop-fd.least c.in-Some.fd c.in-Some.slot c.stream.ensures.sound (sym c.in-Some.ensures),
-    walk_rises c.args.files.now.slots (λ held. held) c.loop-fd.least (c.in-Some.fd, c.in-Some.slot) (sym c.in-Some.ensures))
+    omega (
+      arith,
+      slot_low c.args.files.now c.loop-fd.least c.in-Some.fd c.in-Some.slot c.stream.ensures.sound (sym c.in-Some.ensures),
+      walk_rises c.args.files.now.slots (λ held. held) c.loop-fd.least (c.in-Some.fd, c.in-Some.slot) (sym c.in-Some.ensures),
+    )
 
 pub loop-fd-preserved : goal.loop-fd-preserved
 loop-fd-preserved c =
