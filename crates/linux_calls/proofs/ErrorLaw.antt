@@ -5,6 +5,7 @@ use Rattle.std.specs.FinMap as map
 use Rattle.std.specs.Int.{cast_signed, w64}
 use Rattle.paged_mem.specs.Memory.{bytes_at, maps}
 use Rattle.mem_files.specs.World.{World}
+use Rattle.mem_files.specs.declared.slot.Access.{Access}
 use Rattle.mem_files.specs.declared.slot.Slot.{Slot}
 use Rattle.mem_files.specs.declared.slot.Slot.TheVariants.{Input, Stream1, Stream2, File}
 use Rattle.mem_files.specs.Limits.{most_descriptors, most_names}
@@ -44,16 +45,16 @@ leaves-closed w fd = at (map.get w.slots fd)
 leaves-sought : (w : World) (fd : ℕ) (offset : ℤ) (whence : ℕ) → Leaves w (sought w fd offset whence)
 leaves-sought w fd offset whence = at (map.get w.slots fd)
   where
-    to : (number flags : ℕ) (o : Option ℕ) → Leaves w (with_cursor w fd number flags o)
-    to number flags None = λ e. refl
-    to number flags (Some cursor) = λ e. cc
+    to : (number : ℕ) (access : Access) (o : Option ℕ) → Leaves w (with_cursor w fd number access o)
+    to number access None = λ e. refl
+    to number access (Some cursor) = λ e. cc
 
     at : (o : Option Slot) → Leaves w (sought_at w fd offset whence o)
     at None = λ e. refl
     at (Some Input) = λ e. refl
     at (Some Stream1) = λ e. refl
     at (Some Stream2) = λ e. refl
-    at (Some (File number cursor flags)) = to number flags _
+    at (Some (File number cursor access)) = to number access _
 
 leaves-opened : (w : World) (name : List ℕ) (flags : ℕ) → Leaves w (opened w name flags)
 leaves-opened w name flags =

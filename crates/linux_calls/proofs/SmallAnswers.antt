@@ -7,9 +7,11 @@ use Rattle.std.proofs.lemmas.Bool.Decides.{nat_tests}
 use Rattle.std.proofs.lemmas.List.{length-take, length-drop}
 use Rattle.paged_mem.specs.Memory.{Memory, IsWhole, bytes_at, maps}
 use Rattle.paged_mem.proofs.Maps.{get_in_bytes_at, length_of_bytes_at}
+use Rattle.mem_files.specs.declared.slot.Access.{Access}
 use Rattle.mem_files.specs.declared.slot.Slot.{Slot}
 use Rattle.mem_files.specs.declared.slot.Slot.TheVariants.{Input, Stream1, Stream2, File}
-use Rattle.mem_files.specs.Limits.{may_read, most_descriptors, most_names}
+use Rattle.mem_files.specs.Access.{is_read}
+use Rattle.mem_files.specs.Limits.{most_descriptors, most_names}
 use Rattle.mem_files.specs.Linux.{ebadf, eexist, einval, emfile, enoent, enospc, o_accmode, o_creat, o_excl, o_trunc}
 use Rattle.mem_files.specs.World.{World, content_of, lowest_unused}
 use Rattle.mem_files.specs.Calls.{as_cursor, closed, emptied_if, has, opened, opened_at, ready, ready_at, removed, seek_base, sought, sought_at, with_cursor, with_descriptor, with_file, write_place, written}
@@ -99,9 +101,9 @@ opened-as-small w dir flags (Ok name) sound = either_pair (bit_and (low flags) o
 sought-small : (w : World) (fd : ℕ) (offset : ℤ) (whence : ℕ) → Value (sought w fd offset whence).0
 sought-small w fd offset whence = at_slot (get w.slots fd)
   where
-    at_cursor : (number flags : ℕ) (o : Option ℕ) → ((to : ℕ) → o ≡ Some to → to < 2 ^ 64) → Value (with_cursor w fd number flags o).0
-    at_cursor number flags None h = an_error einval
-    at_cursor number flags (Some to) h = a_value to (h to refl)
+    at_cursor : (number : ℕ) (access : Access) (o : Option ℕ) → ((to : ℕ) → o ≡ Some to → to < 2 ^ 64) → Value (with_cursor w fd number access o).0
+    at_cursor number access None h = an_error einval
+    at_cursor number access (Some to) h = a_value to (h to refl)
 
     cursor : (z : ℤ) (to : ℕ) → as_cursor z ≡ Some to → to < 2 ^ 64
     cursor (negsuc n) to e = cc
@@ -120,7 +122,7 @@ sought-small w fd offset whence = at_slot (get w.slots fd)
     at_slot (Some Input) = an_error _
     at_slot (Some Stream1) = an_error _
     at_slot (Some Stream2) = an_error _
-    at_slot (Some (File number now flags)) = at_cursor number flags _ (from_base (seek_base whence now (length (content_of w number))))
+    at_slot (Some (File number now access)) = at_cursor number access _ (from_base (seek_base whence now (length (content_of w number))))
 
 ready-small : (w : World) (fd count : ℕ) (bytes : List ℕ) → IsSound w → ready w fd count ≡ Ok bytes → length bytes < 2 ^ 64
 ready-small w fd count bytes sound e = at_slot (get w.slots fd) e
@@ -137,7 +139,7 @@ ready-small w fd count bytes sound e = at_slot (get w.slots fd) e
     at_slot (Some Input) e = let none : [] ≡ bytes = cc in omega (arith, ap length none)
     at_slot (Some Stream1) e = cc
     at_slot (Some Stream2) e = cc
-    at_slot (Some (File number cursor flags)) e = readable (has flags may_read) number cursor e
+    at_slot (Some (File number cursor access)) e = readable (is_read access) number cursor e
 
 read-small : (s : State) (fd buffer count : ℕ) (r : Result (List ℕ) ℕ) → ready s.files fd count ≡ r → IsSound s.files → Small (read_at s fd buffer r)
 read-small s fd buffer count (Err errno) was sound = record { is = (an_error errno).is }

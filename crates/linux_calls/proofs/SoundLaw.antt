@@ -9,7 +9,7 @@ use Rattle.paged_mem.specs.Memory.{Memory, IsWhole, bytes_at, maps}
 use Rattle.mem_files.specs.declared.slot.Slot.{Slot}
 use Rattle.mem_files.specs.declared.slot.Slot.TheVariants.{Input, Stream1, Stream2, File}
 use Rattle.mem_files.specs.Linux.{ebadf, einval, o_accmode}
-use Rattle.mem_files.specs.Limits.{may_read}
+use Rattle.mem_files.specs.Access.{is_read}
 use Rattle.mem_files.specs.Names.{stripped, is_stripped_name}
 use Rattle.mem_files.specs.World.{World, content_of}
 use Rattle.mem_files.specs.Calls.{has, closed, ready, ready_at, removed, write_place, written}
@@ -87,7 +87,7 @@ ready_again w fd count bytes e = at_slot (get w.slots fd) e
     at_slot (Some Input) e = let none : [] ≡ bytes = cc in ap length none
     at_slot (Some Stream1) e = cc
     at_slot (Some Stream2) e = cc
-    at_slot (Some (File number cursor flags)) e = readable (has flags may_read) (drop cursor (content_of w number)) e
+    at_slot (Some (File number cursor access)) e = readable (is_read access) (drop cursor (content_of w number)) e
 
 -- the calls on files
 pair-if : {A : Type 0} (b : Bool) (x y : Result A ℕ × World) → IsSound x.1 → IsSound y.1 → IsSound (cond b x y).1

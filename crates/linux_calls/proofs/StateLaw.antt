@@ -8,10 +8,10 @@ use Rattle.paged_mem.specs.Memory.{Memory, IsWhole, bytes_at, maps, with_bytes, 
 use Rattle.paged_mem.proofs.Mapped.{length-zeros}
 use Rattle.mem_files.specs.declared.slot.Slot.{Slot}
 use Rattle.mem_files.specs.declared.slot.Slot.TheVariants.{Input, Stream1, Stream2, File}
-use Rattle.mem_files.specs.Limits.{may_read}
+use Rattle.mem_files.specs.Access.{is_read}
 use Rattle.mem_files.specs.Linux.{ebadf}
 use Rattle.mem_files.specs.World.{World, content_of}
-use Rattle.mem_files.specs.Calls.{has, ready, ready_at, write_place}
+use Rattle.mem_files.specs.Calls.{ready, ready_at, write_place}
 use Rattle.mem_files.specs.Sound.{AreBytes, IsSound}
 use Rattle.mem_files.proofs.Rules.{bytes_of, content_bytes}
 use Rattle.linux_calls.specs.declared.Heap.{Heap}
@@ -39,7 +39,7 @@ ready-bytes w fd count bytes sound e = at_slot (get w.slots fd) e
     at_slot (Some Input) e = let none : [] ≡ bytes = cc in subst AreBytes none (All-nil (λ b. b < 256))
     at_slot (Some Stream1) e = cc
     at_slot (Some Stream2) e = cc
-    at_slot (Some (File number cursor flags)) e = readable (has flags may_read) number cursor e
+    at_slot (Some (File number cursor access)) e = readable (is_read access) number cursor e
 
 -- the memory after an outcome, as a record: what it speaks of is found from the goal
 abbrev LeavesWhole : CallOutcome → Type 0

@@ -56,7 +56,7 @@ abbrev number_of : Slot → ℕ
 number_of Input = 0
 number_of Stream1 = 0
 number_of Stream2 = 0
-number_of (File number cursor flags) = number
+number_of (File number cursor access) = number
 
 among_names : (q : ℕ) (xs ys : List ℕ) → list_any (λ held. eqb held q) xs ≡ true → list_any (eqb q) (xs ++ ys) ≡ true
 among_names q [] ys h = absurd (false≢true h)
@@ -73,7 +73,7 @@ among_slots q [] (s ∷ ss) h = or_cases (is_of q s) (list_any (is_of q) ss) h
     of_number Input e = absurd (false≢true e)
     of_number Stream1 e = absurd (false≢true e)
     of_number Stream2 e = absurd (false≢true e)
-    of_number (File number cursor flags) e = eqb-true number q e
+    of_number (File number cursor access) e = eqb-true number q e
 
 -- each used number has a name or a descriptor, so the lowest unused one is at most their count
 pub lowest_number-le : (w : World) → IsKept w → lowest_unused w.files ≤ fin.len w.names + fin.len w.slots
@@ -132,7 +132,7 @@ pub slot_kept : (w v : World) (fd : ℕ) (slot : Slot) → ((number : ℕ) → i
 slot_kept w v fd Input kept h = h
 slot_kept w v fd Stream1 kept h = h
 slot_kept w v fd Stream2 kept h = h
-slot_kept w v fd (File number cursor flags) kept h = (kept number (eq-eqb number number refl) h.0, h.1, h.2, h.3)
+slot_kept w v fd (File number cursor access) kept h = (kept number (eq-eqb number number refl) h.0, h.1)
 
 -- a file that lacks both is dropped
 without_unused-kept : (w : World) (number : ℕ) → IsKeptBut number w → IsKept (without_unused w number)
@@ -224,8 +224,8 @@ closed-kept w fd s = at_slot (fin.get w.slots fd) refl
     at_slot (Some Input) e = sound_of_but _ (λ number. cleared w fd Input number s e (λ n ne. refl))
     at_slot (Some Stream1) e = sound_of_but _ (λ number. cleared w fd Stream1 number s e (λ n ne. refl))
     at_slot (Some Stream2) e = sound_of_but _ (λ number. cleared w fd Stream2 number s e (λ n ne. refl))
-    at_slot (Some (File number cursor flags)) e =
-        without_unused-kept _ number (cleared w fd (File number cursor flags) number s e (λ n ne. by_eq number n (λ k. absurd (ne (sym k))) (λ k. not_eqb number n k)))
+    at_slot (Some (File number cursor access)) e =
+        without_unused-kept _ number (cleared w fd (File number cursor access) number s e (λ n ne. by_eq number n (λ k. absurd (ne (sym k))) (λ k. not_eqb number n k)))
 
 pub removed-kept : (w : World) (name : List ℕ) → IsKept w → IsKept (removed w name).1
 removed-kept w name s = at_name (fin.get w.names name) refl

@@ -1,5 +1,5 @@
 -- Each call that adds or writes keeps the limits, and keeps names, files and descriptors fitting together.
-use Rattle.std.proofs.Common.{◌≡◌, ◌≢◌, ℕ, ◌+◌, ◌-◌, ◌%◌, ◌^◌, ◌<◌, ◌≤◌, Bool, true, false, cond, not, ◌||◌, ◌&&◌, ◌==◌, eqb, nat_lt, nat_le, inl, inr, List, [], ◌∷◌, ◌++◌, length, Option, Some, None, Result, Ok, Err, IsOkAnd, take, drop, IsSome, is_some, IsTrue, unwrap_or, bit_and, ℤ, pos, negsuc, ◌+ℤ◌, option_and_then, if◌then◌else◌, refl, sym, ap, ◌∙◌, subst, arith, eq-eqb, eqb-true}
+use Rattle.std.proofs.Common.{◌≡◌, ◌≢◌, ℕ, ◌+◌, ◌-◌, ◌^◌, ◌<◌, ◌≤◌, Bool, true, false, cond, not, ◌||◌, ◌&&◌, ◌==◌, eqb, nat_lt, nat_le, inl, inr, List, [], ◌∷◌, ◌++◌, length, Option, Some, None, Result, Ok, Err, IsOkAnd, take, drop, IsSome, is_some, IsTrue, unwrap_or, bit_and, ℤ, pos, negsuc, ◌+ℤ◌, option_and_then, if◌then◌else◌, refl, sym, ap, ◌∙◌, subst, arith, eq-eqb, eqb-true}
 use Rattle.std.proofs.lemmas.List.{length-append, length-take, length-drop}
 use Rattle.std.proofs.lemmas.Bool.{false≢true}
 use Rattle.std.proofs.lemmas.Bool.Decides.{nat_tests}
@@ -8,17 +8,19 @@ use Rattle.std.specs.Ordering.{nat_cmp}
 use Rattle.std.specs.Cmp.{nat_cmp_total}
 use Rattle.std.specs.Cmp.Lexicographic.{nat_list_cmp_total}
 use Rattle.std.specs.FinMap as fin
+use Rattle.mem_files.specs.declared.slot.Access.{Access}
 use Rattle.mem_files.specs.declared.slot.Slot.{Slot}
 use Rattle.mem_files.specs.declared.slot.Slot.TheVariants.{Input, Stream1, Stream2, File}
-use Rattle.mem_files.specs.Limits.{most_descriptors, most_names, most_content, most_total, may_read, may_write}
-use Rattle.mem_files.specs.Linux.{o_accmode, o_rdonly, o_wronly, o_append, o_creat, o_excl, o_trunc, einval, emfile, eexist, enoent, enospc, ebadf, efbig, seek_set, seek_cur, seek_end}
+use Rattle.mem_files.specs.Limits.{most_descriptors, most_names, most_content, most_total}
+use Rattle.mem_files.specs.Linux.{o_accmode, o_creat, o_excl, o_trunc, einval, emfile, eexist, enoent, enospc, ebadf, efbig, seek_set, seek_cur, seek_end}
+use Rattle.mem_files.specs.Access.{is_read, is_written}
 use Rattle.mem_files.specs.Names.{bytes_cmp, is_stripped_name, is_file_name, stripped, begins_with_dot_slash}
 use Rattle.mem_files.specs.declared.slot.PlaceRefusal.{PlaceRefusal}
 use Rattle.mem_files.specs.declared.slot.PlaceRefusal.TheVariants.{BadName, Twice, Full}
 use Rattle.mem_files.proofs.First.{three, no_bytes}
 use borrow.Author.Tests.{ltb-false, leb-false}
 use Rattle.mem_files.specs.World.{World, total, content_of, is_of, is_named, is_open, lowest_unused}
-use Rattle.mem_files.specs.Calls.{first_world, with_file, with_descriptor, flag_byte, has, with_content, written_over, opened, opened_at, emptied_if, seek_base, as_cursor, with_cursor, sought, sought_at, ready, ready_at, skipped, skipped_at, fits, fits_at, write_place, write_cursor, filled, written, written_if, placed, is_full}
+use Rattle.mem_files.specs.Calls.{first_world, with_file, with_descriptor, access_of, has, with_content, written_over, opened, opened_at, emptied_if, seek_base, as_cursor, with_cursor, sought, sought_at, ready, ready_at, skipped, skipped_at, fits, fits_at, write_place, write_cursor, filled, written, written_if, placed, is_full}
 use Rattle.mem_files.specs.Inside.Kept.{HasFile, IsHeldSlot, IsKept}
 use Rattle.mem_files.proofs.Totals.{total-insert}
 use Rattle.mem_files.proofs.Maps.{get-lowest_unused, lowest_unused-le-len}
@@ -97,28 +99,12 @@ with_file-kept w name content s good absent few low small room =
       low_numbers = λ n h. by_eq n number (λ e. omega arith) (λ ne. s.low_numbers n (sym (ap is_some (there w.files number content n ne)) ∙ h));
     }
 
--- the flags of an open file
-byte_of : (a b c : Bool) → ((cond a 0 1 + cond b 0 2 + cond c 4 0) < 8) × ((a ≡ true → b ≡ true → ⊥) → (cond a 0 1 + cond b 0 2 + cond c 4 0) % 4 ≢ 0)
-byte_of true true true = (omega arith, λ h. absurd (h refl refl))
-byte_of true true false = (omega arith, λ h. absurd (h refl refl))
-byte_of true false true = (omega arith, λ h. omega arith)
-byte_of true false false = (omega arith, λ h. omega arith)
-byte_of false true true = (omega arith, λ h. omega arith)
-byte_of false true false = (omega arith, λ h. omega arith)
-byte_of false false true = (omega arith, λ h. omega arith)
-byte_of false false false = (omega arith, λ h. omega arith)
-
-flags_good : (flags : ℕ) → (flag_byte flags < 8) × (flag_byte flags % 4 ≢ 0)
-flags_good flags =
-    let byte = byte_of (eqb (bit_and flags o_accmode) o_wronly) (eqb (bit_and flags o_accmode) o_rdonly) (has flags o_append) in
-    (byte.0, byte.1 (λ one zero. let a = eqb-true (bit_and flags o_accmode) o_wronly one in let b = eqb-true (bit_and flags o_accmode) o_rdonly zero in omega (arith, a, b)))
-
 -- the lowest unused descriptor stands for a file
 pub with_descriptor-kept : (w : World) (number flags : ℕ) → IsKept w → IsSome (fin.get w.files number) → fin.len w.slots < most_descriptors → IsKept (with_descriptor w number flags).1
 with_descriptor-kept w number flags s held few =
     let fd : ℕ = lowest_unused w.slots in
     let free : fin.get w.slots fd ≡ None = get-lowest_unused w.slots in
-    let new : Slot = File number 0 (flag_byte flags) in
+    let new : Slot = File number 0 (access_of flags) in
     let v : World = record w { slots = fin.insert w.slots fd new } in
     record {
       few_names = s.few_names;
@@ -131,7 +117,7 @@ with_descriptor-kept w number flags s held few =
       held = s.held;
       named_once = s.named_once;
       good_slots = λ other slot e. elim (insert_cases w.slots fd new other slot e) as (λ _. (other < most_descriptors) × IsHeldSlot v other slot) [
-        | inl same ↦ subst (λ (x : Slot). (other < most_descriptors) × IsHeldSlot v other x) same.1 (omega (arith, lowest_unused-le-len w.slots), (held, omega arith, (flags_good flags).0, (flags_good flags).1))
+        | inl same ↦ subst (λ (x : Slot). (other < most_descriptors) × IsHeldSlot v other x) same.1 (omega (arith, lowest_unused-le-len w.slots), (held, omega arith))
         | inr before ↦ ((s.good_slots other slot before.1).0, slot_kept w v other slot (λ n of h. h) (s.good_slots other slot before.1).1)
       ];
       used = λ n h. or_cases (is_named w n) (is_open w n) (s.used n h)
@@ -142,11 +128,11 @@ with_descriptor-kept w number flags s held few =
     }
 
 -- a cursor moves
-pub set_cursor-kept : (w : World) (fd number cursor flags to : ℕ) → IsKept w → fin.get w.slots fd ≡ Some (File number cursor flags) → to < 2 ^ 63 → IsKept (record w { slots = fin.insert w.slots fd (File number to flags) })
-set_cursor-kept w fd number cursor flags to s at small =
-    let new : Slot = File number to flags in
+pub set_cursor-kept : (w : World) (fd number cursor : ℕ) (access : Access) (to : ℕ) → IsKept w → fin.get w.slots fd ≡ Some (File number cursor access) → to < 2 ^ 63 → IsKept (record w { slots = fin.insert w.slots fd (File number to access) })
+set_cursor-kept w fd number cursor access to s at small =
+    let new : Slot = File number to access in
     let v : World = record w { slots = fin.insert w.slots fd new } in
-    let good : (fd < most_descriptors) × IsHeldSlot w fd (File number cursor flags) = s.good_slots fd (File number cursor flags) at in
+    let good : (fd < most_descriptors) × IsHeldSlot w fd (File number cursor access) = s.good_slots fd (File number cursor access) at in
     record {
       few_names = s.few_names;
       few_slots = omega (arith, fin.len-insert nat_cmp_total w.slots fd new ∙ ap (λ b. cond b (fin.len w.slots) (fin.len w.slots + 1)) (ap is_some at), s.few_slots);
@@ -158,13 +144,13 @@ set_cursor-kept w fd number cursor flags to s at small =
       held = s.held;
       named_once = s.named_once;
       good_slots = λ other slot e. elim (insert_cases w.slots fd new other slot e) as (λ _. (other < most_descriptors) × IsHeldSlot v other slot) [
-        | inl same ↦ subst (λ (x : Slot). (other < most_descriptors) × IsHeldSlot v other x) same.1 (omega (arith, good.0), (good.1.0, small, good.1.2, good.1.3))
+        | inl same ↦ subst (λ (x : Slot). (other < most_descriptors) × IsHeldSlot v other x) same.1 (omega (arith, good.0), (good.1.0, small))
         | inr before ↦ ((s.good_slots other slot before.1).0, slot_kept w v other slot (λ n of h. h) (s.good_slots other slot before.1).1)
       ];
       used = λ n h. or_cases (is_named w n) (is_open w n) (s.used n h)
           (λ named. or_left (is_named w n) _ named)
           (λ opened_by. or_right (is_named w n) _ (let by = slot_of w n opened_by in by_eq by.0 fd
-          (λ k. open_by v fd new n (here w.slots fd new) (ap (is_of n) (same_Some (File number cursor flags) by.1 (sym at ∙ ap (fin.get w.slots) (sym k) ∙ by.2)) ∙ by.3))
+          (λ k. open_by v fd new n (here w.slots fd new) (ap (is_of n) (same_Some (File number cursor access) by.1 (sym at ∙ ap (fin.get w.slots) (sym k) ∙ by.2)) ∙ by.3))
           (λ ne. open_by v by.0 by.1 n (there w.slots fd new by.0 ne ∙ by.2) by.3)));
       low_numbers = s.low_numbers;
     }
@@ -210,14 +196,14 @@ content_small w number s = elim (fin.get w.files number) as (λ o. fin.get w.fil
 ] refl
 
 -- a write to an open file
-pub with_content-kept : (w : World) (fd number cursor flags : ℕ) (bytes : List ℕ) (place : ℕ) → IsKept w → fin.get w.slots fd ≡ Some (File number cursor flags) → place + length bytes ≤ most_content
-    → total w + (place + length bytes - length (content_of w number)) ≤ most_total → IsKept (with_content w fd number flags bytes place)
-with_content-kept w fd number cursor flags bytes place s at small room =
-    let held : IsSome (fin.get w.files number) = (s.good_slots fd (File number cursor flags) at).1.0 in
+pub with_content-kept : (w : World) (fd number cursor : ℕ) (access : Access) (bytes : List ℕ) (place : ℕ) → IsKept w → fin.get w.slots fd ≡ Some (File number cursor access) → place + length bytes ≤ most_content
+    → total w + (place + length bytes - length (content_of w number)) ≤ most_total → IsKept (with_content w fd number access bytes place)
+with_content-kept w fd number cursor access bytes place s at small room =
+    let held : IsSome (fin.get w.files number) = (s.good_slots fd (File number cursor access) at).1.0 in
     let old = content_small w number s in
     let after : World = record w { files = fin.insert w.files number (written_over (content_of w number) place bytes) } in
     let long = length-written_over (content_of w number) place bytes in
-    set_cursor-kept after fd number cursor flags (place + length bytes)
+    set_cursor-kept after fd number cursor access (place + length bytes)
     (set_content-kept w number (written_over (content_of w number) place bytes) s held (omega (arith, old)) (omega (arith, s.small_total))) at (omega arith)
 
 -- no files, and three descriptors
@@ -293,9 +279,9 @@ sought-kept w fd offset whence s = at_slot (fin.get w.slots fd) refl
       | false ↦ λ _ f. absurd (none-some to f)
     ] refl e
 
-    at_cursor : (number cursor flags : ℕ) → fin.get w.slots fd ≡ Some (File number cursor flags) → (o : Option ℕ) → ((to : ℕ) → o ≡ Some to → to < 2 ^ 63) → IsKept (with_cursor w fd number flags o).1
-    at_cursor number cursor flags at None h = s
-    at_cursor number cursor flags at (Some to) h = set_cursor-kept w fd number cursor flags to s at (h to refl)
+    at_cursor : (number cursor : ℕ) (access : Access) → fin.get w.slots fd ≡ Some (File number cursor access) → (o : Option ℕ) → ((to : ℕ) → o ≡ Some to → to < 2 ^ 63) → IsKept (with_cursor w fd number access o).1
+    at_cursor number cursor access at None h = s
+    at_cursor number cursor access at (Some to) h = set_cursor-kept w fd number cursor access to s at (h to refl)
 
     from_base : (o : Option ℕ) (to : ℕ) → option_and_then (λ base. as_cursor (pos base +ℤ offset)) o ≡ Some to → to < 2 ^ 63
     from_base None to e = absurd (none-some to e)
@@ -306,7 +292,7 @@ sought-kept w fd offset whence s = at_slot (fin.get w.slots fd) refl
     at_slot (Some Input) e = s
     at_slot (Some Stream1) e = s
     at_slot (Some Stream2) e = s
-    at_slot (Some (File number cursor flags)) e = at_cursor number cursor flags e _ (from_base (seek_base whence cursor (length (content_of w number))))
+    at_slot (Some (File number cursor access)) e = at_cursor number cursor access e _ (from_base (seek_base whence cursor (length (content_of w number))))
 
 -- a cursor that rises by what was read
 skip_small : (content : List ℕ) (cursor count : ℕ) → length (take count (drop cursor content)) ≡ count → length content ≤ most_content → cursor < 2 ^ 63 → cursor + count < 2 ^ 63
@@ -320,9 +306,9 @@ skipped-kept w fd count s read = at_slot (fin.get w.slots fd) refl read
     at_slot (Some Input) e h = s
     at_slot (Some Stream1) e h = s
     at_slot (Some Stream2) e h = s
-    at_slot (Some (File number cursor flags)) e h = set_cursor-kept w fd number cursor flags (cursor + count) s e (
-        elim (has flags may_read) as (λ b. IsOkAnd (cond b (Ok (take count (drop cursor (content_of w number)))) (Err ebadf)) (λ bytes. length bytes ≡ count) → cursor + count < 2 ^ 63) [
-          | true ↦ λ l. skip_small (content_of w number) cursor count l (content_small w number s) (s.good_slots fd (File number cursor flags) e).1.1
+    at_slot (Some (File number cursor access)) e h = set_cursor-kept w fd number cursor access (cursor + count) s e (
+        elim (is_read access) as (λ b. IsOkAnd (cond b (Ok (take count (drop cursor (content_of w number)))) (Err ebadf)) (λ bytes. length bytes ≡ count) → cursor + count < 2 ^ 63) [
+          | true ↦ λ l. skip_small (content_of w number) cursor count l (content_small w number s) (s.good_slots fd (File number cursor access) e).1.1
           | false ↦ λ l. absurd l
         ] h)
 
@@ -344,11 +330,11 @@ within_limits w count len place done e some =
     ] refl e
 
 -- where a write to a file fits
-pub file_limits : (w : World) (fd number cursor flags count : ℕ) (done : Unit {0}) → fin.get w.slots fd ≡ Some (File number cursor flags) → fits w fd count ≡ Ok done → count ≢ 0
-    → (write_cursor flags (length (content_of w number)) cursor + count ≤ most_content) × (total w + (write_cursor flags (length (content_of w number)) cursor + count - length (content_of w number)) ≤ most_total)
-file_limits w fd number cursor flags count done at fit some =
-    let place : ℕ = write_cursor flags (length (content_of w number)) cursor in
-    elim (has flags may_write) as (λ b. fits_at w count (cond b (Some (length (content_of w number), place)) None) ≡ Ok done → (place + count ≤ most_content) × (total w + (place + count - length (content_of w number)) ≤ most_total)) [
+pub file_limits : (w : World) (fd number cursor : ℕ) (access : Access) (count : ℕ) (done : Unit {0}) → fin.get w.slots fd ≡ Some (File number cursor access) → fits w fd count ≡ Ok done → count ≢ 0
+    → (write_cursor access (length (content_of w number)) cursor + count ≤ most_content) × (total w + (write_cursor access (length (content_of w number)) cursor + count - length (content_of w number)) ≤ most_total)
+file_limits w fd number cursor access count done at fit some =
+    let place : ℕ = write_cursor access (length (content_of w number)) cursor in
+    elim (is_written access) as (λ b. fits_at w count (cond b (Some (length (content_of w number), place)) None) ≡ Ok done → (place + count ≤ most_content) × (total w + (place + count - length (content_of w number)) ≤ most_total)) [
       | true ↦ λ g. within_limits w count (length (content_of w number)) place done g some
       | false ↦ λ g. absurd (cc)
     ] (ap (λ o. fits_at w count (write_place w o)) (sym at) ∙ fit)
@@ -361,9 +347,9 @@ filled-kept w fd bytes done s fit some = at_slot (fin.get w.slots fd) refl fit
     at_slot (Some Input) e f = s
     at_slot (Some Stream1) e f = let l = within_limits w (length bytes) (length w.stream1) (length w.stream1) done f some in stream1-kept w bytes s (omega (arith, l.0)) (omega (arith, l.1))
     at_slot (Some Stream2) e f = let l = within_limits w (length bytes) (length w.stream2) (length w.stream2) done f some in stream2-kept w bytes s (omega (arith, l.0)) (omega (arith, l.1))
-    at_slot (Some (File number cursor flags)) e f =
-        let l = file_limits w fd number cursor flags (length bytes) done e fit some in
-        with_content-kept w fd number cursor flags bytes (write_cursor flags (length (content_of w number)) cursor) s e l.0 l.1
+    at_slot (Some (File number cursor access)) e f =
+        let l = file_limits w fd number cursor access (length bytes) done e fit some in
+        with_content-kept w fd number cursor access bytes (write_cursor access (length (content_of w number)) cursor) s e l.0 l.1
 
 pub written-kept : (w : World) (fd : ℕ) (bytes : List ℕ) → IsKept w → IsKept (written w fd bytes).1
 written-kept w fd bytes s = at_fit (fits w fd (length bytes)) refl
@@ -417,7 +403,7 @@ pub has_file : (w : World) (fd : ℕ) (slot : Slot) → IsKept w → Some slot �
 has_file w fd Input s e = tt
 has_file w fd Stream1 s e = tt
 has_file w fd Stream2 s e = tt
-has_file w fd (File number cursor flags) s e = (s.good_slots fd (File number cursor flags) (sym e)).1.0
+has_file w fd (File number cursor access) s e = (s.good_slots fd (File number cursor access) (sym e)).1.0
 
 -- what an offset counts from
 pub base_small : (whence cursor len base : ℕ) → cursor < 2 ^ 63 → len < 2 ^ 63 → Some base ≡ seek_base whence cursor len → base < 2 ^ 63

@@ -8,9 +8,10 @@ use Rattle.std.specs.FinMap as fin
 use Rattle.mem_files.specs.declared.slot.Slot.{Slot}
 use Rattle.mem_files.specs.declared.slot.Slot.TheVariants.{Input, Stream1, Stream2, File}
 use Rattle.mem_files.specs.Linux.{seek_set, ebadf}
-use Rattle.mem_files.specs.Limits.{may_read, appends}
+use Rattle.mem_files.specs.Access.{is_read}
+use Rattle.mem_files.specs.declared.slot.Access.{Access}
 use Rattle.mem_files.specs.World.{World, content_of, is_named, is_open}
-use Rattle.mem_files.specs.Calls.{has, fits, write_cursor, filled, written, written_if, with_cursor, sought, sought_at, ready, ready_at, removed, removed_at, written_over, with_content}
+use Rattle.mem_files.specs.Calls.{fits, write_cursor, filled, written, written_if, with_cursor, sought, sought_at, ready, ready_at, removed, removed_at, written_over, with_content}
 use Rattle.mem_files.specs.Inside.Kept.{IsKept}
 use Rattle.mem_files.proofs.Entries.{here, left}
 use Rattle.mem_files.proofs.Keeping.{open_by, neither}
@@ -25,35 +26,35 @@ read_back old place bytes =
     ∙ ap (take (length bytes)) (drop-append_seam front (bytes ++ rest)) ∙ take-append_seam bytes rest
 
 -- a cursor is set
-set_back : (w : World) (fd number now flags cursor : ℕ) → fin.get w.slots fd ≡ Some (File number now flags) → cursor < 2 ^ 63
-    → (sought w fd (pos cursor) seek_set).1 ≡ record w { slots = fin.insert w.slots fd (File number cursor flags) }
-set_back w fd number now flags cursor at small =
+set_back : (w : World) (fd number now : ℕ) (access : Access) (cursor : ℕ) → fin.get w.slots fd ≡ Some (File number now access) → cursor < 2 ^ 63
+    → (sought w fd (pos cursor) seek_set).1 ≡ record w { slots = fin.insert w.slots fd (File number cursor access) }
+set_back w fd number now access cursor at small =
     ap (λ o. (sought_at w fd (pos cursor) seek_set o).1) at
-    ∙ ap (λ b. (with_cursor w fd number flags (if b then Some (0 + cursor) else None)).1) (let fit : nat_lt (0 + cursor) (2 ^ 63) ≡ true = (grind (arith, nat_tests)) in fit)
-    ∙ ap (λ n. record w { slots = fin.insert w.slots fd (File number n flags) }) (let same : 0 + cursor ≡ cursor = omega arith in same)
+    ∙ ap (λ b. (with_cursor w fd number access (if b then Some (0 + cursor) else None)).1) (let fit : nat_lt (0 + cursor) (2 ^ 63) ≡ true = (grind (arith, nat_tests)) in fit)
+    ∙ ap (λ n. record w { slots = fin.insert w.slots fd (File number n access) }) (let same : 0 + cursor ≡ cursor = omega arith in same)
 
-read_there : (w : World) (fd number cursor flags count : ℕ) (bytes : List ℕ) → IsTrue (has flags may_read) → take count (drop cursor (content_of w number)) ≡ bytes
-    → ready (record w { slots = fin.insert w.slots fd (File number cursor flags) }) fd count ≡ Ok bytes
-read_there w fd number cursor flags count bytes may same =
-    ap (ready_at (record w { slots = fin.insert w.slots fd (File number cursor flags) }) count) (here w.slots fd (File number cursor flags))
+read_there : (w : World) (fd number cursor : ℕ) (access : Access) (count : ℕ) (bytes : List ℕ) → IsTrue (is_read access) → take count (drop cursor (content_of w number)) ≡ bytes
+    → ready (record w { slots = fin.insert w.slots fd (File number cursor access) }) fd count ≡ Ok bytes
+read_there w fd number cursor access count bytes may same =
+    ap (ready_at (record w { slots = fin.insert w.slots fd (File number cursor access) }) count) (here w.slots fd (File number cursor access))
     ∙ ap (λ b. if b then Ok (take count (drop cursor (content_of w number))) else Err ebadf) may ∙ ap (λ l. Ok l) same
 
-pub written_read : (w new : World) (fd number cursor flags : ℕ) (bytes : List ℕ) → IsKept w → fin.get w.slots fd ≡ Some (File number cursor flags) → IsTrue (has flags may_read) → has flags appends ≡ false
+pub written_read : (w new : World) (fd number cursor : ℕ) (access : Access) (bytes : List ℕ) → IsKept w → fin.get w.slots fd ≡ Some (File number cursor access) → IsTrue (is_read access) → access.appends ≡ false
     → written w fd bytes ≡ (Ok tt, new) → ready (sought new fd (pos cursor) seek_set).1 fd (length bytes) ≡ Ok bytes
-written_read w new fd number cursor flags bytes s at may ends done = at_fit (fits w fd (length bytes)) refl done
+written_read w new fd number cursor access bytes s at may ends done = at_fit (fits w fd (length bytes)) refl done
   where
     small : cursor < 2 ^ 63
-    small = (s.good_slots fd (File number cursor flags) at).1.1
+    small = (s.good_slots fd (File number cursor access) at).1.1
 
-    after : (v : World) (now : ℕ) → fin.get v.slots fd ≡ Some (File number now flags) → take (length bytes) (drop cursor (content_of v number)) ≡ bytes → ready (sought v fd (pos cursor) seek_set).1 fd (length bytes) ≡ Ok bytes
-    after v now held same = ap (λ (u : World). ready u fd (length bytes)) (set_back v fd number now flags cursor held small) ∙ read_there v fd number cursor flags (length bytes) bytes may same
+    after : (v : World) (now : ℕ) → fin.get v.slots fd ≡ Some (File number now access) → take (length bytes) (drop cursor (content_of v number)) ≡ bytes → ready (sought v fd (pos cursor) seek_set).1 fd (length bytes) ≡ Ok bytes
+    after v now held same = ap (λ (u : World). ready u fd (length bytes)) (set_back v fd number now access cursor held small) ∙ read_there v fd number cursor access (length bytes) bytes may same
 
     nothing : (l : List ℕ) → length l ≡ 0 → l ≡ []
     nothing [] h = refl
     nothing (x ∷ l) h = absurd (omega arith)
 
     full : World
-    full = with_content w fd number flags bytes (write_cursor flags (length (content_of w number)) cursor)
+    full = with_content w fd number access bytes (write_cursor access (length (content_of w number)) cursor)
 
     filled_full : filled w fd bytes (fin.get w.slots fd) ≡ full
     filled_full = ap (filled w fd bytes) at
@@ -86,9 +87,9 @@ removed_read w name fd count = at_name (fin.get w.names name)
     kept number unused (Some Input) e = refl
     kept number unused (Some Stream1) e = refl
     kept number unused (Some Stream2) e = refl
-    kept number unused (Some (File held cursor flags)) e =
-        ap (λ o. if has flags may_read then Ok (take count (drop cursor (unwrap_or o []))) else Err ebadf)
-        (left w.files number held (λ same. false≢true (sym unused ∙ open_by w fd (File held cursor flags) number e (eq-eqb held number same))))
+    kept number unused (Some (File held cursor access)) e =
+        ap (λ o. if is_read access then Ok (take count (drop cursor (unwrap_or o []))) else Err ebadf)
+        (left w.files number held (λ same. false≢true (sym unused ∙ open_by w fd (File held cursor access) number e (eq-eqb held number same))))
 
     at_name : (o : Option ℕ) → ready (removed_at w name o).1 fd count ≡ ready w fd count
     at_name None = refl

@@ -1,5 +1,5 @@
 -- What files that keep their rules leave.
-use Rattle.std.proofs.Common.{◌≡◌, ℕ, ◌<◌, ◌≤◌, Bool, true, false, cond, not, ◌&&◌, eqb, T, IsTrue, List, [], ◌∷◌, length, map, get_or, Option, Some, None, IsSome, unwrap_or, refl, sym, ap, ◌∙◌, subst, arith, zero, suc}
+use Rattle.std.proofs.Common.{◌≡◌, ℕ, ◌<◌, ◌≤◌, Bool, true, false, cond, not, ◌&&◌, eqb, T, IsTrue, List, [], ◌∷◌, length, map, Some, None, unwrap_or, refl, sym, ap, ◌∙◌, subst, arith, zero, suc}
 use Rattle.std.specs.Prelude.{All, nat_le}
 use Rattle.std.specs.List.{Contains}
 use Rattle.std.specs.Ordering.{eq_by_cmp, is_eq, is_lt}
@@ -18,7 +18,7 @@ use Rattle.mem_files.specs.Limits.{most_name}
 use Rattle.mem_files.specs.Names.{begins_with_dot_slash, bytes_cmp, is_file_name, is_stripped_name}
 use Rattle.mem_files.specs.World.{World, content_of}
 use Rattle.mem_files.specs.Calls.{content_at}
-use Rattle.mem_files.specs.Sound.{AreBytes, IsSound}
+use Rattle.mem_files.specs.Sound.{IsSound}
 use Rattle.mem_files.specs.Outputs.{named_content, left, Output, FirstStream, AtPath, out, IsContent, IsLeftFile, AreLeft}
 use Rattle.mem_files.proofs.Directory.{equal, bytes_cmp-IsAntisymmetric}
 use Rattle.mem_files.proofs.Entries.{some_of}
@@ -65,7 +65,7 @@ all_of P (e ∷ es) sorted each =
     onto P e es (each e.0 e.1 (ap (λ o. cond (is_eq o) (Some e.1) (fin.find bytes_cmp e.0 es)) (tied_itself nat_list_cmp_total e.0)))
     (all_of P es parts.1 (λ name number found. each name number (found_behind e es name number parts.0 found)))
 
-all_names : (P : List ℕ × ℕ → Type 0) (w : World) → ((name : List ℕ) (number : ℕ) → fin.get w.names name ≡ Some number → P (name, number))
+pub all_names : (P : List ℕ × ℕ → Type 0) (w : World) → ((name : List ℕ) (number : ℕ) → fin.get w.names name ≡ Some number → P (name, number))
     → All P (fin.entries w.names)
 all_names P w each =
     all_of P (fin.entries w.names) (fin.entries_sorted w.names) (λ name number found. each name number (fin.get-entries w.names name ∙ found))

@@ -17,3 +17,6 @@ pub mod Tournament
 pub mod Counting
 pub mod After
 pub mod Walks
+pub mod Shown
+pub mod ListWorlds
+pub mod ListRules

@@ -52,7 +52,7 @@ remove_absent m k none =
     ] refl)
 
 -- entries in order
-both : (a b : Bool) → T (a && b) → T a × T b
+pub both : (a b : Bool) → T (a && b) → T a × T b
 both true b h = (tt, h)
 both false b h = absurd h
 
@@ -61,10 +61,10 @@ lower x y Less h t = h
 lower x y Equal h t = absurd t
 lower x y Greater h t = absurd t
 
-head_above : {X : Type 0} (x : ℕ) (e : ℕ × X) (es : List (ℕ × X)) → T (below_all nat_cmp x (e ∷ es)) → x < e.0
+pub head_above : {X : Type 0} (x : ℕ) (e : ℕ × X) (es : List (ℕ × X)) → T (below_all nat_cmp x (e ∷ es)) → x < e.0
 head_above x e es h = lower x e.0 _ (ranks x e.0) (both _ _ h).0
 
-rest_above : {X : Type 0} (x : ℕ) (e : ℕ × X) (es : List (ℕ × X)) → T (below_all nat_cmp x (e ∷ es)) → T (below_all nat_cmp x es)
+pub rest_above : {X : Type 0} (x : ℕ) (e : ℕ × X) (es : List (ℕ × X)) → T (below_all nat_cmp x (e ∷ es)) → T (below_all nat_cmp x es)
 rest_above x e es h = (both (is_lt (nat_cmp x e.0)) (below_all nat_cmp x es) h).1
 
 apart : (x y : ℕ) → x ≢ y → eqb x y ≡ false
@@ -77,7 +77,7 @@ pub find_here : {X : Type 0} (q : ℕ) (e : ℕ × X) (es : List (ℕ × X)) →
 find_here q e es h = ap (λ b. cond b (Some e.1) (find nat_cmp q es)) (unsigned_tied q e.0 ∙ eq-eqb q e.0 h)
 
 -- a number at most as great as one below all keys is no key
-find_low : {X : Type 0} (q x : ℕ) (es : List (ℕ × X)) → q ≤ x → T (below_all nat_cmp x es) → find nat_cmp q es ≡ None
+pub find_low : {X : Type 0} (q x : ℕ) (es : List (ℕ × X)) → q ≤ x → T (below_all nat_cmp x es) → find nat_cmp q es ≡ None
 find_low q x [] h below = refl
 find_low q x (e ∷ es) h below =
     let above = head_above x e es below in

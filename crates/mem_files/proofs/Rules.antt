@@ -4,6 +4,7 @@ use Rattle.std.proofs.lemmas.List.Elements.{All-append, All-drop, All-nil, All-r
 use Rattle.std.proofs.lemmas.Option.{none-some}
 use Rattle.std.specs.Ordering.{nat_cmp}
 use Rattle.std.specs.FinMap as fin
+use Rattle.mem_files.specs.declared.slot.Access.{Access}
 use Rattle.mem_files.specs.declared.slot.Slot.{Slot}
 use Rattle.mem_files.specs.declared.slot.Slot.TheVariants.{Input, Stream1, Stream2, File}
 use Rattle.mem_files.specs.declared.slot.PlaceRefusal.{PlaceRefusal}
@@ -39,7 +40,7 @@ kept_of w s = record {
     at_slot fd Input e h = h
     at_slot fd Stream1 e h = h
     at_slot fd Stream2 e h = h
-    at_slot fd (File number cursor flags) e h = (s.joined.open_held fd number cursor flags e, h.0, h.1, h.2)
+    at_slot fd (File number cursor access) e h = (s.joined.open_held fd number cursor access e, h)
 
 pub bytes_of : (w : World) → IsSound w → HasBytes w
 bytes_of w s = record {
@@ -70,7 +71,7 @@ sound_of w k b = record {
   joined = record {
     held = k.held;
     named_once = k.named_once;
-    open_held = λ fd number cursor flags e. (k.good_slots fd (File number cursor flags) e).1.0;
+    open_held = λ fd number cursor access e. (k.good_slots fd (File number cursor access) e).1.0;
     used = k.used;
   };
 }
@@ -79,7 +80,7 @@ sound_of w k b = record {
     alone fd Input h = h
     alone fd Stream1 h = h
     alone fd Stream2 h = h
-    alone fd (File number cursor flags) h = (h.1, h.2, h.3)
+    alone fd (File number cursor access) h = h.1
 
 -- bytes, change by change
 no_bytes_at_all : AreBytes []
@@ -206,7 +207,7 @@ closed-bytes w fd b = at_slot (fin.get w.slots fd)
     at_slot (Some Input) = slots-bytes w _ b
     at_slot (Some Stream1) = slots-bytes w _ b
     at_slot (Some Stream2) = slots-bytes w _ b
-    at_slot (Some (File number cursor flags)) = without_unused-bytes _ number (slots-bytes w _ b)
+    at_slot (Some (File number cursor access)) = without_unused-bytes _ number (slots-bytes w _ b)
 
 removed-bytes : (w : World) (name : List ℕ) → HasBytes w → HasBytes (removed w name).1
 removed-bytes w name b = at_name (fin.get w.names name)
@@ -223,16 +224,16 @@ removed-bytes w name b = at_name (fin.get w.names name)
 sought-bytes : (w : World) (fd : ℕ) (offset : ℤ) (whence : ℕ) → HasBytes w → HasBytes (sought w fd offset whence).1
 sought-bytes w fd offset whence b = at_slot (fin.get w.slots fd)
   where
-    at_cursor : (number flags : ℕ) (o : Option ℕ) → HasBytes (with_cursor w fd number flags o).1
-    at_cursor number flags None = b
-    at_cursor number flags (Some to) = slots-bytes w _ b
+    at_cursor : (number : ℕ) (access : Access) (o : Option ℕ) → HasBytes (with_cursor w fd number access o).1
+    at_cursor number access None = b
+    at_cursor number access (Some to) = slots-bytes w _ b
 
     at_slot : (o : Option Slot) → HasBytes (sought_at w fd offset whence o).1
     at_slot None = b
     at_slot (Some Input) = b
     at_slot (Some Stream1) = b
     at_slot (Some Stream2) = b
-    at_slot (Some (File number cursor flags)) = at_cursor number flags _
+    at_slot (Some (File number cursor access)) = at_cursor number access _
 
 skipped-bytes : (w : World) (fd count : ℕ) → HasBytes w → HasBytes (skipped w fd count)
 skipped-bytes w fd count b = at_slot (fin.get w.slots fd)
@@ -242,7 +243,7 @@ skipped-bytes w fd count b = at_slot (fin.get w.slots fd)
     at_slot (Some Input) = b
     at_slot (Some Stream1) = b
     at_slot (Some Stream2) = b
-    at_slot (Some (File number cursor flags)) = slots-bytes w _ b
+    at_slot (Some (File number cursor access)) = slots-bytes w _ b
 
 filled-bytes : (w : World) (fd : ℕ) (bytes : List ℕ) → HasBytes w → AreBytes bytes → HasBytes (filled w fd bytes (fin.get w.slots fd))
 filled-bytes w fd bytes b new = at_slot (fin.get w.slots fd)
@@ -252,8 +253,8 @@ filled-bytes w fd bytes b new = at_slot (fin.get w.slots fd)
     at_slot (Some Input) = b
     at_slot (Some Stream1) = record { name_bytes = b.name_bytes; file_bytes = b.file_bytes; stream1_bytes = All-append (λ byte. byte < 256) w.stream1 bytes b.stream1_bytes new; stream2_bytes = b.stream2_bytes }
     at_slot (Some Stream2) = record { name_bytes = b.name_bytes; file_bytes = b.file_bytes; stream1_bytes = b.stream1_bytes; stream2_bytes = All-append (λ byte. byte < 256) w.stream2 bytes b.stream2_bytes new }
-    at_slot (Some (File number cursor flags)) =
-        slots-bytes _ _ (set_file-bytes w number _ b (written_over-bytes (content_of w number) (write_cursor flags (length (content_of w number)) cursor) bytes (content_bytes w number b) new))
+    at_slot (Some (File number cursor access)) =
+        slots-bytes _ _ (set_file-bytes w number _ b (written_over-bytes (content_of w number) (write_cursor access (length (content_of w number)) cursor) bytes (content_bytes w number b) new))
 
 written-bytes : (w : World) (fd : ℕ) (bytes : List ℕ) → HasBytes w → AreBytes bytes → HasBytes (written w fd bytes).1
 written-bytes w fd bytes b new = at_fit (fits w fd (length bytes))

@@ -5,16 +5,24 @@ use Rattle.std.specs.Ordering.{is_lt}
 use Rattle.std.specs.FinMap as map
 use Rattle.mem_files.specs.declared.slot.Slot.{Slot}
 use Rattle.mem_files.specs.declared.slot.Slot.TheVariants.{Input, Stream1, Stream2, File}
+use Rattle.mem_files.specs.declared.slot.Access.{Access}
+use Rattle.mem_files.specs.declared.slot.Mode.{Mode}
+use Rattle.mem_files.specs.declared.slot.Mode.TheVariants.{Read, Write, ReadWrite}
 use Rattle.mem_files.specs.declared.slot.PlaceRefusal.{PlaceRefusal}
 use Rattle.mem_files.specs.declared.slot.PlaceRefusal.TheVariants.{BadName, Twice, Full}
 use Rattle.mem_files.specs.Linux.{enoent, ebadf, eexist, einval, emfile, efbig, enospc, espipe, o_accmode, o_rdonly, o_wronly, o_creat, o_excl, o_trunc, o_append, seek_set, seek_cur, seek_end}
-use Rattle.mem_files.specs.Limits.{may_read, may_write, appends, most_content, most_total, most_descriptors, most_names}
+use Rattle.mem_files.specs.Limits.{most_content, most_total, most_descriptors, most_names}
+use Rattle.mem_files.specs.Access.{is_read, is_written}
 use Rattle.mem_files.specs.Names.{bytes_cmp, stripped, is_file_name}
 use Rattle.mem_files.specs.World.{World, content_of, total, is_named, is_open, lowest_unused}
 
 -- is this bit of the flags set?
 abbrev pub has : ℕ → ℕ → Bool
 has flags bit = not (bit_and flags bit == 0)
+
+-- no files and no descriptors
+abbrev pub bare_world : World
+bare_world = record { names = map.empty; files = map.empty; slots = map.empty; stream1 = []; stream2 = [] }
 
 -- at the start: descriptor 0 is the empty input, 1 and 2 are the streams
 abbrev pub first_world : World
@@ -68,7 +76,7 @@ abbrev pub released : World → Slot → World
 released w Input = w
 released w Stream1 = w
 released w Stream2 = w
-released w (File number cursor flags) = without_unused w number
+released w (File number cursor access) = without_unused w number
 
 -- `close`, by what stands at the descriptor
 abbrev pub closed_at : World → ℕ → Option Slot → Result (Unit {0}) ℕ × World
@@ -79,17 +87,17 @@ closed_at w fd (Some slot) = (Ok tt, released (record w { slots = map.remove w.s
 abbrev pub closed : World → ℕ → Result (Unit {0}) ℕ × World
 closed w fd = closed_at w fd (map.get w.slots fd)
 
--- the flags of a descriptor, from those of openat(2)
-abbrev pub flag_byte : ℕ → ℕ
-flag_byte flags =
-    (if bit_and flags o_accmode == o_wronly then 0 else may_read)
-    + (if bit_and flags o_accmode == o_rdonly then 0 else may_write)
-    + (if has flags o_append then appends else 0)
+-- how the flags of openat(2) say that a file is used
+abbrev pub mode_of : ℕ → Mode
+mode_of access = if access == o_rdonly then Read else (if access == o_wronly then Write else ReadWrite)
+
+abbrev pub access_of : ℕ → Access
+access_of flags = record { mode = mode_of (bit_and flags o_accmode); appends = has flags o_append }
 
 -- the lowest unused descriptor stands for the file, with its cursor at the start
 abbrev pub with_descriptor : World → ℕ → ℕ → Result ℕ ℕ × World
 with_descriptor w number flags =
-    (Ok (lowest_unused w.slots), record w { slots = map.insert w.slots (lowest_unused w.slots) (File number 0 (flag_byte flags)) })
+    (Ok (lowest_unused w.slots), record w { slots = map.insert w.slots (lowest_unused w.slots) (File number 0 (access_of flags)) })
 
 -- o_trunc empties a present file
 abbrev pub emptied_if : Bool → World → ℕ → World
@@ -126,9 +134,9 @@ as_cursor (pos n) = if nat_lt n (2 ^ 63) then Some n else None
 as_cursor (negsuc n) = None
 
 -- `seek`, by where the cursor goes
-abbrev pub with_cursor : World → ℕ → ℕ → ℕ → Option ℕ → Result ℕ ℕ × World
-with_cursor w fd number flags None = (Err einval, w)
-with_cursor w fd number flags (Some cursor) = (Ok cursor, record w { slots = map.insert w.slots fd (File number cursor flags) })
+abbrev pub with_cursor : World → ℕ → ℕ → Access → Option ℕ → Result ℕ ℕ × World
+with_cursor w fd number access None = (Err einval, w)
+with_cursor w fd number access (Some cursor) = (Ok cursor, record w { slots = map.insert w.slots fd (File number cursor access) })
 
 -- `seek`, by what stands at the descriptor
 abbrev pub sought_at : World → ℕ → ℤ → ℕ → Option Slot → Result ℕ ℕ × World
@@ -136,8 +144,8 @@ sought_at w fd offset whence None = (Err ebadf, w)
 sought_at w fd offset whence (Some Input) = (Err espipe, w)
 sought_at w fd offset whence (Some Stream1) = (Err espipe, w)
 sought_at w fd offset whence (Some Stream2) = (Err espipe, w)
-sought_at w fd offset whence (Some (File number cursor flags)) =
-    with_cursor w fd number flags (option_and_then (λ base. as_cursor (pos base +ℤ offset)) (seek_base whence cursor (length (content_of w number))))
+sought_at w fd offset whence (Some (File number cursor access)) =
+    with_cursor w fd number access (option_and_then (λ base. as_cursor (pos base +ℤ offset)) (seek_base whence cursor (length (content_of w number))))
 
 -- `seek`
 abbrev pub sought : World → ℕ → ℤ → ℕ → Result ℕ ℕ × World
@@ -149,8 +157,8 @@ ready_at w count None = Err ebadf
 ready_at w count (Some Input) = Ok []
 ready_at w count (Some Stream1) = Err ebadf
 ready_at w count (Some Stream2) = Err ebadf
-ready_at w count (Some (File number cursor flags)) =
-    if has flags may_read then Ok (take count (drop cursor (content_of w number))) else Err ebadf
+ready_at w count (Some (File number cursor access)) =
+    if is_read access then Ok (take count (drop cursor (content_of w number))) else Err ebadf
 
 -- `ready`
 abbrev pub ready : World → ℕ → ℕ → Result (List ℕ) ℕ
@@ -162,16 +170,16 @@ skipped_at w fd count None = w
 skipped_at w fd count (Some Input) = w
 skipped_at w fd count (Some Stream1) = w
 skipped_at w fd count (Some Stream2) = w
-skipped_at w fd count (Some (File number cursor flags)) =
-    record w { slots = map.insert w.slots fd (File number (cursor + count) flags) }
+skipped_at w fd count (Some (File number cursor access)) =
+    record w { slots = map.insert w.slots fd (File number (cursor + count) access) }
 
 -- `skip`
 abbrev pub skipped : World → ℕ → ℕ → World
 skipped w fd count = skipped_at w fd count (map.get w.slots fd)
 
 -- a write goes to the end of a file that appends, else to the cursor
-abbrev pub write_cursor : ℕ → ℕ → ℕ → ℕ
-write_cursor flags end cursor = if has flags appends then end else cursor
+abbrev pub write_cursor : Access → ℕ → ℕ → ℕ
+write_cursor access end cursor = if access.appends then end else cursor
 
 -- where a write goes: how many bytes are there now, and the place of the first byte that is written
 abbrev pub write_place : World → Option Slot → Option (ℕ × ℕ)
@@ -179,9 +187,9 @@ write_place w None = None
 write_place w (Some Input) = None
 write_place w (Some Stream1) = Some (length w.stream1, length w.stream1)
 write_place w (Some Stream2) = Some (length w.stream2, length w.stream2)
-write_place w (Some (File number cursor flags)) =
-    if has flags may_write
-    then Some (length (content_of w number), write_cursor flags (length (content_of w number)) cursor)
+write_place w (Some (File number cursor access)) =
+    if is_written access
+    then Some (length (content_of w number), write_cursor access (length (content_of w number)) cursor)
     else None
 
 -- `fits`, by where the write goes: what refuses a write of `count` bytes
@@ -202,10 +210,10 @@ abbrev pub written_over : List ℕ → ℕ → List ℕ → List ℕ
 written_over old place bytes = take place old ++ replicate (place - length old) 0 ++ bytes ++ drop (place + length bytes) old
 
 -- a file after a write at a place, with the cursor at its end
-abbrev pub with_content : World → ℕ → ℕ → ℕ → List ℕ → ℕ → World
-with_content w fd number flags bytes place = record w {
+abbrev pub with_content : World → ℕ → ℕ → Access → List ℕ → ℕ → World
+with_content w fd number access bytes place = record w {
   files = map.insert w.files number (written_over (content_of w number) place bytes);
-  slots = map.insert w.slots fd (File number (place + length bytes) flags);
+  slots = map.insert w.slots fd (File number (place + length bytes) access);
 }
 
 -- bytes that fit are written, by what stands at the descriptor
@@ -214,8 +222,8 @@ filled w fd bytes None = w
 filled w fd bytes (Some Input) = w
 filled w fd bytes (Some Stream1) = record w { stream1 = w.stream1 ++ bytes }
 filled w fd bytes (Some Stream2) = record w { stream2 = w.stream2 ++ bytes }
-filled w fd bytes (Some (File number cursor flags)) =
-    with_content w fd number flags bytes (write_cursor flags (length (content_of w number)) cursor)
+filled w fd bytes (Some (File number cursor access)) =
+    with_content w fd number access bytes (write_cursor access (length (content_of w number)) cursor)
 
 -- `write`, by what refuses it: a write of no byte changes nothing
 abbrev pub written_if : World → ℕ → List ℕ → Result (Unit {0}) ℕ → Result (Unit {0}) ℕ × World

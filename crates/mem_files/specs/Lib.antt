@@ -1,9 +1,11 @@
 pub mod Linux
 pub mod Limits
 pub mod Names
+pub mod Access
 pub mod World
 pub mod Calls
 pub mod Replies
 pub mod Sound
 pub mod Outputs
+pub mod Lists
 pub mod Inside

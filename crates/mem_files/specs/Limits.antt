@@ -1,4 +1,4 @@
--- The limits of the files, and the flags of a descriptor, which are this project's own (docs/reference/files.md, "Limits").
+-- The limits of the files, which are this project's own (docs/reference/files.md, "Limits").
 use Rattle.std.specs.Prelude.{ℕ}
 
 -- bytes of a name, as Linux's NAME_MAX (include/uapi/linux/limits.h)
@@ -19,13 +19,3 @@ most_content = 268435456
 -- bytes of all files and both streams: 2^29
 abbrev pub most_total : ℕ
 most_total = 536870912
-
--- flags of an open file's descriptor: it may be read, it may be written, each write goes to the end
-abbrev pub may_read : ℕ
-may_read = 1
-
-abbrev pub may_write : ℕ
-may_write = 2
-
-abbrev pub appends : ℕ
-appends = 4

@@ -1,7 +1,8 @@
 -- The rules of files, which every call keeps (docs/reference/files.md, "Rules"), in two parts: what a count or a range says,
 -- and what a reference says.
-use Rattle.std.specs.Prelude.{◌≡◌, ◌≢◌, ℕ, ◌%◌, ◌^◌, ◌<◌, ◌≤◌, ◌||◌, List, length, Some, IsSome, IsTrue, All}
+use Rattle.std.specs.Prelude.{◌≡◌, ℕ, ◌^◌, ◌<◌, ◌≤◌, ◌||◌, List, length, Some, IsSome, IsTrue, All}
 use Rattle.std.specs.FinMap as map
+use Rattle.mem_files.specs.declared.slot.Access.{Access}
 use Rattle.mem_files.specs.declared.slot.Slot.{Slot}
 use Rattle.mem_files.specs.declared.slot.Slot.TheVariants.{Input, Stream1, Stream2, File}
 use Rattle.mem_files.specs.Limits.{most_content, most_total, most_descriptors, most_names}
@@ -12,13 +13,12 @@ use Rattle.mem_files.specs.World.{World, total, is_named, is_open}
 abbrev pub AreBytes : List ℕ → Type 0
 AreBytes bytes = All (λ byte. byte < 256) bytes
 
--- what may stand at a descriptor: the input and the streams have numbers of their own, a cursor is below 2^63, and the flags
--- let a file be read or written
+-- what may stand at a descriptor: the input and the streams have numbers of their own, and a cursor is below 2^63
 abbrev pub IsSlotAt : ℕ → Slot → Type 0
 IsSlotAt fd Input = fd ≡ 0
 IsSlotAt fd Stream1 = fd ≡ 1
 IsSlotAt fd Stream2 = fd ≡ 2
-IsSlotAt fd (File number cursor flags) = (cursor < 2 ^ 63) × (flags < 8) × (flags % 4 ≢ 0)
+IsSlotAt fd (File number cursor access) = cursor < 2 ^ 63
 
 -- what counts and ranges say: names, contents and streams are bytes, and no limit is passed
 pub record IsInLimits (w : World) : Type 0 where
@@ -42,7 +42,7 @@ pub record IsInLimits (w : World) : Type 0 where
 pub record IsJoined (w : World) : Type 0 where
   pub held : (name : List ℕ) (number : ℕ) → map.get w.names name ≡ Some number → IsSome (map.get w.files number)
   pub named_once : (name other : List ℕ) (number : ℕ) → map.get w.names name ≡ Some number → map.get w.names other ≡ Some number → name ≡ other
-  pub open_held : (fd number cursor flags : ℕ) → map.get w.slots fd ≡ Some (File number cursor flags) → IsSome (map.get w.files number)
+  pub open_held : (fd number cursor : ℕ) (access : Access) → map.get w.slots fd ≡ Some (File number cursor access) → IsSome (map.get w.files number)
   pub used : (number : ℕ) → IsSome (map.get w.files number) → IsTrue (is_named w number || is_open w number)
 
 -- both parts

@@ -30,7 +30,7 @@ abbrev pub is_of : ℕ → Slot → Bool
 is_of number Input = false
 is_of number Stream1 = false
 is_of number Stream2 = false
-is_of number (File held cursor flags) = held == number
+is_of number (File held cursor access) = held == number
 
 -- does a file have a name?
 abbrev pub is_named : World → ℕ → Bool

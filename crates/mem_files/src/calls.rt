@@ -2,7 +2,7 @@
 ghost use Rattle.std.specs.Prelude.{◌≡◌, ◌+◌, ◌-◌, ◌<◌, ◌≤◌, ◌≢◌, ◌^◌, pos, ◌+ℤ◌, IfOk, IsOkAnd, IsSome, OnOk, OnErr, MatchResult, Ok, Err, Some, None, length, take, drop, []};
 ghost use Rattle.std.specs.Option.{option_copied};
 ghost use Rattle.std.specs.FinMap as map;
-ghost use Rattle.mem_files.specs.Calls.{placed, is_full, opened, opened_at, flag_byte, has, closed, released, without_unused, sought, seek_base, as_cursor, ready, skipped, fits, write_place, write_cursor, filled, written, removed, content_at};
+ghost use Rattle.mem_files.specs.Calls.{placed, is_full, opened, opened_at, access_of, has, closed, released, without_unused, sought, seek_base, as_cursor, ready, skipped, fits, write_place, write_cursor, filled, written, removed, content_at};
 ghost use Rattle.mem_files.specs.Replies.{Replies, Places, Grows};
 ghost use Rattle.mem_files.specs.Sound.{IsSound};
 ghost use Rattle.mem_files.specs.Inside.Kept.{HasFile};
@@ -10,10 +10,9 @@ ghost use Rattle.mem_files.specs.Inside.Kept.{HasFile};
 use crate::names::{is_file_name, strip};
 use crate::table::Table;
 use crate::{
-    APPENDS, EBADF, EEXIST, EFBIG, EINVAL, EMFILE, ENOENT, ENOSPC, ESPIPE, FileRefusal,
-    MAX_CONTENT, MAX_NAME, MAX_NAMES, MAX_SLOTS, MAX_TOTAL, MAY_READ, MAY_WRITE, O_ACCMODE,
-    O_APPEND, O_CREAT, O_EXCL, O_RDONLY, O_TRUNC, O_WRONLY, PlaceRefusal, SEEK_CUR, SEEK_END,
-    SEEK_SET, Slot,
+    Access, EBADF, EEXIST, EFBIG, EINVAL, EMFILE, ENOENT, ENOSPC, ESPIPE, FileRefusal, MAX_CONTENT,
+    MAX_NAME, MAX_NAMES, MAX_SLOTS, MAX_TOTAL, Mode, O_ACCMODE, O_APPEND, O_CREAT, O_EXCL,
+    O_RDONLY, O_TRUNC, O_WRONLY, PlaceRefusal, SEEK_CUR, SEEK_END, SEEK_SET, Slot,
 };
 use ddc_base::OutOfMemory;
 use std::alloc::AllocError;
@@ -25,15 +24,17 @@ fn has(flags: u32, bit: u32) -> bool
     flags & bit != 0
 }
 
-/// The flags of a descriptor, from those of openat(2).
-fn flag_byte(flags: u32) -> u8
-    ensures { result ≡ flag_byte flags }
+/// How the flags of openat(2) say that a file is used.
+fn access_of(flags: u32) -> Access
+    ensures { result ≡ access_of flags }
 {
-    let access = flags & O_ACCMODE;
-    let read = if access == O_WRONLY { 0 } else { MAY_READ };
-    let write = if access == O_RDONLY { 0 } else { MAY_WRITE };
-    let appends = if has(flags, O_APPEND) { APPENDS } else { 0 };
-    read + write + appends
+    let mode = match flags & O_ACCMODE {
+        O_RDONLY => Mode::Read,
+        O_WRONLY => Mode::Write,
+        _ => Mode::ReadWrite,
+    };
+    let appends = has(flags, O_APPEND);
+    Access { mode, appends }
 }
 
 /// The number that an offset counts from.
@@ -112,7 +113,7 @@ impl Table {
         let fd = self.add_slot(Slot::File {
             number,
             cursor: 0,
-            flags: flag_byte(flags),
+            access: access_of(flags),
         })?;
         if has(flags, O_TRUNC) {
             self.empty(number);
@@ -137,7 +138,7 @@ impl Table {
         let fd = self.add_slot(Slot::File {
             number,
             cursor: 0,
-            flags: flag_byte(flags),
+            access: access_of(flags),
         })?;
         if let Err(error) = self.add_file(name, &[]) {
             self.clear_slot(fd);
@@ -203,7 +204,7 @@ impl Table {
                 Slot::File {
                     number,
                     cursor,
-                    flags,
+                    access,
                 },
             ) => {
                 let len = self.content(number).len() as u64;
@@ -218,7 +219,7 @@ impl Table {
                     Slot::File {
                         number,
                         cursor,
-                        flags,
+                        access,
                     },
                 );
                 Ok(cursor)
@@ -238,9 +239,9 @@ impl Table {
                 Slot::File {
                     number,
                     cursor,
-                    flags,
+                    access,
                 },
-            ) if flags & MAY_READ != 0 => { Ok(part(self.content(number), cursor, count)) }
+            ) if access.is_read() => { Ok(part(self.content(number), cursor, count)) }
             _ => Err(EBADF),
         }
     }
@@ -254,7 +255,7 @@ impl Table {
             Slot::File {
                 number,
                 cursor,
-                flags,
+                access,
             },
         ) = self.slot(fd)
         {
@@ -264,7 +265,7 @@ impl Table {
                 Slot::File {
                     number,
                     cursor,
-                    flags,
+                    access,
                 },
             );
         }
@@ -287,11 +288,11 @@ impl Table {
                 Slot::File {
                     number,
                     cursor,
-                    flags,
+                    access,
                 },
-            ) if flags & MAY_WRITE != 0 => {
+            ) if access.is_written() => {
                 let len = self.content(number).len() as u64;
-                Some((len, write_cursor(flags, len, cursor)))
+                Some((len, write_cursor(access, len, cursor)))
             }
             _ => None,
         }
@@ -346,11 +347,11 @@ impl Table {
                 Slot::File {
                     number,
                     cursor,
-                    flags,
+                    access,
                 },
             ) => {
                 let end = self.content(number).len() as u64;
-                let place = write_cursor(flags, end, cursor);
+                let place = write_cursor(access, end, cursor);
                 self.overwrite(number, place as usize, bytes)?;
                 let cursor = place + bytes.len() as u64;
                 self.set_slot(
@@ -358,7 +359,7 @@ impl Table {
                     Slot::File {
                         number,
                         cursor,
-                        flags,
+                        access,
                     },
                 );
             }
@@ -378,10 +379,10 @@ impl Table {
 }
 
 /// The place of a write: the end of a file that appends, else the cursor.
-fn write_cursor(flags: u8, end: u64, cursor: u64) -> u64
-    ensures { result ≡ write_cursor flags end cursor }
+fn write_cursor(access: Access, end: u64, cursor: u64) -> u64
+    ensures { result ≡ write_cursor access end cursor }
 {
-    if flags & APPENDS != 0 { end } else { cursor }
+    if access.appends { end } else { cursor }
 }
 
 /// At most `count` bytes past a cursor.

@@ -1,7 +1,7 @@
 //! Lists of cells, of which some hold a value.
-ghost use Rattle.std.specs.Prelude.{◌≡◌, ◌≤◌, OnOk, OnErr, Option, None, length, slice_index_or};
+ghost use Rattle.std.specs.Prelude.{◌≡◌, ◌+◌, ◌^◌, ◌<◌, ◌≤◌, max, MatchOption, OnOk, Option, None, length, slice_index_or};
 ghost use Rattle.std.specs.Option.{option_copied};
-ghost use Rattle.mem_files.specs.Inside.Cells.{with_room};
+ghost use Rattle.mem_files.specs.Inside.Cells.{AreEmpty, IsFirstFull, SameCells};
 
 use std::alloc::AllocError;
 
@@ -12,13 +12,26 @@ pub fn cell<X>(cells: &[Option<X>], at: u32) -> Option<&X>
     cells.get(at as usize)?.as_ref()
 }
 
-/// Adds an empty cell where the place is the count of cells.
-pub fn reach<X: Drop>(cells: &mut Vec<Option<X>>, at: usize) -> Result<(), AllocError>
-    requires { at ≤ length cells.old.items }
-    ensures ok { OnOk result (cells.new.items ≡ with_room cells.old.items at) }
-    ensures err { OnErr result (cells.new.items ≡ cells.old.items) }
+/// The first cell from a place on that holds a value, with its place.
+pub fn full_from<X>(cells: &[Option<X>], from: u32) -> Option<(u32, &X)>
+    requires { length cells.now ≤ 2 ^ 32 }
+    ensures { MatchOption result (AreEmpty cells.now from (length cells.now)) (λ found. IsFirstFull cells.now from found.0 found.1.now) }
 {
-    if at == cells.len() {
+    for at in from as usize..cells.len() {
+        if let Some(value) = &cells[at] {
+            return Some((at as u32, value));
+        }
+    }
+    None
+}
+
+/// Adds empty cells until there is one at the place.
+pub fn reach<X: Drop>(cells: &mut Vec<Option<X>>, at: usize) -> Result<(), AllocError>
+    ensures same { SameCells cells.old.items cells.new.items }
+    ensures most { length cells.new.items ≤ max (length cells.old.items) (at + 1) }
+    ensures reached { OnOk result (at < length cells.new.items) }
+{
+    while cells.len() <= at {
         cells.push(None)?;
     }
     Ok(())

@@ -1,14 +1,15 @@
 //! The files of a guest, with what each call answers.
-ghost use Rattle.std.specs.Prelude.{◌≡◌, ◌⊎◌, IsTrue, IfOk, IsOkAnd, MatchResult, OnErr, OnOk, Ok, Err, is_some, length};
+ghost use Rattle.std.specs.Prelude.{◌≡◌, ◌⊎◌, IsTrue, IfOk, IsOkAnd, MatchResult, OnErr, OnOk, Ok, Err, is_some, length, option_map};
 ghost use Rattle.std.specs.Option.{option_copied};
 ghost use Rattle.std.specs.FinMap as map;
 ghost use Rattle.mem_files.specs.Names.{is_stripped_name};
 ghost use Rattle.mem_files.specs.Calls.{first_world, placed, opened, closed, sought, ready, skipped, fits, write_place, written, removed, content_at, stream, name_after};
+ghost use Rattle.mem_files.specs.Lists.{listed, file_from, slot_from, lists_from, world_of, AreOrdered, AreInRange, AreJoined};
 ghost use Rattle.mem_files.specs.Replies.{Replies, Places, Grows};
 ghost use Rattle.mem_files.specs.Sound.{IsSound};
 
 use crate::table::Table;
-use crate::{FileRefusal, PlaceRefusal};
+use crate::{FileRefusal, FileView, PlaceRefusal, Slot};
 use ddc_base::OutOfMemory;
 use std::alloc::Global;
 use std::marker::Model;
@@ -42,6 +43,23 @@ impl Files {
         ensures { IfOk result (λ files. files ≡ first_world) }
     {
         let table = Table::new(alloc)?;
+        Ok(Files { table })
+    }
+
+    /// The files that lists stand for.
+    pub fn from_lists(
+        alloc: Global,
+        files: &[FileView<'_>],
+        slots: &[(u32, Slot)],
+        stream1: &[u8],
+        stream2: &[u8],
+    ) -> Result<Files, OutOfMemory>
+        requires ordered { AreOrdered (lists_from files.now slots.now stream1.now stream2.now) }
+        requires within { AreInRange (lists_from files.now slots.now stream1.now stream2.now) }
+        requires joined { AreJoined (lists_from files.now slots.now stream1.now stream2.now) }
+        ensures { IfOk result (λ made. made ≡ world_of (lists_from files.now slots.now stream1.now stream2.now)) }
+    {
+        let table = Table::of_lists(alloc, files, slots, stream1, stream2)?;
         Ok(Files { table })
     }
 
@@ -156,6 +174,20 @@ impl Files {
         ensures { option_copied result ≡ name_after self.now (option_copied name.entry) }
     {
         self.table.name_after(name)
+    }
+
+    /// The file with the least number that isn't below the given one.
+    pub fn file_from(&self, number: u32) -> Option<FileView<'_>>
+        ensures { option_map listed result ≡ file_from self.now number }
+    {
+        self.table.file_from(number)
+    }
+
+    /// The least descriptor that isn't below the given one, with what it stands for.
+    pub fn slot_from(&self, fd: u32) -> Option<(u32, Slot)>
+        ensures { result ≡ slot_from self.now fd }
+    {
+        self.table.slot_from(fd)
     }
 
     /// Whether this is a descriptor.

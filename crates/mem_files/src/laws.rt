@@ -2,11 +2,13 @@
 ghost use Rattle.std.specs.Prelude.{◌≡◌, ◌<◌, ◌≤◌, ℕ, ℤ, pos, List, length, All, IsTrue, IsSome, IsOkAnd, Ok, Some, None, false};
 ghost use Rattle.std.specs.FinMap as map;
 ghost use Rattle.mem_files.specs.declared.slot.Slot.TheVariants.{File};
-ghost use Rattle.mem_files.specs.Limits.{most_name, most_names, most_descriptors, most_content, most_total, may_read, may_write, appends};
+ghost use Rattle.mem_files.specs.Limits.{most_name, most_names, most_descriptors, most_content, most_total};
+ghost use Rattle.mem_files.specs.declared.slot.Access.{Access};
+ghost use Rattle.mem_files.specs.Access.{is_read};
 ghost use Rattle.mem_files.specs.Linux.{enoent, ebadf, eexist, einval, emfile, efbig, enospc, espipe, o_accmode, o_rdonly, o_wronly, o_rdwr, o_creat, o_excl, o_trunc, o_append, seek_set, seek_cur, seek_end};
 ghost use Rattle.mem_files.specs.Names.{is_stripped_name};
 ghost use Rattle.mem_files.specs.World.{World, lowest_unused};
-ghost use Rattle.mem_files.specs.Calls.{first_world, has, placed, opened, closed, written, skipped, sought, ready, removed};
+ghost use Rattle.mem_files.specs.Calls.{first_world, placed, opened, closed, written, skipped, sought, ready, removed};
 ghost use Rattle.mem_files.specs.Sound.{AreBytes, IsSound};
 ghost use Rattle.mem_files.specs.Outputs.{left, out, Output, AtPath, AreLeft, IsContent};
 ghost use Rattle.std.specs.List.{Contains};
@@ -15,9 +17,9 @@ use crate::*;
 
 /// Bytes that were written are read at the same place.
 pub fn written_bytes_are_read()
-    ensures { (w new : World) (fd number cursor flags : ℕ) (bytes : List ℕ)
-        → IsSound w → map.get w.slots fd ≡ Some (File number cursor flags)
-        → IsTrue (has flags may_read) → has flags appends ≡ false
+    ensures { (w new : World) (fd number cursor : ℕ) (access : Access) (bytes : List ℕ)
+        → IsSound w → map.get w.slots fd ≡ Some (File number cursor access)
+        → IsTrue (is_read access) → access.appends ≡ false
         → written w fd bytes ≡ (Ok tt, new)
         → ready (sought new fd (pos cursor) seek_set).1 fd (length bytes) ≡ Ok bytes }
 {}
@@ -76,7 +78,6 @@ pub fn numbers_are_those_written()
     ensures flags { (O_ACCMODE ≡ o_accmode) × (O_RDONLY ≡ o_rdonly) × (O_WRONLY ≡ o_wronly) × (O_RDWR ≡ o_rdwr)
         × (O_CREAT ≡ o_creat) × (O_EXCL ≡ o_excl) × (O_TRUNC ≡ o_trunc) × (O_APPEND ≡ o_append) }
     ensures bases { (SEEK_SET ≡ seek_set) × (SEEK_CUR ≡ seek_cur) × (SEEK_END ≡ seek_end) }
-    ensures bits { (MAY_READ ≡ may_read) × (MAY_WRITE ≡ may_write) × (APPENDS ≡ appends) }
     ensures limits { (MAX_NAME ≡ most_name) × (MAX_NAMES ≡ most_names) × (MAX_SLOTS ≡ most_descriptors)
         × (MAX_CONTENT ≡ most_content) × (MAX_TOTAL ≡ most_total) }
 {}

@@ -11,13 +11,16 @@ mod files;
 pub mod laws;
 mod names;
 mod numbers;
+mod restoring;
 mod slot;
 mod stored;
 mod table;
+mod view;
 
 pub use files::Files;
 pub use names::{is_file_name, is_stripped_name, strip};
-pub use slot::{FileRefusal, PlaceRefusal, Slot};
+pub use slot::{Access, FileRefusal, Mode, PlaceRefusal, Slot};
+pub use view::FileView;
 
 /// No such file (Linux, asm-generic/errno-base.h, as the other error numbers).
 pub const ENOENT: u16 = 2;
@@ -59,13 +62,6 @@ pub const SEEK_SET: u32 = 0;
 pub const SEEK_CUR: u32 = 1;
 /// An offset counts from the end.
 pub const SEEK_END: u32 = 2;
-
-/// In the flags of a `Slot::File`: it may be read.
-pub const MAY_READ: u8 = 1;
-/// In the flags of a `Slot::File`: it may be written.
-pub const MAY_WRITE: u8 = 2;
-/// In the flags of a `Slot::File`: each write goes to the end.
-pub const APPENDS: u8 = 4;
 
 /// The most bytes of a file or a stream.
 pub const MAX_CONTENT: u64 = 268_435_456;

@@ -1,5 +1,6 @@
 //! What a descriptor stands for, and how calls refuse.
 ghost use Rattle.std.specs.Prelude.{◌≡◌};
+ghost use Rattle.mem_files.specs.Access.{is_read, is_written};
 ghost use Rattle.mem_files.specs.declared.slot.FileRefusal.TheVariants as file;
 ghost use Rattle.mem_files.specs.declared.slot.PlaceRefusal.TheVariants as place;
 
@@ -14,8 +15,52 @@ pub enum Slot {
     Stream1,
     /// The second collected stream; only descriptor 2.
     Stream2,
-    /// An open file: its number, its cursor in bytes (below 2^63), and its flags (`MAY_READ`, `MAY_WRITE`, `APPENDS`).
-    File { number: u32, cursor: u64, flags: u8 },
+    /// An open file: its number, its cursor in bytes (below 2^63), and how it is used.
+    File {
+        number: u32,
+        cursor: u64,
+        access: Access,
+    },
+}
+
+/// Whether an open file is read or written.
+#[derive(Clone, Copy, Debug, PartialEq, Eq)]
+pub enum Mode {
+    Read,
+    Write,
+    ReadWrite,
+}
+
+/// How a descriptor uses its file.
+#[derive(Clone, Copy, Debug, PartialEq, Eq)]
+pub struct Access {
+    pub mode: Mode,
+    /// Each write goes to the end of the file.
+    pub appends: bool,
+}
+
+impl Access {
+    /// May the file be read?
+    pub fn is_read(self) -> bool
+        ensures { result ≡ is_read self }
+    {
+        match self.mode {
+            Mode::Read => true,
+            Mode::Write => false,
+            Mode::ReadWrite => true,
+        }
+    }
+
+    /// May the file be written?
+    pub fn is_written(self) -> bool
+        ensures { result ≡ is_written self }
+    {
+        match self.mode {
+            Mode::Read => false,
+            Mode::Write => true,
+            Mode::ReadWrite => true,
+        }
+    }
 }
 
 /// Why a file isn't opened or written.

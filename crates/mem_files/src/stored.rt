@@ -1,7 +1,9 @@
 //! One file as it lies in memory.
 ghost use Rattle.std.specs.Prelude.{◌≡◌, ◌+◌, ◌-◌, ◌<◌, ◌≤◌, ◌^◌, IfOk, OnOk, OnErr, IsSome, Some, None, is_some, length, unwrap_or, take, drop, replicate, ◌++◌, []};
+ghost use Rattle.std.specs.Option.{option_copied};
 ghost use Rattle.mem_files.specs.Calls.{written_over};
 
+use crate::FileView;
 use std::alloc::{AllocError, Global};
 
 /// A file: its name, if it still has one, and its bytes.
@@ -14,22 +16,39 @@ pub struct Stored {
 ghost use Rattle.mem_files.specs.Inside.Stored.{name_in, content_in};
 
 impl Stored {
-    pub fn new(alloc: Global, name: &[u8], content: &[u8]) -> Result<Stored, AllocError>
-        ensures name { IfOk result (λ file. name_in (Some file) ≡ Some name.now) }
+    pub fn new(alloc: Global, name: Option<&[u8]>, content: &[u8]) -> Result<Stored, AllocError>
+        ensures name { IfOk result (λ file. name_in (Some file) ≡ option_copied name.entry) }
         ensures content { IfOk result (λ file. content_in (Some file) ≡ Some content.now) }
     {
-        let name = Vec::from_slice(alloc, name)?;
+        let name = match name {
+            Some(name) => Some(Vec::from_slice(alloc, name)?),
+            None => None,
+        };
         let content = Vec::from_slice(alloc, content)?;
-        Ok(Stored {
-            name: Some(name),
-            content,
-        })
+        Ok(Stored { name, content })
     }
 
     pub fn content(&self) -> &[u8]
         ensures { content_in (Some self.now) ≡ Some result.now }
     {
         self.content.as_slice()
+    }
+
+    pub fn view(&self, number: u32) -> FileView<'_>
+        ensures number { result.number ≡ number }
+        ensures name { option_copied result.name ≡ name_in (Some self.now) }
+        ensures content { Some result.content.now ≡ content_in (Some self.now) }
+    {
+        let name = match &self.name {
+            Some(name) => Some(name.as_slice()),
+            None => None,
+        };
+        let content = self.content.as_slice();
+        FileView {
+            number,
+            name,
+            content,
+        }
     }
 
     pub fn is_named(&self) -> bool

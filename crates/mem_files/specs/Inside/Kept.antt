@@ -1,5 +1,5 @@
 -- What every `Files` keeps, as its calls use it: the rules of specs/Sound.antt in one list, and bytes apart.
-use Rattle.std.specs.Prelude.{◌≡◌, ◌≢◌, ℕ, ◌+◌, ◌%◌, ◌^◌, ◌<◌, ◌≤◌, ◌||◌, List, length, Some, IsSome, IsTrue}
+use Rattle.std.specs.Prelude.{◌≡◌, ℕ, ◌+◌, ◌^◌, ◌<◌, ◌≤◌, ◌||◌, List, length, Some, IsSome, IsTrue}
 use Rattle.std.specs.FinMap as map
 use Rattle.mem_files.specs.declared.slot.Slot.{Slot}
 use Rattle.mem_files.specs.declared.slot.Slot.TheVariants.{Input, Stream1, Stream2, File}
@@ -13,16 +13,14 @@ abbrev pub HasFile : World → Slot → Type 0
 HasFile w Input = Unit {0}
 HasFile w Stream1 = Unit {0}
 HasFile w Stream2 = Unit {0}
-HasFile w (File number cursor flags) = IsSome (map.get w.files number)
+HasFile w (File number cursor access) = IsSome (map.get w.files number)
 
--- what stands at a descriptor: the input and the streams have their own, and an open file is there, with its cursor
--- below 2^63 and flags that let it be read or written
+-- what stands at a descriptor: the input and the streams have their own, and an open file is there, with its cursor below 2^63
 abbrev pub IsHeldSlot : World → ℕ → Slot → Type 0
 IsHeldSlot w fd Input = fd ≡ 0
 IsHeldSlot w fd Stream1 = fd ≡ 1
 IsHeldSlot w fd Stream2 = fd ≡ 2
-IsHeldSlot w fd (File number cursor flags) =
-    IsSome (map.get w.files number) × (cursor < 2 ^ 63) × (flags < 8) × (flags % 4 ≢ 0)
+IsHeldSlot w fd (File number cursor access) = IsSome (map.get w.files number) × (cursor < 2 ^ 63)
 
 -- the limits are kept, and names, files and descriptors fit together
 pub record IsKept (w : World) : Type 0 where

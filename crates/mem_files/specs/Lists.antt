@@ -1,0 +1,139 @@
+-- Files as lists, in the order of their numbers (docs/reference/files.md, "Lists").
+use Rattle.std.specs.Prelude.{◌≡◌, ℕ, ◌+◌, ◌<◌, ◌≤◌, Bool, true, ◌||◌, ◌==◌, nat_le, Option, None, Some, is_some, option_map, List, [], ◌∷◌, length, map, find, sum_by, slice_index_or, All, IsTrue}
+use Rattle.std.specs.List.{list_any, IsDistinct}
+use Rattle.std.specs.Option.{option_copied}
+use Rattle.std.specs.Ordering.{nat_cmp, eq_by_cmp}
+use Rattle.std.specs.FinMap as fin
+use Rattle.mem_files.specs.declared.view.FileView.{FileView}
+use Rattle.mem_files.specs.declared.slot.Slot.{Slot}
+use Rattle.mem_files.specs.declared.slot.Slot.TheVariants.{Input, Stream1, Stream2, File}
+use Rattle.mem_files.specs.Limits.{most_total, most_descriptors, most_names}
+use Rattle.mem_files.specs.Names.{bytes_cmp, is_stripped_name}
+use Rattle.mem_files.specs.World.{World, is_of}
+use Rattle.mem_files.specs.Sound.{AreBytes, IsSlotAt}
+use Rattle.mem_files.specs.Outputs.{IsContent}
+
+-- a file: its number, its name if it still has one, and its bytes
+pub record ListedFile : Type 0 where
+  pub number : ℕ
+  pub name : Option (List ℕ)
+  pub content : List ℕ
+
+-- what a `FileView` shows
+abbrev pub listed : FileView → ListedFile
+listed view = record { number = view.number; name = option_copied view.name; content = view.content.now }
+
+-- the files, the descriptors with what they stand for, and the contents of the streams
+pub record FileLists : Type 0 where
+  pub files : List ListedFile
+  pub slots : List (ℕ × Slot)
+  pub streams : List (List ℕ)
+
+-- the lists that are handed over as slices
+abbrev pub lists_from : List FileView → List (ℕ × Slot) → List ℕ → List ℕ → FileLists
+lists_from files slots stream1 stream2 = record { files = map listed files; slots = slots; streams = stream1 ∷ stream2 ∷ [] }
+
+-- ---- the lists of a world
+
+-- the name of the file that has a number
+abbrev pub name_of : World → ℕ → Option (List ℕ)
+name_of w number = option_map (λ e. e.0) (find (λ e. e.1 == number) (fin.entries w.names))
+
+-- a file by its number and its bytes
+abbrev pub listed_file : World → ℕ × List ℕ → ListedFile
+listed_file w file = record { number = file.0; name = name_of w file.0; content = file.1 }
+
+abbrev pub lists_of : World → FileLists
+lists_of w = record {
+  files = map (listed_file w) (fin.entries w.files);
+  slots = fin.entries w.slots;
+  streams = w.stream1 ∷ w.stream2 ∷ [];
+}
+
+-- the least number that isn't below the given one, with its value
+abbrev pub first_from : {X : Type 0} → fin.FinMap nat_cmp X → ℕ → Option (ℕ × X)
+first_from m number = find (λ e. nat_le number e.0) (fin.entries m)
+
+-- `file_from`
+abbrev pub file_from : World → ℕ → Option ListedFile
+file_from w number = option_map (listed_file w) (first_from w.files number)
+
+-- `slot_from`
+abbrev pub slot_from : World → ℕ → Option (ℕ × Slot)
+slot_from w fd = first_from w.slots fd
+
+-- ---- the world of lists
+
+abbrev pub with_name : Option (List ℕ) → ℕ → List (List ℕ × ℕ) → List (List ℕ × ℕ)
+with_name None number names = names
+with_name (Some name) number names = (name, number) ∷ names
+
+-- the names that files have, with the files' numbers
+abbrev pub named : List ListedFile → List (List ℕ × ℕ)
+named [] = []
+named (file ∷ files) = with_name file.name file.number (named files)
+
+-- the bytes of files, with the files' numbers
+abbrev pub contents : List ListedFile → List (ℕ × List ℕ)
+contents files = map (λ file. (file.number, file.content)) files
+
+-- a file more, under a number of its own
+abbrev pub with_title : fin.FinMap bytes_cmp ℕ → Option (List ℕ) → ℕ → fin.FinMap bytes_cmp ℕ
+with_title names None number = names
+with_title names (Some name) number = fin.insert names name number
+
+abbrev pub with_listed : World → ListedFile → World
+with_listed w file = record w {
+  names = with_title w.names file.name file.number;
+  files = fin.insert w.files file.number file.content;
+}
+
+abbrev pub world_of : FileLists → World
+world_of lists = record {
+  names = fin.from_entries (named lists.files);
+  files = fin.from_entries (contents lists.files);
+  slots = fin.from_entries lists.slots;
+  stream1 = slice_index_or lists.streams 0 [];
+  stream2 = slice_index_or lists.streams 1 [];
+}
+
+-- ---- the rules of lists
+
+-- numbers and descriptors rise, and there are two streams
+pub record AreOrdered (lists : FileLists) : Type 0 where
+  pub files_rise : IsTrue (fin.is_sorted nat_cmp (contents lists.files))
+  pub slots_rise : IsTrue (fin.is_sorted nat_cmp lists.slots)
+  pub two_streams : length lists.streams ≡ 2
+
+-- a name as files hold it
+abbrev pub IsName : List ℕ → Type 0
+IsName name = IsTrue (is_stripped_name name) × AreBytes name
+
+-- what counts and ranges say
+pub record AreInRange (lists : FileLists) : Type 0 where
+  pub few_names : length (named lists.files) ≤ most_names
+  pub good_names : All (λ e. IsName e.0) (named lists.files)
+  pub distinct : IsDistinct (eq_by_cmp bytes_cmp) (map (λ e. e.0) (named lists.files))
+  -- 5,120 is the most names and the most descriptors together
+  pub low_numbers : All (λ file. file.number < 5120) lists.files
+  pub good_files : All (λ file. IsContent file.content) lists.files
+  pub good_streams : All IsContent lists.streams
+  pub small_total : sum_by length lists.streams + sum_by (λ file. length file.content) lists.files ≤ most_total
+  pub low_slots : All (λ e. e.0 < most_descriptors) lists.slots
+  pub good_slots : All (λ e. IsSlotAt e.0 e.1) lists.slots
+
+-- is the file that a descriptor stands for among these?
+abbrev pub is_listed : List ListedFile → Slot → Bool
+is_listed files Input = true
+is_listed files Stream1 = true
+is_listed files Stream2 = true
+is_listed files (File number cursor access) = list_any (λ file. file.number == number) files
+
+-- does a file have a name, or one of these descriptors?
+abbrev pub is_used : List (ℕ × Slot) → ListedFile → Bool
+is_used slots file = is_some file.name || list_any (λ e. is_of file.number e.1) slots
+
+-- what references say: each descriptor's file is listed, and each listed file has a name or a descriptor
+pub record AreJoined (lists : FileLists) : Type 0 where
+  pub held : All (λ e. IsTrue (is_listed lists.files e.1)) lists.slots
+  pub used : All (λ file. IsTrue (is_used lists.slots file)) lists.files

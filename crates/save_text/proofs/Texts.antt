@@ -1,0 +1,98 @@
+-- The fields of a save's text, one by one: how each is read and how it is spelled fit each other.
+use Rattle.std.proofs.Common.{◌≡◌, ℕ, ◌^◌, ◌<◌, true, Option, None, List, ◌++◌, length, Result, Ok, Err, refl, sym, ap, arith}
+use Rattle.std.specs.Prelude.{IfOk}
+use Rattle.std.specs.Int.{w16, w32}
+use Rattle.std.proofs.lemmas.List.{append-nil}
+use Rattle.byte_fields.specs.Spelling.{blob_text, number_text}
+use Rattle.byte_fields.proofs.Spells.{AreBytes, Nothing, Spells, all_read, spells, spells_begun, spells_blob32, spells_bytes, spells_counted, spells_number, spells_that, spells_u32, spells_u64, then, whole_again, whole_takes, wide16}
+use Rattle.state_text.proofs.Texts.{spells_state}
+use Rattle.state_text.specs.declared.reading.TextRefusal.{TextRefusal}
+use Rattle.save_text.specs.declared.parts.Parts.{Parts}
+use Rattle.save_text.specs.SaveText.{SaveText, after_left, digest_at, formed, is_behind, left_at, magic, mark_at, name_at, save_at, stage_at}
+use Rattle.save_text.specs.Spelled.{IsDigest, IsLeft, IsMark, IsStage, IsText, digest_text, left_text, mark_text, stage_text, text_of}
+use Rattle.save_text.specs.Seen.{Reads, view}
+
+pub spells_digest : Spells digest_at digest_text IsDigest
+unfolding digest_at
+spells_digest =
+    spells (
+    then {K = Nothing} (λ d. d.0) (spells_bytes 32) (λ found f.
+    all_read (record { 0 = found }) (λ d k. λ i. record { 0 = k.1 i }) (tt, refl)))
+    (λ d f. append-nil d.0)
+    (λ d f. record { full = f.1.0.long })
+    (λ d f. (tt, (record { long = f.full }, tt)))
+
+pub spells_mark : Spells mark_at mark_text IsMark
+unfolding mark_at mark_text
+spells_mark =
+    spells (
+    then {K = Nothing} (λ m. m.length) spells_u32 (λ length f.
+    then (λ m. m.digest) spells_digest (λ digest g.
+    all_read (record { length = length; digest = digest }) (λ m k. λ i. record { length = k.0.1 i; digest = k.1 i }) ((tt, refl), refl))))
+    (λ m f. ap (λ (v : List ℕ). number_text w32 m.length ++ v) (append-nil m.digest.0))
+    (λ m f. record { length = f.1.0; digest = f.1.1.0 })
+    (λ m f. (tt, (f.length, (f.digest, tt))))
+
+-- a name of so many bytes, behind the one before it
+abbrev IsBehind : Option (List ℕ) → List ℕ → Type 0
+IsBehind last name = is_behind last name ≡ true
+
+pub spells_name : (last : Option (List ℕ)) → Spells (name_at last) (blob_text w16) (λ name. (length name < 2 ^ 16) × IsBehind last name)
+unfolding name_at
+spells_name last =
+    spells (
+    then {G = IsBehind last} {K = Nothing} (λ (name : List ℕ). length name) (spells_number w16 (2 ^ 16) wide16) (λ count f.
+    spells (spells_that (is_behind last) (spells_bytes count)) (λ name g. refl) (λ name g. ((tt, sym g.0.long), g.1)) (λ name g. (record { long = sym g.0.1 }, g.1))))
+    (λ name f. refl) (λ name f. f.1) (λ name f. (tt, f))
+
+pub spells_left : (last : Option (List ℕ)) → Spells (left_at last) left_text (IsLeft last)
+unfolding left_at
+spells_left last =
+    spells (
+    then {K = Nothing} (λ l. l.name) (spells_name last) (λ name f.
+    then (λ l. l.mark) spells_mark (λ mark g.
+    all_read (record { name = name; mark = mark }) (λ l k. λ i. record { name = k.0.1 i; mark = k.1 i }) ((tt, refl), refl))))
+    (λ l f. ap (λ (v : List ℕ). blob_text w16 l.name ++ v) (append-nil (mark_text l.mark)))
+    (λ l f. record { short = f.1.0.0; behind = f.1.0.1; mark = f.1.1.0 })
+    (λ l f. (tt, ((f.short, f.behind), (f.mark, tt))))
+
+pub spells_stage : (any : ℕ) → Spells (stage_at any) stage_text IsStage
+unfolding stage_at stage_text
+spells_stage any =
+    spells (
+    then {K = Nothing} (λ s. s.steps) spells_u64 (λ steps f.
+    then (λ s. s.stream1) spells_mark (λ stream1 f1.
+    then (λ s. s.stream2) spells_mark (λ stream2 f2.
+    then (λ s. s.left) (spells_counted after_left spells_left None) (λ left f3.
+    then (λ s. s.made) spells_blob32 (λ made f4.
+    all_read (record { steps = steps; stream1 = stream1; stream2 = stream2; left = left; made = made })
+    (λ s k. λ i. record { steps = k.0.0.0.0.1 i; stream1 = k.0.0.0.1 i; stream2 = k.0.0.1 i; left = k.0.1 i; made = k.1 i }) (((((tt, refl), refl), refl), refl), refl)))))))
+    (λ s f. grind (arith, append-nil))
+    (λ s f. let g = f.1 in record { steps = g.0; stream1 = g.1.0; stream2 = g.1.1.0; left = g.1.1.1.0; made = g.1.1.1.1.0 })
+    (λ s f. (tt, (f.steps, (f.stream1, (f.stream2, (f.left, (f.made, tt)))))))
+
+pub spells_save : Spells save_at text_of IsText
+unfolding save_at text_of
+spells_save =
+    spells (
+    then {K = Nothing} (λ s. tt) (spells_begun magic refl) (λ begun f.
+    then (λ s. s.recipe) spells_digest (λ recipe f1.
+    then (λ s. s.inputs) (spells_counted (λ input. 0) (λ (any : ℕ). spells_digest) 0) (λ inputs f2.
+    then (λ s. s.stages) (spells_counted (λ stage. 0) spells_stage 0) (λ stages f3.
+    then (λ s. s.state) spells_state (λ state f4.
+    all_read (record { recipe = recipe; inputs = inputs; stages = stages; state = state })
+    (λ s k. λ i. record { recipe = k.0.0.0.1 i; inputs = k.0.0.1 i; stages = k.0.1 i; state = k.1 i }) (((((tt, refl), refl), refl), refl), refl)))))))
+    (λ s f. grind (arith, append-nil))
+    (λ s f. let g = f.1.1 in record { recipe = g.0; inputs = g.1.0; stages = g.1.1.0; state = g.1.1.1.0 })
+    (λ s f. (tt, (tt, (f.recipe, (f.inputs, (f.stages, (f.state, tt)))))))
+
+-- ---- with nothing behind it
+
+pub formed_again : (s : SaveText) → IsText s → formed (text_of s) ≡ Ok s
+unfolding formed
+formed_again s fits = whole_again spells_save s fits
+
+pub is_found : (text : List ℕ) (r : Result Parts TextRefusal) → AreBytes text → Reads r (formed text) → IfOk r (λ p. IsText (view p) × (text ≡ text_of (view p)))
+unfolding formed
+is_found text (Ok p) fits given = whole_takes spells_save text (view p) fits given
+is_found text (Err e) fits given = tt

@@ -1,0 +1,9 @@
+use Rattle.std.proofs.Common.{◌≡◌, ◌-◌, None}
+use Rattle.std.specs.Option.{option_copied}
+use Rattle.byte_fields.specs.Reader.{several}
+use Rattle.byte_fields.proofs.Loop.{with_front}
+use Rattle.save_text.specs.SaveText.{after_left, left_at}
+use Rattle.save_text.proofs.fields.left_of.Given as goal
+
+abbrev pub invariant-loop : goal.invariant-loop
+invariant-loop l = with_front l.lines (several left_at after_left (option_copied l.last) (l.count - l.counter) l.cursor) ≡ several left_at after_left None l.count l.fn.cursor

@@ -1,0 +1,3 @@
+pub mod SaveText
+pub mod Spelled
+pub mod Seen

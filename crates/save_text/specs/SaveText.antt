@@ -1,0 +1,85 @@
+-- What the text of a save says, and how it is read, field by field. docs/reference/save.md says the same for people.
+use Rattle.std.specs.Prelude.{ℕ, Bool, true, Option, None, Some, List, [], ◌∷◌, Result}
+use Rattle.std.specs.Int.{w32}
+use Rattle.std.specs.Ordering.{nat_cmp, is_lt}
+use Rattle.std.specs.Cmp.Lexicographic.{slice_cmp}
+use Rattle.ddc_base.specs.declared.digests.Digest.{Digest}
+use Rattle.report.specs.declared.types.LeftLine.{LeftLine}
+use Rattle.report.specs.declared.types.Mark.{Mark}
+use Rattle.byte_fields.specs.Reader.{Reader, ◌>>=◌, begun, blob, bytes, counted, done, that, u16, u32, u64, whole}
+use Rattle.state_text.specs.StateText.{StateText, state_at}
+
+-- ---- what a text says
+
+-- a stage that is done
+pub record StageText : Type 0 where
+  pub steps : ℕ
+  pub stream1 : Mark
+  pub stream2 : Mark
+  pub left : List LeftLine
+  pub made : List ℕ
+
+pub record SaveText : Type 0 where
+  pub recipe : Digest
+  pub inputs : List Digest
+  pub stages : List StageText
+  pub state : StateText
+
+-- ---- how it is read
+
+-- the eight bytes that begin each text: `ddcsave1`
+abbrev pub magic : List ℕ
+magic = 100 ∷ 100 ∷ 99 ∷ 115 ∷ 97 ∷ 118 ∷ 101 ∷ 49 ∷ []
+
+unfoldable pub digest_at : Reader Digest
+digest_at = do
+  found ← bytes 32
+  done (record { 0 = found })
+
+unfoldable pub mark_at : Reader Mark
+mark_at = do
+  length ← u32
+  digest ← digest_at
+  done (record { length = length; digest = digest })
+
+-- is a name behind the one before it, by their bytes?
+abbrev pub is_behind : Option (List ℕ) → List ℕ → Bool
+is_behind None name = true
+is_behind (Some last) name = is_lt (slice_cmp nat_cmp last name)
+
+-- a length, and a name of that many bytes, which is wrong where it does not follow the one before it
+unfoldable pub name_at : Option (List ℕ) → Reader (List ℕ)
+name_at last = do
+  count ← u16
+  that (is_behind last) (bytes count)
+
+unfoldable pub left_at : Option (List ℕ) → Reader LeftLine
+left_at last = do
+  name ← name_at last
+  mark ← mark_at
+  done (record { name = name; mark = mark })
+
+abbrev pub after_left : LeftLine → Option (List ℕ)
+after_left file = Some file.name
+
+unfoldable pub stage_at : ℕ → Reader StageText
+stage_at any = do
+  steps ← u64
+  stream1 ← mark_at
+  stream2 ← mark_at
+  left ← counted left_at after_left None
+  made ← blob w32
+  done (record { steps = steps; stream1 = stream1; stream2 = stream2; left = left; made = made })
+
+unfoldable pub save_at : Reader SaveText
+save_at = do
+  start ← begun magic
+  recipe ← digest_at
+  inputs ← counted (λ (any : ℕ). digest_at) (λ input. 0) 0
+  stages ← counted {S = ℕ} stage_at (λ stage. 0) 0
+  state ← state_at
+  done (record { recipe = recipe; inputs = inputs; stages = stages; state = state })
+
+-- what a text says, or the offset of its first wrong field: nothing follows the state
+unfoldable pub formed : List ℕ → Result SaveText ℕ
+formed text = whole save_at text

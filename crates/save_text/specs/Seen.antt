@@ -1,0 +1,25 @@
+-- What the code has, as the definitions see it.
+use Rattle.std.specs.Prelude.{◌≡◌, ℕ, map, Result, Ok, Err}
+use Rattle.ddc_base.specs.declared.digests.Digest.{Digest}
+use Rattle.state_text.specs.Seen as state
+use Rattle.state_text.specs.declared.reading.TextRefusal.{TextRefusal}
+use Rattle.state_text.specs.declared.reading.TextRefusal.TheVariants.{Form, OutOfMemory}
+use Rattle.save_text.specs.declared.parts.InputPart.{InputPart}
+use Rattle.save_text.specs.declared.parts.Parts.{Parts}
+use Rattle.save_text.specs.declared.parts.StagePart.{StagePart}
+use Rattle.save_text.specs.SaveText.{SaveText, StageText}
+
+abbrev pub input_view : InputPart → Digest
+input_view input = input.digest
+
+abbrev pub stage_view : StagePart → StageText
+stage_view s = record { steps = s.steps; stream1 = s.stream1; stream2 = s.stream2; left = s.left; made = s.made }
+
+abbrev pub view : Parts → SaveText
+view p = record { recipe = p.recipe; inputs = map input_view p.inputs.items; stages = map stage_view p.done.items; state = state.view p.state }
+
+-- what was read is what the text says; want of memory says nothing of it
+abbrev pub Reads : Result Parts TextRefusal → Result SaveText ℕ → Type 0
+Reads (Ok p) read = read ≡ Ok (view p)
+Reads (Err (Form offset)) read = read ≡ Err offset
+Reads (Err OutOfMemory) read = Unit {0}

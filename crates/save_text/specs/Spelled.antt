@@ -1,0 +1,64 @@
+-- How a save is spelled, and which have a text.
+use Rattle.std.specs.Prelude.{◌≡◌, ℕ, ◌^◌, ◌<◌, true, Option, None, List, ◌++◌, All, length}
+use Rattle.std.specs.Int.{w16, w32, w64}
+use Rattle.ddc_base.specs.declared.digests.Digest.{Digest}
+use Rattle.report.specs.declared.types.LeftLine.{LeftLine}
+use Rattle.report.specs.declared.types.Mark.{Mark}
+use Rattle.byte_fields.specs.Spelling.{Counted, IsBlob, blob_text, list_text, number_text}
+use Rattle.state_text.specs.Spelled as state
+use Rattle.save_text.specs.SaveText.{SaveText, StageText, after_left, is_behind, magic}
+
+-- ---- how it is spelled
+
+abbrev pub digest_text : Digest → List ℕ
+digest_text digest = digest.0
+
+unfoldable pub mark_text : Mark → List ℕ
+mark_text mark = number_text w32 mark.length ++ digest_text mark.digest
+
+abbrev pub left_text : LeftLine → List ℕ
+left_text file = blob_text w16 file.name ++ mark_text file.mark
+
+unfoldable pub stage_text : StageText → List ℕ
+stage_text stage =
+    number_text w64 stage.steps ++ (mark_text stage.stream1 ++ (mark_text stage.stream2 ++ (list_text left_text stage.left ++ blob_text w32 stage.made)))
+
+unfoldable pub text_of : SaveText → List ℕ
+text_of save =
+    magic ++ (digest_text save.recipe ++ (list_text digest_text save.inputs ++ (list_text stage_text save.stages ++ state.text_of save.state)))
+
+-- its lengths have a place in a text
+pub record IsShort (stage : StageText) : Type 0 where
+  pub stream1 : stage.stream1.length < 2 ^ 32
+  pub stream2 : stage.stream2.length < 2 ^ 32
+  pub few : length stage.left < 2 ^ 32
+  pub names : All (λ file. length file.name < 2 ^ 16) stage.left
+  pub contents : All (λ file. file.mark.length < 2 ^ 32) stage.left
+  pub made : length stage.made < 2 ^ 32
+
+-- ---- which have a text
+
+pub record IsDigest (digest : Digest) : Type 0 where
+  pub full : length digest.0 ≡ 32
+
+pub record IsMark (mark : Mark) : Type 0 where
+  pub length : mark.length < 2 ^ 32
+  pub digest : IsDigest mark.digest
+
+pub record IsLeft (last : Option (List ℕ)) (file : LeftLine) : Type 0 where
+  pub short : length file.name < 2 ^ 16
+  pub behind : is_behind last file.name ≡ true
+  pub mark : IsMark file.mark
+
+pub record IsStage (stage : StageText) : Type 0 where
+  pub steps : stage.steps < 2 ^ 64
+  pub stream1 : IsMark stage.stream1
+  pub stream2 : IsMark stage.stream2
+  pub left : Counted IsLeft after_left None stage.left
+  pub made : IsBlob (2 ^ 32) stage.made
+
+pub record IsText (save : SaveText) : Type 0 where
+  pub recipe : IsDigest save.recipe
+  pub inputs : Counted (λ (any : ℕ). IsDigest) (λ input. 0) 0 save.inputs
+  pub stages : Counted (λ (any : ℕ). IsStage) (λ stage. 0) 0 save.stages
+  pub state : state.IsText save.state

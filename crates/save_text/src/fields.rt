@@ -1,0 +1,206 @@
+//! How each field of a save is read and written.
+ghost use Rattle.std.specs.Prelude.{◌≡◌, ◌<◌, ◌^◌, ◌++◌, All, None, OnOk, length};
+ghost use Rattle.std.specs.Option.{option_copied};
+ghost use Rattle.std.specs.Ordering.{is_lt, nat_cmp};
+ghost use Rattle.std.specs.Cmp.Lexicographic.{slice_cmp};
+ghost use Rattle.byte_fields.specs.Reader.{Gives, counted, several};
+ghost use Rattle.byte_fields.specs.Spelling.{list_text};
+ghost use Rattle.save_text.specs.SaveText.{after_left, digest_at, is_behind, left_at, mark_at, name_at};
+ghost use Rattle.save_text.specs.Spelled.{digest_text, left_text, mark_text};
+
+use crate::parts::{InputPart, StagePart};
+use crate::writing::put_stage;
+use byte_fields::{Cursor, Item, Stop, put_blob16, put_u32};
+use ddc_base::digests::Digest;
+use ddc_base::{Bytes, OutOfMemory};
+use report::{LeftLine, LeftLines, Mark};
+use std::alloc::Global;
+
+/// The 32 bytes of a digest.
+#[tactic(auto, unfolding(crate::specs::SaveText::digest_at))]
+pub(crate) fn digest_of(cursor: &mut Cursor<'_>) -> Result<Digest, Stop>
+    ensures { Gives (λ x. x) result cursor.new (digest_at cursor.old) }
+{
+    let bytes = cursor.bytes(32)?;
+    let mut digest = [0; 32];
+    digest.copy_from_slice(bytes);
+    Ok(Digest(digest))
+}
+
+/// A length of 4 bytes, and a digest.
+#[tactic(auto, unfolding(crate::specs::SaveText::mark_at))]
+fn mark_of(cursor: &mut Cursor<'_>) -> Result<Mark, Stop>
+    ensures { Gives (λ x. x) result cursor.new (mark_at cursor.old) }
+{
+    let length = cursor.u32()?;
+    let digest = digest_of(cursor)?;
+    Ok(Mark {
+        length: u64::from(length),
+        digest,
+    })
+}
+
+/// Adds a mark.
+#[tactic(auto, unfolding(crate::specs::Spelled::mark_text))]
+pub(crate) fn put_mark(out: &mut Bytes, mark: Mark) -> Result<(), OutOfMemory>
+    requires { mark.length < 2 ^ 32 }
+    ensures { OnOk result (out.new ≡ out.old ++ mark_text mark) }
+{
+    put_u32(out, mark.length as u32)?;
+    out.extend(&mark.digest.0)
+}
+
+/// Whether a name is behind the one before it.
+fn is_behind(last: Option<&[u8]>, name: &[u8]) -> bool
+    ensures { result ≡ is_behind (option_copied last.entry) name.now }
+{
+    match last {
+        Some(last) => last.cmp(name).is_lt(),
+        None => true,
+    }
+}
+
+/// A name that is behind the one before it.
+#[tactic(auto, unfolding(crate::specs::SaveText::name_at))]
+fn name_of<'a>(cursor: &mut Cursor<'a>, last: Option<&[u8]>) -> Result<&'a [u8], Stop>
+    ensures { Gives (λ x. x.now) result cursor.new (name_at (option_copied last.entry) cursor.old) }
+{
+    let count = cursor.u16()?;
+    let at = cursor.len();
+    let name = cursor.bytes(usize::from(count))?;
+    if !is_behind(last, name) {
+        return Err(Stop::Wrong(at));
+    }
+    Ok(name)
+}
+
+/// The files that a stage left.
+fn left_of(alloc: Global, cursor: &mut Cursor<'_>, count: u32) -> Result<LeftLines, Stop>
+    ensures { Gives (λ x. x) result cursor.new (several left_at after_left None count cursor.old) }
+{
+    let mut lines = LeftLines::new(alloc);
+    let mut last = None;
+    for _ in 0..count {
+        let (name, mark) = line_of(cursor, last)?;
+        last = Some(name);
+        lines.push(LeftLine {
+            name: Bytes::from_slice(alloc, name)?,
+            mark,
+        })?;
+    }
+    Ok(lines)
+}
+
+/// A file that a stage left: its name, lent, and its mark.
+#[tactic(auto, unfolding(crate::specs::SaveText::left_at))]
+fn line_of<'a>(cursor: &mut Cursor<'a>, last: Option<&[u8]>) -> Result<(&'a [u8], Mark), Stop>
+    ensures { Gives (λ x. record { name = x.0.now; mark = x.1 }) result cursor.new (left_at (option_copied last.entry) cursor.old) }
+{
+    let name = name_of(cursor, last)?;
+    let mark = mark_of(cursor)?;
+    Ok((name, mark))
+}
+
+/// Adds the files that a stage left.
+pub(crate) fn put_left(out: &mut Bytes, files: &[LeftLine]) -> Result<(), OutOfMemory>
+    requires few { length files.now < 2 ^ 32 }
+    requires short { All (λ file. length file.name < 2 ^ 16) files.now }
+    requires small { All (λ file. file.mark.length < 2 ^ 32) files.now }
+    ensures { OnOk result (out.new ≡ out.old ++ list_text left_text files.now) }
+{
+    put_u32(out, files.len() as u32)?;
+    for file in files {
+        put_line(out, file)?;
+    }
+    Ok(())
+}
+
+fn put_line(out: &mut Bytes, file: &LeftLine) -> Result<(), OutOfMemory>
+    requires short { length file.now.name < 2 ^ 16 }
+    requires small { file.now.mark.length < 2 ^ 32 }
+    ensures { OnOk result (out.new ≡ out.old ++ left_text file.now) }
+{
+    put_blob16(out, file.name.as_slice())?;
+    put_mark(out, file.mark)
+}
+
+impl<'a> Item<'a> for InputPart {
+    ghost use Rattle.ddc_base.specs.declared.digests.Digest.{Digest};
+    ghost use Rattle.save_text.specs.SaveText.{digest_at};
+    ghost use Rattle.save_text.specs.Spelled.{digest_text};
+    ghost use Rattle.save_text.specs.Seen.{input_view};
+
+    ghost Seen = { Digest };
+
+    ghost seen = { input_view };
+
+    ghost read_from = { λ any. digest_at };
+
+    ghost next_least = { λ input. 0 };
+
+    ghost text = { digest_text };
+
+    ghost IsShort = { λ _. Unit {0} };
+
+    fn take(_alloc: Global, cursor: &mut Cursor<'a>, _least: u64) -> Result<InputPart, Stop> {
+        let digest = digest_of(cursor)?;
+        Ok(InputPart { digest })
+    }
+
+    fn least_after(&self) -> u64 {
+        0
+    }
+
+    fn put(&self, out: &mut Bytes) -> Result<(), OutOfMemory> {
+        out.extend(&self.digest.0)
+    }
+}
+
+impl<'a> Item<'a> for StagePart {
+    ghost use Rattle.save_text.specs.SaveText.{StageText, stage_at};
+    ghost use Rattle.save_text.specs.Spelled.{IsShort, stage_text};
+    ghost use Rattle.save_text.specs.Seen.{stage_view};
+
+    ghost Seen = { StageText };
+
+    ghost seen = { stage_view };
+
+    ghost read_from = { stage_at };
+
+    ghost next_least = { λ stage. 0 };
+
+    ghost text = { stage_text };
+
+    ghost IsShort = { IsShort };
+
+    #[tactic(auto, unfolding(crate::specs::SaveText::stage_at))]
+    fn take(alloc: Global, cursor: &mut Cursor<'a>, _least: u64) -> Result<StagePart, Stop> {
+        let steps = cursor.u64()?;
+        let stream1 = mark_of(cursor)?;
+        let stream2 = mark_of(cursor)?;
+        let count = cursor.u32()?;
+        let left = left_of(alloc, cursor, count)?;
+        let made = cursor.blob32()?;
+        Ok(StagePart {
+            steps,
+            stream1,
+            stream2,
+            left,
+            made: Bytes::from_slice(alloc, made)?,
+        })
+    }
+
+    fn least_after(&self) -> u64 {
+        0
+    }
+
+    fn put(&self, out: &mut Bytes) -> Result<(), OutOfMemory> {
+        put_stage(
+            out,
+            self.steps,
+            (self.stream1, self.stream2),
+            self.left.as_slice(),
+            self.made.as_slice(),
+        )
+    }
+}

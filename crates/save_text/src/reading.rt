@@ -1,0 +1,61 @@
+ghost use Rattle.std.specs.Prelude.{◌≡◌, IfOk, Ok};
+ghost use Rattle.byte_fields.specs.Reader.{Gives};
+ghost use Rattle.save_text.specs.SaveText.{SaveText, formed, save_at};
+ghost use Rattle.save_text.specs.Spelled.{IsText, text_of};
+ghost use Rattle.save_text.specs.Seen.{Reads, view};
+
+use crate::fields::digest_of;
+use crate::parts::Parts;
+use byte_fields::{Cursor, Stop, counted};
+use state_text::{TextRefusal, parts_at};
+use std::alloc::Global;
+
+/// The eight bytes that begin the text of a save.
+pub const MAGIC: [u8; 8] = *b"ddcsave1";
+
+/// A save's text at the front of what is left.
+#[tactic(auto, unfolding(crate::specs::SaveText::save_at))]
+fn save_of<'a>(alloc: Global, cursor: &mut Cursor<'a>) -> Result<Parts<'a>, Stop>
+    ensures { Gives view result cursor.new (save_at cursor.old) }
+{
+    cursor.begins_with(&MAGIC)?;
+    let recipe = digest_of(cursor)?;
+    let inputs = counted(alloc, cursor)?;
+    let done = counted(alloc, cursor)?;
+    let state = parts_at(alloc, cursor)?;
+    Ok(Parts {
+        recipe,
+        inputs,
+        done,
+        state,
+    })
+}
+
+/// What the text of a save says. Each field is judged given those before it, so an offset is that of the first wrong one; a wrong field of the
+/// state has its place in the save.
+pub fn read(alloc: Global, text: &[u8]) -> Result<Parts<'_>, TextRefusal>
+    // What is read is spelled so.
+    ensures found { IfOk result (λ p. IsText (view p) × (text.now ≡ text_of (view p))) }
+    // What is spelled so is read, unless memory runs out.
+    ensures only { (save : SaveText) → IsText save → text.now ≡ text_of save → Reads result (Ok save) }
+    // Which field is the first wrong one.
+    ensures exact { Reads result (formed text.now) }
+{
+    all(alloc, text)
+}
+
+#[tactic(auto, unfolding(crate::specs::SaveText::formed))]
+fn all(alloc: Global, text: &[u8]) -> Result<Parts<'_>, TextRefusal>
+    ensures { Reads result (formed text.now) }
+{
+    let mut cursor = Cursor::new(text);
+    let parts = match save_of(alloc, &mut cursor) {
+        Ok(parts) => parts,
+        Err(Stop::Wrong(left)) => return Err(TextRefusal::Form((text.len() - left) as u64)),
+        Err(Stop::OutOfMemory) => return Err(TextRefusal::OutOfMemory),
+    };
+    match cursor.len() {
+        0 => Ok(parts),
+        left => Err(TextRefusal::Form((text.len() - left) as u64)),
+    }
+}

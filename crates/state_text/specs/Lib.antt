@@ -1,0 +1,3 @@
+pub mod StateText
+pub mod Spelled
+pub mod Seen

@@ -1,0 +1,14 @@
+//! The text of a state: how a guest that stands between two steps is kept in a file.
+//!
+//! docs/reference/save.md has its fields for a reader, and specs/StateText.antt the same for the prover. What the fields say may still be
+//! no state of any guest: that is judged above.
+#![tactic(auto)]
+
+mod items;
+mod parts;
+mod reading;
+mod writing;
+
+pub use parts::{Descriptor, File, Page, Parts, Run};
+pub use reading::{TextRefusal, parts_at, read};
+pub use writing::{put_parts, write};

@@ -1,0 +1,57 @@
+use linux_calls::Heap;
+use mem_files::Slot;
+
+/// Mapped pages in a row, with pages before and behind it that are not mapped.
+#[derive(Clone, Copy, Debug, PartialEq, Eq)]
+pub struct Run {
+    /// The number of its first page: its address divided by 4,096.
+    pub first: u32,
+    /// How many pages it has, at least 1.
+    pub pages: u32,
+}
+
+/// A page that is not all zeros.
+#[derive(Clone, Copy, Debug)]
+pub struct Page<'a> {
+    /// Its address divided by 4,096.
+    pub number: u32,
+    /// Its 4,096 bytes.
+    pub bytes: &'a [u8],
+}
+
+/// A file of the guest.
+#[derive(Clone, Copy, Debug)]
+pub struct File<'a> {
+    pub number: u32,
+    /// None where its name was removed.
+    pub name: Option<&'a [u8]>,
+    pub content: &'a [u8],
+}
+
+/// An open descriptor of the guest, and what it stands for.
+#[derive(Clone, Copy, Debug, PartialEq, Eq)]
+pub struct Descriptor {
+    pub fd: u32,
+    pub slot: Slot,
+}
+
+/// What the text of a state says. Contents are lent.
+#[derive(Debug, Drop)]
+pub struct Parts<'a> {
+    /// How many steps were taken.
+    pub steps: u64,
+    pub pc: u64,
+    /// x1 to x31.
+    pub registers: [u64; 31],
+    pub heap: Heap,
+    /// Ascending, and no two of them touch.
+    pub runs: Vec<Run>,
+    /// Ascending by their numbers.
+    pub pages: Vec<Page<'a>>,
+    /// Ascending by their numbers.
+    pub files: Vec<File<'a>>,
+    /// Ascending by their numbers.
+    pub descriptors: Vec<Descriptor>,
+    pub stream1: &'a [u8],
+    pub stream2: &'a [u8],
+}
