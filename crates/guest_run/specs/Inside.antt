@@ -1,3 +1,4 @@
 -- How the representation keeps a box: no promise rests on these files being read.
+pub mod Bounds
 pub mod Given
 pub mod Stretch

@@ -3,7 +3,8 @@ ghost use Rattle.elf_load.specs.Image.{IsLoadable};
 ghost use Rattle.guest_run.specs.Setting.{files_size};
 ghost use Rattle.guest_run.specs.Stack.{start_size};
 ghost use Rattle.guest_run.specs.Start.{start_of, start_state, Starts};
-ghost use Rattle.guest_run.specs.Valid.{IsValid};
+ghost use Rattle.guest_run.specs.State.{guest_state};
+ghost use Rattle.guest_run.specs.Valid.{Fits, IsValid};
 ghost use Rattle.mem_files.specs.Limits.{most_total};
 ghost use Rattle.paged_mem.specs.Memory.{bytes_at, maps};
 ghost use Rattle.std.specs.Prelude.{◌≡◌, ◌+◌, ◌^◌, ◌<◌, ◌≤◌, length, slice_index, unwrap_or, Ok, Err, IfErr, IfOk, OnOk};
@@ -58,6 +59,30 @@ impl<R: Ram> Guest<R> {
         match started(alloc, program, setting, &image) {
             Ok(guest) => Ok(guest),
             Err(OutOfMemory) => Err(StartRefusal::OutOfMemory),
+        }
+    }
+
+    /// The guest of these parts, in a state as it was before.
+    pub fn restore(
+        alloc: Global,
+        hart: Hart<R>,
+        files: Files,
+        heap: Heap,
+        steps: u64,
+    ) -> Guest<R>
+        requires { Fits hart.memory heap }
+        ensures { result ≡ guest_state hart files heap steps }
+    {
+        // What the types of hart and files keep is told by calls of theirs.
+        hart.pc();
+        hart.registers();
+        files.stream(1);
+        Guest {
+            hart,
+            files,
+            heap,
+            steps,
+            alloc,
         }
     }
 

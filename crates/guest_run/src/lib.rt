@@ -3,6 +3,7 @@
 //! The rules, with their public sources, are in docs/reference/running.md.
 #![tactic(auto)]
 
+mod fitting;
 mod given;
 mod guest;
 pub mod laws;
@@ -12,6 +13,7 @@ mod run;
 mod run_box;
 mod stack;
 
+pub use fitting::fit_together;
 pub use guest::{Guest, StartRefusal};
 pub use run::RunEnd;
 pub use run_box::RunBox;

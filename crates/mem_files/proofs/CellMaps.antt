@@ -1,14 +1,15 @@
 -- A list of cells, of which some hold a value, as the map from their numbers to what they hold.
-use Rattle.std.proofs.Common.{◌≡◌, ◌≢◌, ℕ, zero, suc, ◌+◌, ◌<◌, Bool, true, false, cond, ◌||◌, eqb, List, [], ◌∷◌, ◌++◌, length, get_or, set, Option, Some, None, refl, sym, ap, ◌∙◌, arith}
+use Rattle.std.proofs.Common.{◌≡◌, ◌≢◌, ℕ, zero, suc, ◌+◌, ◌<◌, ◌≤◌, Bool, true, false, cond, ◌||◌, eqb, List, [], ◌∷◌, length, get_or, set, Option, Some, None, refl, sym, ap, ◌∙◌, arith}
 use Rattle.std.proofs.lemmas.List.{get_or-set_same, get_or-set_other}
 use Rattle.std.specs.Ordering.{nat_cmp}
-use Rattle.std.specs.Cmp.{nat_cmp_total, both_ways}
+use Rattle.std.specs.declared.cmp.Ordering.{Ordering}
+use Rattle.std.specs.Cmp.{IsTotalOrder, nat_cmp_total, both_ways}
 use Rattle.std.specs.Option.{option_map_or}
 use Rattle.std.specs.List.{list_any}
 use Rattle.std.proofs.lemmas.Bool.{false≢true}
 use Rattle.std.proofs.lemmas.Option.{none-some}
-use Rattle.std.specs.FinMap.{get, insert, remove, values, find, get-from_entries}
-use Rattle.mem_files.specs.Inside.Cells.{numbered, map_of}
+use Rattle.std.specs.FinMap.{get, insert, remove, values, find, get-from_entries, contains_key, from_entries, len, len-empty, len-insert}
+use Rattle.mem_files.specs.Inside.Cells.{numbered, map_of, SameCells}
 use Rattle.mem_files.proofs.Maps.{find_apart, find_here, get-insert_nat, get-remove_nat, same_nat_map, any_at, key_of_any}
 use Rattle.std.proofs.lemmas.Bool.Decides.{nat_tests}
 
@@ -46,15 +47,27 @@ pub map_of-empty : {X : Type 0} (cells : List (Option X)) (i : ℕ) → i < leng
 map_of-empty cells i h =
     same_nat_map _ _ (λ q. get-map_of (set cells i None) q ∙ at_set cells i q None h ∙ ap (cond (eqb q i) None) (sym (get-map_of cells q)) ∙ sym (get-remove_nat (map_of cells) i q))
 
--- an empty cell more
-pub at_push : {X : Type 0} (cells : List (Option X)) (q : ℕ) → get_or (cells ++ None ∷ []) q None ≡ get_or cells q None
-at_push [] zero = refl
-at_push [] (suc q) = refl
-at_push (c ∷ cells) zero = refl
-at_push (c ∷ cells) (suc q) = at_push cells q
+-- empty cells more
+pub map_of-same : {X : Type 0} (cells more : List (Option X)) → SameCells cells more → map_of more ≡ map_of cells
+map_of-same cells more same = same_nat_map _ _ (λ q. get-map_of more q ∙ same q ∙ sym (get-map_of cells q))
 
-pub map_of-push : {X : Type 0} (cells : List (Option X)) → map_of (cells ++ None ∷ []) ≡ map_of cells
-map_of-push cells = same_nat_map _ _ (λ q. get-map_of (cells ++ None ∷ []) q ∙ at_push cells q ∙ sym (get-map_of cells q))
+-- no more values than entries, or than cells
+one_at_most : (b : Bool) (m n : ℕ) → n ≡ cond b m (m + 1) → n ≤ m + 1
+one_at_most true m n e = omega arith
+one_at_most false m n e = omega arith
+
+pub len-from_entries : {K X : Type 0} {R : K → K → Ordering} → IsTotalOrder R → (es : List (K × X)) → len (from_entries {R = R} es) ≤ length es
+len-from_entries {X = X} {R} o [] = omega (arith, len-empty R X)
+len-from_entries {R = R} o (e ∷ es) =
+    omega (arith, one_at_most (contains_key (from_entries {R = R} es) e.0) (len (from_entries {R = R} es)) _ (len-insert o (from_entries es) e.0 e.1), len-from_entries o es)
+
+length-numbered : {X : Type 0} (n : ℕ) (cells : List (Option X)) → length (numbered n cells) ≤ length cells
+length-numbered n [] = omega arith
+length-numbered n (None ∷ cells) = omega (arith, length-numbered (suc n) cells)
+length-numbered n (Some x ∷ cells) = omega (arith, length-numbered (suc n) cells)
+
+pub len-map_of : {X : Type 0} (cells : List (Option X)) → len (map_of cells) ≤ length cells
+len-map_of cells = omega (arith, len-from_entries nat_cmp_total (numbered 0 cells), length-numbered 0 cells)
 
 -- a test of some value, as a test of the cells
 module _ {X : Type 0} (p : X → Bool) where

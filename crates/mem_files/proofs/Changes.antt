@@ -1,7 +1,7 @@
 -- What each change of a table does to its world, and that the table stays consistent.
-use Rattle.std.proofs.Common.{◌≡◌, ◌≢◌, ℕ, zero, suc, ◌+◌, ◌-◌, ◌<◌, ◌≤◌, Bool, true, false, cond, not, eqb, T, List, [], ◌∷◌, ◌++◌, length, take, get_or, set, map, Option, Some, None, Result, Ok, Err, IsSome, is_some, unwrap_or, refl, sym, ap, ◌∙◌, subst, arith, inl, inr, eq-eqb, eqb-true}
+use Rattle.std.proofs.Common.{◌≡◌, ◌≢◌, ℕ, zero, suc, ◌+◌, ◌-◌, ◌<◌, ◌≤◌, Bool, true, false, cond, not, eqb, T, List, [], ◌∷◌, length, max, take, get_or, set, map, Option, Some, None, Result, Ok, Err, IsSome, is_some, unwrap_or, refl, sym, ap, ◌∙◌, subst, arith, inl, inr, eq-eqb, eqb-true}
 use Rattle.std.specs.Result.{OnErr}
-use Rattle.std.proofs.lemmas.List.{take_all, length-set, get_or_past, get_or-set_same, get_or-set_other, map-set, map-append, length-append, length-map}
+use Rattle.std.proofs.lemmas.List.{take_all, length-set, get_or_past, get_or-set_same, get_or-set_other, map-set, length-map}
 use Rattle.std.proofs.lemmas.Bool.{cases_lt, false≢true}
 use Rattle.std.proofs.Math.Seq.{map-set_same}
 use Rattle.std.proofs.lemmas.Bool.Decides.{nat_tests}
@@ -16,15 +16,15 @@ use Rattle.mem_files.specs.declared.stored.Stored.{Stored}
 use Rattle.mem_files.specs.Limits.{most_descriptors, most_names, most_name}
 use Rattle.mem_files.specs.Names.{bytes_cmp}
 use Rattle.mem_files.specs.World.{World, total, content_of, is_of, is_named, is_open, lowest_unused}
-use Rattle.mem_files.specs.Inside.Cells.{map_of, with_room}
+use Rattle.mem_files.specs.Inside.Cells.{map_of, SameCells}
 use Rattle.mem_files.specs.Inside.Counts.{opens_in}
 use Rattle.mem_files.specs.Inside.Table.{Parts, world_of, Uses, AreSlots, IsConsistent}
 use Rattle.mem_files.specs.Inside.Stored.{content_in, name_in}
-use Rattle.mem_files.proofs.Maps.{get-lowest_unused, below-lowest_unused, lowest_unused-is, lowest_unused-le-len, any_at, key_of_any}
-use Rattle.mem_files.proofs.Counting.{any_opens, opens_few, opens_push, opens_set}
+use Rattle.mem_files.proofs.Maps.{lowest_unused-is, any_at, key_of_any}
+use Rattle.mem_files.proofs.Counting.{any_opens, opens_few, opens_same, opens_set}
 use Rattle.mem_files.proofs.Keeping.{by_eq}
 use Rattle.mem_files.proofs.Totals.{total-insert, total-remove}
-use Rattle.mem_files.proofs.CellMaps.{get-map_of, map_of-fill, map_of-empty, map_of-push, at_set, at_push, any-map_of}
+use Rattle.mem_files.proofs.CellMaps.{get-map_of, map_of-fill, map_of-empty, map_of-same, at_set, any-map_of}
 use Rattle.mem_files.proofs.Directory.{from_sorted-put, from_sorted-where_key, len-from_sorted, bytes_cmp-IsAntisymmetric, equal}
 
 -- a short name is a key as a whole
@@ -184,18 +184,18 @@ module _ (p : Parts) (w : World) (is : world_of p ≡ w) (ok : IsConsistent p) w
   pub clear_slot-world : (fd : ℕ) → IsSome (fin.get w.slots fd) → world_of (record p { slots = set p.slots fd None }) ≡ record w { slots = fin.remove w.slots fd }
   clear_slot-world fd held = ap (λ m. record (world_of p) { slots = m }) (map_of-empty p.slots fd (slot_within fd held)) ∙ ap (λ (v : World). record v { slots = fin.remove v.slots fd }) is
 
-  -- an empty cell more
-  pub room_for_slot-consistent : length p.slots < most_descriptors → IsConsistent (record p { slots = p.slots ++ None ∷ [] })
-  room_for_slot-consistent few = with_slots (p.slots ++ None ∷ []) p.used_slots p.slot_count p.open_counts record {
-    few = omega (arith, length-append p.slots (None ∷ []), few);
-    enough = ok.slots_fit.enough;
-    uses = λ number. ok.slots_fit.uses number ∙ ap is_some (sym (at_push p.slots number));
-    counted = ok.slots_fit.counted ∙ sym (ap fin.len (map_of-push p.slots));
-    opens = λ number. ok.slots_fit.opens number ∙ sym (opens_push number p.slots);
-  }
+  -- empty cells more
+  pub more_slots-world : (cells : List (Option Slot)) → SameCells p.slots cells → world_of (record p { slots = cells }) ≡ w
+  more_slots-world cells same = ap (λ m. record (world_of p) { slots = m }) (map_of-same p.slots cells same) ∙ is
 
-  pub room_for_slot-world : world_of (record p { slots = p.slots ++ None ∷ [] }) ≡ w
-  room_for_slot-world = ap (λ m. record (world_of p) { slots = m }) (map_of-push p.slots) ∙ is
+  pub more_slots-consistent : (cells : List (Option Slot)) → SameCells p.slots cells → length cells ≤ most_descriptors → IsConsistent (record p { slots = cells })
+  more_slots-consistent cells same few = with_slots cells p.used_slots p.slot_count p.open_counts record {
+    few = few;
+    enough = ok.slots_fit.enough;
+    uses = λ number. ok.slots_fit.uses number ∙ ap is_some (sym (same number));
+    counted = ok.slots_fit.counted ∙ sym (ap fin.len (map_of-same p.slots cells same));
+    opens = λ number. ok.slots_fit.opens number ∙ sym (opens_same number p.slots cells same);
+  }
 
   -- an unused descriptor with a cell stands for something
   pub add_slot-consistent : (fd : ℕ) (slot : Slot) → fd < length p.slots → fin.get w.slots fd ≡ None → (used : List Bool) → used ≡ set p.used_slots fd true
@@ -295,22 +295,41 @@ module _ (p : Parts) (w : World) (is : world_of p ≡ w) (ok : IsConsistent p) w
         holds = λ number name e. ok.holds number name (sym (kept number) ∙ e);
       }
 
-  -- an empty cell more
-  pub room_for_file-world : world_of (record p { files = p.files ++ None ∷ [] }) ≡ w
-  room_for_file-world = ap (λ m. record (world_of p) { files = m }) (ap map_of (map-append content_in p.files (None ∷ [])) ∙ map_of-push (map content_in p.files)) ∙ is
+  -- empty cells more
+  pub more_files-world : (cells : List (Option Stored)) → SameCells p.files cells → world_of (record p { files = cells }) ≡ w
+  more_files-world cells same = ap (λ m. record (world_of p) { files = m })
+      (map_of-same (map content_in p.files) (map content_in cells) (λ k. at_map content_in refl cells k ∙ ap content_in (same k) ∙ sym (at_map content_in refl p.files k))) ∙ is
 
-  pub room_for_file-consistent : length p.files < most_names + most_descriptors → IsConsistent (record p { files = p.files ++ None ∷ [] })
-  room_for_file-consistent few = record {
+  pub more_files-consistent : (cells : List (Option Stored)) → SameCells p.files cells → length cells ≤ most_names + most_descriptors → IsConsistent (record p { files = cells })
+  more_files-consistent cells same few = record {
     sorted = ok.sorted;
     short = ok.short;
     slots_fit = ok.slots_fit;
-    few_files = omega (arith, length-append p.files (None ∷ []), few);
+    few_files = few;
     enough_files = ok.enough_files;
-    files_used = λ number. ok.files_used number ∙ ap is_some (sym (at_push p.files number));
-    bytes_counted = ok.bytes_counted ∙ ap total is ∙ sym (ap total room_for_file-world);
-    found = λ name number e. ap name_in (at_push p.files number) ∙ ok.found name number e;
-    holds = λ number name e. ok.holds number name (sym (ap name_in (at_push p.files number)) ∙ e);
+    files_used = λ number. ok.files_used number ∙ ap is_some (sym (same number));
+    bytes_counted = ok.bytes_counted ∙ ap total is ∙ sym (ap total (more_files-world cells same));
+    found = λ name number e. ap name_in (same number) ∙ ok.found name number e;
+    holds = λ number name e. ok.holds number name (sym (ap name_in (same number)) ∙ e);
   }
+
+  -- a new file without a name, under a number that no file has
+  pub add_unnamed-consistent : (at : ℕ) (file : Stored) (bytes : ℕ) → at < length p.files → fin.get w.files at ≡ None → name_in (Some file) ≡ None
+      → bytes ≡ p.total + length file.content.items → (used : List Bool) → used ≡ set p.used_files at true
+      → IsConsistent (record p { files = set p.files at (Some file); used_files = used; total = bytes })
+  add_unnamed-consistent at file bytes h free unnamed sums used uses =
+      let vacant : name_in (get_or p.files at None) ≡ None = empty_cell (get_or p.files at None) (sym (get-file p at) ∙ subst (λ (v : World). fin.get v.files at ≡ None) (sym is) free) in
+      let kept = name_kept p.files at (Some file) h (unnamed ∙ sym vacant) in record {
+        sorted = ok.sorted;
+        short = ok.short;
+        slots_fit = ok.slots_fit;
+        few_files = omega (arith, length-set p.files at (Some file), ok.few_files);
+        enough_files = ap length uses ∙ length-set p.used_files at true ∙ ok.enough_files;
+        files_used = subst (λ (l : List Bool). Uses l (set p.files at (Some file))) (sym uses) (uses_set p.used_files p.files at true (Some file) ok.files_used h (number_used at h) refl);
+        bytes_counted = omega (arith, ap total (set_file-world at (Some file) file.content.items h refl), total-insert w at file.content.items, ok.bytes_counted, ap total is, sums, ap (λ o. length (unwrap_or o [])) free);
+        found = λ name number e. kept number ∙ ok.found name number e;
+        holds = λ number name e. ok.holds number name (sym (kept number) ∙ e);
+      }
 
   -- a new file, under a number that no file has
   pub add_file-world : (name : List ℕ) (at : ℕ) (file : Stored) → at < length p.files
@@ -491,84 +510,54 @@ module _ (p : Parts) (w : World) (is : world_of p ≡ w) (ok : IsConsistent p) w
   pub keys-is : fin.keys w.names ≡ map (λ e. e.0) p.names
   keys-is = ap (λ (v : World). fin.keys v.names) (sym is) ∙ ap (map (λ e. e.0)) (fin.entries-from_sorted bytes_cmp p.names in_order)
 
-  -- a place for the lowest unused number
-  lowest_slot : lowest_unused w.slots ≤ length p.slots
-  lowest_slot = elim (cases_lt (length p.slots) (lowest_unused w.slots)) as (λ _. lowest_unused w.slots ≤ length p.slots) [
-    | inl h ↦ absurd (false≢true (sym (ap is_some (slot-is (length p.slots) ∙ get_or_past p.slots (length p.slots) None (omega arith))) ∙ below-lowest_unused w.slots (length p.slots) h))
-    | inr h ↦ h
-  ]
-
-  lowest_number : lowest_unused w.files ≤ length p.files
-  lowest_number = elim (cases_lt (length p.files) (lowest_unused w.files)) as (λ _. lowest_unused w.files ≤ length p.files) [
-    | inl h ↦ absurd (false≢true (sym (ap is_some (file-is (length p.files) ∙ ap content_in (get_or_past p.files (length p.files) None (omega arith)))) ∙ below-lowest_unused w.files (length p.files) h))
-    | inr h ↦ h
-  ]
-
-  pub slot_reached : (fd : ℕ) → fd ≡ lowest_unused w.slots → fd ≤ length p.slots
-  slot_reached fd lowest = omega (arith, lowest_slot)
-
-  pub number_reached : (number : ℕ) → number ≡ lowest_unused w.files → number ≤ length p.files
-  number_reached number lowest = omega (arith, lowest_number)
-
--- what is added at the lowest unused descriptor, with room made for it
+-- what is put at an unused descriptor, with room made for it
 module _ (p : Parts) (w : World) (is : world_of p ≡ w) (ok : IsConsistent p)
-    (fd : ℕ) (slot : Slot) (lowest : fd ≡ lowest_unused w.slots) (few : fin.len w.slots < most_descriptors) (cells : List (Option Slot)) (reached : cells ≡ with_room p.slots fd) where
-  slot_room : (b : Bool) → eqb fd (length p.slots) ≡ b → (fd < length (cond b (p.slots ++ None ∷ []) p.slots)) × IsConsistent (record p { slots = cond b (p.slots ++ None ∷ []) p.slots }) × (world_of (record p { slots = cond b (p.slots ++ None ∷ []) p.slots }) ≡ w)
-  slot_room true e = let same : fd ≡ length p.slots = eqb-true _ _ e in (omega (arith, length-append p.slots (None ∷ [])), room_for_slot-consistent p w is ok (omega (arith, lowest_unused-le-len w.slots)), room_for_slot-world p w is ok)
-  slot_room false e = let apart : fd ≢ length p.slots = (grind (arith, nat_tests)) in (omega (arith, slot_reached p w is ok fd lowest), ok, is)
+    (fd : ℕ) (slot : Slot) (unused : fin.get w.slots fd ≡ None) (low : fd < most_descriptors) (cells : List (Option Slot)) (same : SameCells p.slots cells) (most : length cells ≤ max (length p.slots) (fd + 1)) where
+  pub slots_few : length cells ≤ most_descriptors
+  slots_few = omega (arith, ok.slots_fit.few)
 
-  pub added_slot-within : fd < length cells
-  added_slot-within = subst (λ (l : List (Option Slot)). fd < length l) (sym reached) (slot_room _ refl).0
+  pub put_slot-used : fd < length p.used_slots
+  put_slot-used = omega (arith, ok.slots_fit.enough)
 
-  pub added_slot-used : fd < length p.used_slots
-  added_slot-used = omega (arith, lowest_unused-le-len w.slots, ok.slots_fit.enough)
-
-  pub roomy_slots-consistent : IsConsistent (record p { slots = cells })
-  roomy_slots-consistent = subst (λ (l : List (Option Slot)). IsConsistent (record p { slots = l })) (sym reached) (slot_room _ refl).1
-
-  pub roomy_slots-world : world_of (record p { slots = cells }) ≡ w
-  roomy_slots-world = ap (λ l. world_of (record p { slots = l })) reached ∙ (slot_room _ refl).2
-
-  pub added_slot-consistent : (used : List Bool) → used ≡ set p.used_slots fd true → (opens : List ℕ) → ((number : ℕ) → get_or opens number 0 ≡ get_or p.open_counts number 0 + opens_in number (Some slot))
+  pub put_slot-consistent : fd < length cells → (used : List Bool) → used ≡ set p.used_slots fd true → (opens : List ℕ) → ((number : ℕ) → get_or opens number 0 ≡ get_or p.open_counts number 0 + opens_in number (Some slot))
       → IsConsistent (record p { slots = set cells fd (Some slot); used_slots = used; slot_count = p.slot_count + 1; open_counts = opens })
-  added_slot-consistent used uses opens more =
-      add_slot-consistent (record p { slots = cells }) w roomy_slots-world roomy_slots-consistent fd slot added_slot-within (ap (fin.get w.slots) lowest ∙ get-lowest_unused w.slots) used uses opens more
+  put_slot-consistent inside used uses opens more =
+      add_slot-consistent (record p { slots = cells }) w (more_slots-world p w is ok cells same) (more_slots-consistent p w is ok cells same slots_few) fd slot inside unused used uses opens more
 
-  pub added_slot-world : world_of (record p { slots = set cells fd (Some slot) }) ≡ record w { slots = fin.insert w.slots fd slot }
-  added_slot-world = add_slot-world (record p { slots = cells }) w roomy_slots-world roomy_slots-consistent fd slot added_slot-within
+  pub put_slot-world : fd < length cells → world_of (record p { slots = set cells fd (Some slot) }) ≡ record w { slots = fin.insert w.slots fd slot }
+  put_slot-world inside = add_slot-world (record p { slots = cells }) w (more_slots-world p w is ok cells same) (more_slots-consistent p w is ok cells same slots_few) fd slot inside
 
--- what is added at the lowest unused number, with room made for it
+-- what is put at an unused number, with room made for it
 module _ (p : Parts) (w : World) (is : world_of p ≡ w) (ok : IsConsistent p)
-    (at : ℕ) (lowest : at ≡ lowest_unused w.files) (few : lowest_unused w.files < most_names + most_descriptors) (cells : List (Option Stored)) (reached : cells ≡ with_room p.files at) where
-  file_room : (b : Bool) → eqb at (length p.files) ≡ b → (at < length (cond b (p.files ++ None ∷ []) p.files)) × IsConsistent (record p { files = cond b (p.files ++ None ∷ []) p.files }) × (world_of (record p { files = cond b (p.files ++ None ∷ []) p.files }) ≡ w)
-  file_room true e = let same : at ≡ length p.files = eqb-true _ _ e in (omega (arith, length-append p.files (None ∷ [])), room_for_file-consistent p w is ok (omega arith), room_for_file-world p w is ok)
-  file_room false e = let apart : at ≢ length p.files = (grind (arith, nat_tests)) in (omega (arith, number_reached p w is ok at lowest), ok, is)
+    (at : ℕ) (unused : fin.get w.files at ≡ None) (low : at < most_names + most_descriptors) (cells : List (Option Stored)) (same : SameCells p.files cells) (most : length cells ≤ max (length p.files) (at + 1)) where
+  pub files_few : length cells ≤ most_names + most_descriptors
+  files_few = omega (arith, ok.few_files)
 
-  pub added_file-used : at < length p.used_files
-  added_file-used = omega (arith, ok.enough_files)
+  pub put_file-used : at < length p.used_files
+  put_file-used = omega (arith, ok.enough_files)
 
-  pub added_file-within : at < length cells
-  added_file-within = subst (λ (l : List (Option Stored)). at < length l) (sym reached) (file_room _ refl).0
-
-  pub roomy_files-consistent : IsConsistent (record p { files = cells })
-  roomy_files-consistent = subst (λ (l : List (Option Stored)). IsConsistent (record p { files = l })) (sym reached) (file_room _ refl).1
-
-  pub roomy_files-world : world_of (record p { files = cells }) ≡ w
-  roomy_files-world = ap (λ l. world_of (record p { files = l })) reached ∙ (file_room _ refl).2
-
-  module _ (name : List ℕ) (content : List ℕ) (file : Stored) (bytes : ℕ) (absent : fin.get w.names name ≡ None) (few_bytes : length name ≤ most_name) (named : name_in (Some file) ≡ Some name) (filled : content_in (Some file) ≡ Some content)
-      (sums : bytes ≡ p.total + length content) (names : List (List ℕ × ℕ)) (listed : names ≡ fin.put bytes_cmp name at p.names) where
+  module _ (inside : at < length cells) (content : List ℕ) (file : Stored) (bytes : ℕ) (filled : content_in (Some file) ≡ Some content) (sums : bytes ≡ p.total + length content) where
     same_content : file.content.items ≡ content
     same_content = same_Some _ _ filled
 
-    pub added_file-consistent : (used : List Bool) → used ≡ set p.used_files at true → IsConsistent (record p { names = names; files = set cells at (Some file); used_files = used; total = bytes })
-    added_file-consistent used uses =
-        subst (λ (l : List (List ℕ × ℕ)). IsConsistent (record p { names = l; files = set cells at (Some file); used_files = used; total = bytes })) (sym listed)
-        (add_file-consistent (record p { files = cells }) w roomy_files-world roomy_files-consistent name at file bytes added_file-within absent few_bytes (ap (fin.get w.files) lowest ∙ get-lowest_unused w.files) named
-        (sums ∙ ap (λ l. p.total + length l) (sym same_content)) used uses)
+    file_sums : bytes ≡ p.total + length file.content.items
+    file_sums = sums ∙ ap (λ l. p.total + length l) (sym same_content)
 
-    pub added_file-world : world_of (record p { names = names; files = set cells at (Some file); total = bytes }) ≡ record w { names = fin.insert w.names name at; files = fin.insert w.files at content }
-    added_file-world =
-        ap (λ l. world_of (record p { names = l; files = set cells at (Some file); total = bytes })) listed
-        ∙ add_file-world (record p { files = cells }) w roomy_files-world roomy_files-consistent name at file added_file-within
-        ∙ ap (λ l. record w { names = fin.insert w.names name at; files = fin.insert w.files at l }) same_content
+    module _ (name : List ℕ) (absent : fin.get w.names name ≡ None) (short : length name ≤ most_name) (called : name_in (Some file) ≡ Some name) (names : List (List ℕ × ℕ)) (listed : names ≡ fin.put bytes_cmp name at p.names) where
+      pub put_named-consistent : (used : List Bool) → used ≡ set p.used_files at true → IsConsistent (record p { names = names; files = set cells at (Some file); used_files = used; total = bytes })
+      put_named-consistent used uses =
+          subst (λ (l : List (List ℕ × ℕ)). IsConsistent (record p { names = l; files = set cells at (Some file); used_files = used; total = bytes })) (sym listed)
+          (add_file-consistent (record p { files = cells }) w (more_files-world p w is ok cells same) (more_files-consistent p w is ok cells same files_few) name at file bytes inside absent short unused called file_sums used uses)
+
+      pub put_named-world : world_of (record p { names = names; files = set cells at (Some file); total = bytes }) ≡ record w { names = fin.insert w.names name at; files = fin.insert w.files at content }
+      put_named-world =
+          ap (λ l. world_of (record p { names = l; files = set cells at (Some file); total = bytes })) listed
+          ∙ add_file-world (record p { files = cells }) w (more_files-world p w is ok cells same) (more_files-consistent p w is ok cells same files_few) name at file inside
+          ∙ ap (λ l. record w { names = fin.insert w.names name at; files = fin.insert w.files at l }) same_content
+
+    pub put_unnamed-consistent : name_in (Some file) ≡ None → (used : List Bool) → used ≡ set p.used_files at true → IsConsistent (record p { files = set cells at (Some file); used_files = used; total = bytes })
+    put_unnamed-consistent unnamed used uses =
+        add_unnamed-consistent (record p { files = cells }) w (more_files-world p w is ok cells same) (more_files-consistent p w is ok cells same files_few) at file bytes inside unused unnamed file_sums used uses
+
+    pub put_unnamed-world : world_of (record p { files = set cells at (Some file); total = bytes }) ≡ record w { files = fin.insert w.files at content }
+    put_unnamed-world = set_file-world (record p { files = cells }) w (more_files-world p w is ok cells same) (more_files-consistent p w is ok cells same files_few) at (Some file) content inside filled

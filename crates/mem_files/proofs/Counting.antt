@@ -1,14 +1,15 @@
 -- The counts of descriptors for each file, against the cells of the descriptors.
-use Rattle.std.proofs.Common.{◌≡◌, ℕ, ◌+◌, ◌<◌, ◌≤◌, true, false, cond, not, ◌||◌, eqb, List, [], ◌∷◌, ◌++◌, length, get_or, set, sum_by, Option, Some, None, inl, inr, refl, sym, ap, ◌∙◌, arith, eq-eqb}
+use Rattle.std.proofs.Common.{◌≡◌, ℕ, suc, ◌+◌, ◌<◌, ◌≤◌, true, false, cond, not, ◌||◌, eqb, List, [], ◌∷◌, length, get_or, set, sum_by, Option, Some, None, inl, inr, refl, sym, ap, ◌∙◌, arith, eq-eqb}
 use Rattle.std.specs.List.{list_any}
 use Rattle.std.specs.Option.{option_map_or}
 use Rattle.std.proofs.lemmas.Bool.{cases_lt, ne_eqb}
 use Rattle.std.proofs.lemmas.List.{get_or_past}
-use Rattle.std.proofs.lemmas.List.Sums.{sum_by-append, sum_by-cons, sum_by-set}
+use Rattle.std.proofs.lemmas.List.Sums.{sum_by-cons, sum_by-set}
 use Rattle.mem_files.specs.declared.slot.Access.{Access}
 use Rattle.mem_files.specs.declared.slot.Slot.{Slot}
 use Rattle.mem_files.specs.declared.slot.Slot.TheVariants.{File}
 use Rattle.mem_files.specs.World.{is_of}
+use Rattle.mem_files.specs.Inside.Cells.{SameCells}
 use Rattle.mem_files.specs.Inside.Counts.{opens_in}
 
 pub counted_within : (counts : List ℕ) (number cursor : ℕ) (access : Access) → opens_in number (Some (File number cursor access)) ≤ get_or counts number 0 → number < length counts
@@ -38,8 +39,12 @@ module _ (number : ℕ) where
         | false ↦ any_opens cells ∙ ap (λ n. not (eqb n 0)) (let e : sum_by (opens_in number) cells ≡ 0 + sum_by (opens_in number) cells = omega arith in e)
       ] ∙ ap (λ n. not (eqb n 0)) (sym (sum_by-cons (opens_in number) (Some slot) cells))
 
-  pub opens_push : (cells : List (Option Slot)) → sum_by (opens_in number) (cells ++ None ∷ []) ≡ sum_by (opens_in number) cells
-  opens_push cells = omega (arith, sum_by-append (opens_in number) cells (None ∷ []), sum_by-cons (opens_in number) None [])
+  pub opens_same : (cells more : List (Option Slot)) → SameCells cells more → sum_by (opens_in number) more ≡ sum_by (opens_in number) cells
+  opens_same [] [] same = refl
+  opens_same [] (d ∷ more) same = omega (arith, sum_by-cons (opens_in number) d more, ap (opens_in number) (same 0), opens_same [] more (λ k. same (suc k)))
+  opens_same (c ∷ cells) [] same = omega (arith, sum_by-cons (opens_in number) c cells, ap (opens_in number) (same 0), opens_same cells [] (λ k. same (suc k)))
+  opens_same (c ∷ cells) (d ∷ more) same =
+      omega (arith, sum_by-cons (opens_in number) c cells, sum_by-cons (opens_in number) d more, ap (opens_in number) (same 0), opens_same cells more (λ k. same (suc k)))
 
   pub opens_set : (cells : List (Option Slot)) (at : ℕ) (cell : Option Slot) → at < length cells
       → sum_by (opens_in number) (set cells at cell) + opens_in number (get_or cells at None) ≡ sum_by (opens_in number) cells + opens_in number cell

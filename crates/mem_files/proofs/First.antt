@@ -1,29 +1,27 @@
--- The first table: no files, and three descriptors.
-use Rattle.std.proofs.Common.{◌≡◌, ℕ, zero, suc, ◌+◌, sum_by, map, Bool, true, false, List, [], ◌∷◌, length, set, get_or, replicate, Option, None, Some, is_some, refl, sym, ap, ◌∙◌, subst, arith, rules}
+-- The bare table, and the first three descriptors.
+use Rattle.std.proofs.Common.{◌≡◌, ℕ, ◌+◌, sum_by, map, Bool, false, List, [], ◌∷◌, length, get_or, replicate, None, Some, refl, sym, ap, ◌∙◌, arith, rules}
 use Rattle.std.proofs.lemmas.Option.{none-some}
 use Rattle.std.specs.Ordering.{nat_cmp}
 use Rattle.std.specs.FinMap as fin
-use Rattle.std.proofs.lemmas.List.{length-set, length-replicate}
+use Rattle.std.proofs.lemmas.List.{length-replicate}
 use Rattle.mem_files.specs.declared.slot.Slot.{Slot}
 use Rattle.mem_files.specs.declared.slot.Slot.TheVariants.{Input, Stream1, Stream2}
 use Rattle.mem_files.specs.Names.{bytes_cmp}
-use Rattle.mem_files.specs.Calls.{first_world}
+use Rattle.mem_files.specs.Calls.{bare_world, first_world}
 use Rattle.mem_files.specs.Inside.Cells.{map_of}
 use Rattle.mem_files.specs.World.{total}
-use Rattle.mem_files.specs.Inside.Counts.{opens_in}
-use Rattle.mem_files.specs.Inside.Table.{Parts, world_of, Uses, IsConsistent}
-use Rattle.mem_files.proofs.Changes.{uses_set}
+use Rattle.mem_files.specs.Inside.Table.{Parts, world_of, IsConsistent}
 use Rattle.mem_files.proofs.Tournament.{unmarked}
 use Rattle.mem_files.proofs.Directory.{same_name_map}
 
-abbrev pub first_parts : List Bool → List Bool → Parts
-first_parts used_files used_slots = record {
+abbrev pub bare_parts : List Bool → List Bool → Parts
+bare_parts used_files used_slots = record {
   names = [];
   files = [];
   used_files = used_files;
-  slots = Some Input ∷ Some Stream1 ∷ Some Stream2 ∷ [];
+  slots = [];
   used_slots = used_slots;
-  slot_count = 3;
+  slot_count = 0;
   open_counts = [];
   stream1 = [];
   stream2 = [];
@@ -33,8 +31,8 @@ first_parts used_files used_slots = record {
 names_empty : ◌≡◌ {A = fin.FinMap bytes_cmp ℕ} (fin.from_sorted []) fin.empty
 names_empty = same_name_map _ _ (λ q. fin.get-from_sorted bytes_cmp [] q tt ∙ sym (fin.get-empty bytes_cmp q))
 
-pub first_parts-world : (used_files used_slots : List Bool) → world_of (first_parts used_files used_slots) ≡ first_world
-first_parts-world used_files used_slots = ap (λ m. record first_world { names = m }) names_empty
+pub bare_parts-world : (used_files used_slots : List Bool) → world_of (bare_parts used_files used_slots) ≡ bare_world
+bare_parts-world used_files used_slots = ap (λ m. record bare_world { names = m }) names_empty
 
 nil : {A : Type 0} (l : List A) → length l ≡ 0 → l ≡ []
 nil [] h = refl
@@ -49,38 +47,16 @@ no_bytes = ap (λ es. 0 + 0 + sum_by length (map (λ e. e.1) es)) no_files
 pub three : fin.len (map_of (Some Input ∷ Some Stream1 ∷ Some Stream2 ∷ [])) ≡ 3
 three = grind (fin.gets, rules)
 
--- the first three descriptors are used, one after the other
-three_used : Uses (set (set (set (replicate 1024 false) 0 true) 1 true) 2 true) (Some Input ∷ Some Stream1 ∷ Some Stream2 ∷ [])
-three_used =
-    let none : List Bool = replicate 1024 false in
-    let size : (l : List Bool) (i : ℕ) → length l ≡ 1024 → length (set l i true) ≡ 1024 = λ l i e. length-set l i true ∙ e in
-    let large = length-replicate {A = Bool} 1024 false in
-    let one = uses_set none (None ∷ None ∷ None ∷ []) 0 true (Some Input) at_none (omega arith) (omega (arith, large)) refl in
-    let two = uses_set (set none 0 true) (Some Input ∷ None ∷ None ∷ []) 1 true (Some Stream1) one (omega arith) (omega (arith, size none 0 large)) refl in
-    uses_set (set (set none 0 true) 1 true) (Some Input ∷ Some Stream1 ∷ None ∷ []) 2 true (Some Stream2) two (omega arith) (omega (arith, size (set none 0 true) 1 (size none 0 large))) refl
-  where
-    empty_cells : (q : ℕ) → is_some (get_or {A = Option Slot} (None ∷ None ∷ None ∷ []) q None) ≡ false
-    empty_cells zero = refl
-    empty_cells (suc zero) = refl
-    empty_cells (suc (suc zero)) = refl
-    empty_cells (suc (suc (suc q))) = refl
-
-    at_none : Uses {X = Slot} (replicate 1024 false) (None ∷ None ∷ None ∷ [])
-    at_none q = unmarked 1024 q ∙ sym (empty_cells q)
-
-no_opens : (number : ℕ) → 0 ≡ sum_by (opens_in number) (Some Input ∷ Some Stream1 ∷ Some Stream2 ∷ [])
-no_opens number = refl
-
-pub first_parts-consistent : (used_files used_slots : List Bool) → used_files ≡ replicate 8192 false → used_slots ≡ set (set (set (replicate 1024 false) 0 true) 1 true) 2 true → IsConsistent (first_parts used_files used_slots)
-first_parts-consistent used_files used_slots no_numbers first_numbers = record {
+pub bare_parts-consistent : (used_files used_slots : List Bool) → used_files ≡ replicate 8192 false → used_slots ≡ replicate 1024 false → IsConsistent (bare_parts used_files used_slots)
+bare_parts-consistent used_files used_slots no_numbers no_slots = record {
   sorted = refl;
   short = λ name number e. absurd (none-some number (sym (fin.get-from_sorted bytes_cmp [] name tt) ∙ e));
   slots_fit = record {
     few = omega arith;
-    enough = ap length first_numbers ∙ omega (arith, length-set (set (set (replicate 1024 false) 0 true) 1 true) 2 true, length-set (set (replicate 1024 false) 0 true) 1 true, length-set (replicate 1024 false) 0 true, length-replicate {A = Bool} 1024 false);
-    uses = subst (λ (l : List Bool). Uses l (Some Input ∷ Some Stream1 ∷ Some Stream2 ∷ [])) (sym first_numbers) three_used;
-    counted = sym three;
-    opens = no_opens;
+    enough = ap length no_slots ∙ length-replicate {A = Bool} 1024 false;
+    uses = λ number. ap (λ l. get_or l number false) no_slots ∙ unmarked 1024 number;
+    counted = sym (fin.len-empty nat_cmp Slot);
+    opens = λ number. refl;
   };
   few_files = omega arith;
   enough_files = ap length no_numbers ∙ length-replicate {A = Bool} 8192 false;
@@ -89,3 +65,13 @@ first_parts-consistent used_files used_slots no_numbers first_numbers = record {
   found = λ name number e. absurd (none-some number (sym (fin.get-from_sorted bytes_cmp [] name tt) ∙ e));
   holds = λ number name e. absurd (none-some name e);
 }
+
+-- the first descriptors, put one before the other
+pub first_unused : fin.get (fin.empty {X = Slot} {R = nat_cmp}) 2 ≡ None
+first_unused = fin.get-empty nat_cmp 2
+
+pub second_unused : fin.get (fin.insert {R = nat_cmp} fin.empty 2 Stream2) 1 ≡ None
+second_unused = grind (fin.gets, rules)
+
+pub third_unused : fin.get (fin.insert (fin.insert {R = nat_cmp} fin.empty 2 Stream2) 1 Stream1) 0 ≡ None
+third_unused = grind (fin.gets, rules)

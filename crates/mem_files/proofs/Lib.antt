@@ -18,3 +18,5 @@ pub mod Counting
 pub mod After
 pub mod Walks
 pub mod Shown
+pub mod ListWorlds
+pub mod ListRules

@@ -61,10 +61,10 @@ lower x y Less h t = h
 lower x y Equal h t = absurd t
 lower x y Greater h t = absurd t
 
-head_above : {X : Type 0} (x : ℕ) (e : ℕ × X) (es : List (ℕ × X)) → T (below_all nat_cmp x (e ∷ es)) → x < e.0
+pub head_above : {X : Type 0} (x : ℕ) (e : ℕ × X) (es : List (ℕ × X)) → T (below_all nat_cmp x (e ∷ es)) → x < e.0
 head_above x e es h = lower x e.0 _ (ranks x e.0) (both _ _ h).0
 
-rest_above : {X : Type 0} (x : ℕ) (e : ℕ × X) (es : List (ℕ × X)) → T (below_all nat_cmp x (e ∷ es)) → T (below_all nat_cmp x es)
+pub rest_above : {X : Type 0} (x : ℕ) (e : ℕ × X) (es : List (ℕ × X)) → T (below_all nat_cmp x (e ∷ es)) → T (below_all nat_cmp x es)
 rest_above x e es h = (both (is_lt (nat_cmp x e.0)) (below_all nat_cmp x es) h).1
 
 apart : (x y : ℕ) → x ≢ y → eqb x y ≡ false

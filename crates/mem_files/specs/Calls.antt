@@ -20,6 +20,10 @@ use Rattle.mem_files.specs.World.{World, content_of, total, is_named, is_open, l
 abbrev pub has : ℕ → ℕ → Bool
 has flags bit = not (bit_and flags bit == 0)
 
+-- no files and no descriptors
+abbrev pub bare_world : World
+bare_world = record { names = map.empty; files = map.empty; slots = map.empty; stream1 = []; stream2 = [] }
+
 -- at the start: descriptor 0 is the empty input, 1 and 2 are the streams
 abbrev pub first_world : World
 first_world = record {

@@ -29,6 +29,10 @@ pub record FileLists : Type 0 where
   pub slots : List (ℕ × Slot)
   pub streams : List (List ℕ)
 
+-- the lists that are handed over as slices
+abbrev pub lists_from : List FileView → List (ℕ × Slot) → List ℕ → List ℕ → FileLists
+lists_from files slots stream1 stream2 = record { files = map listed files; slots = slots; streams = stream1 ∷ stream2 ∷ [] }
+
 -- ---- the lists of a world
 
 -- the name of the file that has a number
@@ -39,7 +43,7 @@ name_of w number = option_map (λ e. e.0) (find (λ e. e.1 == number) (fin.entri
 abbrev pub listed_file : World → ℕ × List ℕ → ListedFile
 listed_file w file = record { number = file.0; name = name_of w file.0; content = file.1 }
 
-unfoldable pub lists_of : World → FileLists
+abbrev pub lists_of : World → FileLists
 lists_of w = record {
   files = map (listed_file w) (fin.entries w.files);
   slots = fin.entries w.slots;
@@ -73,7 +77,18 @@ named (file ∷ files) = with_name file.name file.number (named files)
 abbrev pub contents : List ListedFile → List (ℕ × List ℕ)
 contents files = map (λ file. (file.number, file.content)) files
 
-unfoldable pub world_of : FileLists → World
+-- a file more, under a number of its own
+abbrev pub with_title : fin.FinMap bytes_cmp ℕ → Option (List ℕ) → ℕ → fin.FinMap bytes_cmp ℕ
+with_title names None number = names
+with_title names (Some name) number = fin.insert names name number
+
+abbrev pub with_listed : World → ListedFile → World
+with_listed w file = record w {
+  names = with_title w.names file.name file.number;
+  files = fin.insert w.files file.number file.content;
+}
+
+abbrev pub world_of : FileLists → World
 world_of lists = record {
   names = fin.from_entries (named lists.files);
   files = fin.from_entries (contents lists.files);

@@ -1,7 +1,7 @@
 //! Lists of cells, of which some hold a value.
-ghost use Rattle.std.specs.Prelude.{◌≡◌, ◌^◌, ◌≤◌, MatchOption, OnOk, OnErr, Option, None, length, slice_index_or};
+ghost use Rattle.std.specs.Prelude.{◌≡◌, ◌+◌, ◌^◌, ◌<◌, ◌≤◌, max, MatchOption, OnOk, Option, None, length, slice_index_or};
 ghost use Rattle.std.specs.Option.{option_copied};
-ghost use Rattle.mem_files.specs.Inside.Cells.{AreEmpty, IsFirstFull, with_room};
+ghost use Rattle.mem_files.specs.Inside.Cells.{AreEmpty, IsFirstFull, SameCells};
 
 use std::alloc::AllocError;
 
@@ -25,13 +25,13 @@ pub fn full_from<X>(cells: &[Option<X>], from: u32) -> Option<(u32, &X)>
     None
 }
 
-/// Adds an empty cell where the place is the count of cells.
+/// Adds empty cells until there is one at the place.
 pub fn reach<X: Drop>(cells: &mut Vec<Option<X>>, at: usize) -> Result<(), AllocError>
-    requires { at ≤ length cells.old.items }
-    ensures ok { OnOk result (cells.new.items ≡ with_room cells.old.items at) }
-    ensures err { OnErr result (cells.new.items ≡ cells.old.items) }
+    ensures same { SameCells cells.old.items cells.new.items }
+    ensures most { length cells.new.items ≤ max (length cells.old.items) (at + 1) }
+    ensures reached { OnOk result (at < length cells.new.items) }
 {
-    if at == cells.len() {
+    while cells.len() <= at {
         cells.push(None)?;
     }
     Ok(())

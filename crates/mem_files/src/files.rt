@@ -4,7 +4,7 @@ ghost use Rattle.std.specs.Option.{option_copied};
 ghost use Rattle.std.specs.FinMap as map;
 ghost use Rattle.mem_files.specs.Names.{is_stripped_name};
 ghost use Rattle.mem_files.specs.Calls.{first_world, placed, opened, closed, sought, ready, skipped, fits, write_place, written, removed, content_at, stream, name_after};
-ghost use Rattle.mem_files.specs.Lists.{listed, file_from, slot_from};
+ghost use Rattle.mem_files.specs.Lists.{listed, file_from, slot_from, lists_from, world_of, AreOrdered, AreInRange, AreJoined};
 ghost use Rattle.mem_files.specs.Replies.{Replies, Places, Grows};
 ghost use Rattle.mem_files.specs.Sound.{IsSound};
 
@@ -43,6 +43,23 @@ impl Files {
         ensures { IfOk result (λ files. files ≡ first_world) }
     {
         let table = Table::new(alloc)?;
+        Ok(Files { table })
+    }
+
+    /// The files that lists stand for.
+    pub fn from_lists(
+        alloc: Global,
+        files: &[FileView<'_>],
+        slots: &[(u32, Slot)],
+        stream1: &[u8],
+        stream2: &[u8],
+    ) -> Result<Files, OutOfMemory>
+        requires ordered { AreOrdered (lists_from files.now slots.now stream1.now stream2.now) }
+        requires within { AreInRange (lists_from files.now slots.now stream1.now stream2.now) }
+        requires joined { AreJoined (lists_from files.now slots.now stream1.now stream2.now) }
+        ensures { IfOk result (λ made. made ≡ world_of (lists_from files.now slots.now stream1.now stream2.now)) }
+    {
+        let table = Table::of_lists(alloc, files, slots, stream1, stream2)?;
         Ok(Files { table })
     }
 

@@ -11,6 +11,7 @@ mod files;
 pub mod laws;
 mod names;
 mod numbers;
+mod restoring;
 mod slot;
 mod stored;
 mod table;

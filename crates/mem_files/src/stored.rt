@@ -16,16 +16,16 @@ pub struct Stored {
 ghost use Rattle.mem_files.specs.Inside.Stored.{name_in, content_in};
 
 impl Stored {
-    pub fn new(alloc: Global, name: &[u8], content: &[u8]) -> Result<Stored, AllocError>
-        ensures name { IfOk result (λ file. name_in (Some file) ≡ Some name.now) }
+    pub fn new(alloc: Global, name: Option<&[u8]>, content: &[u8]) -> Result<Stored, AllocError>
+        ensures name { IfOk result (λ file. name_in (Some file) ≡ option_copied name.entry) }
         ensures content { IfOk result (λ file. content_in (Some file) ≡ Some content.now) }
     {
-        let name = Vec::from_slice(alloc, name)?;
+        let name = match name {
+            Some(name) => Some(Vec::from_slice(alloc, name)?),
+            None => None,
+        };
         let content = Vec::from_slice(alloc, content)?;
-        Ok(Stored {
-            name: Some(name),
-            content,
-        })
+        Ok(Stored { name, content })
     }
 
     pub fn content(&self) -> &[u8]

@@ -3,7 +3,7 @@ ghost use Rattle.std.specs.Prelude.{◌≡◌, ◌+◌, ◌-◌, ◌<◌, ◌^�
 ghost use Rattle.std.specs.Option.{option_copied};
 ghost use Rattle.std.specs.FinMap as map;
 ghost use Rattle.mem_files.specs.World.{content_of, total, is_named, is_open, lowest_unused};
-ghost use Rattle.mem_files.specs.Calls.{first_world, with_file, written_over, stream, name_after, is_after};
+ghost use Rattle.mem_files.specs.Calls.{bare_world, first_world, with_file, written_over, stream, name_after, is_after};
 ghost use Rattle.mem_files.specs.Lists.{listed, file_from, slot_from};
 ghost use Rattle.mem_files.specs.Inside.Keys.{begins};
 ghost use Rattle.std.specs.List.{All};
@@ -57,28 +57,34 @@ impl Model for Table {
 }
 
 impl Table {
-    /// No files, and the three first descriptors.
-    pub fn new(alloc: Global) -> Result<Table, AllocError>
-        ensures { IfOk result (λ table. table ≡ first_world) }
+    /// No files and no descriptors.
+    pub fn bare(alloc: Global) -> Result<Table, AllocError>
+        ensures { IfOk result (λ table. table ≡ bare_world) }
     {
-        let slots = vec![in alloc; Some(Slot::Input), Some(Slot::Stream1), Some(Slot::Stream2)]?;
-        let mut used_slots = Numbers::new(alloc, SLOTS_HEIGHT)?;
-        used_slots.insert(0);
-        used_slots.insert(1);
-        used_slots.insert(2);
         Ok(Table {
             names: BTreeMap::new(alloc),
             files: Vec::new(alloc),
             used_files: Numbers::new(alloc, FILES_HEIGHT)?,
-            slots,
-            used_slots,
-            slot_count: 3,
+            slots: Vec::new(alloc),
+            used_slots: Numbers::new(alloc, SLOTS_HEIGHT)?,
+            slot_count: 0,
             open_counts: Vec::new(alloc),
             stream1: Vec::new(alloc),
             stream2: Vec::new(alloc),
             total: 0,
             alloc,
         })
+    }
+
+    /// No files, and the three first descriptors.
+    pub fn new(alloc: Global) -> Result<Table, AllocError>
+        ensures { IfOk result (λ table. table ≡ first_world) }
+    {
+        let mut table = Table::bare(alloc)?;
+        table.put_slot(2, Slot::Stream2)?;
+        table.put_slot(1, Slot::Stream1)?;
+        table.put_slot(0, Slot::Input)?;
+        Ok(table)
     }
 
     /// What a descriptor stands for.
@@ -177,12 +183,23 @@ impl Table {
         ensures err { OnErr result (self.new ≡ self.old) }
     {
         let fd = self.free_slot();
+        self.put_slot(fd, slot)?;
+        Ok(fd)
+    }
+
+    /// Puts what a descriptor stands for at an unused one.
+    pub fn put_slot(&mut self, fd: u32, slot: Slot) -> Result<(), AllocError>
+        requires unused { map.get self.old.slots fd ≡ None }
+        requires low { fd < MAX_SLOTS }
+        ensures ok { OnOk result (self.new ≡ record self.old { slots = map.insert self.old.slots fd slot }) }
+        ensures err { OnErr result (self.new ≡ self.old) }
+    {
         reach(&mut self.slots, fd as usize)?;
         count(&mut self.open_counts, slot)?;
         self.slots[fd as usize] = Some(slot);
         self.used_slots.insert(fd);
         self.slot_count += 1;
-        Ok(fd)
+        Ok(())
     }
 
     /// What a descriptor stands for changes, but for its file.
@@ -215,9 +232,38 @@ impl Table {
         ensures err { OnErr result (self.new ≡ self.old) }
     {
         let number = self.free_number();
-        let file = Stored::new(self.alloc, name, content)?;
+        self.put_named(number, name, content)
+    }
+
+    /// A new file under an unused number.
+    pub fn put_named(&mut self, number: u32, name: &[u8], content: &[u8]) -> Result<(), AllocError>
+        requires absent { map.get self.old.names name.now ≡ None }
+        requires short { length name.now ≤ MAX_NAME }
+        requires unused { map.get self.old.files number ≡ None }
+        requires low { number < MAX_NAMES + MAX_SLOTS }
+        requires small { total self.old + length content.now < 2 ^ 64 }
+        ensures ok { OnOk result (self.new ≡ record self.old { names = map.insert self.old.names name.now number; files = map.insert self.old.files number content.now }) }
+        ensures err { OnErr result (self.new ≡ self.old) }
+    {
+        let file = Stored::new(self.alloc, Some(name), content)?;
         reach(&mut self.files, number as usize)?;
         self.names.insert(key(name), number)?;
+        self.files[number as usize] = Some(file);
+        self.used_files.insert(number);
+        self.total += content.len() as u64;
+        Ok(())
+    }
+
+    /// A new file without a name, under an unused number.
+    pub fn put_unnamed(&mut self, number: u32, content: &[u8]) -> Result<(), AllocError>
+        requires unused { map.get self.old.files number ≡ None }
+        requires low { number < MAX_NAMES + MAX_SLOTS }
+        requires small { total self.old + length content.now < 2 ^ 64 }
+        ensures ok { OnOk result (self.new ≡ record self.old { files = map.insert self.old.files number content.now }) }
+        ensures err { OnErr result (self.new ≡ self.old) }
+    {
+        let file = Stored::new(self.alloc, None, content)?;
+        reach(&mut self.files, number as usize)?;
         self.files[number as usize] = Some(file);
         self.used_files.insert(number);
         self.total += content.len() as u64;

@@ -1,10 +1,10 @@
-ghost use Rattle.std.specs.Prelude.{◌≡◌, ℕ, ◌+◌, ◌-◌, ◌*◌, ◌%◌, ◌^◌, ◌<◌, ◌≤◌, IfSome, Some, option_map, replicate, slice_index, if◌then◌else◌};
+ghost use Rattle.std.specs.Prelude.{All, ◌≡◌, ℕ, ◌+◌, ◌-◌, ◌*◌, ◌%◌, ◌^◌, ◌<◌, ◌≤◌, IfSome, Some, option_map, replicate, slice_index, if◌then◌else◌};
 ghost use Rattle.rv64_decode.specs.Decode.{decoded};
 ghost use Rattle.rv64_table.specs.Table.{row_for};
 ghost use Rattle.paged_mem.specs.Memory.{reads};
 ghost use Rattle.paged_mem.specs.Ram.{count_of, Stores};
 ghost use Rattle.rv64_machine.specs.Arithmetic.{sign_extended};
-ghost use Rattle.rv64_machine.specs.Hart.{carried, effect_of, Ends, following, HartState, IsHart, runs, ActsInARow, Acts, with_register};
+ghost use Rattle.rv64_machine.specs.Hart.{carried, effect_of, Ends, following, HartState, HasNumbers, IsHart, runs, ActsInARow, Acts, with_register};
 ghost use Rattle.std.specs.FinMap.{contains_key};
 ghost use Rattle.std.specs.Borrow.{Lends, sem};
 ghost use Rattle.rv64_machine.specs.contracts.hart.Hart.{the_row};
@@ -87,6 +87,16 @@ impl<R: Ram> Hart<R> {
         ensures hart { IsHart self.now }
     {
         self.pc
+    }
+
+    /// The registers x0 to x31.
+    pub fn registers(&self) -> [u64; 32]
+        ensures value { result ≡ self.now.registers }
+        // Registers and pc are numbers of 64 bits.
+        ensures numbers { HasNumbers self.now }
+    {
+        told(&self.registers, self.pc);
+        self.registers
     }
 
     /// The memory.
@@ -350,3 +360,9 @@ impl<R: Ram> Hart<R> {
         StepEnd::Done
     }
 }
+
+/// What the types of registers and pc tell.
+fn told(registers: &[u64], pc: u64)
+    ensures registers { All (λ value. value < 2 ^ 64) registers.now }
+    ensures pc { pc < 2 ^ 64 }
+{}

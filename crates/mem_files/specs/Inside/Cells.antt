@@ -1,5 +1,5 @@
 -- A list of cells, of which some hold a value, as a map.
-use Rattle.std.specs.Prelude.{◌≡◌, ◌<◌, ◌≤◌, slice_index_or, ℕ, suc, Option, Some, None, List, [], ◌∷◌, ◌++◌, map, length, ◌==◌, if◌then◌else◌}
+use Rattle.std.specs.Prelude.{◌≡◌, ◌<◌, ◌≤◌, slice_index_or, ℕ, suc, Option, Some, None, List, [], ◌∷◌, map}
 use Rattle.std.specs.Ordering.{nat_cmp}
 use Rattle.std.specs.FinMap.{FinMap, from_entries}
 
@@ -17,9 +17,9 @@ map_of cells = from_entries (numbered 0 cells)
 abbrev pub keyed : {K X : Type 0} → (K → List ℕ) → List (K × X) → List (List ℕ × X)
 keyed view es = map (λ e. (view e.0, e.1)) es
 
--- with an empty cell more, where the place is their count
-abbrev pub with_room : {X : Type 0} → List (Option X) → ℕ → List (Option X)
-with_room cells at = if at == length cells then cells ++ None ∷ [] else cells
+-- cells that differ in empty ones at the end alone
+abbrev pub SameCells : {X : Type 0} → List (Option X) → List (Option X) → Type 0
+SameCells old new = (at : ℕ) → slice_index_or new at None ≡ slice_index_or old at None
 
 -- the cells from one place on, below another, are empty
 abbrev pub AreEmpty : {X : Type 0} → List (Option X) → ℕ → ℕ → Type 0

@@ -1,14 +1,19 @@
-use Rattle.std.proofs.Common.{◌∙◌, ap, set, true}
-use Rattle.mem_files.proofs.First.{first_parts-consistent, first_parts-world}
+use Rattle.std.proofs.Common.{ap, ◌∙◌}
+use Rattle.std.specs.FinMap as map
+use Rattle.mem_files.specs.declared.slot.Slot.TheVariants.{Stream1, Stream2}
+use Rattle.mem_files.specs.World.{World}
+use Rattle.mem_files.proofs.First.{first_unused, second_unused, third_unused}
 use Rattle.mem_files.proofs.table.Table.new.Goals as goal
 
-pub invariant_of-result : goal.invariant_of-result
-invariant_of-result c =
-    let used = c.insert-3.ensures ∙ ap (λ l. set l 2 true) (c.insert-2.ensures ∙ ap (λ l. set l 1 true) (c.insert.ensures ∙ ap (λ l. set l 0 true) c.in_ok-used_slots.ensures)) in
-    rw (c.new-2.ensures.empty, c.in_ok-slots.ensures.items, c.new-3.ensures.items, c.new-5.ensures.items, c.new-6.ensures.items, c.new-7.ensures.items)
-    (first_parts-consistent c.in_ok-new.field-0 c.insert-3.new.self c.in_ok-new.ensures used)
+pub put_slot-requires-clause-unused : goal.put_slot-requires-clause-unused
+put_slot-requires-clause-unused c = ap (λ (w : World). map.get w.slots 2) c.in_ok-table.ensures ∙ first_unused
 
-pub returns : goal.returns
-returns c =
-    rw (c.new-2.ensures.empty, c.in_ok-slots.ensures.items, c.new-3.ensures.items, c.new-6.ensures.items, c.new-7.ensures.items)
-    (first_parts-world c.in_ok-new.field-0 c.insert-3.new.self)
+pub put_slot-requires-2-clause-unused : goal.put_slot-requires-2-clause-unused
+put_slot-requires-2-clause-unused c =
+    ap (λ (w : World). map.get w.slots 1) c.in_ok-put_slot.ensures.ok ∙ ap (λ (w : World). map.get (map.insert w.slots 2 Stream2) 1) c.in_ok-table.ensures ∙ second_unused
+
+pub put_slot-requires-3-clause-unused : goal.put_slot-requires-3-clause-unused
+put_slot-requires-3-clause-unused c =
+    ap (λ (w : World). map.get w.slots 0) c.in_ok-put_slot-2.ensures.ok
+    ∙ ap (λ (w : World). map.get (map.insert w.slots 1 Stream1) 0) c.in_ok-put_slot.ensures.ok
+    ∙ ap (λ (w : World). map.get (map.insert (map.insert w.slots 2 Stream2) 1 Stream1) 0) c.in_ok-table.ensures ∙ third_unused

@@ -1,0 +1,10 @@
+-- A heap's numbers in their bounds, whatever memory it stands in.
+use Rattle.std.specs.Prelude.{◌≡◌, ◌+◌, ◌-◌, ◌%◌, ◌^◌, ◌≤◌}
+use Rattle.linux_calls.specs.declared.Heap.{Heap}
+
+pub record HasBounds (heap : Heap) : Type 0 where
+  pub aligned : heap.first % 4096 ≡ 0
+  pub small : heap.limit ≤ 2 ^ 30
+  pub from : heap.first ≤ heap.now
+  pub to : heap.now ≤ heap.first + heap.limit
+  pub low : heap.first + heap.limit ≤ 2 ^ 38 - 8388608

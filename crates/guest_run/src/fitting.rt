@@ -1,0 +1,113 @@
+//! Whether a memory and a heap fit together.
+ghost use Rattle.guest_run.specs.Valid.{Fits, pages_beside, pages_from};
+ghost use Rattle.guest_run.specs.Inside.Bounds.{HasBounds};
+ghost use Rattle.linux_calls.specs.HeapOf.{IsHeapOf, is_beside_heap};
+ghost use Rattle.paged_mem.specs.Memory.{IsFree, maps, page_up};
+ghost use Rattle.std.specs.Prelude.{◌≡◌, ◌+◌, ◌-◌, ◌*◌, ◌%◌, ◌^◌, ◌≤◌, ◌↔◌, count_by, true, IsTrue};
+
+use crate::stack;
+use linux_calls::Heap;
+use paged_mem::{PAGE, Ram};
+use rv64_machine::Hart;
+
+/// The most bytes of a heap.
+const MAX_HEAP: u64 = 1 << 30;
+/// The bytes of the stack's pages.
+const STACK_SIZE: u64 = 2_048 * PAGE;
+/// The most pages beside the heap.
+const MAX_PAGES: u64 = 67_584;
+
+/// Whether a hart's memory and a heap are those of a valid state.
+pub fn fit_together<R: Ram>(hart: &Hart<R>, heap: &Heap) -> bool
+    ensures { IsTrue result ↔ Fits hart.now.memory heap.now }
+{
+    let ram = hart.ram();
+    if !has_bounds(heap) {
+        return false;
+    }
+    if !is_heap_of(ram, heap) {
+        return false;
+    }
+    if !ram.mapped(stack::END - STACK_SIZE, STACK_SIZE) {
+        return false;
+    }
+    pages_beside(ram, heap) <= MAX_PAGES
+}
+
+/// Whether a heap's numbers are in their bounds.
+fn has_bounds(heap: &Heap) -> bool
+    ensures { IsTrue result ↔ HasBounds heap.now }
+{
+    if heap.first % PAGE != 0 || heap.limit > MAX_HEAP {
+        return false;
+    }
+    if heap.first > stack::END - STACK_SIZE - heap.limit {
+        return false;
+    }
+    heap.first <= heap.now && heap.now <= heap.first + heap.limit
+}
+
+/// Whether the pages of a heap up to its break are mapped, and the rest of those that it may have is not.
+fn is_heap_of<R: Ram>(ram: &R, heap: &Heap) -> bool
+    requires { HasBounds heap.now }
+    ensures { IsTrue result ↔ IsHeapOf (R.bytes ram.now) heap.now }
+{
+    let end = page_up(heap.now);
+    let top = page_up(heap.first + heap.limit);
+    if !ram.mapped(heap.first, end - heap.first) {
+        return false;
+    }
+    is_free(ram, end, top - end)
+}
+
+/// Whether none of the bytes of whole pages is mapped.
+fn is_free<R: Ram>(ram: &R, at: u64, count: u64) -> bool
+    requires aligned { at % 4096 ≡ 0 }
+    requires low { at + count ≤ 2 ^ 38 }
+    ensures { IsTrue result ↔ IsFree (R.bytes ram.now) at count }
+{
+    match ram.run_from(at) {
+        Some((first, _)) => at + count <= first,
+        None => true,
+    }
+}
+
+/// The first multiple of a page's bytes that is not below an address.
+fn page_up(address: u64) -> u64
+    requires { address ≤ 2 ^ 38 }
+    ensures { result ≡ page_up address }
+{
+    address.next_multiple_of(PAGE)
+}
+
+/// How many pages are mapped beside a heap.
+fn pages_beside<R: Ram>(ram: &R, heap: &Heap) -> u64
+    requires { HasBounds heap.now }
+    ensures { result ≡ pages_beside (R.bytes ram.now) heap.now }
+{
+    let mut count = 0;
+    let mut page = 0;
+    while let Some((first, pages)) = ram.run_from(PAGE * page) {
+        count += beside_in_row(heap, first / PAGE, pages);
+        page = first / PAGE + pages;
+    }
+    count
+}
+
+/// How many of the pages in a row lie beside a heap.
+fn beside_in_row(heap: &Heap, first: u64, pages: u64) -> u64
+    requires bounds { HasBounds heap.now }
+    requires low { first + pages ≤ 2 ^ 26 }
+    ensures value { result ≡ count_by (λ page. is_beside_heap heap.now (4096 * page)) (pages_from first pages) }
+    ensures few { result ≤ pages }
+{
+    let end = page_up(heap.first + heap.limit);
+    let mut count = 0;
+    for i in 0..pages {
+        let at = PAGE * (first + i);
+        if at < heap.first || end <= at {
+            count += 1;
+        }
+    }
+    count
+}

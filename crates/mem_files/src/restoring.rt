@@ -1,0 +1,81 @@
+//! A table made of lists.
+ghost use Rattle.std.specs.Prelude.{◌≡◌, ◌+◌, ◌<◌, ◌≤◌, ◌^◌, IfOk, IfSome, OnOk, IsTrue, None, [], map as map_list, length, sum_by};
+ghost use Rattle.std.specs.List.{All, IsDistinct};
+ghost use Rattle.std.specs.Option.{option_copied};
+ghost use Rattle.std.specs.Ordering.{nat_cmp, eq_by_cmp};
+ghost use Rattle.std.specs.FinMap as map;
+ghost use Rattle.mem_files.specs.Names.{bytes_cmp};
+ghost use Rattle.mem_files.specs.World.{total};
+ghost use Rattle.mem_files.specs.Calls.{bare_world};
+ghost use Rattle.mem_files.specs.Lists.{listed, named, contents, with_listed, world_of, lists_from, AreOrdered, AreInRange};
+
+use crate::table::Table;
+use crate::{FileView, MAX_NAME, MAX_NAMES, MAX_SLOTS, Slot};
+use std::alloc::{AllocError, Global};
+
+impl Table {
+    /// The table of lists that keep their rules.
+    pub fn of_lists(
+        alloc: Global,
+        files: &[FileView<'_>],
+        slots: &[(u32, Slot)],
+        stream1: &[u8],
+        stream2: &[u8],
+    ) -> Result<Table, AllocError>
+        requires ordered { AreOrdered (lists_from files.now slots.now stream1.now stream2.now) }
+        requires within { AreInRange (lists_from files.now slots.now stream1.now stream2.now) }
+        ensures { IfOk result (λ table. table ≡ world_of (lists_from files.now slots.now stream1.now stream2.now)) }
+    {
+        let mut table = Table::bare(alloc)?;
+        table.put_files(files)?;
+        table.put_slots(slots)?;
+        table.extend_stream1(stream1)?;
+        table.extend_stream2(stream2)?;
+        Ok(table)
+    }
+
+    /// Puts all files.
+    fn put_files(&mut self, files: &[FileView<'_>]) -> Result<(), AllocError>
+        requires bare { self.old ≡ bare_world }
+        requires rise { IsTrue (map.is_sorted nat_cmp (contents (map_list listed files.now))) }
+        requires low { All (λ file. file.number < MAX_NAMES + MAX_SLOTS) (map_list listed files.now) }
+        requires short { All (λ e. length e.0 ≤ MAX_NAME) (named (map_list listed files.now)) }
+        requires distinct { IsDistinct (eq_by_cmp bytes_cmp) (map_list (λ e. e.0) (named (map_list listed files.now))) }
+        requires small { sum_by (λ file. length file.content) (map_list listed files.now) < 2 ^ 63 }
+        ensures world { OnOk result (self.new ≡ world_of (record { files = map_list listed files.now; slots = []; streams = [] })) }
+        ensures total { OnOk result (total self.new ≡ sum_by (λ file. length file.content) (map_list listed files.now)) }
+    {
+        for file in files {
+            self.put_file(file)?;
+        }
+        Ok(())
+    }
+
+    /// Puts a file under a number of its own.
+    fn put_file(&mut self, file: &FileView<'_>) -> Result<(), AllocError>
+        requires unused { map.get self.old.files file.now.number ≡ None }
+        requires low { file.now.number < MAX_NAMES + MAX_SLOTS }
+        requires absent { IfSome (option_copied file.now.name) (λ name. map.get self.old.names name ≡ None) }
+        requires short { IfSome (option_copied file.now.name) (λ name. length name ≤ MAX_NAME) }
+        requires small { total self.old + length file.now.content.now < 2 ^ 64 }
+        ensures { OnOk result (self.new ≡ with_listed self.old (listed file.now)) }
+    {
+        match file.name {
+            Some(name) => self.put_named(file.number, name, file.content),
+            None => self.put_unnamed(file.number, file.content),
+        }
+    }
+
+    /// Puts all descriptors.
+    fn put_slots(&mut self, slots: &[(u32, Slot)]) -> Result<(), AllocError>
+        requires empty { self.old.slots ≡ map.empty }
+        requires rise { IsTrue (map.is_sorted nat_cmp slots.now) }
+        requires low { All (λ held. held.0 < MAX_SLOTS) slots.now }
+        ensures { OnOk result (self.new ≡ record self.old { slots = map.from_entries slots.now }) }
+    {
+        for (fd, slot) in slots {
+            self.put_slot(*fd, *slot)?;
+        }
+        Ok(())
+    }
+}
