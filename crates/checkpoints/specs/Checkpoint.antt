@@ -1,0 +1,77 @@
+-- The text of a guest's state, and the guest that a text says. docs/reference/save.md says the same for people.
+use Rattle.std.specs.Prelude.{◌≡◌, ℕ, ◌*◌, ◌%◌, ◌+◌, ◌^◌, ◌≤◌, IsTrue, List, [], ◌∷◌, All, drop, Result, Ok, Err}
+use Rattle.std.specs.FinMap as finite
+use Rattle.paged_mem.specs.Memory.{Memory, maps}
+use Rattle.mem_files.specs.Lists.{AreInRange, AreJoined, FileLists, lists_of, world_of}
+use Rattle.guest_run.specs.State.{GuestState}
+use Rattle.guest_run.specs.Valid.{Fits}
+use Rattle.memory_parts.specs.Canonical.{filled, mapped_runs, pages_of, runs_of}
+use Rattle.state_text.specs.StateText.{StateText, PageText, formed}
+use Rattle.checkpoints.specs.declared.StateRefusal.{StateRefusal}
+use Rattle.checkpoints.specs.declared.StateRefusal.TheVariants.{Form, Range, FileRef, OutOfMemory}
+
+-- what a guest's state says: its runs of mapped pages, its pages that are not all zeros, and its files and descriptors, in their order; x0 is not said
+unfoldable pub state_of : GuestState → StateText
+state_of g = record {
+  steps = g.steps;
+  pc = g.hart.pc;
+  registers = drop 1 g.hart.registers;
+  heap = g.heap;
+  runs = runs_of g.hart.memory;
+  pages = pages_of g.hart.memory;
+  files = (lists_of g.world).files;
+  descriptors = (lists_of g.world).slots;
+  stream1 = g.world.stream1;
+  stream2 = g.world.stream2;
+}
+
+-- the memory that a text says: its runs, all zeros, and in them its pages
+abbrev pub mapped_of : StateText → Memory
+mapped_of s = mapped_runs finite.empty s.runs
+
+abbrev pub memory_of : StateText → Memory
+memory_of s = filled (mapped_of s) s.pages
+
+-- the files that a text says
+abbrev pub lists_in : StateText → FileLists
+lists_in s = record { files = s.files; slots = s.descriptors; streams = s.stream1 ∷ s.stream2 ∷ [] }
+
+-- the guest that a text says: x0 is 0
+unfoldable pub guest_of : StateText → GuestState
+guest_of s = record {
+  hart = record { registers = 0 ∷ s.registers; pc = s.pc; memory = memory_of s };
+  world = world_of (lists_in s);
+  heap = s.heap;
+  steps = s.steps;
+}
+
+-- what counts and ranges say: the pc is that of an instruction, runs end in memory and listed pages are mapped, memory and heap fit
+-- together, and files, descriptors and streams are in their limits
+pub record IsInRange (s : StateText) : Type 0 where
+  pub aligned : s.pc % 4 ≡ 0
+  pub within : All (λ run. run.first + run.pages ≤ 2 ^ 26) s.runs
+  pub listed : All (λ page. IsTrue (maps (mapped_of s) (4096 * page.number) 4096)) s.pages
+  pub fits : Fits (memory_of s) s.heap
+  pub files : AreInRange (lists_in s)
+
+-- what references say
+abbrev pub IsJoined : StateText → Type 0
+IsJoined s = AreJoined (lists_in s)
+
+-- what becomes of what a text says: the guest where counts and ranges, and then references are right
+abbrev pub Becomes : StateText → Result GuestState StateRefusal → Type 0
+Becomes s (Ok guest) = IsInRange s × IsJoined s × (guest ≡ guest_of s)
+Becomes s (Err Range) = ¬ (IsInRange s)
+Becomes s (Err FileRef) = IsInRange s × ¬ (IsJoined s)
+Becomes s (Err (Form offset)) = ⊥
+Becomes s (Err OutOfMemory) = Unit {0}
+
+-- what a text becomes: its form is judged first
+abbrev pub ReadsForm : Result StateText ℕ → Result GuestState StateRefusal → Type 0
+ReadsForm (Ok s) result = Becomes s result
+ReadsForm (Err offset) (Err (Form found)) = found ≡ offset
+ReadsForm (Err offset) (Err OutOfMemory) = Unit {0}
+ReadsForm (Err offset) _ = ⊥
+
+abbrev pub ReadsState : List ℕ → Result GuestState StateRefusal → Type 0
+ReadsState text result = ReadsForm (formed text) result
