@@ -1,9 +1,9 @@
 -- The runs and pages of a memory say that memory.
-use Rattle.std.proofs.Common.{◌≡◌, ◌≢◌, ℕ, zero, suc, ◌+◌, ◌-◌, ◌*◌, ◌/◌, ◌%◌, ◌^◌, ◌<◌, ◌≤◌, Bool, true, false, not, ◌&&◌, cond, eqb, ◌==◌, Option, None, Some, is_some, List, [], ◌∷◌, ◌++◌, length, get_or, refl, sym, ap, subst, ◌∙◌, arith, ◌⊎◌, inl, inr}
+use Rattle.std.proofs.Common.{◌≡◌, ◌≢◌, ℕ, zero, suc, ◌+◌, ◌-◌, ◌*◌, ◌/◌, ◌^◌, ◌<◌, ◌≤◌, Bool, true, false, not, ◌&&◌, cond, eqb, ◌==◌, Option, None, Some, is_some, List, [], ◌∷◌, ◌++◌, length, get_or, refl, sym, ap, ◌∙◌, arith, ◌⊎◌, inl, inr}
 use Rattle.std.specs.List.{list_all}
 use Rattle.std.specs.Ordering.{nat_cmp}
 use Rattle.std.specs.FinMap.{get, contains_key, empty, get-empty}
-use Rattle.std.proofs.lemmas.Bool.{cases_eq, cases_lt, eqb-true, eqb-false}
+use Rattle.std.proofs.lemmas.Bool.{cases_eq, cases_lt, eqb-true}
 use Rattle.paged_mem.specs.Memory.{Memory, IsWhole, bytes_at, with_bytes, zeros}
 use Rattle.paged_mem.specs.Held.{get-with_bytes, get-with_bytes_below, get-with_bytes_above}
 use Rattle.paged_mem.proofs.Maps.{same_memory, get_in_bytes_at, length_of_bytes_at, maps_by_each}
@@ -39,6 +39,7 @@ page_out page (run ∷ runs) a is = both (eqb run.first (page + 1)) refl
     within n e f (inl lt) k = zero_out (zero_runs runs) page (run.pages + 1) a (inl (omega arith)) ∙ sym (zero_out (zero_runs runs) run.first run.pages a (inl (omega arith)))
     within n e f (inr le) (inl lt) = zero_in (zero_runs runs) page (run.pages + 1) a (omega arith) (omega arith) ∙ sym (zero_in (zero_runs runs) run.first run.pages a (omega arith) (omega arith))
     within n e f (inr le) (inr past) = zero_out (zero_runs runs) page (run.pages + 1) a (inr (omega arith)) ∙ sym (zero_out (zero_runs runs) run.first run.pages a (inr (omega arith)))
+
     both : (b : Bool) → eqb run.first (page + 1) ≡ b → get (zero_runs (cond b (record { first = page; pages = run.pages + 1 } ∷ runs) (record { first = page; pages = 1 } ∷ (run ∷ runs)))) a ≡ get (zero_runs (run ∷ runs)) a
     both true e = within run.first refl (eqb-true _ _ e) (cases_lt (a / 4096) run.first) (cases_lt (a / 4096) (run.first + run.pages))
     both false e = zero_out (zero_runs (run ∷ runs)) page 1 a (elim (cases_lt (a / 4096) page) [ inl lt ↦ inl lt | inr le ↦ inr (omega arith) ])
@@ -64,10 +65,12 @@ runs_out mapped page (suc count) a out = both (cases_eq (a / 4096) page) (runs_o
     shift (inl lt) = inl (omega arith)
     shift (inr (inl past)) = inr (inl (omega arith))
     shift (inr (inr none)) = inr (inr none)
+
     off : (a / 4096 < page) ⊎ ((page + suc count ≤ a / 4096) ⊎ (mapped (a / 4096) ≡ false)) → a / 4096 ≡ page → mapped page ≡ true → ⊥
     off (inl lt) e was = omega arith
     off (inr (inl past)) e was = omega arith
     off (inr (inr none)) e was = let yes : mapped (a / 4096) ≡ true = ap mapped e ∙ was in cc
+
     both : (a / 4096 ≡ page) ⊎ (a / 4096 ≢ page) → get (zero_runs (runs_from mapped (page + 1) count)) a ≡ None → (b : Bool) → mapped page ≡ b → get (zero_runs (cond b (with_page page (runs_from mapped (page + 1) count)) (runs_from mapped (page + 1) count))) a ≡ None
     both (inl e) later true was = absurd (off out e was)
     both (inr ne) later true was = page_out page (runs_from mapped (page + 1) count) a ne ∙ later
@@ -91,6 +94,7 @@ page_elsewhere m0 page (Some bytes) ps a long ne = both (is_page bytes)
   where
     len : length bytes ≡ 4096
     len = long bytes refl
+
     both : (b : Bool) → get (filled m0 (cond b (record { number = page; bytes = bytes } ∷ []) [] ++ ps)) a ≡ get (filled m0 ps) a
     both true = elim (cases_lt (a / 4096) page) [
       | inl lt ↦ get-with_bytes_below (filled m0 ps) (4096 * page) bytes a (omega arith)
@@ -106,11 +110,14 @@ page_here m0 m page (Some bytes) ps a at is which = both (is_page bytes) refl wh
   where
     len : length bytes ≡ 4096
     len = length_of_bytes_at m (4096 * page) 4096 bytes at
+
     from_m : get m a ≡ Some (get_or bytes (a - 4096 * page) 0)
     from_m = get_in_bytes_at m (4096 * page) 4096 bytes at a (omega arith) (omega arith)
+
     all : (b : Bool) → not b ≡ false → b ≡ true
     all true e = refl
     all false e = absurd cc
+
     both : (b : Bool) → is_page bytes ≡ b → get (filled m0 ps) a ≡ get m a ⊎ ((get (filled m0 ps) a ≡ Some 0) × (is_some (Some bytes) ≡ true)) → get (filled m0 (cond b (record { number = page; bytes = bytes } ∷ []) [] ++ ps)) a ≡ get m a
     both true was w = get-with_bytes (filled m0 ps) (4096 * page) bytes a (omega arith) (omega (arith, len)) ∙ sym from_m
     both false was (inl same) = same
@@ -150,12 +157,14 @@ same_again m whole = same_memory (memory_from (runs_of m) (pages_of m)) m (λ a.
   where
     some : (a : ℕ) → contains_key m a ≡ true → (q : ℕ) → 4096 * (a / 4096) ≤ q → q < 4096 * (a / 4096) + 4096 → is_some (get m q) ≡ true
     some a is q from to = whole.pages q a (omega arith) ∙ is
+
     gone : (a : ℕ) → is_some (get m a) ≡ false → get m a ≡ None
     gone a e = none_of (get m a) e
       where
         none_of : (o : Option ℕ) → is_some o ≡ false → o ≡ None
         none_of None e = refl
         none_of (Some x) e = absurd cc
+
     each : (a : ℕ) → (a / 4096 < 2 ^ 26) ⊎ (2 ^ 26 ≤ a / 4096) → (b : Bool) → contains_key m a ≡ b → get (memory_from (runs_of m) (pages_of m)) a ≡ get m a
     each a (inl low) true is =
         filled_in (zero_runs (runs_of m)) m 0 (2 ^ 26) a (omega arith) (omega arith)

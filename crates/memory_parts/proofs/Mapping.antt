@@ -1,11 +1,10 @@
 -- Runs are mapped one after the other.
-use Rattle.std.proofs.Common.{◌≡◌, ℕ, zero, suc, ◌+◌, ◌*◌, ◌/◌, ◌%◌, ◌^◌, ◌<◌, ◌≤◌, Option, None, Some, List, [], ◌∷◌, length, get_or, drop, refl, sym, ap, subst, ◌∙◌, arith, drop-cons, add-one, inl, inr}
+use Rattle.std.proofs.Common.{◌≡◌, ℕ, suc, ◌+◌, ◌*◌, ◌/◌, ◌<◌, ◌≤◌, None, List, ◌∷◌, length, get_or, drop, sym, ap, subst, ◌∙◌, arith, drop-cons, add-one, inr}
 use Rattle.std.specs.FinMap.{get}
 use Rattle.std.proofs.lemmas.List.{drop_all}
 use Rattle.paged_mem.specs.Memory.{Memory, IsFree, with_bytes, zeros}
 use Rattle.state_text.specs.declared.parts.Run.{Run}
 use Rattle.state_text.specs.StateText.{after_run}
-use Rattle.byte_fields.specs.Spelling.{InTurn}
 use Rattle.memory_parts.specs.Canonical.{mapped_runs, IsPlaced, ArePlaced}
 use Rattle.memory_parts.proofs.Again.{zero_out}
 

@@ -1,14 +1,13 @@
 -- Pages that were filled are the pages of that memory.
-use Rattle.std.proofs.Common.{◌≡◌, ℕ, zero, suc, ◌+◌, ◌-◌, ◌*◌, ◌/◌, ◌%◌, ◌^◌, ◌<◌, ◌≤◌, Bool, true, false, cond, ◌==◌, Option, None, Some, List, [], ◌∷◌, ◌++◌, length, refl, sym, ap, subst, ◌∙◌, ◌⊎◌, arith, inl, inr}
+use Rattle.std.proofs.Common.{◌≡◌, ℕ, zero, suc, ◌+◌, ◌-◌, ◌*◌, ◌^◌, ◌<◌, ◌≤◌, true, ◌==◌, Option, None, Some, List, [], ◌∷◌, ◌++◌, length, refl, sym, ap, subst, ◌∙◌, ◌⊎◌, arith, inl, inr}
 use Rattle.std.specs.List.{list_all}
-use Rattle.std.specs.Option.{option_map}
 use Rattle.std.specs.FinMap.{get}
 use Rattle.std.proofs.lemmas.List.{append-nil}
 use Rattle.paged_mem.specs.Memory.{Memory, bytes_at, prepended, with_bytes}
 use Rattle.paged_mem.specs.Held.{get-with_bytes_below, get-with_bytes_above}
 use Rattle.paged_mem.proofs.MemoryLaws.{bytes_at-with_bytes}
 use Rattle.state_text.specs.StateText.{PageText, is_page, after_page}
-use Rattle.memory_parts.specs.Canonical.{listed, pages_from, pages_of, filled, IsShown, AreShown}
+use Rattle.memory_parts.specs.Canonical.{listed, pages_from, filled, AreShown}
 use Rattle.memory_parts.proofs.PagesFound.{same_pages, pages_parts, zero_unlisted}
 
 bytes_alike : (m n : Memory) (at count : ℕ) → ((a : ℕ) → at ≤ a → a < at + count → get m a ≡ get n a) → bytes_at m at count ≡ bytes_at n at count
@@ -85,5 +84,6 @@ pages_again m (p ∷ ps) page least count zeroed shown le top =
   where
     single : (n : Memory) (q : ℕ) → pages_from n q 1 ≡ listed q (bytes_at n (4096 * q) 4096)
     single n q = unfold pages_from in append-nil (listed q (bytes_at n (4096 * q) 4096))
+
     is_listed : (p : PageText) → is_page p.bytes ≡ true → listed p.number (Some p.bytes) ≡ p ∷ []
     is_listed p e = rw e refl

@@ -1,13 +1,13 @@
 -- The listed pages, run by run.
-use Rattle.std.proofs.Common.{◌≡◌, ℕ, zero, suc, ◌+◌, ◌-◌, ◌*◌, ◌/◌, ◌%◌, ◌^◌, ◌<◌, ◌≤◌, Bool, true, false, not, ◌&&◌, cond, ◌==◌, Option, None, Some, List, [], ◌∷◌, ◌++◌, refl, sym, ap, ◌∙◌, arith, append_assoc}
+use Rattle.std.proofs.Common.{◌≡◌, ℕ, zero, suc, ◌+◌, ◌-◌, ◌*◌, ◌/◌, ◌%◌, ◌^◌, ◌<◌, ◌≤◌, true, false, ◌==◌, Option, None, Some, List, [], ◌∷◌, ◌++◌, refl, sym, ap, ◌∙◌, arith, append_assoc}
 use Rattle.std.specs.List.{list_all}
 use Rattle.std.specs.FinMap.{get}
 use Rattle.std.proofs.lemmas.List.{append-nil}
 use Rattle.paged_mem.specs.Memory.{Memory, bytes_at, zeros}
 use Rattle.paged_mem.specs.Ram.{IsRun, RunsFrom}
 use Rattle.paged_mem.proofs.Maps.{bytes_at-none}
-use Rattle.state_text.specs.StateText.{PageText, is_page}
-use Rattle.memory_parts.specs.Canonical.{listed, pages_from, pages_of}
+use Rattle.state_text.specs.StateText.{PageText}
+use Rattle.memory_parts.specs.Canonical.{listed, pages_from}
 
 all_zero : (count : ℕ) → list_all (λ b. b == 0) (zeros count) ≡ true
 unfolding zeros
@@ -66,11 +66,11 @@ run_pages m page first count found now whole le run is so_far =
     let low : first / 4096 + count ≤ 2 ^ 26 = omega (arith, run.low) in
     let none : pages_from m page gap ≡ [] = none_listed m page gap (λ k lt. run.before (4096 * (page + k)) (omega arith) (omega arith)) in
     let parts : pages_from m page (2 ^ 26 - page) ≡ pages_from m (first / 4096) count ++ pages_from m (first / 4096 + count) rest =
-        same_pages m page page (2 ^ 26 - page) (gap + (count + rest)) refl (omega arith)
-        ∙ pages_parts m page gap (count + rest)
-        ∙ ap (λ (v : List PageText). v ++ pages_from m (page + gap) (count + rest)) none
-        ∙ same_pages m (page + gap) (first / 4096) (count + rest) (count + rest) (omega arith) refl
-        ∙ pages_parts m (first / 4096) count rest in
+    same_pages m page page (2 ^ 26 - page) (gap + (count + rest)) refl (omega arith)
+    ∙ pages_parts m page gap (count + rest)
+    ∙ ap (λ (v : List PageText). v ++ pages_from m (page + gap) (count + rest)) none
+    ∙ same_pages m (page + gap) (first / 4096) (count + rest) (count + rest) (omega arith) refl
+    ∙ pages_parts m (first / 4096) count rest in
     ap (λ (v : List PageText). v ++ pages_from m (first / 4096 + count) rest) is
     ∙ append_assoc found (pages_from m (first / 4096) count) (pages_from m (first / 4096 + count) rest)
     ∙ ap (λ (v : List PageText). found ++ v) (sym parts) ∙ so_far

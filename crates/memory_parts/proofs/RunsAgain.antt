@@ -1,5 +1,5 @@
 -- Runs that were mapped are the runs of that memory.
-use Rattle.std.proofs.Common.{◌≡◌, ℕ, zero, suc, ◌+◌, ◌-◌, ◌*◌, ◌/◌, ◌%◌, ◌^◌, ◌<◌, ◌≤◌, Bool, true, false, ◌&&◌, cond, leb, ltb, Option, None, Some, is_some, List, [], ◌∷◌, refl, sym, ap, ◌∙◌, arith, inl, inr}
+use Rattle.std.proofs.Common.{◌≡◌, ℕ, zero, suc, ◌+◌, ◌-◌, ◌*◌, ◌/◌, ◌^◌, ◌<◌, ◌≤◌, Bool, true, false, ◌&&◌, cond, leb, ltb, Option, None, Some, is_some, List, [], ◌∷◌, refl, sym, ap, ◌∙◌, arith, inl, inr}
 use Rattle.std.specs.Prelude.{◌||◌}
 use Rattle.std.specs.Ordering.{nat_cmp}
 use Rattle.std.specs.FinMap.{get, empty, get-empty}
@@ -8,7 +8,7 @@ use Rattle.paged_mem.proofs.Maps.{same_memory}
 use Rattle.paged_mem.specs.Memory.{Memory, with_bytes, zeros}
 use Rattle.state_text.specs.declared.parts.Run.{Run}
 use Rattle.state_text.specs.StateText.{after_run}
-use Rattle.memory_parts.specs.Canonical.{is_mapped, runs_from, runs_of, mapped_runs, zero_runs, in_run, in_runs, IsPlaced, ArePlaced}
+use Rattle.memory_parts.specs.Canonical.{is_mapped, runs_from, runs_of, mapped_runs, zero_runs, in_run, in_runs, ArePlaced}
 use Rattle.memory_parts.proofs.RunsFound.{same_runs, passed, in_one, run_of}
 use Rattle.memory_parts.proofs.Again.{zero_in, zero_out}
 
@@ -62,6 +62,7 @@ runs_again mapped (run ∷ runs) page least count placed le top is = some run.pa
   where
     first : ℕ
     first = run.first
+
     some : (n : ℕ) → run.pages ≡ n → ((q m : ℕ) → q ≤ after_run run → q + m ≡ 2 ^ 26 → ((p : ℕ) → q ≤ p → mapped p ≡ in_runs runs p) → runs_from mapped q m ≡ runs) → runs_from mapped page count ≡ run ∷ runs
     some zero e later = absurd (omega (arith, placed.0.some))
     some (suc n) e later =

@@ -1,14 +1,14 @@
 -- A run that a memory finds is the next of its runs.
-use Rattle.std.proofs.Common.{◌≡◌, ◌≢◌, ℕ, zero, suc, ◌+◌, ◌-◌, ◌*◌, ◌/◌, ◌%◌, ◌^◌, ◌<◌, ◌≤◌, Bool, true, false, cond, eqb, Option, None, Some, is_some, List, [], ◌∷◌, ◌++◌, refl, sym, ap, subst, ◌∙◌, arith, inl, inr, append_assoc}
+use Rattle.std.proofs.Common.{◌≡◌, ℕ, zero, suc, ◌+◌, ◌-◌, ◌*◌, ◌/◌, ◌%◌, ◌^◌, ◌<◌, ◌≤◌, Bool, true, false, cond, eqb, Option, None, Some, is_some, List, [], ◌∷◌, ◌++◌, refl, sym, ap, subst, ◌∙◌, arith, append_assoc}
 use Rattle.std.specs.Prelude.{IsSome}
-use Rattle.std.specs.FinMap.{get, contains_key}
+use Rattle.std.specs.FinMap.{get}
 use Rattle.std.proofs.lemmas.Bool.{eq-eqb, ne_eqb}
 use Rattle.std.proofs.lemmas.List.{append-nil}
-use Rattle.paged_mem.specs.Memory.{Memory, maps, IsWhole}
+use Rattle.paged_mem.specs.Memory.{Memory}
 use Rattle.paged_mem.specs.Ram.{IsRun, RunsFrom}
 use Rattle.paged_mem.proofs.Maps.{each_by_maps}
 use Rattle.state_text.specs.declared.parts.Run.{Run}
-use Rattle.memory_parts.specs.Canonical.{is_mapped, with_page, runs_from, runs_of}
+use Rattle.memory_parts.specs.Canonical.{is_mapped, with_page, runs_from}
 
 -- the first run begins at a page or behind it
 abbrev IsFrom : ℕ → List Run → Type 0

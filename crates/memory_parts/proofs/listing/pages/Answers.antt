@@ -1,6 +1,6 @@
-use Rattle.std.proofs.Common.{◌≡◌, ℕ, ◌*◌, List, ◌∷◌, [], ◌++◌, map}
+use Rattle.std.proofs.Common.{◌*◌, map}
 use Rattle.paged_mem.specs.Memory.{Memory}
-use Rattle.paged_mem.specs.Ram.{IsRun, RunsFrom}
+use Rattle.paged_mem.specs.Ram.{IsRun}
 use Rattle.state_text.specs.Seen.{page_view}
 use Rattle.memory_parts.specs.Canonical.{pages_of}
 use Rattle.memory_parts.proofs.RunsFound.{run_low}

@@ -1,4 +1,4 @@
-use Rattle.std.proofs.Common.{◌≡◌, ℕ, ◌+◌, ◌*◌, List, [], ◌∷◌, ◌++◌, map, refl, sym, ap, ◌∙◌}
+use Rattle.std.proofs.Common.{◌≡◌, ℕ, ◌+◌, ◌*◌, List, ◌++◌, map, refl, sym, ap, ◌∙◌}
 use Rattle.std.proofs.lemmas.List.{append-nil, map_push}
 use Rattle.paged_mem.specs.Memory.{Memory, bytes_at}
 use Rattle.state_text.specs.StateText.{PageText}
@@ -21,10 +21,10 @@ loop-i-preserved g c =
     elim c.match-listed_bytes.branch [
       | in-Some+in_ok-push w ↦
           let now_is : map page_view c.match-listed_bytes.found.items ≡ front ++ listed number (bytes_at m (4096 * number) 4096) =
-              ap (map page_view) (ap (λ v. v.items) w.found-is ∙ w.in_ok-push.ensures.items) ∙ map_push page_view c.loop-i.found.items _ ∙ ap (λ (v : List PageText). front ++ v) (sym w.in-Some.ensures) in
+          ap (map page_view) (ap (λ v. v.items) w.found-is ∙ w.in_ok-push.ensures.items) ∙ map_push page_view c.loop-i.found.items _ ∙ ap (λ (v : List PageText). front ++ v) (sym w.in-Some.ensures) in
           more now_is c.loop-i.invariant
       | in_default w ↦
           let now_is : map page_view c.match-listed_bytes.found.items ≡ front ++ listed number (bytes_at m (4096 * number) 4096) =
-              ap (map page_view) (ap (λ v. v.items) w.found-is) ∙ sym (append-nil front) ∙ ap (λ (v : List PageText). front ++ v) (sym w.in_default.ensures) in
+          ap (map page_view) (ap (λ v. v.items) w.found-is) ∙ sym (append-nil front) ∙ ap (λ (v : List PageText). front ++ v) (sym w.in_default.ensures) in
           more now_is c.loop-i.invariant
     ]

@@ -1,6 +1,6 @@
-use Rattle.std.proofs.Common.{◌≡◌, ℕ, ◌*◌, List, ◌∷◌, [], ◌++◌}
+use Rattle.std.proofs.Common.{◌*◌}
 use Rattle.paged_mem.specs.Memory.{Memory}
-use Rattle.paged_mem.specs.Ram.{IsRun, RunsFrom}
+use Rattle.paged_mem.specs.Ram.{IsRun}
 use Rattle.memory_parts.specs.Canonical.{runs_of}
 use Rattle.memory_parts.proofs.RunsFound.{one_more, no_more, run_low}
 use Rattle.memory_parts.proofs.listing.runs.Goals as goal
