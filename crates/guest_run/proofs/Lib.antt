@@ -12,3 +12,4 @@ pub mod StartLaw
 pub mod Boxes
 pub mod Stretching
 pub mod Endings
+pub mod Fits

@@ -19,7 +19,7 @@ const MAX_PAGES: u64 = 67_584;
 
 /// Whether a hart's memory and a heap are those of a valid state.
 pub fn fit_together<R: Ram>(hart: &Hart<R>, heap: &Heap) -> bool
-    ensures { IsTrue result ↔ Fits hart.now.memory heap.now }
+    ensures { IsTrue result ↔ Fits hart.now.memory heap.entry.now }
 {
     let ram = hart.ram();
     if !has_bounds(heap) {
@@ -36,7 +36,7 @@ pub fn fit_together<R: Ram>(hart: &Hart<R>, heap: &Heap) -> bool
 
 /// Whether a heap's numbers are in their bounds.
 fn has_bounds(heap: &Heap) -> bool
-    ensures { IsTrue result ↔ HasBounds heap.now }
+    ensures { IsTrue result ↔ HasBounds heap.entry.now }
 {
     if heap.first % PAGE != 0 || heap.limit > MAX_HEAP {
         return false;
@@ -50,7 +50,7 @@ fn has_bounds(heap: &Heap) -> bool
 /// Whether the pages of a heap up to its break are mapped, and the rest of those that it may have is not.
 fn is_heap_of<R: Ram>(ram: &R, heap: &Heap) -> bool
     requires { HasBounds heap.now }
-    ensures { IsTrue result ↔ IsHeapOf (R.bytes ram.now) heap.now }
+    ensures { IsTrue result ↔ IsHeapOf (R.bytes ram.now) heap.entry.now }
 {
     let end = page_up(heap.now);
     let top = page_up(heap.first + heap.limit);
@@ -83,7 +83,7 @@ fn page_up(address: u64) -> u64
 /// How many pages are mapped beside a heap.
 fn pages_beside<R: Ram>(ram: &R, heap: &Heap) -> u64
     requires { HasBounds heap.now }
-    ensures { result ≡ pages_beside (R.bytes ram.now) heap.now }
+    ensures { result ≡ pages_beside (R.bytes ram.now) heap.entry.now }
 {
     let mut count = 0;
     let mut page = 0;
@@ -98,16 +98,20 @@ fn pages_beside<R: Ram>(ram: &R, heap: &Heap) -> u64
 fn beside_in_row(heap: &Heap, first: u64, pages: u64) -> u64
     requires bounds { HasBounds heap.now }
     requires low { first + pages ≤ 2 ^ 26 }
-    ensures value { result ≡ count_by (λ page. is_beside_heap heap.now (4096 * page)) (pages_from first pages) }
+    ensures value { result ≡ count_by (λ page. is_beside_heap heap.entry.now (4096 * page)) (pages_from first pages) }
     ensures few { result ≤ pages }
 {
-    let end = page_up(heap.first + heap.limit);
     let mut count = 0;
     for i in 0..pages {
-        let at = PAGE * (first + i);
-        if at < heap.first || end <= at {
-            count += 1;
-        }
+        count += u64::from(is_beside(heap, PAGE * (first + i)));
     }
     count
+}
+
+/// Whether an address is in none of the pages that a heap has or may have.
+fn is_beside(heap: &Heap, at: u64) -> bool
+    requires { HasBounds heap.now }
+    ensures { result ≡ is_beside_heap heap.entry.now at }
+{
+    at < heap.first || page_up(heap.first + heap.limit) <= at
 }

@@ -63,13 +63,7 @@ impl<R: Ram> Guest<R> {
     }
 
     /// The guest of these parts, in a state as it was before.
-    pub fn restore(
-        alloc: Global,
-        hart: Hart<R>,
-        files: Files,
-        heap: Heap,
-        steps: u64,
-    ) -> Guest<R>
+    pub fn restore(alloc: Global, hart: Hart<R>, files: Files, heap: Heap, steps: u64) -> Guest<R>
         requires { Fits hart.memory heap }
         ensures { result ≡ guest_state hart files heap steps }
     {

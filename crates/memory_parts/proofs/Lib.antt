@@ -1,0 +1,7 @@
+pub mod RunsFound
+pub mod PagesFound
+pub mod Again
+pub mod Mapping
+pub mod RunsAgain
+pub mod PagesAgain
+pub mod Filling
