@@ -1,14 +1,14 @@
 -- The text of a guest's state, and the guest that a text says. docs/reference/save.md says the same for people.
-use Rattle.std.specs.Prelude.{◌≡◌, ℕ, ◌*◌, ◌%◌, ◌+◌, ◌^◌, ◌≤◌, IsTrue, List, [], ◌∷◌, All, drop, Result, Ok, Err}
+use Rattle.std.specs.Prelude.{◌≡◌, ◌*◌, ◌%◌, ◌+◌, ◌^◌, ◌≤◌, IsTrue, [], ◌∷◌, All, drop, sum_by}
 use Rattle.std.specs.FinMap as finite
 use Rattle.paged_mem.specs.Memory.{Memory, maps}
 use Rattle.mem_files.specs.Lists.{AreInRange, AreJoined, FileLists, lists_of, world_of}
 use Rattle.guest_run.specs.State.{GuestState}
 use Rattle.guest_run.specs.Valid.{Fits}
 use Rattle.memory_parts.specs.Canonical.{filled, mapped_runs, pages_of, runs_of}
-use Rattle.state_text.specs.StateText.{StateText, PageText, formed}
-use Rattle.checkpoints.specs.declared.StateRefusal.{StateRefusal}
-use Rattle.checkpoints.specs.declared.StateRefusal.TheVariants.{Form, Range, FileRef, OutOfMemory}
+use Rattle.state_text.specs.StateText.{StateText}
+use Rattle.checkpoints.specs.declared.memory.MemoryRefusal.{MemoryRefusal}
+use Rattle.checkpoints.specs.declared.memory.MemoryRefusal.TheVariants as memory
 
 -- what a guest's state says: its runs of mapped pages, its pages that are not all zeros, and its files and descriptors, in their order; x0 is not said
 unfoldable pub state_of : GuestState → StateText
@@ -45,33 +45,25 @@ guest_of s = record {
   steps = s.steps;
 }
 
--- what counts and ranges say: the pc is that of an instruction, runs end in memory and listed pages are mapped, memory and heap fit
--- together, and files, descriptors and streams are in their limits
+-- what runs and pages say is a memory: runs end in it and have no more pages than a guest can have, 67,584 beside its heap and 262,144 of its
+-- heap, and each listed page is in one of them
+pub record IsInMemory (s : StateText) : Type 0 where
+  pub within : All (λ run. run.first + run.pages ≤ 2 ^ 26) s.runs
+  pub few : sum_by (λ run. run.pages) s.runs ≤ 329_728
+  pub listed : All (λ page. IsTrue (maps (mapped_of s) (4096 * page.number) 4096)) s.pages
+
+abbrev pub RefusesMemory : StateText → MemoryRefusal → Type 0
+RefusesMemory s memory.Range = ¬ (IsInMemory s)
+RefusesMemory s memory.OutOfMemory = Unit {0}
+
+-- what counts and ranges say: the pc is that of an instruction, runs and pages are a memory, which fits the heap, and files, descriptors and
+-- streams are in their limits
 pub record IsInRange (s : StateText) : Type 0 where
   pub aligned : s.pc % 4 ≡ 0
-  pub within : All (λ run. run.first + run.pages ≤ 2 ^ 26) s.runs
-  pub listed : All (λ page. IsTrue (maps (mapped_of s) (4096 * page.number) 4096)) s.pages
+  pub memory : IsInMemory s
   pub fits : Fits (memory_of s) s.heap
   pub files : AreInRange (lists_in s)
 
 -- what references say
 abbrev pub IsJoined : StateText → Type 0
 IsJoined s = AreJoined (lists_in s)
-
--- what becomes of what a text says: the guest where counts and ranges, and then references are right
-abbrev pub Becomes : StateText → Result GuestState StateRefusal → Type 0
-Becomes s (Ok guest) = IsInRange s × IsJoined s × (guest ≡ guest_of s)
-Becomes s (Err Range) = ¬ (IsInRange s)
-Becomes s (Err FileRef) = IsInRange s × ¬ (IsJoined s)
-Becomes s (Err (Form offset)) = ⊥
-Becomes s (Err OutOfMemory) = Unit {0}
-
--- what a text becomes: its form is judged first
-abbrev pub ReadsForm : Result StateText ℕ → Result GuestState StateRefusal → Type 0
-ReadsForm (Ok s) result = Becomes s result
-ReadsForm (Err offset) (Err (Form found)) = found ≡ offset
-ReadsForm (Err offset) (Err OutOfMemory) = Unit {0}
-ReadsForm (Err offset) _ = ⊥
-
-abbrev pub ReadsState : List ℕ → Result GuestState StateRefusal → Type 0
-ReadsState text result = ReadsForm (formed text) result
