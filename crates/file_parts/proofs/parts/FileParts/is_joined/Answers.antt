@@ -1,0 +1,15 @@
+use Rattle.std.proofs.Common.{◌≡◌, ◌∙◌, Bool, true, ap, sym, subst}
+use Rattle.mem_files.specs.Lists.{FileLists, AreJoined}
+use Rattle.file_parts.specs.Judged.{are_joined}
+use Rattle.file_parts.specs.Views.{view_of}
+use Rattle.file_parts.proofs.Meaning.{joined-says, joined-passes}
+use Rattle.file_parts.proofs.parts.FileParts.is_joined.Goals as goal
+
+pub returns : goal.returns
+returns c =
+    let streams = c.self.inside.streams.items in
+    let lists : FileLists = view_of c.self.inside.files.items c.self.inside.slots.items streams in
+    let same : c.are_joined.result ≡ are_joined lists = c.are_joined.ensures streams ∙ (λ i. are_joined (view_of (c.deref.ensures.value i) (c.deref-2.ensures.value i) streams)) in (
+      λ yes. subst AreJoined c.self.view_is (joined-says lists (sym same ∙ yes)),
+      λ refer. same ∙ joined-passes lists (subst AreJoined (sym c.self.view_is) refer),
+    )

@@ -1,0 +1,1 @@
+//! What lists and files say of each other.
