@@ -1,5 +1,5 @@
 -- The text of a guest's state, and the guest that a text says. docs/reference/save.md says the same for people.
-use Rattle.std.specs.Prelude.{◌≡◌, ◌*◌, ◌%◌, ◌+◌, ◌^◌, ◌≤◌, IsTrue, [], ◌∷◌, All, drop, sum_by}
+use Rattle.std.specs.Prelude.{◌≡◌, ◌*◌, ◌%◌, ◌+◌, ◌^◌, ◌≤◌, IsTrue, [], ◌∷◌, All, drop, sum_by, Result, Ok, Err}
 use Rattle.std.specs.FinMap as finite
 use Rattle.paged_mem.specs.Memory.{Memory, maps}
 use Rattle.mem_files.specs.Lists.{AreInRange, AreJoined, FileLists, lists_of, world_of}
@@ -7,6 +7,9 @@ use Rattle.guest_run.specs.State.{GuestState}
 use Rattle.guest_run.specs.Valid.{Fits}
 use Rattle.memory_parts.specs.Canonical.{filled, mapped_runs, pages_of, runs_of}
 use Rattle.state_text.specs.StateText.{StateText}
+use Rattle.mem_files.specs.World.{World}
+use Rattle.file_parts.specs.declared.restoring.RestoreRefusal.{RestoreRefusal}
+use Rattle.file_parts.specs.declared.restoring.RestoreRefusal.TheVariants as restored
 use Rattle.checkpoints.specs.declared.memory.MemoryRefusal.{MemoryRefusal}
 use Rattle.checkpoints.specs.declared.memory.MemoryRefusal.TheVariants as memory
 
@@ -67,3 +70,17 @@ pub record IsInRange (s : StateText) : Type 0 where
 -- what references say
 abbrev pub IsJoined : StateText → Type 0
 IsJoined s = AreJoined (lists_in s)
+
+-- what becomes of the files that a text says; want of memory says nothing of them
+abbrev pub MakesFiles : FileLists → Result World RestoreRefusal → Type 0
+MakesFiles lists (Ok made) = AreInRange lists × AreJoined lists × (made ≡ world_of lists)
+MakesFiles lists (Err restored.Range) = ¬ (AreInRange lists)
+MakesFiles lists (Err restored.FileRef) = AreInRange lists × ¬ (AreJoined lists)
+MakesFiles lists (Err restored.OutOfMemory) = Unit {0}
+
+-- what becomes of what a text says: the guest, where counts and ranges are right, and then references
+abbrev pub Becomes : StateText → Result GuestState RestoreRefusal → Type 0
+Becomes s (Ok guest) = IsInRange s × IsJoined s × (guest ≡ guest_of s)
+Becomes s (Err restored.Range) = ¬ (IsInRange s)
+Becomes s (Err restored.FileRef) = IsInRange s × ¬ (IsJoined s)
+Becomes s (Err restored.OutOfMemory) = Unit {0}

@@ -4,5 +4,7 @@
 #![tactic(auto)]
 
 mod memory;
+mod restoring;
 
-pub use memory::{MemoryRefusal, memory_of};
+pub use file_parts::RestoreRefusal;
+pub use restoring::guest_of;
