@@ -1,3 +1,4 @@
 pub mod Filled
 pub mod Memories
+pub mod PageCounts
 pub mod Restored

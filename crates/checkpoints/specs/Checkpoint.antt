@@ -1,15 +1,17 @@
 -- The text of a guest's state, and the guest that a text says. docs/reference/save.md says the same for people.
-use Rattle.std.specs.Prelude.{◌≡◌, ◌*◌, ◌%◌, ◌+◌, ◌^◌, ◌≤◌, IsTrue, [], ◌∷◌, All, drop, sum_by, Result, Ok, Err}
+use Rattle.std.specs.Prelude.{◌≡◌, ◌*◌, ◌%◌, ◌+◌, ◌^◌, ◌≤◌, IsTrue, [], ◌∷◌, All, drop, sum_by, ℕ, List, Result, Ok, Err}
 use Rattle.std.specs.FinMap as finite
 use Rattle.paged_mem.specs.Memory.{Memory, maps}
 use Rattle.mem_files.specs.Lists.{AreInRange, AreJoined, FileLists, lists_of, world_of}
 use Rattle.guest_run.specs.State.{GuestState}
 use Rattle.guest_run.specs.Valid.{Fits}
 use Rattle.memory_parts.specs.Canonical.{filled, mapped_runs, pages_of, runs_of}
-use Rattle.state_text.specs.StateText.{StateText}
+use Rattle.state_text.specs.StateText.{StateText, formed}
 use Rattle.mem_files.specs.World.{World}
 use Rattle.file_parts.specs.declared.restoring.RestoreRefusal.{RestoreRefusal}
 use Rattle.file_parts.specs.declared.restoring.RestoreRefusal.TheVariants as restored
+use Rattle.checkpoints.specs.declared.reading.StateRefusal.{StateRefusal}
+use Rattle.checkpoints.specs.declared.reading.StateRefusal.TheVariants as state
 use Rattle.checkpoints.specs.declared.memory.MemoryRefusal.{MemoryRefusal}
 use Rattle.checkpoints.specs.declared.memory.MemoryRefusal.TheVariants as memory
 
@@ -84,3 +86,11 @@ Becomes s (Ok guest) = IsInRange s × IsJoined s × (guest ≡ guest_of s)
 Becomes s (Err restored.Range) = ¬ (IsInRange s)
 Becomes s (Err restored.FileRef) = IsInRange s × ¬ (IsJoined s)
 Becomes s (Err restored.OutOfMemory) = Unit {0}
+
+-- what a text becomes: its form is judged first, then counts and ranges, then references
+abbrev pub ReadsState : List ℕ → Result GuestState StateRefusal → Type 0
+ReadsState text (Ok guest) = (s : StateText) × (formed text ≡ Ok s) × IsInRange s × IsJoined s × (guest ≡ guest_of s)
+ReadsState text (Err (state.Form offset)) = formed text ≡ Err offset
+ReadsState text (Err state.Range) = (s : StateText) × (formed text ≡ Ok s) × ¬ (IsInRange s)
+ReadsState text (Err state.FileRef) = (s : StateText) × (formed text ≡ Ok s) × IsInRange s × ¬ (IsJoined s)
+ReadsState text (Err state.OutOfMemory) = Unit {0}

@@ -4,7 +4,9 @@
 #![tactic(auto)]
 
 mod memory;
+mod reading;
 mod restoring;
 
 pub use file_parts::RestoreRefusal;
+pub use reading::{StateRefusal, read_state};
 pub use restoring::guest_of;
