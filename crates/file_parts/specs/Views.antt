@@ -1,5 +1,5 @@
 -- Parts as contracts see them: three lists.
-use Rattle.std.specs.Prelude.{◌≡◌, ℕ, ◌<◌, ◌≤◌, Option, List, [], map, length, All, IfSome, IsTrue, refl}
+use Rattle.std.specs.Prelude.{ℕ, ◌≤◌, Option, List, [], map, length, All, IfSome, IsTrue, refl}
 use Rattle.std.specs.Ordering.{nat_cmp}
 use Rattle.std.specs.FinMap as fin
 use Rattle.std.specs.Borrow.{Bor}

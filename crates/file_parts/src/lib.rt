@@ -9,5 +9,6 @@ mod listing;
 mod parts;
 mod restoring;
 
+pub use listing::{files_of, slots_of};
 pub use parts::FileParts;
 pub use restoring::{RestoreRefusal, restore};

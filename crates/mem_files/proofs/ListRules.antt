@@ -62,19 +62,19 @@ few_risen n most (e ∷ es) sorted low fits from =
       | inr h ↦ absurd (false≢true (sym (ap is_some (find_low q a es h below)) ∙ held))
     ]
 
-or_left : (a b : Bool) → a ≡ true → (a || b) ≡ true
+pub or_left : (a b : Bool) → a ≡ true → (a || b) ≡ true
 or_left true b h = refl
 or_left false b h = absurd (false≢true h)
 
-or_right : (a b : Bool) → b ≡ true → (a || b) ≡ true
+pub or_right : (a b : Bool) → b ≡ true → (a || b) ≡ true
 or_right true b h = refl
 or_right false b h = h
 
-or_cases : {P : Type 0} (a b : Bool) → (a || b) ≡ true → (a ≡ true → P) → (b ≡ true → P) → P
+pub or_cases : {P : Type 0} (a b : Bool) → (a || b) ≡ true → (a ≡ true → P) → (b ≡ true → P) → P
 or_cases true b h left right = left refl
 or_cases false b h left right = right h
 
-chosen_some : {X : Type 0} (b : Bool) (x : X) (o : Option X) → IsSome o → IsSome (cond b (Some x) o)
+pub chosen_some : {X : Type 0} (b : Bool) (x : X) (o : Option X) → IsSome o → IsSome (cond b (Some x) o)
 chosen_some true x o h = refl
 chosen_some false x o h = h
 
@@ -120,7 +120,7 @@ one_name (f ∷ files) sorted name other number is also = at f.name is also (one
         ] refl is
 
 -- a listed number has a file
-number_held : (files : List ListedFile) (number : ℕ) → list_any (λ file. eqb file.number number) files ≡ true → IsSome (fin.find nat_cmp number (contents files))
+pub number_held : (files : List ListedFile) (number : ℕ) → list_any (λ file. eqb file.number number) files ≡ true → IsSome (fin.find nat_cmp number (contents files))
 number_held [] number is = absurd (false≢true is)
 number_held (f ∷ files) number is = or_cases (eqb f.number number) (list_any (λ file. eqb file.number number) files) is
     (λ here. ap (λ b. is_some (cond b (Some f.content) (fin.find nat_cmp number (contents files)))) (unsigned_tied number f.number ∙ eq-eqb number f.number (sym (eqb-true f.number number here))))
@@ -180,17 +180,17 @@ contents_all : (P : ℕ × List ℕ → Type 0) (files : List ListedFile) → Al
 contents_all P files all = All-map P (λ (file : ListedFile). (file.number, file.content)) files all
 
 -- sums over lists and over maps
-values_sum : (files : List ListedFile) → sum_by length (map (λ e. e.1) (contents files)) ≡ sum_by size_of files
+pub values_sum : (files : List ListedFile) → sum_by length (map (λ e. e.1) (contents files)) ≡ sum_by size_of files
 values_sum [] = refl
 values_sum (f ∷ files) = sum_by-cons length f.content (map (λ e. e.1) (contents files)) ∙ ap (λ n. length f.content + n) (values_sum files) ∙ sym (sum_by-cons size_of f files)
 
-two_sum : (streams : List (List ℕ)) → length streams ≡ 2 → sum_by length streams ≡ length (get_or streams 0 []) + length (get_or streams 1 [])
+pub two_sum : (streams : List (List ℕ)) → length streams ≡ 2 → sum_by length streams ≡ length (get_or streams 0 []) + length (get_or streams 1 [])
 two_sum [] two = absurd (omega arith)
 two_sum (a ∷ []) two = absurd (omega arith)
 two_sum (a ∷ (b ∷ [])) two = omega (arith, sum_by-cons length a (b ∷ []), sum_by-cons length b [])
 two_sum (a ∷ (b ∷ (c ∷ more))) two = absurd (omega arith)
 
-any_value : (number : ℕ) (slots : List (ℕ × Slot)) → list_any (is_of number) (map (λ e. e.1) slots) ≡ list_any (λ e. is_of number e.1) slots
+pub any_value : (number : ℕ) (slots : List (ℕ × Slot)) → list_any (is_of number) (map (λ e. e.1) slots) ≡ list_any (λ e. is_of number e.1) slots
 any_value number [] = refl
 any_value number (e ∷ slots) = ap (λ b. is_of number e.1 || b) (any_value number slots)
 

@@ -29,7 +29,7 @@ at_place xs i d h = ap (λ ys. take i xs ++ ys) (sym (drop_more xs i d h)) ∙ w
     whole (x ∷ xs) (suc i) = ap (λ ys. x ∷ ys) (whole xs i)
 
 -- numbers that rise are no keys before they come
-above : {X : Type 0} (a k : ℕ) (v : X) (xs ys : List (ℕ × X)) → T (below_all nat_cmp a (xs ++ (k, v) ∷ ys)) → a < k
+pub above : {X : Type 0} (a k : ℕ) (v : X) (xs ys : List (ℕ × X)) → T (below_all nat_cmp a (xs ++ (k, v) ∷ ys)) → a < k
 above a k v [] ys below = head_above a (k, v) ys below
 above a k v (e ∷ xs) ys below = above a k v xs ys (rest_above a e (xs ++ (k, v) ∷ ys) below)
 
@@ -44,7 +44,7 @@ pub pushed : {X : Type 0} (k : ℕ) (v : X) (xs ys : List (ℕ × X)) → T (fin
 pushed k v xs ys sorted = fin.from_entries_push nat_cmp_total fin.nat_cmp-IsAntisymmetric xs k v (fresh k v xs ys sorted)
 
 -- a name that stands once is no key before it comes
-later : (P : List ℕ → Type 0) (xs ys : List ListedFile) (f : ListedFile) (name : List ℕ) → f.name ≡ Some name → AllByRecursion P (map (λ e. e.0) (named (xs ++ f ∷ ys))) → P name
+pub later : (P : List ℕ → Type 0) (xs ys : List ListedFile) (f : ListedFile) (name : List ℕ) → f.name ≡ Some name → AllByRecursion P (map (λ e. e.0) (named (xs ++ f ∷ ys))) → P name
 later P [] ys f name is all = (subst (λ o. AllByRecursion P (map (λ e. e.0) (with_name o f.number (named ys)))) is all).0
 later P (x ∷ xs) ys f name is all = at x.name all (later P xs ys f name is)
   where

@@ -66,7 +66,7 @@ empty_past cells from none q low = elim (cases_lt q (length cells)) as (λ _. ge
 ]
 
 -- an entry that is found passes the test, and what holds of all entries holds of it
-found_entry : {A : Type 0} (P : A → Type 0) (test : A → Bool) (es : List A) (e : A) → All P es → find test es ≡ Some e → P e × (test e ≡ true)
+pub found_entry : {A : Type 0} (P : A → Type 0) (test : A → Bool) (es : List A) (e : A) → All P es → find test es ≡ Some e → P e × (test e ≡ true)
 found_entry P test [] e all is = absurd (none-some e is)
 found_entry P test (x ∷ es) e all is =
     elim (test x) as (λ b. test x ≡ b → cond b (Some x) (find test es) ≡ Some e → P e × (test e ≡ true)) [
@@ -74,7 +74,7 @@ found_entry P test (x ∷ es) e all is =
       | false ↦ λ _ later. found_entry P test es e (All-tail P x es all) later
     ] refl is
 
-is_some-found : (number : ℕ) (es : List (List ℕ × ℕ)) → is_some (find (λ e. eqb e.1 number) es) ≡ list_any (λ held. eqb held number) (map (λ e. e.1) es)
+pub is_some-found : (number : ℕ) (es : List (List ℕ × ℕ)) → is_some (find (λ e. eqb e.1 number) es) ≡ list_any (λ held. eqb held number) (map (λ e. e.1) es)
 is_some-found number [] = refl
 is_some-found number (e ∷ es) = elim (eqb e.1 number) as (λ b. is_some (cond b (Some e) (find (λ e. eqb e.1 number) es)) ≡ (b || list_any (λ held. eqb held number) (map (λ e. e.1) es))) [
   | true ↦ refl
@@ -82,14 +82,14 @@ is_some-found number (e ∷ es) = elim (eqb e.1 number) as (λ b. is_some (cond 
 ]
 
 -- the name of a file that has none, and of one that has one
-name-none : (w : World) (number : ℕ) → is_named w number ≡ false → name_of w number ≡ None
+pub name-none : (w : World) (number : ℕ) → is_named w number ≡ false → name_of w number ≡ None
 name-none w number none = at (find (λ e. eqb e.1 number) (fin.entries w.names)) (is_some-found number (fin.entries w.names) ∙ none)
   where
     at : (o : Option (List ℕ × ℕ)) → is_some o ≡ false → option_map (λ e. e.0) o ≡ None
     at None h = refl
     at (Some e) h = absurd (false≢true (sym h))
 
-name-some : (w : World) (number : ℕ) (name : List ℕ) → is_named w number ≡ true → ((other : List ℕ) → fin.get w.names other ≡ Some number → other ≡ name) → name_of w number ≡ Some name
+pub name-some : (w : World) (number : ℕ) (name : List ℕ) → is_named w number ≡ true → ((other : List ℕ) → fin.get w.names other ≡ Some number → other ≡ name) → name_of w number ≡ Some name
 name-some w number name held once = at (find (λ e. eqb e.1 number) (fin.entries w.names)) refl (is_some-found number (fin.entries w.names) ∙ held)
   where
     P : List ℕ × ℕ → Type 0

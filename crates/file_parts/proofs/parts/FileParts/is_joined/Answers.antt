@@ -1,4 +1,4 @@
-use Rattle.std.proofs.Common.{◌≡◌, ◌∙◌, Bool, true, ap, sym, subst}
+use Rattle.std.proofs.Common.{◌≡◌, ◌∙◌, sym, subst}
 use Rattle.mem_files.specs.Lists.{FileLists, AreJoined}
 use Rattle.file_parts.specs.Judged.{are_joined}
 use Rattle.file_parts.specs.Views.{view_of}
