@@ -1,4 +1,6 @@
+pub mod FileTurns
 pub mod Filled
 pub mod Memories
 pub mod PageCounts
 pub mod Restored
+pub mod Turns

@@ -30,7 +30,7 @@ page_more page (run ∷ runs) = with_one (eqb run.first (page + 1)) page run run
 
 at_page : (mapped : ℕ → Bool) (page : ℕ) (runs : List Run) (pages : List ℕ) → pages_in runs ≡ count_by mapped pages → (b : Bool) → mapped page ≡ b
     → pages_in (cond b (with_page page runs) runs) ≡ count_by mapped (page ∷ pages)
-at_page mapped page runs pages same true e = let one : cond (mapped page) 1 0 ≡ 1 = ap (λ b. cond b 1 0) e in omega (arith, page_more page runs, count_by-cons mapped page pages)
+at_page mapped page runs pages same true e = let one : cond {A = ℕ} (mapped page) 1 0 ≡ 1 = ap (λ b. cond {A = ℕ} b 1 0) e in omega (arith, one, page_more page runs, count_by-cons mapped page pages)
 at_page mapped page runs pages same false e = let none : cond {A = ℕ} (mapped page) 1 0 ≡ 0 = ap (λ b. cond {A = ℕ} b 1 0) e in omega (arith, none, count_by-cons mapped page pages)
 
 -- the runs have as many pages as are mapped
