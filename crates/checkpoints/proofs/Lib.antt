@@ -3,4 +3,5 @@ pub mod Filled
 pub mod Memories
 pub mod PageCounts
 pub mod Restored
+pub mod States
 pub mod Turns

@@ -6,7 +6,9 @@
 mod memory;
 mod reading;
 mod restoring;
+mod writing;
 
 pub use file_parts::RestoreRefusal;
 pub use reading::{StateRefusal, read_state};
 pub use restoring::guest_of;
+pub use writing::{put_state, write_state};
