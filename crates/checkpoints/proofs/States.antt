@@ -112,3 +112,10 @@ same_guest g valid =
       heap = g.heap;
       steps = g.steps;
     }
+
+-- a text says a guest's state where each of its fields does
+pub said : (g : GuestState) (s : StateText) → s.steps ≡ g.steps → s.pc ≡ g.hart.pc → s.registers ≡ drop 1 g.hart.registers → s.heap ≡ g.heap → s.runs ≡ runs_of g.hart.memory → s.pages ≡ pages_of g.hart.memory
+    → s.files ≡ (lists_of g.world).files → s.descriptors ≡ (lists_of g.world).slots → s.stream1 ≡ g.world.stream1 → s.stream2 ≡ g.world.stream2 → s ≡ state_of g
+unfolding state_of
+said g s steps pc registers heap runs pages files descriptors stream1 stream2 =
+    λ i. record { steps = steps i; pc = pc i; registers = registers i; heap = heap i; runs = runs i; pages = pages i; files = files i; descriptors = descriptors i; stream1 = stream1 i; stream2 = stream2 i }

@@ -64,7 +64,8 @@ fn registers_of<R: Ram>(hart: &Hart<R>) -> [u64; 31]
     ensures { result ≡ drop 1 hart.now.registers }
 {
     let all = hart.registers();
+    let (_, rest) = all.split_at(1);
     let mut registers = [0; 31];
-    registers.copy_from_slice(&all[1..]);
+    registers.copy_from_slice(rest);
     registers
 }
