@@ -93,6 +93,10 @@ slot_fits files fd Stream1 good listed low = tt
 slot_fits files fd Stream2 good listed low = tt
 slot_fits files fd (File number cursor access) good listed low = let small = any_low number files listed low in (omega arith, omega (arith, good))
 
+pub paired : (xs : List (ℕ × Slot)) → map (λ e. (e.0, e.1)) xs ≡ xs
+paired [] = refl
+paired (x ∷ xs) = ap (λ ys. x ∷ ys) (paired xs)
+
 slot_turn : (files : List ListedFile) (slots : List (ℕ × Slot)) (least : ℕ) → finite.is_sorted nat_cmp slots ≡ true → All (λ e. least ≤ e.0) slots → All (λ e. e.0 < 1024) slots → All (λ e. IsSlotAt e.0 e.1) slots → All (λ e. IsTrue (is_listed files e.1)) slots → All (λ f. f.number < 5120) files
     → InTurn IsDescriptor after_descriptor least slots
 slot_turn files [] least sorted from low good joined numbers = tt
@@ -103,9 +107,6 @@ slot_turn files (e ∷ slots) least sorted from low good joined numbers =
     slot_turn files slots (e.0 + 1) parts.1 (above (λ (e : ℕ × Slot). e.0) (λ e. e.1) e.0 slots (all_same slots e.0 parts.0))
     (All-tail (λ (e : ℕ × Slot). e.0 < 1024) e slots low) (All-tail (λ (e : ℕ × Slot). IsSlotAt e.0 e.1) e slots good) (All-tail (λ (e : ℕ × Slot). IsTrue (is_listed files e.1)) e slots joined) numbers)
   where
-    paired : (xs : List (ℕ × Slot)) → map (λ e. (e.0, e.1)) xs ≡ xs
-    paired [] = refl
-    paired (x ∷ xs) = ap (λ ys. x ∷ ys) (paired xs)
     all_same : (xs : List (ℕ × Slot)) (n : ℕ) → below_all nat_cmp n xs ≡ true → below_all nat_cmp n (map (λ e. (e.0, e.1)) xs) ≡ true
     all_same xs n below = ap (below_all nat_cmp n) (paired xs) ∙ below
 

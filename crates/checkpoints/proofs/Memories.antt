@@ -56,7 +56,7 @@ low_page m number whole mapped =
     let low : 4096 * number < 2 ^ 38 = whole.low (4096 * number) there.0 there.1 in
     omega arith
 
-shown : (m : Memory) (pages : List PageText) (least : ℕ) → IsWhole m → InTurn IsPage after_page least pages → All (IsMappedIn m) pages → AreShown least pages
+pub shown : (m : Memory) (pages : List PageText) (least : ℕ) → IsWhole m → InTurn IsPage after_page least pages → All (IsMappedIn m) pages → AreShown least pages
 shown m [] least whole turn mapped = tt
 shown m (page ∷ pages) least whole turn mapped =
     (record { from = turn.0.from; low = low_page m page.number whole (All-head (IsMappedIn m) page pages mapped); full = turn.0.full; some = turn.0.some },
