@@ -1,5 +1,5 @@
 -- The files and descriptors of files that keep their rules have a text.
-use Rattle.std.proofs.Common.{◌≡◌, ℕ, zero, suc, ◌+◌, ◌^◌, ◌<◌, ◌≤◌, Bool, true, false, T, eqb, eqb-true, List, [], ◌∷◌, length, map, All, Option, None, Some, IsTrue, refl, sym, ap, subst, ◌∙◌, arith}
+use Rattle.std.proofs.Common.{◌≡◌, ℕ, zero, suc, ◌+◌, ◌^◌, ◌<◌, ◌≤◌, Bool, true, false, eqb, eqb-true, List, [], ◌∷◌, length, map, All, Option, None, Some, IsTrue, refl, sym, ap, ◌∙◌, arith}
 use Rattle.std.specs.Prelude.{◌&&◌, ◌||◌, nat_le, not}
 use Rattle.std.specs.List.{list_any}
 use Rattle.std.specs.Ordering.{is_lt, nat_cmp}
@@ -66,10 +66,11 @@ file_turn (f ∷ files) least sorted from low good names =
     let parts = first_two (below_all nat_cmp f.number (contents files)) (finite.is_sorted nat_cmp (contents files)) sorted in
     let name = name_here f.name f.number (named files) names in
     let number = All-head (λ (f : ListedFile). f.number < 5120) f files low in
-    let size = (All-head (λ (f : ListedFile). IsContent f.content) f files good).small in
-    (record { from = All-head (λ (f : ListedFile). least ≤ f.number) f files from; number = omega arith; name = name.0; content = record { short = omega arith } },
-    file_turn files (f.number + 1) parts.1 (above (λ (f : ListedFile). f.number) (λ f. f.content) f.number files parts.0)
-    (All-tail (λ (f : ListedFile). f.number < 5120) f files low) (All-tail (λ (f : ListedFile). IsContent f.content) f files good) name.1)
+    let size = (All-head (λ (f : ListedFile). IsContent f.content) f files good).small in (
+      record { from = All-head (λ (f : ListedFile). least ≤ f.number) f files from; number = omega arith; name = name.0; content = record { short = omega arith } },
+      file_turn files (f.number + 1) parts.1 (above (λ (f : ListedFile). f.number) (λ f. f.content) f.number files parts.0)
+          (All-tail (λ (f : ListedFile). f.number < 5120) f files low) (All-tail (λ (f : ListedFile). IsContent f.content) f files good) name.1,
+    )
 
 file_count : (files : List ListedFile) (least : ℕ) → InTurn IsFile after_file least files → All (λ f. f.number < 5120) files → least ≤ 5120 → least + length files ≤ 5120
 file_count [] least turn low le = omega arith
@@ -102,10 +103,11 @@ slot_turn : (files : List ListedFile) (slots : List (ℕ × Slot)) (least : ℕ)
 slot_turn files [] least sorted from low good joined numbers = tt
 slot_turn files (e ∷ slots) least sorted from low good joined numbers =
     let parts = first_two (below_all nat_cmp e.0 slots) (finite.is_sorted nat_cmp slots) sorted in
-    let fd = All-head (λ (e : ℕ × Slot). e.0 < 1024) e slots low in
-    (record { from = All-head (λ (e : ℕ × Slot). least ≤ e.0) e slots from; fd = omega arith; slot = slot_fits files e.0 e.1 (All-head (λ (e : ℕ × Slot). IsSlotAt e.0 e.1) e slots good) (All-head (λ (e : ℕ × Slot). IsTrue (is_listed files e.1)) e slots joined) numbers },
-    slot_turn files slots (e.0 + 1) parts.1 (above (λ (e : ℕ × Slot). e.0) (λ e. e.1) e.0 slots (all_same slots e.0 parts.0))
-    (All-tail (λ (e : ℕ × Slot). e.0 < 1024) e slots low) (All-tail (λ (e : ℕ × Slot). IsSlotAt e.0 e.1) e slots good) (All-tail (λ (e : ℕ × Slot). IsTrue (is_listed files e.1)) e slots joined) numbers)
+    let fd = All-head (λ (e : ℕ × Slot). e.0 < 1024) e slots low in (
+      record { from = All-head (λ (e : ℕ × Slot). least ≤ e.0) e slots from; fd = omega arith; slot = slot_fits files e.0 e.1 (All-head (λ (e : ℕ × Slot). IsSlotAt e.0 e.1) e slots good) (All-head (λ (e : ℕ × Slot). IsTrue (is_listed files e.1)) e slots joined) numbers },
+      slot_turn files slots (e.0 + 1) parts.1 (above (λ (e : ℕ × Slot). e.0) (λ e. e.1) e.0 slots (all_same slots e.0 parts.0))
+          (All-tail (λ (e : ℕ × Slot). e.0 < 1024) e slots low) (All-tail (λ (e : ℕ × Slot). IsSlotAt e.0 e.1) e slots good) (All-tail (λ (e : ℕ × Slot). IsTrue (is_listed files e.1)) e slots joined) numbers,
+    )
   where
     all_same : (xs : List (ℕ × Slot)) (n : ℕ) → below_all nat_cmp n xs ≡ true → below_all nat_cmp n (map (λ e. (e.0, e.1)) xs) ≡ true
     all_same xs n below = ap (below_all nat_cmp n) (paired xs) ∙ below

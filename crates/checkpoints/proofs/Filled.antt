@@ -1,5 +1,5 @@
 -- Pages written into memory where they are mapped.
-use Rattle.std.proofs.Common.{◌≡◌, ℕ, zero, suc, ◌*◌, List, length, true, false, Option, None, Some, is_some, IsTrue, refl, sym, ap, ◌∙◌}
+use Rattle.std.proofs.Common.{◌≡◌, ℕ, zero, suc, ◌*◌, List, length, true, false, Option, None, Some, is_some, IsTrue, refl, ap, ◌∙◌}
 use Rattle.std.specs.FinMap as finite
 use Rattle.paged_mem.specs.Memory.{Memory, bytes_at, maps, prepended, with_bytes}
 use Rattle.paged_mem.proofs.Wholes.{same_after_write}

@@ -1,3 +1,4 @@
+pub mod Exactly
 pub mod FileTurns
 pub mod Filled
 pub mod Memories

@@ -1,19 +1,18 @@
 -- What runs and pages of a text say of memory.
-use Rattle.std.proofs.Common.{◌≡◌, ℕ, zero, suc, ◌+◌, ◌*◌, ◌^◌, ◌<◌, ◌≤◌, Bool, true, false, List, [], ◌∷◌, length, map, All, Option, None, Some, is_some, IsTrue, refl, sym, ap, subst, ◌∙◌, arith}
-use Rattle.std.specs.Prelude.{sum_by}
+use Rattle.std.proofs.Common.{◌≡◌, ℕ, suc, ◌+◌, ◌*◌, ◌^◌, ◌<◌, ◌≤◌, true, List, [], ◌∷◌, length, map, All, Option, None, Some, is_some, IsTrue, refl, ap, ◌∙◌, arith}
 use Rattle.std.specs.List.{AllByRecursion}
 use Rattle.std.specs.FinMap as finite
 use Rattle.std.proofs.lemmas.List.Elements.{All-from_recursion, All-head, All-tail}
 use Rattle.byte_fields.specs.Spelling.{InTurn}
 use Rattle.paged_mem.specs.Memory.{IsWhole, Memory, bytes_at, maps, prepended}
-use Rattle.memory_parts.specs.Canonical.{AreShown, ArePlaced, filled, filled_on, mapped_runs}
+use Rattle.memory_parts.specs.Canonical.{AreShown, ArePlaced, filled, filled_on}
 use Rattle.memory_parts.proofs.Filling.{any_order}
 use Rattle.state_text.specs.declared.parts.Page.{Page}
 use Rattle.state_text.specs.declared.parts.Run.{Run}
 use Rattle.state_text.specs.StateText.{PageText, StateText, after_page, after_run}
 use Rattle.state_text.specs.Spelled.{IsPage, IsRun, IsText}
 use Rattle.state_text.specs.Seen.{page_view}
-use Rattle.checkpoints.specs.Checkpoint.{IsInMemory, mapped_of, memory_of}
+use Rattle.checkpoints.specs.Checkpoint.{mapped_of, memory_of}
 
 abbrev pub EndsWithin : Run → Type 0
 EndsWithin run = run.first + run.pages ≤ 2 ^ 26
@@ -58,9 +57,10 @@ low_page m number whole mapped =
 
 pub shown : (m : Memory) (pages : List PageText) (least : ℕ) → IsWhole m → InTurn IsPage after_page least pages → All (IsMappedIn m) pages → AreShown least pages
 shown m [] least whole turn mapped = tt
-shown m (page ∷ pages) least whole turn mapped =
-    (record { from = turn.0.from; low = low_page m page.number whole (All-head (IsMappedIn m) page pages mapped); full = turn.0.full; some = turn.0.some },
-    shown m pages (after_page page) whole turn.1 (All-tail (IsMappedIn m) page pages mapped))
+shown m (page ∷ pages) least whole turn mapped = (
+  record { from = turn.0.from; low = low_page m page.number whole (All-head (IsMappedIn m) page pages mapped); full = turn.0.full; some = turn.0.some },
+  shown m pages (after_page page) whole turn.1 (All-tail (IsMappedIn m) page pages mapped),
+)
 
 -- the memory into which the pages were written
 pub is_made : (s : StateText) (made filled_in : Memory) → IsText s → IsWhole made → made ≡ mapped_of s → All (IsMappedIn made) s.pages → filled_in ≡ filled_on made s.pages → filled_in ≡ memory_of s

@@ -1,5 +1,5 @@
 -- What a text's lists say one after the other, and a hart whose registers are set in turn.
-use Rattle.std.proofs.Common.{◌≡◌, ℕ, zero, suc, ◌+◌, ◌-◌, ◌<◌, ◌≤◌, List, [], ◌∷◌, ◌++◌, length, map, take, get_or, All, false, eqb, refl, sym, ap, subst, ◌∙◌, arith, add-one, append_assoc}
+use Rattle.std.proofs.Common.{◌≡◌, ℕ, zero, suc, ◌+◌, ◌-◌, ◌<◌, ◌≤◌, List, [], ◌∷◌, ◌++◌, length, map, take, get_or, All, false, eqb, refl, sym, ap, ◌∙◌, arith, add-one, append_assoc}
 use Rattle.std.specs.Prelude.{replicate, slice_set}
 use Rattle.std.proofs.Math.Seq.{set-append_seam, take-suc}
 use Rattle.std.proofs.lemmas.Bool.{ne_eqb}

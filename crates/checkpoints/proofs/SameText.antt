@@ -1,6 +1,5 @@
 -- A text that says a guest is that guest's text.
-use Rattle.std.proofs.Common.{◌≡◌, ℕ, zero, suc, ◌+◌, ◌*◌, ◌^◌, ◌<◌, ◌≤◌, ◌/◌, ◌⊎◌, Bool, true, false, cond, Option, None, Some, inl, inr, List, [], ◌∷◌, length, map, All, IsTrue, is_some, refl, sym, ap, subst, ◌∙◌, arith}
-use Rattle.std.specs.Prelude.{replicate}
+use Rattle.std.proofs.Common.{◌≡◌, ℕ, ◌+◌, ◌*◌, ◌^◌, ◌<◌, ◌≤◌, ◌/◌, ◌⊎◌, Bool, true, false, cond, Option, None, Some, inl, inr, List, [], ◌∷◌, length, map, All, is_some, refl, sym, ap, ◌∙◌, arith}
 use Rattle.std.specs.FinMap as finite
 use Rattle.std.specs.FinMap.Entries.{below_all}
 use Rattle.std.specs.Ordering.{is_lt, nat_cmp}
@@ -13,13 +12,13 @@ use Rattle.paged_mem.specs.Memory.{IsWhole, Memory, maps, with_bytes, zeros}
 use Rattle.paged_mem.proofs.Mapped.{length-zeros}
 use Rattle.paged_mem.proofs.Wholes.{same_after_write, whole-mapped}
 use Rattle.mem_files.specs.declared.slot.Slot.{Slot}
-use Rattle.mem_files.specs.Lists.{AreInRange, AreOrdered, ListedFile, contents, lists_of, world_of}
+use Rattle.mem_files.specs.Lists.{AreOrdered, ListedFile, lists_of, world_of}
 use Rattle.file_parts.proofs.SameLists.{same_lists}
-use Rattle.memory_parts.specs.Canonical.{ArePlaced, AreShown, filled, in_runs, is_mapped, mapped_runs, pages_of, runs_from, runs_of}
+use Rattle.memory_parts.specs.Canonical.{ArePlaced, AreShown, filled, in_runs, mapped_runs, pages_of, runs_from, runs_of}
 use Rattle.memory_parts.proofs.PagesAgain.{IsZeroed, pages_again}
 use Rattle.memory_parts.proofs.RunsAgain.{get-mapped_runs, same_runs_again}
 use Rattle.state_text.specs.declared.parts.Run.{Run}
-use Rattle.state_text.specs.StateText.{PageText, StateText, after_descriptor, after_file, after_page, after_run}
+use Rattle.state_text.specs.StateText.{PageText, StateText, after_page, after_run}
 use Rattle.state_text.specs.Spelled.{IsDescriptor, IsFile, IsPage, IsText}
 use Rattle.checkpoints.specs.Checkpoint.{IsInRange, guest_of, lists_in, mapped_of, memory_of, state_of}
 use Rattle.checkpoints.proofs.FileTurns.{paired}
@@ -34,7 +33,7 @@ filled_alike m [] least turn mapped q = refl
 filled_alike m (page ∷ pages) least turn mapped q =
     let rest = filled_alike m pages (after_page page) turn.1 (All-tail (IsMappedIn m) page pages mapped) in
     let here : maps (filled m pages) (4096 * page.number) (length page.bytes) ≡ true =
-        ap (maps (filled m pages) (4096 * page.number)) turn.0.full ∙ maps-alike (filled m pages) m rest (4096 * page.number) 4096 ∙ All-head (IsMappedIn m) page pages mapped in
+    ap (maps (filled m pages) (4096 * page.number)) turn.0.full ∙ maps-alike (filled m pages) m rest (4096 * page.number) 4096 ∙ All-head (IsMappedIn m) page pages mapped in
     same_after_write (filled m pages) (4096 * page.number) page.bytes here q ∙ rest q
 
 runs_same : (m n : Memory) → Alike m n → runs_of m ≡ runs_of n

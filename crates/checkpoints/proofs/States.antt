@@ -1,13 +1,12 @@
 -- A guest's state has a text, which says that guest.
-use Rattle.std.proofs.Common.{◌≡◌, ℕ, zero, suc, ◌+◌, ◌^◌, ◌<◌, ◌≤◌, List, [], ◌∷◌, length, drop, map, All, Ok, refl, sym, ap, subst, ◌∙◌, arith}
+use Rattle.std.proofs.Common.{◌≡◌, ℕ, ◌^◌, ◌<◌, List, [], ◌∷◌, length, drop, All, sym, ap, subst, ◌∙◌, arith}
 use Rattle.std.specs.Prelude.{slice_index}
 use Rattle.std.specs.FinMap as finite
 use Rattle.std.proofs.lemmas.List.{length-drop}
 use Rattle.std.proofs.lemmas.List.Elements.{All-cons, All-drop, All-head, All-nil, All-tail}
 use Rattle.byte_fields.specs.Spelling.{Alike, InTurn}
 use Rattle.paged_mem.specs.Memory.{IsWhole, Memory}
-use Rattle.mem_files.specs.Lists.{lists_of, world_of}
-use Rattle.mem_files.specs.World.{World}
+use Rattle.mem_files.specs.Lists.{lists_of}
 use Rattle.file_parts.proofs.GoodLists.{good_join, good_order, good_range}
 use Rattle.file_parts.proofs.SameWorld.{same_world}
 use Rattle.guest_run.specs.State.{GuestState}
@@ -18,7 +17,7 @@ use Rattle.memory_parts.proofs.RunsAgain.{zero_runs_mapped}
 use Rattle.state_text.specs.declared.parts.Run.{Run}
 use Rattle.state_text.specs.StateText.{PageText, StateText, after_page, after_run}
 use Rattle.state_text.specs.Spelled.{IsPage, IsRun, IsText}
-use Rattle.checkpoints.specs.Checkpoint.{IsInMemory, IsInRange, IsJoined, guest_of, mapped_of, memory_of, state_of}
+use Rattle.checkpoints.specs.Checkpoint.{IsInRange, IsJoined, guest_of, state_of}
 use Rattle.checkpoints.proofs.FileTurns.{have_text}
 use Rattle.checkpoints.proofs.Filled.{maps-alike}
 use Rattle.checkpoints.proofs.Memories.{EndsWithin, IsMappedIn}

@@ -1,15 +1,15 @@
 -- The runs and the pages of a memory have a text.
-use Rattle.std.proofs.Common.{◌≡◌, ℕ, zero, suc, ◌+◌, ◌*◌, ◌/◌, ◌^◌, ◌<◌, ◌≤◌, Bool, true, false, cond, eqb, eqb-true, eq-eqb, List, [], ◌∷◌, ◌++◌, length, All, Option, None, Some, is_some, inl, inr, refl, sym, ap, subst, ◌∙◌, arith}
+use Rattle.std.proofs.Common.{◌≡◌, ℕ, zero, suc, ◌+◌, ◌*◌, ◌/◌, ◌^◌, ◌<◌, ◌≤◌, Bool, true, false, cond, eqb, eqb-true, eq-eqb, List, [], ◌∷◌, ◌++◌, length, All, Option, None, Some, is_some, inr, refl, sym, ap, subst, ◌∙◌, arith}
 use Rattle.std.specs.FinMap as finite
 use Rattle.std.proofs.lemmas.List.Elements.{All-cons, All-nil}
-use Rattle.paged_mem.specs.Memory.{IsWhole, Memory, bytes_at, maps}
+use Rattle.paged_mem.specs.Memory.{IsWhole, Memory, bytes_at}
 use Rattle.paged_mem.proofs.Maps.{length_of_bytes_at}
 use Rattle.memory_parts.specs.Canonical.{ArePlaced, AreShown, is_mapped, listed, mapped_runs, pages_from, pages_of, runs_from, runs_of, with_page, zero_runs}
 use Rattle.memory_parts.proofs.Again.{runs_in, runs_out}
 use Rattle.memory_parts.proofs.RunsAgain.{zero_runs_mapped}
 use Rattle.state_text.specs.declared.parts.Run.{Run}
-use Rattle.state_text.specs.StateText.{PageText, after_page, after_run, is_page}
-use Rattle.checkpoints.proofs.Filled.{Alike, maps-alike}
+use Rattle.state_text.specs.StateText.{PageText, after_run, is_page}
+use Rattle.checkpoints.proofs.Filled.{Alike}
 use Rattle.checkpoints.proofs.Memories.{IsMappedIn}
 
 -- ---- runs

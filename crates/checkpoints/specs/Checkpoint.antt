@@ -94,3 +94,11 @@ ReadsState text (Err (state.Form offset)) = formed text ≡ Err offset
 ReadsState text (Err state.Range) = (s : StateText) × (formed text ≡ Ok s) × ¬ (IsInRange s)
 ReadsState text (Err state.FileRef) = (s : StateText) × (formed text ≡ Ok s) × IsInRange s × ¬ (IsJoined s)
 ReadsState text (Err state.OutOfMemory) = Unit {0}
+
+-- what is read of the text of this state
+abbrev pub IsReadAs : GuestState → Result GuestState StateRefusal → Type 0
+IsReadAs g (Ok guest) = guest ≡ g
+IsReadAs g (Err state.OutOfMemory) = Unit {0}
+IsReadAs g (Err (state.Form offset)) = ⊥
+IsReadAs g (Err state.Range) = ⊥
+IsReadAs g (Err state.FileRef) = ⊥

@@ -58,8 +58,7 @@ pub fn memory_of<R: Ram>(alloc: Global, parts: &Parts<'_>) -> Result<R, MemoryRe
 fn are_within(runs: &[Run]) -> bool
     ensures { IsTrue result ↔ All (λ run. run.first + run.pages ≤ 2 ^ 26) runs.now }
 {
-    runs.iter()
-        .all(|run| u64::from(run.first) + u64::from(run.pages) <= 1 << 26)
+    runs.iter().all(|run| u64::from(run.first) + u64::from(run.pages) <= 1 << 26)
 }
 
 /// Whether a guest can have so many pages.

@@ -1,5 +1,9 @@
 //! A guest read of its text.
-ghost use Rattle.checkpoints.specs.Checkpoint.{ReadsState};
+ghost use Rattle.std.specs.Prelude.{◌≡◌, ◌<◌, ◌^◌, IfOk};
+ghost use Rattle.guest_run.specs.State.{GuestState};
+ghost use Rattle.guest_run.specs.Valid.{IsValid};
+ghost use Rattle.state_text.specs.Spelled.{text_of};
+ghost use Rattle.checkpoints.specs.Checkpoint.{IsReadAs, ReadsState, state_of};
 
 use crate::restoring::guest_of;
 use file_parts::RestoreRefusal;
@@ -22,6 +26,17 @@ pub enum StateRefusal {
 
 /// The guest whose state the text says.
 pub fn read_state<R: Ram>(alloc: Global, text: &[u8]) -> Result<Guest<R>, StateRefusal>
+    // What is read has this text.
+    ensures found { IfOk result (λ guest. text.now ≡ text_of (state_of guest)) }
+    // The text of a valid state is read as the guest in that state, unless memory runs out.
+    ensures only { (g : GuestState) → IsValid g → g.steps < 2 ^ 64 → text.now ≡ text_of (state_of g) → IsReadAs g result }
+    // When each refusal comes.
+    ensures exact { ReadsState text.now result }
+{
+    judged(alloc, text)
+}
+
+fn judged<R: Ram>(alloc: Global, text: &[u8]) -> Result<Guest<R>, StateRefusal>
     ensures { ReadsState text.now result }
 {
     let parts = match read(alloc, text) {

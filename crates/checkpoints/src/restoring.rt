@@ -88,10 +88,7 @@ fn push_files<'a>(list: &mut FileParts<'a>, files: &[File<'a>]) -> Result<(), Ou
     Ok(())
 }
 
-fn push_descriptors(
-    list: &mut FileParts<'_>,
-    descriptors: &[Descriptor],
-) -> Result<(), OutOfMemory>
+fn push_descriptors(list: &mut FileParts<'_>, descriptors: &[Descriptor]) -> Result<(), OutOfMemory>
     requires none { list.old.slots ≡ [] }
     requires rise { InTurn IsDescriptor after_descriptor 0 (map descriptor_view descriptors.now) }
     ensures { OnOk result (list.new ≡ record list.old { slots = map descriptor_view descriptors.now }) }

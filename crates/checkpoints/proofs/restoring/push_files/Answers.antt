@@ -1,4 +1,4 @@
-use Rattle.std.proofs.Common.{None, [], ap}
+use Rattle.std.proofs.Common.{None, []}
 use Rattle.mem_files.specs.Lists.{ListedFile}
 use Rattle.state_text.specs.declared.parts.File.{File}
 use Rattle.state_text.specs.Spelled.{IsFile}

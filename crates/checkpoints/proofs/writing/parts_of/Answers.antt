@@ -1,4 +1,4 @@
-use Rattle.std.proofs.Common.{◌≡◌, ◌<◌, ◌^◌, drop, sym, subst, ap, ◌∙◌, arith}
+use Rattle.std.proofs.Common.{◌<◌, ◌^◌, drop, sym, subst, ap, ◌∙◌, arith}
 use Rattle.rv64_machine.specs.Hart.{HartState}
 use Rattle.mem_files.specs.Lists.{AreInRange, lists_of}
 use Rattle.mem_files.specs.World.{World}
