@@ -5,10 +5,12 @@
 #![tactic(auto)]
 
 mod items;
+mod listing;
 mod parts;
 mod reading;
 mod writing;
 
+pub use listing::{descriptors_of, files_of};
 pub use parts::{Descriptor, File, Page, Parts, Run};
 pub use reading::{TextRefusal, parts_at, read};
 pub use writing::{put_parts, write};

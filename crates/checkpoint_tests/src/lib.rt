@@ -1,0 +1,9 @@
+//! Tests of the texts of states and saves: what is expected comes from docs/reference/save.md.
+#![tactic(auto)]
+
+#[cfg(test)]
+mod pieces;
+#[cfg(test)]
+mod saves;
+#[cfg(test)]
+mod states;

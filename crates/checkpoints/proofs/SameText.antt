@@ -1,0 +1,116 @@
+-- A text that says a guest is that guest's text.
+use Rattle.std.proofs.Common.{◌≡◌, ℕ, ◌+◌, ◌*◌, ◌^◌, ◌<◌, ◌≤◌, ◌/◌, ◌⊎◌, Bool, true, false, cond, Option, None, Some, inl, inr, List, [], ◌∷◌, length, map, All, is_some, refl, sym, ap, ◌∙◌, arith}
+use Rattle.std.specs.FinMap as finite
+use Rattle.std.specs.FinMap.Entries.{below_all}
+use Rattle.std.specs.Ordering.{is_lt, nat_cmp}
+use Rattle.std.specs.Cmp.{nat_cmp_is}
+use Rattle.std.specs.declared.cmp.Ordering.TheVariants.{Less}
+use Rattle.std.proofs.lemmas.List.Elements.{All-head, All-replicate, All-tail}
+use Rattle.std.proofs.lemmas.Option.{none-some}
+use Rattle.byte_fields.specs.Spelling.{InTurn}
+use Rattle.paged_mem.specs.Memory.{IsWhole, Memory, maps, with_bytes, zeros}
+use Rattle.paged_mem.proofs.Mapped.{length-zeros}
+use Rattle.paged_mem.proofs.Wholes.{same_after_write, whole-mapped}
+use Rattle.mem_files.specs.declared.slot.Slot.{Slot}
+use Rattle.mem_files.specs.Lists.{AreOrdered, ListedFile, lists_of, world_of}
+use Rattle.file_parts.proofs.SameLists.{same_lists}
+use Rattle.memory_parts.specs.Canonical.{ArePlaced, AreShown, filled, in_runs, mapped_runs, pages_of, runs_from, runs_of}
+use Rattle.memory_parts.proofs.PagesAgain.{IsZeroed, pages_again}
+use Rattle.memory_parts.proofs.RunsAgain.{get-mapped_runs, same_runs_again}
+use Rattle.state_text.specs.declared.parts.Run.{Run}
+use Rattle.state_text.specs.StateText.{PageText, StateText, after_page, after_run}
+use Rattle.state_text.specs.Spelled.{IsDescriptor, IsFile, IsPage, IsText}
+use Rattle.checkpoints.specs.Checkpoint.{IsInRange, guest_of, lists_in, mapped_of, memory_of, state_of}
+use Rattle.checkpoints.proofs.FileTurns.{paired}
+use Rattle.checkpoints.proofs.Filled.{Alike, maps-alike}
+use Rattle.checkpoints.proofs.Memories.{IsMappedIn, placed, shown}
+
+-- ---- memory
+
+filled_alike : (m : Memory) (pages : List PageText) (least : ℕ) → InTurn IsPage after_page least pages → All (IsMappedIn m) pages → Alike (filled m pages) m
+unfolding filled
+filled_alike m [] least turn mapped q = refl
+filled_alike m (page ∷ pages) least turn mapped q =
+    let rest = filled_alike m pages (after_page page) turn.1 (All-tail (IsMappedIn m) page pages mapped) in
+    let here : maps (filled m pages) (4096 * page.number) (length page.bytes) ≡ true =
+    ap (maps (filled m pages) (4096 * page.number)) turn.0.full ∙ maps-alike (filled m pages) m rest (4096 * page.number) 4096 ∙ All-head (IsMappedIn m) page pages mapped in
+    same_after_write (filled m pages) (4096 * page.number) page.bytes here q ∙ rest q
+
+runs_same : (m n : Memory) → Alike m n → runs_of m ≡ runs_of n
+runs_same m n same = ap (λ (mapped : ℕ → Bool). runs_from mapped 0 (2 ^ 26)) (λ i page. same (4096 * page) i)
+
+-- ---- files
+
+below_turn : {A X : Type 0} (number : A → ℕ) (value : A → X) (Fits : ℕ → A → Type 0) → ((s : ℕ) (a : A) → Fits s a → s ≤ number a) → (low least : ℕ) (xs : List A) → low < least → InTurn Fits (λ a. number a + 1) least xs
+    → below_all nat_cmp low (map (λ a. (number a, value a)) xs) ≡ true
+below_turn number value Fits from low least [] lt turn = refl
+below_turn number value Fits from low least (x ∷ xs) lt turn =
+    let first = from least x turn.0 in
+    let less : is_lt (nat_cmp low (number x)) ≡ true = ap is_lt (sym (nat_cmp_is low (number x) Less (omega arith))) in
+    rw less (below_turn number value Fits from low (number x + 1) xs (omega arith) turn.1)
+
+sorted_turn : {A X : Type 0} (number : A → ℕ) (value : A → X) (Fits : ℕ → A → Type 0) → ((s : ℕ) (a : A) → Fits s a → s ≤ number a) → (least : ℕ) (xs : List A) → InTurn Fits (λ a. number a + 1) least xs
+    → finite.is_sorted nat_cmp (map (λ a. (number a, value a)) xs) ≡ true
+sorted_turn number value Fits from least [] turn = refl
+sorted_turn number value Fits from least (x ∷ xs) turn =
+    rw (below_turn number value Fits from (number x) (number x + 1) xs (omega arith) turn.1) (sorted_turn number value Fits from (number x + 1) xs turn.1)
+
+pub ordered : (s : StateText) → IsText s → AreOrdered (lists_in s)
+ordered s text = record {
+  files_rise = sorted_turn (λ (f : ListedFile). f.number) (λ f. f.content) IsFile (λ least f fits. fits.from) 0 s.files text.files.1;
+  slots_rise = ap (finite.is_sorted nat_cmp) (sym (paired s.descriptors)) ∙ sorted_turn (λ (d : ℕ × Slot). d.0) (λ d. d.1) IsDescriptor (λ least d fits. fits.from) 0 s.descriptors text.descriptors.1;
+  two_streams = refl;
+}
+
+-- ---- the whole
+
+zeroed : (runs : List Run) → IsZeroed (mapped_runs finite.empty runs)
+zeroed runs a = both (in_runs runs (a / 4096)) (finite.get (mapped_runs finite.empty runs) a) (get-mapped_runs runs finite.empty a (a / 4096) refl ∙ ap (cond (in_runs runs (a / 4096)) (Some 0)) (finite.get-empty nat_cmp a))
+  where
+    both : (b : Bool) (o : Option ℕ) → o ≡ cond b (Some 0) None → (o ≡ None) ⊎ (o ≡ Some 0)
+    both true o e = inr e
+    both false o e = inl e
+
+same_pages_again : (runs : List Run) (pages : List PageText) → AreShown 0 pages → pages_of (filled (mapped_runs finite.empty runs) pages) ≡ pages
+same_pages_again runs pages shown = pages_again (mapped_runs finite.empty runs) pages 0 0 (2 ^ 26) (zeroed runs) shown (omega arith) refl
+
+no_memory : IsWhole finite.empty
+no_memory = record {
+  small = λ at byte e. absurd (none-some byte (sym (finite.get-empty nat_cmp at) ∙ e));
+  low = λ at byte e. absurd (none-some byte (sym (finite.get-empty nat_cmp at) ∙ e));
+  pages = λ at other same. ap is_some (finite.get-empty nat_cmp at) ∙ sym (ap is_some (finite.get-empty nat_cmp other));
+}
+
+zero_bytes : (count : ℕ) → All (λ byte. byte < 256) (zeros count)
+unfolding zeros
+zero_bytes count = All-replicate (λ (byte : ℕ). byte < 256) count 0 (omega arith)
+
+whole_runs : (m : Memory) (runs : List Run) (least : ℕ) → IsWhole m → ArePlaced least runs → IsWhole (mapped_runs m runs)
+unfolding mapped_runs
+whole_runs m [] least whole turn = whole
+whole_runs m (run ∷ runs) least whole turn =
+    let size = length-zeros (4096 * run.pages) in
+    let low = turn.0.low in
+    whole_runs (with_bytes m (4096 * run.first) (zeros (4096 * run.pages))) runs (after_run run)
+    (whole-mapped m (4096 * run.first) (zeros (4096 * run.pages)) whole (omega arith) (omega arith) (omega arith) (zero_bytes (4096 * run.pages))) turn.1
+
+pub same_text : (s : StateText) → IsText s → IsInRange s → state_of (guest_of s) ≡ s
+unfolding state_of guest_of
+same_text s text range =
+    let turn = placed s.runs 0 text.runs.1 range.memory.within in
+    let whole = whole_runs finite.empty s.runs 0 no_memory turn in
+    let runs : runs_of (memory_of s) ≡ s.runs = runs_same (memory_of s) (mapped_of s) (filled_alike (mapped_of s) s.pages 0 text.pages.1 range.memory.listed) ∙ same_runs_again s.runs turn in
+    let pages : pages_of (memory_of s) ≡ s.pages = same_pages_again s.runs s.pages (shown (mapped_of s) s.pages 0 whole text.pages.1 range.memory.listed) in
+    let files : lists_of (world_of (lists_in s)) ≡ lists_in s = same_lists (lists_in s) (ordered s text) range.files in
+    λ i. record {
+      steps = s.steps;
+      pc = s.pc;
+      registers = s.registers;
+      heap = s.heap;
+      runs = runs i;
+      pages = pages i;
+      files = (files i).files;
+      descriptors = (files i).slots;
+      stream1 = s.stream1;
+      stream2 = s.stream2;
+    }

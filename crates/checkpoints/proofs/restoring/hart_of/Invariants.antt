@@ -1,0 +1,6 @@
+use Rattle.std.proofs.Common.{◌≡◌, ◌∷◌, ◌++◌, ◌-◌, take}
+use Rattle.std.specs.Prelude.{replicate}
+use Rattle.checkpoints.proofs.restoring.hart_of.Given as goal
+
+abbrev pub invariant-loop-index : goal.invariant-loop-index
+invariant-loop-index g l = l.hart ≡ record { registers = 0 ∷ (take l.index l.registers ++ replicate (31 - l.index) 0); pc = l.pc; memory = g.R.Ram.bytes l.fn.ram }

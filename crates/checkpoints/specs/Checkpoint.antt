@@ -1,0 +1,104 @@
+-- The text of a guest's state, and the guest that a text says. docs/reference/save.md says the same for people.
+use Rattle.std.specs.Prelude.{◌≡◌, ◌*◌, ◌%◌, ◌+◌, ◌^◌, ◌≤◌, IsTrue, [], ◌∷◌, All, drop, sum_by, ℕ, List, Result, Ok, Err}
+use Rattle.std.specs.FinMap as finite
+use Rattle.paged_mem.specs.Memory.{Memory, maps}
+use Rattle.mem_files.specs.Lists.{AreInRange, AreJoined, FileLists, lists_of, world_of}
+use Rattle.guest_run.specs.State.{GuestState}
+use Rattle.guest_run.specs.Valid.{Fits}
+use Rattle.memory_parts.specs.Canonical.{filled, mapped_runs, pages_of, runs_of}
+use Rattle.state_text.specs.StateText.{StateText, formed}
+use Rattle.mem_files.specs.World.{World}
+use Rattle.file_parts.specs.declared.restoring.RestoreRefusal.{RestoreRefusal}
+use Rattle.file_parts.specs.declared.restoring.RestoreRefusal.TheVariants as restored
+use Rattle.checkpoints.specs.declared.reading.StateRefusal.{StateRefusal}
+use Rattle.checkpoints.specs.declared.reading.StateRefusal.TheVariants as state
+use Rattle.checkpoints.specs.declared.memory.MemoryRefusal.{MemoryRefusal}
+use Rattle.checkpoints.specs.declared.memory.MemoryRefusal.TheVariants as memory
+
+-- what a guest's state says: its runs of mapped pages, its pages that are not all zeros, and its files and descriptors, in their order; x0 is not said
+unfoldable pub state_of : GuestState → StateText
+state_of g = record {
+  steps = g.steps;
+  pc = g.hart.pc;
+  registers = drop 1 g.hart.registers;
+  heap = g.heap;
+  runs = runs_of g.hart.memory;
+  pages = pages_of g.hart.memory;
+  files = (lists_of g.world).files;
+  descriptors = (lists_of g.world).slots;
+  stream1 = g.world.stream1;
+  stream2 = g.world.stream2;
+}
+
+-- the memory that a text says: its runs, all zeros, and in them its pages
+abbrev pub mapped_of : StateText → Memory
+mapped_of s = mapped_runs finite.empty s.runs
+
+abbrev pub memory_of : StateText → Memory
+memory_of s = filled (mapped_of s) s.pages
+
+-- the files that a text says
+abbrev pub lists_in : StateText → FileLists
+lists_in s = record { files = s.files; slots = s.descriptors; streams = s.stream1 ∷ s.stream2 ∷ [] }
+
+-- the guest that a text says: x0 is 0
+unfoldable pub guest_of : StateText → GuestState
+guest_of s = record {
+  hart = record { registers = 0 ∷ s.registers; pc = s.pc; memory = memory_of s };
+  world = world_of (lists_in s);
+  heap = s.heap;
+  steps = s.steps;
+}
+
+-- what runs and pages say is a memory: runs end in it and have no more pages than a guest can have, 67,584 beside its heap and 262,144 of its
+-- heap, and each listed page is in one of them
+pub record IsInMemory (s : StateText) : Type 0 where
+  pub within : All (λ run. run.first + run.pages ≤ 2 ^ 26) s.runs
+  pub few : sum_by (λ run. run.pages) s.runs ≤ 329_728
+  pub listed : All (λ page. IsTrue (maps (mapped_of s) (4096 * page.number) 4096)) s.pages
+
+abbrev pub RefusesMemory : StateText → MemoryRefusal → Type 0
+RefusesMemory s memory.Range = ¬ (IsInMemory s)
+RefusesMemory s memory.OutOfMemory = Unit {0}
+
+-- what counts and ranges say: the pc is that of an instruction, runs and pages are a memory, which fits the heap, and files, descriptors and
+-- streams are in their limits
+pub record IsInRange (s : StateText) : Type 0 where
+  pub aligned : s.pc % 4 ≡ 0
+  pub memory : IsInMemory s
+  pub fits : Fits (memory_of s) s.heap
+  pub files : AreInRange (lists_in s)
+
+-- what references say
+abbrev pub IsJoined : StateText → Type 0
+IsJoined s = AreJoined (lists_in s)
+
+-- what becomes of the files that a text says; want of memory says nothing of them
+abbrev pub MakesFiles : FileLists → Result World RestoreRefusal → Type 0
+MakesFiles lists (Ok made) = AreInRange lists × AreJoined lists × (made ≡ world_of lists)
+MakesFiles lists (Err restored.Range) = ¬ (AreInRange lists)
+MakesFiles lists (Err restored.FileRef) = AreInRange lists × ¬ (AreJoined lists)
+MakesFiles lists (Err restored.OutOfMemory) = Unit {0}
+
+-- what becomes of what a text says: the guest, where counts and ranges are right, and then references
+abbrev pub Becomes : StateText → Result GuestState RestoreRefusal → Type 0
+Becomes s (Ok guest) = IsInRange s × IsJoined s × (guest ≡ guest_of s)
+Becomes s (Err restored.Range) = ¬ (IsInRange s)
+Becomes s (Err restored.FileRef) = IsInRange s × ¬ (IsJoined s)
+Becomes s (Err restored.OutOfMemory) = Unit {0}
+
+-- what a text becomes: its form is judged first, then counts and ranges, then references
+abbrev pub ReadsState : List ℕ → Result GuestState StateRefusal → Type 0
+ReadsState text (Ok guest) = (s : StateText) × (formed text ≡ Ok s) × IsInRange s × IsJoined s × (guest ≡ guest_of s)
+ReadsState text (Err (state.Form offset)) = formed text ≡ Err offset
+ReadsState text (Err state.Range) = (s : StateText) × (formed text ≡ Ok s) × ¬ (IsInRange s)
+ReadsState text (Err state.FileRef) = (s : StateText) × (formed text ≡ Ok s) × IsInRange s × ¬ (IsJoined s)
+ReadsState text (Err state.OutOfMemory) = Unit {0}
+
+-- what is read of the text of this state
+abbrev pub IsReadAs : GuestState → Result GuestState StateRefusal → Type 0
+IsReadAs g (Ok guest) = guest ≡ g
+IsReadAs g (Err state.OutOfMemory) = Unit {0}
+IsReadAs g (Err (state.Form offset)) = ⊥
+IsReadAs g (Err state.Range) = ⊥
+IsReadAs g (Err state.FileRef) = ⊥

@@ -1,0 +1,14 @@
+//! Guests as texts, and back: a guest that stands between two steps has one text, and is read of it as it was.
+//!
+//! docs/reference/save.md has the rules for a reader, and specs/Checkpoint.antt the same for the prover.
+#![tactic(auto)]
+
+mod memory;
+mod reading;
+mod restoring;
+mod writing;
+
+pub use file_parts::RestoreRefusal;
+pub use reading::{StateRefusal, read_state};
+pub use restoring::guest_of;
+pub use writing::{put_state, write_state};

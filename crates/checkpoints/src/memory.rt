@@ -1,0 +1,109 @@
+//! The memory that a text says.
+ghost use Rattle.std.specs.Prelude.{◌≡◌, ◌+◌, ◌-◌, ◌*◌, ◌^◌, ◌≤◌, ◌↔◌, All, IsTrue, MatchResult, OnOk, SomeIff, length, map, sum_by};
+ghost use Rattle.paged_mem.specs.Memory.{maps};
+ghost use Rattle.memory_parts.specs.Canonical.{filled_on};
+ghost use Rattle.state_text.specs.Spelled.{IsText};
+ghost use Rattle.state_text.specs.Seen.{page_view, view};
+ghost use Rattle.checkpoints.specs.Checkpoint.{IsInMemory, RefusesMemory, memory_of};
+
+use ddc_base::OutOfMemory;
+use memory_parts::map_runs;
+use paged_mem::{PAGE, Ram, StoreRefusal};
+use state_text::{Page, Parts, Run};
+use std::alloc::Global;
+
+/// How many pages a guest can have: 67,584 beside its heap, and 262,144 of its heap.
+const MOST_PAGES: u64 = 329_728;
+
+/// Why what a text says of memory is no guest's.
+#[derive(Clone, Copy, Debug, PartialEq, Eq)]
+pub enum MemoryRefusal {
+    /// A run ends past memory, the runs have too many pages, or a listed page is in none of them.
+    Range,
+    OutOfMemory,
+}
+
+impl From<OutOfMemory> for MemoryRefusal {
+    ghost use Rattle.checkpoints.specs.declared.memory.MemoryRefusal.TheVariants as refusal;
+
+    ghost from_gives = { λ _ why. why ≡ refusal.OutOfMemory };
+
+    fn from(_error: OutOfMemory) -> MemoryRefusal {
+        MemoryRefusal::OutOfMemory
+    }
+}
+
+/// The memory that a text says. Its runs are judged before anything is mapped, so that a short text asks for little memory.
+pub fn memory_of<R: Ram>(alloc: Global, parts: &Parts<'_>) -> Result<R, MemoryRefusal>
+    requires { IsText (view parts.now) }
+    ensures { MatchResult result
+        (λ ram. IsInMemory (view parts.now) × (R.bytes ram ≡ memory_of (view parts.now)))
+        (RefusesMemory (view parts.now)) }
+{
+    if !are_within(&parts.runs) {
+        return Err(MemoryRefusal::Range);
+    }
+    if !are_few(&parts.runs) {
+        return Err(MemoryRefusal::Range);
+    }
+    let mut ram: R = map_runs(alloc, &parts.runs)?;
+    if !are_mapped(&ram, &parts.pages) {
+        return Err(MemoryRefusal::Range);
+    }
+    fill(&mut ram, &parts.pages)?;
+    Ok(ram)
+}
+
+/// Whether all runs end in memory.
+fn are_within(runs: &[Run]) -> bool
+    ensures { IsTrue result ↔ All (λ run. run.first + run.pages ≤ 2 ^ 26) runs.now }
+{
+    runs.iter().all(|run| u64::from(run.first) + u64::from(run.pages) <= 1 << 26)
+}
+
+/// Whether a guest can have so many pages.
+fn are_few(runs: &[Run]) -> bool
+    ensures { IsTrue result ↔ (sum_by (λ run. run.pages) runs.now ≤ 329_728) }
+{
+    left_after(runs, MOST_PAGES).is_some()
+}
+
+/// What is left of so many pages behind those of the runs; `None` where they have more.
+fn left_after(runs: &[Run], most: u64) -> Option<u64>
+    ensures { SomeIff result (sum_by (λ run. run.pages) runs.now ≤ most) (most - sum_by (λ run. run.pages) runs.now) }
+{
+    let mut left = most;
+    for run in runs {
+        let pages = u64::from(run.pages);
+        if pages > left {
+            return None;
+        }
+        left -= pages;
+    }
+    Some(left)
+}
+
+/// Whether all these pages are mapped.
+fn are_mapped<R: Ram>(ram: &R, pages: &[Page<'_>]) -> bool
+    ensures { IsTrue result ↔ All (λ page. IsTrue (maps (R.bytes ram.now) (4096 * page.number) 4096)) pages.now }
+{
+    pages
+        .iter()
+        .all(|page| ram.mapped(PAGE * u64::from(page.number), PAGE))
+}
+
+/// Writes the bytes of pages that are mapped.
+fn fill<R: Ram>(ram: &mut R, pages: &[Page<'_>]) -> Result<(), OutOfMemory>
+    requires mapped { All (λ page. IsTrue (maps (R.bytes ram.old) (4096 * page.number) 4096)) pages.now }
+    requires full { All (λ page. length page.bytes.now ≡ 4096) pages.now }
+    ensures { OnOk result (R.bytes ram.new ≡ filled_on (R.bytes ram.old) (map page_view pages.now)) }
+{
+    for page in pages {
+        match ram.write_from(PAGE * u64::from(page.number), page.bytes) {
+            Ok(()) => {}
+            Err(StoreRefusal::OutOfMemory) => return Err(OutOfMemory),
+            Err(StoreRefusal::Unmapped) => unreachable!(),
+        }
+    }
+    Ok(())
+}

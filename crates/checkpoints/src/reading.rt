@@ -1,0 +1,53 @@
+//! A guest read of its text.
+ghost use Rattle.std.specs.Prelude.{◌≡◌, ◌<◌, ◌^◌, IfOk};
+ghost use Rattle.guest_run.specs.State.{GuestState};
+ghost use Rattle.guest_run.specs.Valid.{IsValid};
+ghost use Rattle.state_text.specs.Spelled.{text_of};
+ghost use Rattle.checkpoints.specs.Checkpoint.{IsReadAs, ReadsState, state_of};
+
+use crate::restoring::guest_of;
+use file_parts::RestoreRefusal;
+use guest_run::Guest;
+use paged_mem::Ram;
+use state_text::{TextRefusal, read};
+use std::alloc::Global;
+
+/// Why a text is no guest's. Its form is judged first, then counts and ranges, then references.
+#[derive(Clone, Copy, Debug, PartialEq, Eq)]
+pub enum StateRefusal {
+    /// The field that begins at this offset is the first that is wrong.
+    Form(u64),
+    /// A count or a range is that of no guest.
+    Range,
+    /// A descriptor's file is missing, or a file has neither a name nor a descriptor.
+    FileRef,
+    OutOfMemory,
+}
+
+/// The guest whose state the text says.
+pub fn read_state<R: Ram>(alloc: Global, text: &[u8]) -> Result<Guest<R>, StateRefusal>
+    // What is read has this text.
+    ensures found { IfOk result (λ guest. text.now ≡ text_of (state_of guest)) }
+    // The text of a valid state is read as the guest in that state, unless memory runs out.
+    ensures only { (g : GuestState) → IsValid g → g.steps < 2 ^ 64 → text.now ≡ text_of (state_of g) → IsReadAs g result }
+    // When each refusal comes.
+    ensures exact { ReadsState text.now result }
+{
+    judged(alloc, text)
+}
+
+fn judged<R: Ram>(alloc: Global, text: &[u8]) -> Result<Guest<R>, StateRefusal>
+    ensures { ReadsState text.now result }
+{
+    let parts = match read(alloc, text) {
+        Ok(parts) => parts,
+        Err(TextRefusal::Form(offset)) => return Err(StateRefusal::Form(offset)),
+        Err(TextRefusal::OutOfMemory) => return Err(StateRefusal::OutOfMemory),
+    };
+    match guest_of(alloc, &parts) {
+        Ok(guest) => Ok(guest),
+        Err(RestoreRefusal::Range) => Err(StateRefusal::Range),
+        Err(RestoreRefusal::FileRef) => Err(StateRefusal::FileRef),
+        Err(RestoreRefusal::OutOfMemory) => Err(StateRefusal::OutOfMemory),
+    }
+}

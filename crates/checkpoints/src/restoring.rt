@@ -1,0 +1,100 @@
+//! The guest that a text says.
+ghost use Rattle.std.specs.Prelude.{◌≡◌, ◌∷◌, [], ◌%◌, OnOk, map};
+ghost use Rattle.byte_fields.specs.Spelling.{InTurn};
+ghost use Rattle.state_text.specs.StateText.{after_descriptor, after_file};
+ghost use Rattle.state_text.specs.Spelled.{IsDescriptor, IsFile, IsText};
+ghost use Rattle.state_text.specs.Seen.{descriptor_view, file_view, view};
+ghost use Rattle.checkpoints.specs.Checkpoint.{Becomes, MakesFiles, lists_in};
+
+use crate::memory::{MemoryRefusal, memory_of};
+use ddc_base::OutOfMemory;
+use file_parts::{FileParts, RestoreRefusal, restore};
+use guest_run::{Guest, fit_together};
+use mem_files::Files;
+use paged_mem::Ram;
+use rv64_machine::Hart;
+use state_text::{Descriptor, File, Parts};
+use std::alloc::Global;
+
+/// The guest that a text says: `Range` where a count or a range is that of no guest, and only then `FileRef`, where a reference is.
+pub fn guest_of<R: Ram>(alloc: Global, parts: &Parts<'_>) -> Result<Guest<R>, RestoreRefusal>
+    requires { IsText (view parts.now) }
+    ensures { Becomes (view parts.now) result }
+{
+    if parts.pc % 4 != 0 {
+        return Err(RestoreRefusal::Range);
+    }
+    let ram: R = match memory_of(alloc, parts) {
+        Ok(ram) => ram,
+        Err(MemoryRefusal::Range) => return Err(RestoreRefusal::Range),
+        Err(MemoryRefusal::OutOfMemory) => return Err(RestoreRefusal::OutOfMemory),
+    };
+    let hart = hart_of(ram, parts.pc, &parts.registers);
+    if !fit_together(&hart, &parts.heap) {
+        return Err(RestoreRefusal::Range);
+    }
+    match files_of(alloc, parts) {
+        Ok(files) => Ok(Guest::restore(alloc, hart, files, parts.heap, parts.steps)),
+        Err(RestoreRefusal::Range) => Err(RestoreRefusal::Range),
+        Err(RestoreRefusal::FileRef) => Err(RestoreRefusal::FileRef),
+        Err(RestoreRefusal::OutOfMemory) => Err(RestoreRefusal::OutOfMemory),
+    }
+}
+
+/// A hart with these values in x1 to x31.
+fn hart_of<R: Ram>(ram: R, pc: u64, registers: &[u64; 31]) -> Hart<R>
+    requires { pc % 4 ≡ 0 }
+    ensures { result ≡ record { registers = 0 ∷ registers.now; pc = pc; memory = R.bytes ram } }
+{
+    let mut hart = Hart::new(ram, pc);
+    for index in 0..31u8 {
+        hart.set_reg(index + 1, registers[usize::from(index)]);
+    }
+    hart
+}
+
+/// The files that a text says.
+fn files_of(alloc: Global, parts: &Parts<'_>) -> Result<Files, RestoreRefusal>
+    requires { IsText (view parts.now) }
+    ensures { MakesFiles (lists_in (view parts.now)) result }
+{
+    let mut list = FileParts::new(alloc);
+    match push_all(&mut list, parts) {
+        Ok(()) => {}
+        Err(OutOfMemory) => return Err(RestoreRefusal::OutOfMemory),
+    }
+    restore(alloc, &list)
+}
+
+fn push_all<'a>(list: &mut FileParts<'a>, parts: &Parts<'a>) -> Result<(), OutOfMemory>
+    requires empty { list.old ≡ record { files = []; slots = []; streams = [] } }
+    requires text { IsText (view parts.now) }
+    ensures { OnOk result (list.new ≡ lists_in (view parts.now)) }
+{
+    push_files(list, parts.files.as_slice())?;
+    push_descriptors(list, parts.descriptors.as_slice())?;
+    list.push_stream(parts.stream1)?;
+    list.push_stream(parts.stream2)
+}
+
+fn push_files<'a>(list: &mut FileParts<'a>, files: &[File<'a>]) -> Result<(), OutOfMemory>
+    requires none { list.old.files ≡ [] }
+    requires rise { InTurn IsFile after_file 0 (map file_view files.now) }
+    ensures { OnOk result (list.new ≡ record list.old { files = map file_view files.now }) }
+{
+    for file in files {
+        list.push_file(file.number, file.name, file.content)?;
+    }
+    Ok(())
+}
+
+fn push_descriptors(list: &mut FileParts<'_>, descriptors: &[Descriptor]) -> Result<(), OutOfMemory>
+    requires none { list.old.slots ≡ [] }
+    requires rise { InTurn IsDescriptor after_descriptor 0 (map descriptor_view descriptors.now) }
+    ensures { OnOk result (list.new ≡ record list.old { slots = map descriptor_view descriptors.now }) }
+{
+    for descriptor in descriptors {
+        list.push_slot(descriptor.fd, descriptor.slot)?;
+    }
+    Ok(())
+}

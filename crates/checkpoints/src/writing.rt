@@ -1,0 +1,71 @@
+//! The text of a guest.
+ghost use Rattle.std.specs.Prelude.{◌≡◌, ◌++◌, IfOk, OnOk, drop};
+ghost use Rattle.state_text.specs.Spelled.{IsText, text_of};
+ghost use Rattle.state_text.specs.Seen.{view};
+ghost use Rattle.checkpoints.specs.Checkpoint.{state_of};
+
+use ddc_base::{Bytes, OutOfMemory};
+use guest_run::Guest;
+use memory_parts::{pages, runs};
+use paged_mem::Ram;
+use rv64_machine::Hart;
+use state_text::{Parts, descriptors_of, files_of, put_parts};
+use std::alloc::Global;
+
+/// The one text of a guest's state.
+pub fn write_state<R: Ram>(alloc: Global, guest: &Guest<R>) -> Result<Bytes, OutOfMemory>
+    ensures { IfOk result (λ text. text ≡ text_of (state_of guest.now)) }
+{
+    let mut out = Bytes::new(alloc);
+    put_state(alloc, &mut out, guest)?;
+    Ok(out)
+}
+
+/// Adds the text of a guest's state.
+pub fn put_state<R: Ram>(
+    alloc: Global,
+    out: &mut Bytes,
+    guest: &Guest<R>,
+) -> Result<(), OutOfMemory>
+    ensures { OnOk result (out.new ≡ out.old ++ text_of (state_of guest.now)) }
+{
+    let parts = parts_of(alloc, guest)?;
+    put_parts(out, &parts)
+}
+
+/// What a guest's state says. Contents are lent.
+fn parts_of<R: Ram>(alloc: Global, guest: &Guest<R>) -> Result<Parts<'_>, OutOfMemory>
+    ensures seen { IfOk result (λ parts. view parts ≡ state_of guest.now) }
+    ensures text { IfOk result (λ parts. IsText (view parts)) }
+{
+    let steps = guest.steps();
+    let hart = guest.hart();
+    let files = guest.files();
+    let runs = runs(alloc, hart.ram())?;
+    let pages = pages(alloc, hart.ram())?;
+    let listed = files_of(alloc, files)?;
+    let descriptors = descriptors_of(alloc, files)?;
+    Ok(Parts {
+        steps,
+        pc: hart.pc(),
+        registers: registers_of(hart),
+        heap: guest.heap(),
+        runs,
+        pages,
+        files: listed,
+        descriptors,
+        stream1: files.stream(1),
+        stream2: files.stream(2),
+    })
+}
+
+/// The values of x1 to x31.
+fn registers_of<R: Ram>(hart: &Hart<R>) -> [u64; 31]
+    ensures { result ≡ drop 1 hart.now.registers }
+{
+    let all = hart.registers();
+    let (_, rest) = all.split_at(1);
+    let mut registers = [0; 31];
+    registers.copy_from_slice(rest);
+    registers
+}
