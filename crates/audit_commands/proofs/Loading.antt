@@ -1,11 +1,9 @@
 -- What a recipe's inputs are fetched by, and what is fetched.
-use Rattle.std.proofs.Common.{◌≡◌, ℕ, ◌≤◌, Bool, true, IsTrue, List, length, ◌&&◌, nat_le, arith}
+use Rattle.std.proofs.Common.{ℕ, IsTrue, List, length, ◌&&◌, nat_le}
 use Rattle.std.specs.List.{list_all}
 use Rattle.std.proofs.lemmas.Bool.{and_parts, leb-true}
-use Rattle.ddc_base.specs.Outside.{IsFileName, ShelfState}
+use Rattle.ddc_base.specs.Outside.{IsFileName}
 use Rattle.recipe_text.specs.Reading.{is_path, is_path_byte}
-use Rattle.command_plan.specs.declared.stop.Stop.{Stop}
-use Rattle.command_plan.specs.Steps.{Fetches}
 
 -- a path is a name that a shelf takes
 pub path_names : (path : List ℕ) → IsTrue (is_path path) → IsFileName path

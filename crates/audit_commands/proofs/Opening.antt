@@ -1,18 +1,17 @@
 -- What is fetched and read: a recipe, or anything else that a load leads to.
-use Rattle.std.proofs.Common.{◌≡◌, ℕ, Bool, true, false, cond, List, Result, Ok, Err, refl, sym, ap, subst, ◌∙◌}
+use Rattle.std.proofs.Common.{ℕ, cond, List, Result, Ok, Err, sym, ap, subst, ◌∙◌}
 use Rattle.ddc_base.specs.Outside.{ShelfState}
-use Rattle.recipe_text.specs.declared.refusal.RecipeRefusal.{RecipeRefusal as Refusal}
 use Rattle.recipe.specs.declared.contents.Said.{Said}
 use Rattle.recipe.specs.Reading.{recipe_of}
 use Rattle.command_plan.specs.declared.answer.Answer.{Answer}
 use Rattle.command_plan.specs.declared.stop.Stop.{Stop}
 use Rattle.command_plan.specs.declared.stop.Stop.TheVariants as stop
 use Rattle.command_plan.specs.Performs.{Performs}
-use Rattle.command_plan.specs.Plan.{Plan, answers, needs}
+use Rattle.command_plan.specs.Plan.{Plan, needs}
 use Rattle.command_plan.specs.Words.{usage}
 use Rattle.command_plan.specs.Steps.{Fetches, Obtains}
 use Rattle.command_plan.proofs.Performing.{ends_answered, ends_at_fetch, goes_on_after_fetch, wants_memory}
-use Rattle.audit_commands.specs.Audit.{is_input, needs_recipe, with_recipe}
+use Rattle.audit_commands.specs.Audit.{needs_recipe, with_recipe}
 use Rattle.audit_commands.specs.Inside.Opening.{IsEnding, LeadsTo, Opens}
 
 ended : (plan : Plan) (shelf : ShelfState) (ending : Stop) → IsEnding plan ending → Performs plan shelf shelf (Err ending)

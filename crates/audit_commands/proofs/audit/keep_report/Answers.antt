@@ -1,6 +1,3 @@
-use Rattle.std.proofs.Common.{◌≡◌, sym, subst, List, ℕ}
-use Rattle.command_plan.specs.Performs.{Performs}
-use Rattle.command_plan.specs.Plan.{answers, sets}
 use Rattle.audit_commands.specs.Audit.{completed}
 use Rattle.audit_commands.proofs.audit.keep_report.Goals as goal
 
