@@ -46,7 +46,7 @@ binary = "bin"
 "#;
 
 /// Its report.
-const REPORT: &str = "ddc-report 1\n\
+pub(crate) const REPORT: &str = "ddc-report 1\n\
     recipe 10b5c639797a4ed2505e4f5394bd88f134e66af1f274d9342e720cc0e4379e08\n\
     input prog 232 da8dcb705eb55cbf9f4852135f93a902f4584b973901f37abb829fd299d0b026\n\
     input text 465 26dbf873fd9f4ae0d6145fe4fcf057357e6d57dc16dc89160bbefa88806e89d5\n\
@@ -201,7 +201,7 @@ static ROWS: [Row; 22] = [
 ];
 
 /// A shelf with the recipe, changed once, and the files.
-fn audit_shelf(alloc: Global, old: &str, new: &str) -> Result<MemShelf, OutOfMemory> {
+pub(crate) fn audit_shelf(alloc: Global, old: &str, new: &str) -> Result<MemShelf, OutOfMemory> {
     let mut shelf = MemShelf::new(alloc);
     shelf.set("exit.elf", &EXIT)?;
     shelf.set("copy.elf", decoded(alloc, COPY)?.as_slice())?;

@@ -11,4 +11,6 @@ pub mod copying;
 #[cfg(test)]
 mod tests;
 #[cfg(test)]
+mod verifies;
+#[cfg(test)]
 mod worked;
