@@ -3,6 +3,7 @@
 use crate::worked::{COPY, EXIT, decoded, with};
 use ddc_app::{Status, run};
 use ddc_base::{MemShelf, MemSink, OutOfMemory};
+use meaning::Assembly;
 use std::alloc::Global;
 use std::test::Fail;
 
@@ -223,7 +224,7 @@ fn recipes_are_audited(rt: HostRuntime) -> Result<(), Fail> {
         let mut shelf = audit_shelf(alloc, old, new)?;
         let mut out = MemSink::new(alloc);
         assert_eq!(rt;
-            run(alloc, &["audit", "a.toml", "r"], &mut shelf, &mut out),
+            run::<Assembly, _, _>(alloc, &["audit", "a.toml", "r"], &mut shelf, &mut out),
             status
         );
         assert_eq!(rt; out.written(), text.as_bytes());
@@ -239,7 +240,7 @@ fn the_report_is_saved(rt: HostRuntime) -> Result<(), Fail> {
     let mut shelf = audit_shelf(alloc, "", "")?;
     let mut out = MemSink::new(alloc);
     assert_eq!(rt;
-        run(alloc, &["audit", "a.toml", "r"], &mut shelf, &mut out),
+        run::<Assembly, _, _>(alloc, &["audit", "a.toml", "r"], &mut shelf, &mut out),
         Status::Yes
     );
     assert_eq!(rt; shelf.get("r").unwrap_or(&[]), REPORT.as_bytes());
@@ -253,7 +254,7 @@ fn the_report_says_what_differs(rt: HostRuntime) -> Result<(), Fail> {
     shelf.set("b.bin", b"abd")?;
     let mut out = MemSink::new(alloc);
     assert_eq!(rt;
-        run(alloc, &["audit", "a.toml", "r"], &mut shelf, &mut out),
+        run::<Assembly, _, _>(alloc, &["audit", "a.toml", "r"], &mut shelf, &mut out),
         Status::Differs
     );
     let (input, compare) = ABD;
@@ -271,7 +272,7 @@ fn a_failed_put_leaves_the_report(rt: HostRuntime) -> Result<(), Fail> {
     let mut out = MemSink::new(alloc);
     out.fail_put(1)?;
     assert_eq!(rt;
-        run(alloc, &["audit", "a.toml", "r"], &mut shelf, &mut out),
+        run::<Assembly, _, _>(alloc, &["audit", "a.toml", "r"], &mut shelf, &mut out),
         Status::OutFault
     );
     assert_eq!(rt; shelf.get("r").unwrap_or(&[]), REPORT.as_bytes());
@@ -294,7 +295,7 @@ fn faults_of_the_shelf_are_said(rt: HostRuntime) -> Result<(), Fail> {
         shelf.fail_load(failing_load)?;
         let mut out = MemSink::new(alloc);
         assert_eq!(rt;
-            run(alloc, &["audit", "a.toml", "r"], &mut shelf, &mut out),
+            run::<Assembly, _, _>(alloc, &["audit", "a.toml", "r"], &mut shelf, &mut out),
             Status::ShelfFault
         );
         assert_eq!(rt; out.written(), text.as_bytes());
@@ -304,7 +305,7 @@ fn faults_of_the_shelf_are_said(rt: HostRuntime) -> Result<(), Fail> {
     shelf.fail_save(1)?;
     let mut out = MemSink::new(alloc);
     assert_eq!(rt;
-        run(alloc, &["audit", "a.toml", "r"], &mut shelf, &mut out),
+        run::<Assembly, _, _>(alloc, &["audit", "a.toml", "r"], &mut shelf, &mut out),
         Status::ShelfFault
     );
     assert_eq!(rt; out.written(), "shelf fault r\n".as_bytes());
@@ -325,7 +326,10 @@ fn the_words_of_an_audit_are_judged(rt: HostRuntime) -> Result<(), Fail> {
     ];
     for words in lines {
         let mut out = MemSink::new(alloc);
-        assert_eq!(rt; run(alloc, words, &mut shelf, &mut out), Status::Usage);
+        assert_eq!(rt;
+            run::<Assembly, _, _>(alloc, words, &mut shelf, &mut out),
+            Status::Usage
+        );
         assert_eq!(rt; out.written(), "usage\n".as_bytes());
     }
     Ok(())

@@ -3,6 +3,7 @@
 use crate::worked::{COPY, EXIT, decoded, program_of, with};
 use ddc_app::{Status, run};
 use ddc_base::{Bytes, MemShelf, MemSink, OutOfMemory};
+use meaning::Assembly;
 use std::alloc::Global;
 use std::process::Abort;
 use std::test::Fail;
@@ -250,7 +251,7 @@ fn answers(
     }
     let mut out = MemSink::new(alloc);
     assert_eq!(rt;
-        run(alloc, &["audit", "a.toml", "r"], shelf, &mut out),
+        run::<Assembly, _, _>(alloc, &["audit", "a.toml", "r"], shelf, &mut out),
         status
     );
     assert_eq!(rt; out.written(), text.as_slice());

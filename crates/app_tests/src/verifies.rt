@@ -4,6 +4,7 @@ use crate::audits::{REPORT, audit_shelf};
 use crate::worked::{EXIT, with};
 use ddc_app::{Status, run};
 use ddc_base::{Bytes, Call, MemShelf, MemSink, OutOfMemory};
+use meaning::Assembly;
 use std::alloc::Global;
 use std::process::Abort;
 use std::test::Fail;
@@ -18,7 +19,7 @@ fn verifies(
 ) -> Result<(), OutOfMemory> {
     let mut out = MemSink::new(alloc);
     assert_eq!(rt;
-        run(alloc, &["verify", "a.toml", "r"], shelf, &mut out),
+        run::<Assembly, _, _>(alloc, &["verify", "a.toml", "r"], shelf, &mut out),
         status
     );
     assert_eq!(rt; out.written(), text.as_bytes(), "{text}");
@@ -338,7 +339,7 @@ fn true_reports_are_verified(rt: HostRuntime) -> Result<(), Fail> {
         shelf.set("b.bin", binary)?;
         let mut out = MemSink::new(alloc);
         assert_eq!(rt;
-            run(alloc, &["audit", "a.toml", "r"], &mut shelf, &mut out),
+            run::<Assembly, _, _>(alloc, &["audit", "a.toml", "r"], &mut shelf, &mut out),
             status
         );
         verifies(&rt, alloc, &mut shelf, status, text)?;
@@ -504,7 +505,7 @@ fn faults_are_said_and_pass(rt: HostRuntime) -> Result<(), Fail> {
         let mut out = MemSink::new(alloc);
         out.fail_put(1)?;
         assert_eq!(rt;
-            run(alloc, &["verify", "a.toml", "r"], &mut shelf, &mut out),
+            run::<Assembly, _, _>(alloc, &["verify", "a.toml", "r"], &mut shelf, &mut out),
             Status::OutFault
         );
     }
@@ -570,7 +571,10 @@ fn the_words_of_verify_are_judged(rt: HostRuntime) -> Result<(), Fail> {
     ];
     for (words, status, text) in table {
         let mut out = MemSink::new(alloc);
-        assert_eq!(rt; run(alloc, words, &mut shelf, &mut out), status);
+        assert_eq!(rt;
+            run::<Assembly, _, _>(alloc, words, &mut shelf, &mut out),
+            status
+        );
         assert_eq!(rt; out.written(), text.as_bytes());
     }
     Ok(())

@@ -1,0 +1,131 @@
+//! The assumptions that `verify` prints under its answer, of three recipes, each with an equal binary and with another one.
+//! They were written down from docs/reference/argument.md.
+use crate::worked::{COPY, decoded};
+use ddc_app::{Status, run};
+use ddc_base::{MemShelf, MemSink, OutOfMemory};
+use meaning::Assembly;
+use std::alloc::Global;
+use std::process::Abort;
+use std::test::Fail;
+
+/// A line more of the first input, a line more of stage `one`, the program of stage `two`, and the lines.
+type Row = (&'static str, &'static str, &'static str, &'static str);
+
+static ROWS: [Row; 3] = [
+    ("", "check = \"copy_src\"\n", "one", ""),
+    (
+        "implements = \"copy_src\"\n",
+        "check = \"copy_src\"\n",
+        "prog",
+        "assumes implements prog copy_src\n",
+    ),
+    (
+        "implements = \"copy_src\"\n",
+        "becomes = \"copy_src\"\n",
+        "one",
+        "assumes implements prog copy_src\nassumes compiles copy_src one copy_src\n",
+    ),
+];
+
+/// The recipe of a row: `one` copies the copier, and `two` copies three bytes.
+fn recipe(alloc: Global, row: &Row) -> Result<String, OutOfMemory> {
+    let (implements, check, program, _) = row;
+    Ok(format!(in alloc;
+        "format = 1
+[[input]]
+name = \"prog\"
+path = \"copy.elf\"
+{implements}[[input]]
+name = \"text\"
+path = \"copy.hex0\"
+[[input]]
+name = \"src\"
+path = \"a.bin\"
+[[input]]
+name = \"bin\"
+path = \"b.bin\"
+[[source]]
+name = \"copy_src\"
+lang = \"hex0\"
+files = [\"text\"]
+[[stage]]
+name = \"one\"
+program = \"prog\"
+args = [\"copy\"]
+files = [{{ path = \"in\", from = \"prog\" }}]
+output = \"out\"
+steps = 100
+{check}[[stage]]
+name = \"two\"
+program = \"{program}\"
+args = [\"copy\"]
+files = [{{ path = \"in\", from = \"src\" }}]
+output = \"out\"
+steps = 100
+[compare]
+stage = \"two\"
+binary = \"bin\"
+"
+    )?)
+}
+
+/// Audits the recipe of a row with this binary, replays the report, and compares the answer and the lines.
+fn verifies(
+    rt: &impl Abort,
+    alloc: Global,
+    row: &Row,
+    binary: &[u8],
+    status: Status,
+    answer: &str,
+) -> Result<(), OutOfMemory> {
+    let mut shelf = MemShelf::new(alloc);
+    shelf.set("copy.elf", decoded(alloc, COPY)?.as_slice())?;
+    shelf.set("copy.hex0", COPY.as_bytes())?;
+    shelf.set("a.bin", b"abc")?;
+    shelf.set("b.bin", binary)?;
+    shelf.set("a.toml", recipe(alloc, row)?.as_bytes())?;
+    let mut said = MemSink::new(alloc);
+    assert_eq!(rt;
+        run::<Assembly, _, _>(alloc, &["audit", "a.toml", "r"], &mut shelf, &mut said),
+        status
+    );
+    let mut out = MemSink::new(alloc);
+    assert_eq!(rt;
+        run::<Assembly, _, _>(alloc, &["verify", "a.toml", "r"], &mut shelf, &mut out),
+        status
+    );
+    let lines = row.3;
+    let text = format!(in alloc; "{answer}{lines}")?;
+    assert_eq!(rt; out.written(), text.as_bytes(), "{text}");
+    Ok(())
+}
+
+#[test]
+fn under_a_yes(rt: HostRuntime) -> Result<(), Fail> {
+    for row in &ROWS {
+        verifies(
+            &rt,
+            rt.alloc(),
+            row,
+            b"abc",
+            Status::Yes,
+            "yes\nequal two bin 3\n",
+        )?;
+    }
+    Ok(())
+}
+
+#[test]
+fn under_a_difference(rt: HostRuntime) -> Result<(), Fail> {
+    for row in &ROWS {
+        verifies(
+            &rt,
+            rt.alloc(),
+            row,
+            b"abd",
+            Status::Differs,
+            "differs two bin 2 3 3\n",
+        )?;
+    }
+    Ok(())
+}
