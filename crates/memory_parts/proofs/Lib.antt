@@ -5,3 +5,4 @@ pub mod Mapping
 pub mod RunsAgain
 pub mod PagesAgain
 pub mod Filling
+pub mod Filled

@@ -1,5 +1,6 @@
 //! A memory made of runs and pages.
-ghost use Rattle.std.specs.Prelude.{◌≡◌, map, IfOk, OnOk};
+ghost use Rattle.std.specs.Prelude.{◌≡◌, ◌↔◌, ◌*◌, All, IfOk, IsTrue, OnOk, length, map};
+ghost use Rattle.paged_mem.specs.Memory.{maps};
 ghost use Rattle.std.specs.FinMap as finite;
 ghost use Rattle.state_text.specs.Seen.{page_view};
 ghost use Rattle.memory_parts.specs.Canonical.{filled_on, mapped_runs, ArePlaced};
@@ -25,12 +26,34 @@ pub fn map_runs<R: Ram>(alloc: Global, runs: &[Run]) -> Result<R, OutOfMemory>
     Ok(ram)
 }
 
-/// Writes the bytes of pages.
-pub fn fill_pages<R: Ram>(ram: &mut R, pages: &[Page<'_>]) -> Result<(), StoreRefusal>
+/// Whether all these pages are mapped.
+pub fn are_mapped<R: Ram>(ram: &R, pages: &[Page<'_>]) -> bool
+    ensures { IsTrue result ↔ All (λ page. IsTrue (maps (R.bytes ram.now) (4096 * page.number) 4096)) pages.now }
+{
+    pages
+        .iter()
+        .all(|page| ram.mapped(PAGE * u64::from(page.number), PAGE))
+}
+
+/// Whether all these pages have their 4,096 bytes.
+pub fn are_full(pages: &[Page<'_>]) -> bool
+    ensures { IsTrue result ↔ All (λ page. length page.bytes.now ≡ 4096) pages.now }
+{
+    pages.iter().all(|page| page.bytes.len() as u64 == PAGE)
+}
+
+/// Writes the bytes of pages that are mapped.
+pub fn fill_pages<R: Ram>(ram: &mut R, pages: &[Page<'_>]) -> Result<(), OutOfMemory>
+    requires mapped { All (λ page. IsTrue (maps (R.bytes ram.old) (4096 * page.number) 4096)) pages.now }
+    requires full { All (λ page. length page.bytes.now ≡ 4096) pages.now }
     ensures { OnOk result (R.bytes ram.new ≡ filled_on (R.bytes ram.old) (map page_view pages.now)) }
 {
     for page in pages {
-        ram.write_from(PAGE * u64::from(page.number), page.bytes)?;
+        match ram.write_from(PAGE * u64::from(page.number), page.bytes) {
+            Ok(()) => {}
+            Err(StoreRefusal::OutOfMemory) => return Err(OutOfMemory),
+            Err(StoreRefusal::Unmapped) => unreachable!(),
+        }
     }
     Ok(())
 }
