@@ -2,6 +2,8 @@
 #![tactic(auto)]
 
 #[cfg(test)]
+mod guests;
+#[cfg(test)]
 mod pieces;
 #[cfg(test)]
 mod saves;

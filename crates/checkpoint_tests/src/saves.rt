@@ -1,5 +1,5 @@
-use crate::pieces::*;
 use crate::pieces::Piece::*;
+use crate::pieces::*;
 use crate::states::STATE;
 use save_text::{read, write};
 use state_text::TextRefusal;

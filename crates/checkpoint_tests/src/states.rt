@@ -1,5 +1,5 @@
-use crate::pieces::*;
 use crate::pieces::Piece::*;
+use crate::pieces::*;
 use mem_files::{Access, Mode, Slot};
 use state_text::{TextRefusal, read, write};
 use std::alloc::Global;
@@ -222,7 +222,10 @@ fn fields_are_read_and_written(rt: HostRuntime) -> Result<(), Fail> {
         cursor: 1,
         access,
     };
-    assert_eq!(rt; parts.descriptors.get(3).map(|d| (d.fd, d.slot)), Some((3, open)));
+    assert_eq!(rt;
+        parts.descriptors.get(3).map(|d| (d.fd, d.slot)),
+        Some((3, open))
+    );
     assert_eq!(rt; parts.stream1, b"out".as_slice());
     Ok(())
 }

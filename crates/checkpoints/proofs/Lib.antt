@@ -1,6 +1,5 @@
 pub mod Exactly
 pub mod FileTurns
-pub mod Filled
 pub mod Memories
 pub mod PageCounts
 pub mod Restored

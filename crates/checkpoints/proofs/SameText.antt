@@ -22,7 +22,7 @@ use Rattle.state_text.specs.StateText.{PageText, StateText, after_page, after_ru
 use Rattle.state_text.specs.Spelled.{IsDescriptor, IsFile, IsPage, IsText}
 use Rattle.checkpoints.specs.Checkpoint.{IsInRange, guest_of, lists_in, mapped_of, memory_of, state_of}
 use Rattle.checkpoints.proofs.FileTurns.{paired}
-use Rattle.checkpoints.proofs.Filled.{Alike, maps-alike}
+use Rattle.memory_parts.proofs.Filled.{Alike, maps-alike}
 use Rattle.checkpoints.proofs.Memories.{IsMappedIn, placed, shown}
 
 -- ---- memory

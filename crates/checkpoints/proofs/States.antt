@@ -19,7 +19,7 @@ use Rattle.state_text.specs.StateText.{PageText, StateText, after_page, after_ru
 use Rattle.state_text.specs.Spelled.{IsPage, IsRun, IsText}
 use Rattle.checkpoints.specs.Checkpoint.{IsInRange, IsJoined, guest_of, state_of}
 use Rattle.checkpoints.proofs.FileTurns.{have_text}
-use Rattle.checkpoints.proofs.Filled.{maps-alike}
+use Rattle.memory_parts.proofs.Filled.{maps-alike}
 use Rattle.checkpoints.proofs.Memories.{EndsWithin, IsMappedIn}
 use Rattle.checkpoints.proofs.PageCounts.{few_pages}
 use Rattle.checkpoints.proofs.Turns.{few_listed, few_runs, pages_mapped, pages_shown, runs_alike, runs_placed}

@@ -9,7 +9,7 @@ use Rattle.memory_parts.proofs.Again.{runs_in, runs_out}
 use Rattle.memory_parts.proofs.RunsAgain.{zero_runs_mapped}
 use Rattle.state_text.specs.declared.parts.Run.{Run}
 use Rattle.state_text.specs.StateText.{PageText, after_run, is_page}
-use Rattle.checkpoints.proofs.Filled.{Alike}
+use Rattle.memory_parts.proofs.Filled.{Alike}
 use Rattle.checkpoints.proofs.Memories.{IsMappedIn}
 
 -- ---- runs

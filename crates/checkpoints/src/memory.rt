@@ -1,15 +1,13 @@
 //! The memory that a text says.
-ghost use Rattle.std.specs.Prelude.{◌≡◌, ◌+◌, ◌-◌, ◌*◌, ◌^◌, ◌≤◌, ◌↔◌, All, IsTrue, MatchResult, OnOk, SomeIff, length, map, sum_by};
-ghost use Rattle.paged_mem.specs.Memory.{maps};
-ghost use Rattle.memory_parts.specs.Canonical.{filled_on};
+ghost use Rattle.std.specs.Prelude.{◌≡◌, ◌+◌, ◌-◌, ◌^◌, ◌≤◌, ◌↔◌, All, IsTrue, MatchResult, SomeIff, sum_by};
 ghost use Rattle.state_text.specs.Spelled.{IsText};
-ghost use Rattle.state_text.specs.Seen.{page_view, view};
+ghost use Rattle.state_text.specs.Seen.{view};
 ghost use Rattle.checkpoints.specs.Checkpoint.{IsInMemory, RefusesMemory, memory_of};
 
 use ddc_base::OutOfMemory;
-use memory_parts::map_runs;
-use paged_mem::{PAGE, Ram, StoreRefusal};
-use state_text::{Page, Parts, Run};
+use memory_parts::{are_mapped, fill_pages, map_runs};
+use paged_mem::Ram;
+use state_text::{Parts, Run};
 use std::alloc::Global;
 
 /// How many pages a guest can have: 67,584 beside its heap, and 262,144 of its heap.
@@ -50,7 +48,7 @@ pub fn memory_of<R: Ram>(alloc: Global, parts: &Parts<'_>) -> Result<R, MemoryRe
     if !are_mapped(&ram, &parts.pages) {
         return Err(MemoryRefusal::Range);
     }
-    fill(&mut ram, &parts.pages)?;
+    fill_pages(&mut ram, &parts.pages)?;
     Ok(ram)
 }
 
@@ -81,29 +79,4 @@ fn left_after(runs: &[Run], most: u64) -> Option<u64>
         left -= pages;
     }
     Some(left)
-}
-
-/// Whether all these pages are mapped.
-fn are_mapped<R: Ram>(ram: &R, pages: &[Page<'_>]) -> bool
-    ensures { IsTrue result ↔ All (λ page. IsTrue (maps (R.bytes ram.now) (4096 * page.number) 4096)) pages.now }
-{
-    pages
-        .iter()
-        .all(|page| ram.mapped(PAGE * u64::from(page.number), PAGE))
-}
-
-/// Writes the bytes of pages that are mapped.
-fn fill<R: Ram>(ram: &mut R, pages: &[Page<'_>]) -> Result<(), OutOfMemory>
-    requires mapped { All (λ page. IsTrue (maps (R.bytes ram.old) (4096 * page.number) 4096)) pages.now }
-    requires full { All (λ page. length page.bytes.now ≡ 4096) pages.now }
-    ensures { OnOk result (R.bytes ram.new ≡ filled_on (R.bytes ram.old) (map page_view pages.now)) }
-{
-    for page in pages {
-        match ram.write_from(PAGE * u64::from(page.number), page.bytes) {
-            Ok(()) => {}
-            Err(StoreRefusal::OutOfMemory) => return Err(OutOfMemory),
-            Err(StoreRefusal::Unmapped) => unreachable!(),
-        }
-    }
-    Ok(())
 }

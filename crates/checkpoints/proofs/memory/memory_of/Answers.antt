@@ -22,8 +22,8 @@ returns-then-not-are_mapped g c = λ in_memory.
     let no : false ≡ true = c.if-not-are_mapped.ensures.1 (rw c.deref-4.ensures.value (seen (IsMappedIn made) pages listed)) in
     cc
 
-pub fill-requires-clause-full : goal.fill-requires-clause-full
-fill-requires-clause-full g c = rw c.deref-5.ensures.value (full_pages c.args.parts.now.pages.items c.requires.pages.1)
+pub fill_pages-requires-clause-full : goal.fill_pages-requires-clause-full
+fill_pages-requires-clause-full g c = rw c.deref-5.ensures.value (full_pages c.args.parts.now.pages.items c.requires.pages.1)
 
 pub returns : goal.returns
 returns g c =
@@ -32,11 +32,11 @@ returns g c =
     let is : made ≡ mapped_of (view c.args.parts.now) = c.in_ok-ram.ensures ∙ ap (mapped_runs finite.empty) c.deref-3.ensures.value in
     let mapped : All (λ (page : Page). IsMappedIn made (page_view page)) pages = rw c.deref-4.ensures.value at (c.if-not-are_mapped.ensures.0 refl) in
     let listed : All (IsMappedIn made) (map page_view pages) = All-map (IsMappedIn made) page_view pages mapped in
-    let written : g.R.Ram.bytes c.fill.new.ram ≡ filled_on made (map page_view pages) = c.in_ok-fill.ensures ∙ ap (λ ps. filled_on made (map page_view ps)) c.deref-5.ensures.value in (
+    let written : g.R.Ram.bytes c.fill_pages.new.ram ≡ filled_on made (map page_view pages) = c.in_ok-fill_pages.ensures ∙ ap (λ ps. filled_on made (map page_view ps)) c.deref-5.ensures.value in (
       record {
         within = rw c.deref.ensures.value at (c.if-not-are_within.ensures.0 refl);
         few = rw c.deref-2.ensures.value at (c.if-not-are_few.ensures.0 refl);
         listed = subst (λ (m : Memory). All (IsMappedIn m) (map page_view pages)) is listed;
       },
-      is_made (view c.args.parts.now) made (g.R.Ram.bytes c.fill.new.ram) c.requires (g.met.R.Ram.whole c.in_ok-ram.ram) is listed written,
+      is_made (view c.args.parts.now) made (g.R.Ram.bytes c.fill_pages.new.ram) c.requires (g.met.R.Ram.whole c.in_ok-ram.ram) is listed written,
     )
