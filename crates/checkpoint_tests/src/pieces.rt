@@ -1,4 +1,5 @@
 //! Texts as the fields that they are made of.
+use crate::put_digest;
 use std::alloc::{AllocError, Global};
 
 /// A field of a text.
@@ -30,7 +31,7 @@ fn put(out: &mut Vec<u8>, piece: Piece) -> Result<(), AllocError> {
             out.extend_from_slice(&[0; 4095])?;
             out.extend_from_slice(&[byte])
         }
-        Piece::Digest(byte) => out.extend_from_slice(&[byte; 32]),
+        Piece::Digest(byte) => put_digest(out, byte),
     }
 }
 

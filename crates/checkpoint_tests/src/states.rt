@@ -192,27 +192,49 @@ fn a_byte_behind_the_last_field_is_named(rt: HostRuntime) -> Result<(), Fail> {
 }
 
 #[test]
-fn fields_are_read_and_written(rt: HostRuntime) -> Result<(), Fail> {
+fn numbers_are_read(rt: HostRuntime) -> Result<(), Fail> {
     let text = text_of(rt.alloc(), STATE)?;
     let parts = read(rt.alloc(), &text).ok().ok_or("form")?;
-    assert_eq!(rt; parts.steps, 5);
-    assert_eq!(rt; parts.pc, 0x10000);
+    let x8 = parts.registers[7];
+    assert_eq!(rt; (parts.steps, parts.pc, x8), (5, 0x10000, 8));
     // x8 stands at the offset 80.
     assert_eq!(rt; text.get(80).copied(), Some(8));
-    assert_eq!(rt; parts.registers[7], 8);
-    assert_eq!(rt; parts.heap.first, 0x20000);
-    assert_eq!(rt; parts.heap.now, 0x20010);
-    assert_eq!(rt; parts.heap.limit, 0x1000);
+    let heap = (parts.heap.first, parts.heap.now, parts.heap.limit);
+    assert_eq!(rt; heap, (0x20000, 0x20010, 0x1000));
+    Ok(())
+}
+
+#[test]
+fn runs_and_pages_are_read(rt: HostRuntime) -> Result<(), Fail> {
+    let text = text_of(rt.alloc(), STATE)?;
+    let parts = read(rt.alloc(), &text).ok().ok_or("form")?;
     let runs = parts.runs.get(1).ok_or("runs")?;
     assert_eq!(rt; (runs.first, runs.pages), (18, 3));
     let page = parts.pages.get(1).ok_or("pages")?;
     assert_eq!(rt; page.number, 18);
     assert_eq!(rt; page.bytes.get(4095).copied(), Some(9));
+    Ok(())
+}
+
+#[test]
+fn files_and_streams_are_read(rt: HostRuntime) -> Result<(), Fail> {
+    let text = text_of(rt.alloc(), STATE)?;
+    let parts = read(rt.alloc(), &text).ok().ok_or("form")?;
     let first = parts.files.get(0).ok_or("files")?;
-    assert_eq!(rt; first.name, Some(b"in".as_slice()));
+    let name = first.name.ok_or("name")?;
+    assert_eq!(rt; name, b"in".as_slice());
     assert_eq!(rt; first.content, b"abc".as_slice());
     let second = parts.files.get(1).ok_or("files")?;
     assert_eq!(rt; (second.number, second.name.is_none()), (3, true));
+    assert_eq!(rt; parts.stream1, b"out".as_slice());
+    Ok(())
+}
+
+#[test]
+fn descriptors_are_read(rt: HostRuntime) -> Result<(), Fail> {
+    let text = text_of(rt.alloc(), STATE)?;
+    let parts = read(rt.alloc(), &text).ok().ok_or("form")?;
+    let held = parts.descriptors.get(3).ok_or("descriptors")?;
     let access = Access {
         mode: Mode::Read,
         appends: true,
@@ -222,11 +244,8 @@ fn fields_are_read_and_written(rt: HostRuntime) -> Result<(), Fail> {
         cursor: 1,
         access,
     };
-    assert_eq!(rt;
-        parts.descriptors.get(3).map(|d| (d.fd, d.slot)),
-        Some((3, open))
-    );
-    assert_eq!(rt; parts.stream1, b"out".as_slice());
+    assert_eq!(rt; held.fd, 3);
+    assert_eq!(rt; held.slot, open);
     Ok(())
 }
 

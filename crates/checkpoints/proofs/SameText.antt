@@ -1,5 +1,6 @@
 -- A text that says a guest is that guest's text.
-use Rattle.std.proofs.Common.{◌≡◌, ℕ, ◌+◌, ◌*◌, ◌^◌, ◌<◌, ◌≤◌, ◌/◌, ◌⊎◌, Bool, true, false, cond, Option, None, Some, inl, inr, List, [], ◌∷◌, length, map, All, is_some, refl, sym, ap, ◌∙◌, arith}
+use Rattle.std.proofs.Common.{◌≡◌, ℕ, ◌+◌, ◌*◌, ◌^◌, ◌<◌, ◌≤◌, ◌/◌, ◌⊎◌, Bool, true, false, cond, Option, None, Some, inl, inr, List, [], ◌∷◌, length, map, All, is_some, refl, sym, ap, subst, ◌∙◌, arith}
+use Rattle.std.specs.Prelude.{sum_by}
 use Rattle.std.specs.FinMap as finite
 use Rattle.std.specs.FinMap.Entries.{below_all}
 use Rattle.std.specs.Ordering.{is_lt, nat_cmp}
@@ -23,7 +24,9 @@ use Rattle.state_text.specs.Spelled.{IsDescriptor, IsFile, IsPage, IsText}
 use Rattle.checkpoints.specs.Checkpoint.{IsInRange, guest_of, lists_in, mapped_of, memory_of, state_of}
 use Rattle.checkpoints.proofs.FileTurns.{paired}
 use Rattle.memory_parts.proofs.Filled.{Alike, maps-alike}
-use Rattle.checkpoints.proofs.Memories.{IsMappedIn, placed, shown}
+use Rattle.checkpoints.proofs.Memories.{EndsWithin, IsMappedIn, placed, shown}
+use Rattle.checkpoints.proofs.PageCounts.{few_pages}
+use Rattle.guest_run.specs.Valid.{Fits}
 
 -- ---- memory
 
@@ -94,12 +97,17 @@ whole_runs m (run ∷ runs) least whole turn =
     whole_runs (with_bytes m (4096 * run.first) (zeros (4096 * run.pages))) runs (after_run run)
     (whole-mapped m (4096 * run.first) (zeros (4096 * run.pages)) whole (omega arith) (omega arith) (omega arith) (zero_bytes (4096 * run.pages))) turn.1
 
+-- the runs are those of the memory that the text says
+said_runs : (s : StateText) → IsText s → All EndsWithin s.runs → All (IsMappedIn (mapped_of s)) s.pages → runs_of (memory_of s) ≡ s.runs
+said_runs s text within listed =
+    runs_same (memory_of s) (mapped_of s) (filled_alike (mapped_of s) s.pages 0 text.pages.1 listed) ∙ same_runs_again s.runs (placed s.runs 0 text.runs.1 within)
+
 pub same_text : (s : StateText) → IsText s → IsInRange s → state_of (guest_of s) ≡ s
 unfolding state_of guest_of
 same_text s text range =
     let turn = placed s.runs 0 text.runs.1 range.memory.within in
     let whole = whole_runs finite.empty s.runs 0 no_memory turn in
-    let runs : runs_of (memory_of s) ≡ s.runs = runs_same (memory_of s) (mapped_of s) (filled_alike (mapped_of s) s.pages 0 text.pages.1 range.memory.listed) ∙ same_runs_again s.runs turn in
+    let runs : runs_of (memory_of s) ≡ s.runs = said_runs s text range.memory.within range.memory.listed in
     let pages : pages_of (memory_of s) ≡ s.pages = same_pages_again s.runs s.pages (shown (mapped_of s) s.pages 0 whole text.pages.1 range.memory.listed) in
     let files : lists_of (world_of (lists_in s)) ≡ lists_in s = same_lists (lists_in s) (ordered s text) range.files in
     λ i. record {
@@ -114,3 +122,7 @@ same_text s text range =
       stream1 = s.stream1;
       stream2 = s.stream2;
     }
+
+pub few_in_text : (s : StateText) → IsText s → All EndsWithin s.runs → All (IsMappedIn (mapped_of s)) s.pages → Fits (memory_of s) s.heap → sum_by (λ (run : Run). run.pages) s.runs ≤ 329_728
+few_in_text s text within listed fits =
+    subst (λ (runs : List Run). sum_by (λ (run : Run). run.pages) runs ≤ 329_728) (said_runs s text within listed) (few_pages (memory_of s) s.heap fits)

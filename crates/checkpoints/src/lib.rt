@@ -3,6 +3,7 @@
 //! docs/reference/save.md has the rules for a reader, and specs/Checkpoint.antt the same for the prover.
 #![tactic(auto)]
 
+pub mod laws;
 mod memory;
 mod reading;
 mod restoring;
