@@ -72,16 +72,17 @@ same_said text s t a b = let both : ◌≡◌ {A = Result SaveText ℕ} (Ok s) (
 pub is_place : (recipe : Said) (inputs : List (List ℕ)) (text : List ℕ) (result : Result Position SaveRefusal) → IfOk result (λ p. IsValid p.at) → Resumes recipe inputs text result → IfOk result (λ p. IsPosition recipe p)
 unfolding guest_of
 is_place recipe inputs text (Ok p) valid (save, formed_is, is, (stage, stages, place), found) =
-    subst (IsPosition recipe) (sym found)
-    (stage,
-    stages,
-    record {
-      left = place.left;
-      within = place.within;
-      heap = place.heap;
-      valid = subst (λ (q : Position). IsValid q.at) found valid;
-      done = place.done;
-    })
+    subst (IsPosition recipe) (sym found) (
+      stage,
+      stages,
+      record {
+        left = place.left;
+        within = place.within;
+        heap = place.heap;
+        valid = subst (λ (q : Position). IsValid q.at) found valid;
+        done = place.done;
+      },
+    )
 is_place recipe inputs text (Err refusal) valid resumes = tt
 
 pub is_found : (recipe : Said) (inputs : List (List ℕ)) (text : List ℕ) (result : Result Position SaveRefusal) → AreBytes text → Resumes recipe inputs text result
@@ -100,17 +101,18 @@ saves_its_recipe recipe inputs p = record { same_recipe = refl; same_inputs = re
 saves_a_place : (recipe : Said) (inputs : List (List ℕ)) (p : Position) → IsPosition recipe p → IsPlace recipe (save_of recipe inputs p)
 unfolding state_of
 saves_a_place recipe inputs p (stage, stages, ok) =
-    let same : map finished_of (map stage_of p.done) ≡ p.done = same_done p.done in
-    (stage,
-    stages,
-    record {
-      left = ap (todo recipe) same ∙ ok.left;
-      done = subst (AreDone recipe) (sym same) ok.done;
-      range = in_range p.at ok.valid;
-      joined = joined p.at ok.valid;
-      within = ok.within;
-      heap = ok.heap;
-    })
+    let same : map finished_of (map stage_of p.done) ≡ p.done = same_done p.done in (
+      stage,
+      stages,
+      record {
+        left = ap (todo recipe) same ∙ ok.left;
+        done = subst (AreDone recipe) (sym same) ok.done;
+        range = in_range p.at ok.valid;
+        joined = joined p.at ok.valid;
+        within = ok.within;
+        heap = ok.heap;
+      },
+    )
 
 formed_of : (recipe : Said) (inputs : List (List ℕ)) (text : List ℕ) (p : Position) → kept.IsRecipe recipe → IsInputs recipe inputs → IsPosition recipe p → text ≡ text_of (save_of recipe inputs p)
     → formed text ≡ Ok (save_of recipe inputs p)

@@ -6,7 +6,7 @@ ghost use Rattle.guest_run.specs.Valid.{IsValid};
 ghost use Rattle.recipe.specs.Kept.{IsRecipe};
 ghost use Rattle.save_text.specs.Spelled.{IsText, text_of};
 ghost use Rattle.save_text.specs.Seen.{stage_view, view};
-ghost use Rattle.wheeler.specs.Positions.{Position};
+ghost use Rattle.wheeler.specs.Positions.{Position, at};
 ghost use Rattle.wheeler.specs.Valid.{IsInputs, IsPosition};
 
 use crate::judging::are_done;
@@ -34,13 +34,11 @@ pub enum SaveRefusal {
     OutOfMemory,
 }
 
-/// Where an audit stands.
+/// Where an audit stands in a stage.
 #[derive(Debug, Drop)]
 pub struct Resumed {
-    /// The stages that are done, in the recipe's order.
-    pub done: Vec<Done>,
-    /// The present stage's guest.
-    pub guest: Guest<RunRam>,
+    done: Vec<Done>,
+    guest: Guest<RunRam>,
 }
 
 impl Model for Resumed {
@@ -52,6 +50,16 @@ impl Model for Resumed {
     ghost coded = { position_code };
 
     ghost view = { λ r. at r.done.items r.guest };
+}
+
+impl Resumed {
+    /// The stages that are done, in the recipe's order, and the present stage's guest.
+    pub fn into_parts(self) -> (Vec<Done>, Guest<RunRam>)
+        ensures { at result.0.items result.1 ≡ self }
+    {
+        let Resumed { done, guest } = self;
+        (done, guest)
+    }
 }
 
 /// Where the audit of this recipe and these inputs stands by a save of it.
@@ -121,9 +129,7 @@ fn are_digests(parts: &[InputPart], inputs: &[Bytes]) -> bool
         },
         [part, more @ ..] => match inputs {
             [] => false,
-            [input, rest @ ..] => {
-                is_digest_of(part, input) && are_digests(more, rest)
-            }
+            [input, rest @ ..] => { is_digest_of(part, input) && are_digests(more, rest) }
         },
     }
 }

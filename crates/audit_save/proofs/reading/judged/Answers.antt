@@ -10,8 +10,8 @@ returns-then-not-is_of-clause-resumes c = (
   view c.in-Ok.parts,
   c.in-Ok.ensures.exact,
   λ is.
-    let no : false ≡ true = c.if-not-is_of.ensures.1 (is.same_recipe ∙ sym c.digest-digest.ensures.value, are_digests c.in-Ok.parts.inputs.items c.args.inputs.now is.same_inputs) in
-    cc,
+      let no : false ≡ true = c.if-not-is_of.ensures.1 (is.same_recipe ∙ sym c.digest-digest.ensures.value, are_digests c.in-Ok.parts.inputs.items c.args.inputs.now is.same_inputs) in
+      cc,
 )
 
 pub returns-in-Ok-place_of-clause-resumes : goal.returns-in-Ok-place_of-clause-resumes
