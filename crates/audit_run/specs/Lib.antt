@@ -1,3 +1,4 @@
 pub mod Seen
+pub mod Saved
 pub mod Advances
 pub mod Inside

@@ -1,16 +1,21 @@
 //! The audit as callers see it.
 ghost use Rattle.audit_run.specs.Advances.{Advances};
+ghost use Rattle.audit_run.specs.Saved.{IsOn, IsResumed, IsResumedAt, IsSave, ResumesAudit};
 ghost use Rattle.audit_run.specs.Seen.{place_of, report_of, setting_of};
+ghost use Rattle.audit_save.specs.Saves.{save_of};
 ghost use Rattle.report.specs.Reports.{IsReport};
+ghost use Rattle.save_text.specs.Spelled.{text_of};
 ghost use Rattle.std.specs.Option.{option_copied};
 ghost use Rattle.std.specs.Prelude.{◌≡◌, ◌<◌, ◌≤◌, ◌+◌, length, None, IfOk, IfSome, option_map};
-ghost use Rattle.wheeler.specs.Valid.{IsInputs};
+ghost use Rattle.wheeler.specs.Positions.{Position};
+ghost use Rattle.wheeler.specs.Valid.{IsInputs, IsPosition};
 
 use crate::advance::advance_parts;
 use crate::place::{Place, Progress};
 use crate::setting::setting_of;
+use audit_save::SaveRefusal;
 use audit_stage::Done;
-use ddc_base::OutOfMemory;
+use ddc_base::{Bytes, OutOfMemory};
 use guest_run::RunBox;
 use recipe::{Inputs, Recipe};
 use report::Report;
@@ -116,6 +121,60 @@ impl Audit {
                     self.done.as_slice(),
                 )
             }
+        }
+    }
+
+    /// The one text of the position: docs/reference/save.md has its form. This is a condition on callers: the present stage has started,
+    /// which holds after `Paused` and after `resume`.
+    pub fn save(&self) -> Result<Bytes, OutOfMemory>
+        requires { IsOn self.now.stands }
+        ensures { IfOk result (IsSave self.now.recipe self.now.inputs self.now.stands) }
+    {
+        let alloc = self.alloc;
+        match &self.place {
+            Place::Ready => unreachable!(),
+            Place::Over(_) => unreachable!(),
+            Place::Running(guest) => audit_save::write(
+                alloc,
+                &self.recipe,
+                self.inputs.as_slice(),
+                self.done.as_slice(),
+                guest,
+            ),
+        }
+    }
+
+    /// The audit of this recipe and these inputs at the position that a save says, whether an audit was ever there or not. Its answer is
+    /// that of the position's continuation (`wheeler::laws`).
+    ///
+    /// The form is judged first, then the digests, then whether it is a position.
+    pub fn resume(
+        alloc: Global,
+        recipe: Recipe,
+        inputs: Inputs,
+        text: &[u8],
+    ) -> Result<Audit, SaveRefusal>
+        requires { IsInputs recipe inputs }
+        // What is resumed is an audit of this recipe and these inputs at a position, and the text is its save.
+        ensures found { IfOk result (λ audit. IsResumed recipe inputs text.now audit) }
+        // The save of every position of this recipe and these inputs, reached or not, is resumed there, unless memory runs out.
+        ensures only { (p : Position) → IsPosition recipe p → text.now ≡ text_of (save_of recipe inputs p) → IsResumedAt recipe inputs p result }
+        // When each refusal comes.
+        ensures exact { ResumesAudit recipe inputs text.now result }
+    {
+        match audit_save::read(alloc, &recipe, inputs.as_slice(), text) {
+            Ok(place) => {
+                let (done, guest) = place.into_parts();
+                let place = Place::Running(guest);
+                Ok(Audit {
+                    recipe,
+                    inputs,
+                    done,
+                    place,
+                    alloc,
+                })
+            }
+            Err(refusal) => Err(refusal),
         }
     }
 

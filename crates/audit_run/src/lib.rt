@@ -12,4 +12,5 @@ mod stage_run;
 mod stretch;
 
 pub use audit::Audit;
+pub use audit_save::SaveRefusal;
 pub use place::Progress;

@@ -1,6 +1,7 @@
 ghost use Rattle.std.specs.Prelude.{◌≡◌};
 ghost use Rattle.wheeler.specs.Stages.{mark_of};
 
+use crate::marks::mark_of;
 use report::Mark;
 use std::marker::Model;
 use wheeler::Finished;
@@ -30,6 +31,14 @@ impl Done {
         requires { mark ≡ mark_of finished.made }
         ensures { result ≡ finished }
     {
+        Done { finished, mark }
+    }
+
+    /// A stage that is done, of what is kept of it.
+    pub fn of(finished: Finished) -> Done
+        ensures { result ≡ finished }
+    {
+        let mark = mark_of(finished.made.as_slice());
         Done { finished, mark }
     }
 

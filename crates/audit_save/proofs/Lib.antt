@@ -1,0 +1,4 @@
+mod Judged
+mod Written
+mod Exactly
+mod Placed

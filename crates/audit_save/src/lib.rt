@@ -1,0 +1,11 @@
+//! The save of an audit that stands in a stage, and the place that a save says.
+//!
+//! docs/reference/save.md has the rules for a reader, and specs/Saves.antt the same for the prover.
+#![tactic(auto)]
+
+mod judging;
+mod reading;
+mod writing;
+
+pub use reading::{Resumed, SaveRefusal, read};
+pub use writing::write;
