@@ -21,7 +21,7 @@ use Rattle.wheeler.specs.Valid.{AreDone, IsInputs, IsPosition}
 use Rattle.audit_save.specs.declared.reading.SaveRefusal.{SaveRefusal}
 use Rattle.audit_save.specs.declared.reading.SaveRefusal.TheVariants.{Form, OtherRecipe, State, OutOfMemory}
 use Rattle.audit_save.specs.Saves.{IsOf, IsPlace, IsResumedAs, Resumes, digest_of, done_in, finished_of, position_of, save_of, stage_of}
-use Rattle.audit_save.specs.Seen.{AreDigests}
+use Rattle.audit_save.specs.Inside.Seen.{AreDigests}
 use Rattle.audit_save.proofs.Written.{has_text}
 
 -- ---- inputs

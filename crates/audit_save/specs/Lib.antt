@@ -1,2 +1,2 @@
 pub mod Saves
-pub mod Seen
+pub mod Inside

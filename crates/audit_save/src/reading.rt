@@ -1,7 +1,7 @@
 //! The place in an audit that a text says.
 ghost use Rattle.std.specs.Prelude.{◌≡◌, ◌↔◌, IfOk, IsTrue, map};
 ghost use Rattle.audit_save.specs.Saves.{IsResumedAs, Resumes, Stands, digest_of, finished_of, save_of};
-ghost use Rattle.audit_save.specs.Seen.{AreDigests};
+ghost use Rattle.audit_save.specs.Inside.Seen.{AreDigests};
 ghost use Rattle.guest_run.specs.Valid.{IsValid};
 ghost use Rattle.recipe.specs.Kept.{IsRecipe};
 ghost use Rattle.save_text.specs.Spelled.{IsText, text_of};
@@ -42,7 +42,7 @@ pub struct Resumed {
 }
 
 impl Model for Resumed {
-    ghost use Rattle.audit_save.specs.Seen.{position_code};
+    ghost use Rattle.audit_save.specs.Inside.Seen.{position_code};
     ghost use Rattle.wheeler.specs.Positions.{Position, at};
 
     ghost Value = { Position };

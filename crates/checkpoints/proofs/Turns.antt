@@ -4,7 +4,8 @@ use Rattle.std.specs.FinMap as finite
 use Rattle.std.proofs.lemmas.List.Elements.{All-cons, All-nil}
 use Rattle.paged_mem.specs.Memory.{IsWhole, Memory, bytes_at}
 use Rattle.paged_mem.proofs.Maps.{length_of_bytes_at}
-use Rattle.memory_parts.specs.Canonical.{ArePlaced, AreShown, is_mapped, listed, mapped_runs, pages_from, pages_of, runs_from, runs_of, with_page, zero_runs}
+use Rattle.memory_parts.specs.Canonical.{ArePlaced, AreShown, is_mapped, listed, mapped_runs, pages_from, pages_of, runs_from, runs_of, with_page}
+use Rattle.memory_parts.specs.Inside.Zeros.{zero_runs}
 use Rattle.memory_parts.proofs.Again.{runs_in, runs_out}
 use Rattle.memory_parts.proofs.RunsAgain.{zero_runs_mapped}
 use Rattle.state_text.specs.declared.parts.Run.{Run}

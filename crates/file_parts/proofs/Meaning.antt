@@ -14,7 +14,7 @@ use Rattle.mem_files.specs.Limits.{most_content, most_names, most_total}
 use Rattle.mem_files.specs.Sound.{AreBytes, IsSlotAt}
 use Rattle.mem_files.specs.Outputs.{IsContent}
 use Rattle.mem_files.specs.Lists.{ListedFile, FileLists, named, with_name, IsName, is_listed, is_used, AreInRange, AreJoined}
-use Rattle.file_parts.specs.Judged.{is_good_name, is_good_file, is_slot_at, is_good_slot, is_called, is_taken, have_own_names, size, in_range, are_joined}
+use Rattle.file_parts.specs.Inside.Judged.{is_good_name, is_good_file, is_slot_at, is_good_slot, is_called, is_taken, have_own_names, size, in_range, are_joined}
 use Rattle.file_parts.specs.Views.{AreParts, HasBytes}
 
 first : (a b : Bool) → (a && b) ≡ true → a ≡ true

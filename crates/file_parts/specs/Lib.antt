@@ -1,3 +1,3 @@
 pub mod Views
-pub mod Judged
 pub mod Restored
+pub mod Inside

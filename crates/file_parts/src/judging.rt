@@ -5,7 +5,7 @@ ghost use Rattle.std.specs.Option.{option_copied};
 ghost use Rattle.mem_files.specs.Limits.{most_content, most_names, most_total};
 ghost use Rattle.mem_files.specs.Lists.{listed, is_listed, is_used};
 ghost use Rattle.mem_files.specs.World.{is_of};
-ghost use Rattle.file_parts.specs.Judged.{content_size, stream_size, is_good_name, is_good_file, is_good_slot, is_called, is_taken, have_own_names, in_range, are_joined};
+ghost use Rattle.file_parts.specs.Inside.Judged.{content_size, stream_size, is_good_name, is_good_file, is_good_slot, is_called, is_taken, have_own_names, in_range, are_joined};
 ghost use Rattle.file_parts.specs.Views.{view_of};
 ghost use Rattle.std.specs.Borrow.{Bor};
 
@@ -210,7 +210,7 @@ fn are_all_used(files: &[FileView<'_>], slots: &[(u32, Slot)]) -> bool
 }
 
 /// Do counts and ranges allow these?
-#[tactic(auto, using(crate::proofs::Tests::all_map, crate::proofs::Tests::sum_map, crate::proofs::Tests::names_count), unfolding(crate::specs::Judged::in_range))]
+#[tactic(auto, using(crate::proofs::Tests::all_map, crate::proofs::Tests::sum_map, crate::proofs::Tests::names_count), unfolding(crate::specs::Inside::Judged::in_range))]
 pub(crate) fn are_in_range(files: &[FileView<'_>], slots: &[(u32, Slot)], streams: &[&[u8]]) -> bool
     ensures { result ≡ in_range (view_of files.now slots.now streams.now) }
 {
@@ -223,7 +223,7 @@ pub(crate) fn are_in_range(files: &[FileView<'_>], slots: &[(u32, Slot)], stream
 }
 
 /// Do references?
-#[tactic(auto, using(crate::proofs::Tests::all_map), unfolding(crate::specs::Judged::are_joined))]
+#[tactic(auto, using(crate::proofs::Tests::all_map), unfolding(crate::specs::Inside::Judged::are_joined))]
 pub(crate) fn are_joined(files: &[FileView<'_>], slots: &[(u32, Slot)]) -> bool
     ensures { (streams : List (Bor (List ℕ))) → result ≡ are_joined (view_of files.now slots.now streams) }
 {

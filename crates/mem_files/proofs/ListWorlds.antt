@@ -13,7 +13,8 @@ use Rattle.std.proofs.lemmas.List.Sums.{sum_by-append, sum_by-cons}
 use Rattle.mem_files.specs.declared.view.FileView.{FileView}
 use Rattle.mem_files.specs.Names.{bytes_cmp}
 use Rattle.mem_files.specs.World.{World, total, content_of}
-use Rattle.mem_files.specs.Lists.{ListedFile, listed, named, with_name, contents, with_title, with_listed, world_of}
+use Rattle.mem_files.specs.Lists.{ListedFile, listed, named, with_name, contents, world_of}
+use Rattle.mem_files.specs.Inside.Listing.{with_title, with_listed}
 use Rattle.mem_files.proofs.Directory.{bytes_cmp-IsAntisymmetric}
 use Rattle.mem_files.proofs.Maps.{both, head_above, rest_above, find_apart}
 use Rattle.mem_files.proofs.Totals.{total-insert}

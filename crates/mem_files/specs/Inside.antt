@@ -6,3 +6,4 @@ pub mod Cells
 pub mod Numbers
 pub mod Counts
 pub mod Keys
+pub mod Listing

@@ -77,17 +77,6 @@ named (file ∷ files) = with_name file.name file.number (named files)
 abbrev pub contents : List ListedFile → List (ℕ × List ℕ)
 contents files = map (λ file. (file.number, file.content)) files
 
--- a file more, under a number of its own
-abbrev pub with_title : fin.FinMap bytes_cmp ℕ → Option (List ℕ) → ℕ → fin.FinMap bytes_cmp ℕ
-with_title names None number = names
-with_title names (Some name) number = fin.insert names name number
-
-abbrev pub with_listed : World → ListedFile → World
-with_listed w file = record w {
-  names = with_title w.names file.name file.number;
-  files = fin.insert w.files file.number file.content;
-}
-
 abbrev pub world_of : FileLists → World
 world_of lists = record {
   names = fin.from_entries (named lists.files);

@@ -7,7 +7,8 @@ ghost use Rattle.std.specs.FinMap as map;
 ghost use Rattle.mem_files.specs.Names.{bytes_cmp};
 ghost use Rattle.mem_files.specs.World.{total};
 ghost use Rattle.mem_files.specs.Calls.{bare_world};
-ghost use Rattle.mem_files.specs.Lists.{listed, named, contents, with_listed, world_of, lists_from, AreOrdered, AreInRange};
+ghost use Rattle.mem_files.specs.Lists.{listed, named, contents, world_of, lists_from, AreOrdered, AreInRange};
+ghost use Rattle.mem_files.specs.Inside.Listing.{with_listed};
 
 use crate::table::Table;
 use crate::{FileView, MAX_NAME, MAX_NAMES, MAX_SLOTS, Slot};

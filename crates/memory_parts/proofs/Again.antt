@@ -11,7 +11,8 @@ use Rattle.paged_mem.proofs.Mapped.{length-zeros}
 use Rattle.paged_mem.proofs.MemoryLaws.{get-zeros, get-past}
 use Rattle.state_text.specs.declared.parts.Run.{Run}
 use Rattle.state_text.specs.StateText.{PageText, is_page}
-use Rattle.memory_parts.specs.Canonical.{is_mapped, with_page, runs_from, runs_of, listed, pages_from, pages_of, zero_runs, filled, memory_from}
+use Rattle.memory_parts.specs.Canonical.{is_mapped, with_page, runs_from, runs_of, listed, pages_from, pages_of, filled}
+use Rattle.memory_parts.specs.Inside.Zeros.{zero_runs, memory_from}
 
 pub zero_in : (m : Memory) (first pages a : ℕ) → first ≤ a / 4096 → a / 4096 < first + pages → get (with_bytes m (4096 * first) (zeros (4096 * pages))) a ≡ Some 0
 zero_in m first pages a from to = get-zeros m (4096 * first) (4096 * pages) a (omega arith) (omega arith)

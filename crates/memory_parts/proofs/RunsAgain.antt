@@ -8,7 +8,8 @@ use Rattle.paged_mem.proofs.Maps.{same_memory}
 use Rattle.paged_mem.specs.Memory.{Memory, with_bytes, zeros}
 use Rattle.state_text.specs.declared.parts.Run.{Run}
 use Rattle.state_text.specs.StateText.{after_run}
-use Rattle.memory_parts.specs.Canonical.{is_mapped, runs_from, runs_of, mapped_runs, zero_runs, in_run, in_runs, ArePlaced}
+use Rattle.memory_parts.specs.Canonical.{is_mapped, runs_from, runs_of, mapped_runs, in_run, in_runs, ArePlaced}
+use Rattle.memory_parts.specs.Inside.Zeros.{zero_runs}
 use Rattle.memory_parts.proofs.RunsFound.{same_runs, passed, in_one, run_of}
 use Rattle.memory_parts.proofs.Again.{zero_in, zero_out}
 

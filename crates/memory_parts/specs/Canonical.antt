@@ -36,21 +36,15 @@ pages_of m = pages_from m 0 (2 ^ 26)
 
 -- ---- the memory that runs and pages say
 
-unfoldable pub zero_runs : List Run → Memory
-zero_runs [] = empty
-zero_runs (run ∷ runs) = with_bytes (zero_runs runs) (4096 * run.first) (zeros (4096 * run.pages))
-
-unfoldable pub filled : Memory → List PageText → Memory
-filled m [] = m
-filled m (page ∷ pages) = with_bytes (filled m pages) (4096 * page.number) page.bytes
-
-abbrev pub memory_from : List Run → List PageText → Memory
-memory_from runs pages = filled (zero_runs runs) pages
-
--- the same, in the order in which they are done
+-- the memory with these runs mapped one after the other, all zeros
 unfoldable pub mapped_runs : Memory → List Run → Memory
 mapped_runs m [] = m
 mapped_runs m (run ∷ runs) = mapped_runs (with_bytes m (4096 * run.first) (zeros (4096 * run.pages))) runs
+
+-- the memory with these pages written over it
+unfoldable pub filled : Memory → List PageText → Memory
+filled m [] = m
+filled m (page ∷ pages) = with_bytes (filled m pages) (4096 * page.number) page.bytes
 
 -- a run behind the earlier ones, below the end of memory
 pub record IsPlaced (least : ℕ) (run : Run) : Type 0 where

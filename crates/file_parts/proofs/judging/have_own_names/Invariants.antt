@@ -1,6 +1,6 @@
 use Rattle.std.proofs.Common.{◌≡◌, length, map}
 use Rattle.mem_files.specs.Lists.{listed}
-use Rattle.file_parts.specs.Judged.{have_own_names}
+use Rattle.file_parts.specs.Inside.Judged.{have_own_names}
 use Rattle.file_parts.proofs.judging.have_own_names.Given as goal
 
 abbrev pub invariant-loop-left : goal.invariant-loop-left

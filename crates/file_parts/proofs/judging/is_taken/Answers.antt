@@ -1,7 +1,7 @@
 use Rattle.std.proofs.Common.{◌∙◌, sym, ap, map}
 use Rattle.std.specs.Option.{option_copied}
 use Rattle.mem_files.specs.Lists.{listed}
-use Rattle.file_parts.specs.Judged.{is_called, is_taken}
+use Rattle.file_parts.specs.Inside.Judged.{is_called, is_taken}
 use Rattle.file_parts.proofs.Tests.{any_map}
 use Rattle.file_parts.proofs.judging.is_taken.Goals as goal
 

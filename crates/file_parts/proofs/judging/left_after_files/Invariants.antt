@@ -1,5 +1,5 @@
 use Rattle.std.proofs.Common.{◌≡◌, ◌+◌, drop, sum_by}
-use Rattle.file_parts.specs.Judged.{content_size}
+use Rattle.file_parts.specs.Inside.Judged.{content_size}
 use Rattle.file_parts.proofs.judging.left_after_files.Given as goal
 
 abbrev pub invariant-loop-file : goal.invariant-loop-file

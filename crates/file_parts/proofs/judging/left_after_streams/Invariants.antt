@@ -1,5 +1,5 @@
 use Rattle.std.proofs.Common.{◌≡◌, ◌+◌, drop, sum_by}
-use Rattle.file_parts.specs.Judged.{stream_size}
+use Rattle.file_parts.specs.Inside.Judged.{stream_size}
 use Rattle.file_parts.proofs.judging.left_after_streams.Given as goal
 
 abbrev pub invariant-loop-stream : goal.invariant-loop-stream

@@ -1,6 +1,6 @@
 use Rattle.std.proofs.Common.{◌≡◌, ◌∙◌, sym, subst}
 use Rattle.mem_files.specs.Lists.{FileLists, AreInRange}
-use Rattle.file_parts.specs.Judged.{in_range}
+use Rattle.file_parts.specs.Inside.Judged.{in_range}
 use Rattle.file_parts.specs.Views.{view_of}
 use Rattle.file_parts.proofs.Meaning.{in_range-says, range-passes}
 use Rattle.file_parts.proofs.parts.FileParts.is_in_range.Goals as goal

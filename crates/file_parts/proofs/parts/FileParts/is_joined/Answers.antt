@@ -1,6 +1,6 @@
 use Rattle.std.proofs.Common.{◌≡◌, ◌∙◌, sym, subst}
 use Rattle.mem_files.specs.Lists.{FileLists, AreJoined}
-use Rattle.file_parts.specs.Judged.{are_joined}
+use Rattle.file_parts.specs.Inside.Judged.{are_joined}
 use Rattle.file_parts.specs.Views.{view_of}
 use Rattle.file_parts.proofs.Meaning.{joined-says, joined-passes}
 use Rattle.file_parts.proofs.parts.FileParts.is_joined.Goals as goal

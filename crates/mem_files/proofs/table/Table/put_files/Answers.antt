@@ -2,7 +2,8 @@ use Rattle.std.proofs.Common.{ap, sym, ◌∙◌, ◌+◌, ◌≡◌, ◌<◌, �
 use Rattle.std.specs.FinMap as map
 use Rattle.mem_files.specs.World.{World, total}
 use Rattle.mem_files.specs.declared.view.FileView.{FileView}
-use Rattle.mem_files.specs.Lists.{listed, with_listed}
+use Rattle.mem_files.specs.Lists.{listed}
+use Rattle.mem_files.specs.Inside.Listing.{with_listed}
 use Rattle.mem_files.proofs.First.{no_bytes}
 use Rattle.mem_files.proofs.ListWorlds.{of_files, size_of, if_some, next_unused, next_absent, next_holds, next_named, next_size, next_sum, next_world, next_total}
 use Rattle.mem_files.proofs.table.Table.put_files.Goals as goal

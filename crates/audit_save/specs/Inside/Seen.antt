@@ -1,4 +1,4 @@
--- What serves the code's split.
+-- How a position is stored, and digests that stand beside inputs.
 use Rattle.std.specs.Prelude.{◌≡◌, ℕ, List, [], ◌∷◌, refl}
 use Rattle.std.specs.Coded.{Coded, code_by, coded×, coded_list}
 use Rattle.guest_run.specs.State.{GuestState, guest_code}

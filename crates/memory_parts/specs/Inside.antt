@@ -1,0 +1,2 @@
+-- What serves the proofs. No promise rests on this file being read.
+pub mod Zeros
