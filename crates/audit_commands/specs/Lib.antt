@@ -1,4 +1,3 @@
-pub mod Show
 pub mod Texts
 pub mod Audit
 pub mod Inside

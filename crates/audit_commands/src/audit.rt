@@ -4,13 +4,15 @@ ghost use Rattle.ddc_base.specs.Outside.{IsFileName};
 ghost use Rattle.recipe.specs.Kept.{IsRecipe};
 ghost use Rattle.report.specs.Reports.{IsReport};
 ghost use Rattle.wheeler.specs.Bench.{bench};
+ghost use Rattle.wheeler.specs.declared.answer.Answer.{Answer as Outcome};
+ghost use Rattle.wheeler.specs.Positions.{Over};
 ghost use Rattle.wheeler.specs.Valid.{IsInputs};
 ghost use Rattle.command_plan.specs.declared.status.Status.TheVariants.{RunFailed, CheckFailed};
 ghost use Rattle.command_plan.specs.Performs.{Performs};
 ghost use Rattle.command_plan.specs.Plan.{answers};
 ghost use Rattle.command_plan.specs.Steps.{Says};
 ghost use Rattle.audit_commands.specs.Audit.{audited, audit_files, audit_plan, audit_recipe, compared_status, completed};
-ghost use Rattle.audit_commands.specs.Inside.Finishing.{Finishes};
+ghost use Rattle.audit_commands.specs.Inside.Finishing.{Comes};
 ghost use Rattle.audit_commands.specs.Texts.{compared_line, stage_name, run_failed_line, check_failed_line};
 
 use crate::inputs::{fetch_inputs, fetch_recipe};
@@ -93,17 +95,17 @@ fn audit_inputs<S: Shelf>(
 }
 
 /// Saves the report of an audit that is over, or says which stage is not done.
-fn conclude<S: Shelf>(
+pub fn conclude<S: Shelf>(
     alloc: Global,
     audit: &Audit,
     progress: Progress,
     report: &str,
     shelf: &mut S,
 ) -> Result<Answer, Stop>
-    requires over { Finishes audit.now.recipe audit.now.inputs progress audit.now.stands }
+    requires over { (answer : Outcome) × Comes (Over answer) progress audit.now.stands }
     requires report { IsFileName report.now }
-    ensures { Performs (audited audit.now.recipe report.now (bench audit.now.recipe audit.now.inputs))
-        (S.state shelf.old) (S.state shelf.new) result }
+    ensures { (answer : Outcome) → Comes (Over answer) progress audit.now.stands
+        → Performs (audited audit.now.recipe report.now answer) (S.state shelf.old) (S.state shelf.new) result }
 {
     match progress {
         Progress::Equal | Progress::Differs => match audit.report() {
@@ -156,7 +158,7 @@ fn check_failed(
 fn finish(audit: &mut Audit) -> Progress
     requires stands { audit.old.stands ≡ None }
     requires kept { IsRecipe audit.old.recipe }
-    ensures answer { Finishes audit.old.recipe audit.old.inputs result audit.new.stands }
+    ensures answer { Comes (Over (bench audit.old.recipe audit.old.inputs)) result audit.new.stands }
     ensures recipe { audit.new.recipe ≡ audit.old.recipe }
     ensures inputs { audit.new.inputs ≡ audit.old.inputs }
 {

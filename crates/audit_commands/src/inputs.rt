@@ -66,7 +66,7 @@ fn apart(alloc: Global, recipe: Recipe, file: &str) -> Result<Recipe, Stop>
 }
 
 /// Whether a file is one of the inputs, by its path as the recipe has it.
-fn is_input(recipe: &Recipe, file: &str) -> bool
+pub fn is_input(recipe: &Recipe, file: &str) -> bool
     ensures { result ≡ is_input recipe.now file.now }
 {
     recipe

@@ -1,5 +1,5 @@
 -- The save of an audit, and the position that a save says. docs/reference/save.md says the same for people.
-use Rattle.std.specs.Prelude.{◌≡◌, ◌<◌, ℕ, List, ◌∷◌, map, Result, Ok, Err}
+use Rattle.std.specs.Prelude.{◌≡◌, ◌≢◌, ◌<◌, ℕ, List, ◌∷◌, map, Result, Ok, Err}
 use Rattle.sha2.specs.Sha256.{sha256}
 use Rattle.ddc_base.specs.declared.digests.Digest.{Digest}
 use Rattle.recipe.specs.declared.contents.Said.{Said}
@@ -72,6 +72,13 @@ Resumes recipe inputs text (Err OtherRecipe) = (save : SaveText) × (formed text
 Resumes recipe inputs text (Err State) = (save : SaveText) × (formed text ≡ Ok save) × IsOf recipe inputs save × ¬ (IsPlace recipe save)
 Resumes recipe inputs text (Err OutOfMemory) = Unit {0}
 
+-- the answer to a text: what the rules allow of it where memory is not wanting, of which there is exactly one
+-- (`laws::every_text_has_one_answer`)
+pub record Answer (recipe : Said) (inputs : List (List ℕ)) (text : List ℕ) : Type 0 where
+  pub result : Result Position SaveRefusal
+  pub resumes : Resumes recipe inputs text result
+  pub settled : result ≢ Err OutOfMemory
+
 -- a text is resumed as this position
 abbrev pub IsResumedAs : Position → Result Position SaveRefusal → Type 0
 IsResumedAs p (Ok found) = found ≡ p
@@ -79,3 +86,10 @@ IsResumedAs p (Err OutOfMemory) = Unit {0}
 IsResumedAs p (Err (Form offset)) = ⊥
 IsResumedAs p (Err OtherRecipe) = ⊥
 IsResumedAs p (Err State) = ⊥
+
+-- the number of a refusal
+abbrev pub save_refusal_number : SaveRefusal → ℕ
+save_refusal_number (Form offset) = 1
+save_refusal_number OtherRecipe = 2
+save_refusal_number State = 3
+save_refusal_number OutOfMemory = 4

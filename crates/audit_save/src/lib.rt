@@ -4,6 +4,7 @@
 #![tactic(auto)]
 
 mod judging;
+pub mod laws;
 mod reading;
 mod writing;
 

@@ -1,6 +1,6 @@
 //! The place in an audit that a text says.
 ghost use Rattle.std.specs.Prelude.{◌≡◌, ◌↔◌, IfOk, IsTrue, map};
-ghost use Rattle.audit_save.specs.Saves.{IsResumedAs, Resumes, Stands, digest_of, finished_of, save_of};
+ghost use Rattle.audit_save.specs.Saves.{IsResumedAs, Resumes, Stands, digest_of, finished_of, save_of, save_refusal_number};
 ghost use Rattle.audit_save.specs.Inside.Seen.{AreDigests};
 ghost use Rattle.guest_run.specs.Valid.{IsValid};
 ghost use Rattle.recipe.specs.Kept.{IsRecipe};
@@ -32,6 +32,20 @@ pub enum SaveRefusal {
     /// It says no place in the recipe's audit.
     State,
     OutOfMemory,
+}
+
+impl SaveRefusal {
+    /// The number of the refusal, from 1.
+    pub fn number(&self) -> u8
+        ensures { result ≡ save_refusal_number self.now }
+    {
+        match self {
+            SaveRefusal::Form(_) => 1,
+            SaveRefusal::OtherRecipe => 2,
+            SaveRefusal::State => 3,
+            SaveRefusal::OutOfMemory => 4,
+        }
+    }
 }
 
 /// Where an audit stands in a stage.

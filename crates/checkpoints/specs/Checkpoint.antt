@@ -102,3 +102,10 @@ IsReadAs g (Err state.OutOfMemory) = Unit {0}
 IsReadAs g (Err (state.Form offset)) = ⊥
 IsReadAs g (Err state.Range) = ⊥
 IsReadAs g (Err state.FileRef) = ⊥
+
+-- the number of a refusal
+abbrev pub state_refusal_number : StateRefusal → ℕ
+state_refusal_number (state.Form offset) = 1
+state_refusal_number state.Range = 2
+state_refusal_number state.FileRef = 3
+state_refusal_number state.OutOfMemory = 4

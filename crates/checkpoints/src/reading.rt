@@ -3,7 +3,7 @@ ghost use Rattle.std.specs.Prelude.{◌≡◌, ◌<◌, ◌^◌, IfOk};
 ghost use Rattle.guest_run.specs.State.{GuestState};
 ghost use Rattle.guest_run.specs.Valid.{IsValid};
 ghost use Rattle.state_text.specs.Spelled.{text_of};
-ghost use Rattle.checkpoints.specs.Checkpoint.{IsReadAs, ReadsState, state_of};
+ghost use Rattle.checkpoints.specs.Checkpoint.{IsReadAs, ReadsState, state_of, state_refusal_number};
 
 use crate::restoring::guest_of;
 use file_parts::RestoreRefusal;
@@ -22,6 +22,20 @@ pub enum StateRefusal {
     /// A descriptor's file is missing, or a file has neither a name nor a descriptor.
     FileRef,
     OutOfMemory,
+}
+
+impl StateRefusal {
+    /// The number of the refusal, from 1.
+    pub fn number(&self) -> u8
+        ensures { result ≡ state_refusal_number self.now }
+    {
+        match self {
+            StateRefusal::Form(_) => 1,
+            StateRefusal::Range => 2,
+            StateRefusal::FileRef => 3,
+            StateRefusal::OutOfMemory => 4,
+        }
+    }
 }
 
 /// The guest whose state the text says.

@@ -33,7 +33,8 @@ use Rattle.command_plan.specs.Words.{are_two_files, is_file_word, usage}
 use Rattle.audit_commands.specs.Audit.{audit_files, audit_recipe, audited, completed, is_input, needs_inputs, paths, with_recipe}
 use Rattle.verify_command.specs.Verify.{judged, verified, verify_files, verify_recipe, verify_report, with_report}
 use Rattle.ddc_app.specs.Accepting.{HoldBytes, audit, is_compared, verify}
-use Rattle.ddc_app.proofs.Loads.{AreHeld, as_many, are_contents, follow_all, follows, found, found_all, found_again, other_held, set_held}
+use Rattle.ddc_app.specs.Holding.{AreHeld}
+use Rattle.ddc_app.proofs.Loads.{as_many, are_contents, follow_all, follows, found, found_all, found_again, other_held, set_held}
 
 fits : (size limit : ℕ) → size < limit → nat_le size limit ≡ true
 fits size limit below = grind (arith, nat_tests)

@@ -17,6 +17,7 @@ use Rattle.mem_files.specs.Outputs.{IsContent}
 use Rattle.command_plan.specs.declared.status.Status.TheVariants.{FileRefused}
 use Rattle.command_plan.specs.Plan.{Plan, Outcome, needs, needs_all, follow, outcome}
 use Rattle.ddc_app.specs.Accepting.{HoldBytes, is_compared}
+use Rattle.ddc_app.specs.Holding.{AreHeld}
 
 -- ---- one load
 
@@ -61,13 +62,6 @@ other_held files name content other limit apart =
     ap (loaded_of limit) ((others-insert files name content).others other (λ same. let equal = (bytes_eq-Decides other name).1 same in cc))
 
 -- ---- loads in a row
-
--- these names have these contents, each within the limits
-abbrev pub AreHeld : ℕ → ℕ → Files → List (List ℕ) → List (List ℕ) → Type 0
-AreHeld most room files [] [] = Unit {0}
-AreHeld most room files (name ∷ names) (content ∷ contents) =
-    (loaded files name (min most room) ≡ Bytes content) × AreHeld most (room - length content) files names contents
-AreHeld most room files _ _ = ⊥
 
 pub follow_all : (most room : ℕ) (files : Files) (names contents : List (List ℕ)) (next : List (List ℕ) → Plan) → AreHeld most room files names contents
     → outcome (needs_all most room names next) files ≡ outcome (next contents) files

@@ -29,8 +29,9 @@ use Rattle.audit_commands.specs.Audit.{compared_status, is_input, paths, with_re
 use Rattle.verify_command.specs.Verify.{judged, verified, verify_files, verify_recipe, verify_report, with_report}
 use Rattle.ddc_app.specs.Accepting.{HoldBytes, is_compared, verify}
 use Rattle.ddc_app.specs.Verified.{ShownBy, Verified}
+use Rattle.ddc_app.specs.Holding.{AreHeld}
 use Rattle.ddc_app.proofs.Accepting.{Compares, on_to, said_keeps}
-use Rattle.ddc_app.proofs.Loads.{AreHeld, as_many, are_contents, follow_all, follows, found, found_all, within}
+use Rattle.ddc_app.proofs.Loads.{as_many, are_contents, follow_all, follows, found, found_all, within}
 
 -- a recipe that the files hold, and a report
 record Opened (recipe : List ℕ) (files : Files) : Type 0 where

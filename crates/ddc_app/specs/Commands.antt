@@ -3,11 +3,12 @@ use Rattle.std.specs.Prelude.{ℕ, List, [], ◌∷◌, bytes_eq, codes, if◌th
 use Rattle.command_plan.specs.Plan.{Plan}
 use Rattle.command_plan.specs.Words.{usage}
 use Rattle.audit_commands.specs.Audit.{audit_plan}
-use Rattle.audit_commands.specs.Show.{show_plan}
+use Rattle.show_command.specs.Show.{show_plan}
 use Rattle.language_commands.specs.Asm.{asm_plan}
 use Rattle.language_commands.specs.Hex0.{hex0_plan}
 use Rattle.machine_commands.specs.List.{list_plan}
 use Rattle.machine_commands.specs.RunProgram.{run_plan}
+use Rattle.pause_commands.specs.Pause.{part_plan, resume_plan}
 use Rattle.verify_command.specs.Verify.{verify_plan}
 
 -- what a command line does
@@ -19,6 +20,8 @@ plan_of (command ∷ words) =
     else (if bytes_eq command (codes "list") then list_plan words
     else (if bytes_eq command (codes "run") then run_plan words
     else (if bytes_eq command (codes "audit") then audit_plan words
+    else (if bytes_eq command (codes "part") then part_plan words
+    else (if bytes_eq command (codes "resume") then resume_plan words
     else (if bytes_eq command (codes "show") then show_plan words
     else (if bytes_eq command (codes "verify") then verify_plan words
-    else usage))))))
+    else usage))))))))

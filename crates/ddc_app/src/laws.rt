@@ -1,8 +1,9 @@
 //! Laws of what commands come to. Each law is the contract of a function that does nothing.
 ghost use Rattle.ddc_app.specs.Accepting.{HoldBytes, audit, is_compared, verify};
+ghost use Rattle.ddc_app.specs.Pausing.{AreWords, IsCount, LeavesOthers, Pieces, StandsAt, in_pieces, part, resume};
 ghost use Rattle.ddc_app.specs.Verified.{Verified};
 ghost use Rattle.ddc_base.specs.Outside.{Files};
-ghost use Rattle.std.specs.Prelude.{◌≡◌, IsTrue, List, ℕ};
+ghost use Rattle.std.specs.Prelude.{◌≡◌, ◌+◌, [], ◌∷◌, All, IsTrue, List, sum, ℕ};
 
 use conclusion::laws::a_true_report_shows;
 use meaning::Meaning;
@@ -22,3 +23,36 @@ pub fn verified<M: Meaning>()
 {
     a_true_report_shows::<M>();
 }
+
+/// A piece of an audit: `part` by some steps over files pauses behind as many and leaves the save of that position, or it comes to the same
+/// as `audit`.
+pub fn parts()
+    ensures { (recipe save report : List ℕ) (steps : ℕ) (files : Files) → AreWords recipe save report files → IsCount steps
+        → Pieces recipe save report files steps (part recipe save report steps files) }
+{}
+
+/// A further piece: over files of bytes that hold the save of the position behind `count` steps, `resume` by some steps pauses behind as many
+/// more, or it comes to the same as `audit` over these files.
+pub fn resumes()
+    ensures { (recipe save report : List ℕ) (count steps : ℕ) (files : Files) → AreWords recipe save report files → IsCount steps → HoldBytes files
+        → StandsAt recipe save files count
+        → Pieces recipe save report files (count + steps) (resume recipe save report steps files) }
+{}
+
+/// Neither `part` nor `resume` changes a name but SAVE and REPORT, whatever the files hold.
+pub fn others_stay()
+    ensures part { (recipe save report : List ℕ) (steps : ℕ) (files : Files) → LeavesOthers save report files (part recipe save report steps files) }
+    ensures resume { (recipe save report : List ℕ) (steps : ℕ) (files : Files) → LeavesOthers save report files (resume recipe save report steps files) }
+{}
+
+/// An audit in any pieces over files of bytes comes to the same as the undivided audit, or pauses behind all the steps that were asked for. Its
+/// report is accepted: where it comes to 0 or 3, so does `verify` over the files afterwards.
+pub fn pauses()
+    ensures same { (recipe save report : List ℕ) (steps : ℕ) (counts : List ℕ) (files : Files) → AreWords recipe save report files
+        → All IsCount (steps ∷ counts) → HoldBytes files
+        → Pieces recipe save report files (sum (steps ∷ counts)) (in_pieces recipe save report steps counts files) }
+    ensures accepted { (recipe save report : List ℕ) (steps : ℕ) (counts : List ℕ) (files : Files) → AreWords recipe save report files
+        → All IsCount (steps ∷ counts) → HoldBytes files → IsTrue (is_compared (in_pieces recipe save report steps counts files).status)
+        → (verify recipe report (in_pieces recipe save report steps counts files).files).status
+            ≡ (in_pieces recipe save report steps counts files).status }
+{}

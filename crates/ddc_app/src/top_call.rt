@@ -9,12 +9,14 @@ ghost use Rattle.ddc_app.specs.Run.{plan_for, due, IsDue, TakesOne, NamesFault, 
 ghost use Rattle.ddc_app.specs.Concluding.{PutEnds, Concludes};
 
 use crate::laws::verified;
-use audit_commands::{audit, show};
+use audit_commands::audit;
 use command_plan::{Answer, Status, Stop, usage};
 use ddc_base::{PutFail, Shelf, Sink};
 use language_commands::{asm, hex0};
 use machine_commands::{list, run};
 use meaning::Meaning;
+use pause_commands::{part, resume};
+use show_command::show;
 use std::alloc::Global;
 use verify_command::verify;
 
@@ -83,6 +85,8 @@ fn perform<M: Meaning, S: Shelf>(
         "list" => list::perform(alloc, words, shelf),
         "run" => run::perform(alloc, words, shelf),
         "audit" => audit::perform(alloc, words, shelf),
+        "part" => part::perform(alloc, words, shelf),
+        "resume" => resume::perform(alloc, words, shelf),
         "show" => show::perform(alloc, words, shelf),
         "verify" => verify::perform::<M, S>(alloc, words, shelf),
         _ => usage(alloc),

@@ -1,4 +1,3 @@
 pub mod Listing
-pub mod RunWords
 pub mod LeftNames
 pub mod Arguments

@@ -1,11 +1,10 @@
 -- `run PROGRAM STEPS ARG..`: how a program's run ends within so many steps, and what it leaves. docs/reference/command-line.md says the
 -- same for people.
-use Rattle.std.specs.Prelude.{ℕ, ◌+◌, ◌^◌, ◌&&◌, nat_le, ◌==◌, Option, Some, None, Result, Ok, Err, List, [], ◌∷◌, ◌++◌, length, unwrap_or, codes, decimal, if◌then◌else◌}
+use Rattle.std.specs.Prelude.{ℕ, ◌+◌, ◌&&◌, ◌==◌, Option, Some, None, Result, Ok, Err, List, [], ◌∷◌, ◌++◌, length, unwrap_or, codes, decimal, if◌then◌else◌}
 use Rattle.std.specs.List.{flat_map, list_all}
 use Rattle.std.specs.FinMap as map
 use Rattle.hex.specs.Hex.{encode_lower}
 use Rattle.sha2.specs.Sha256.{sha256}
-use Rattle.ddc_base.specs.Decimals.{as_decimal}
 use Rattle.ddc_base.specs.Lines.{line}
 use Rattle.mem_files.specs.World.{World}
 use Rattle.mem_files.specs.Outputs.{FirstStream, left, out}
@@ -16,16 +15,8 @@ use Rattle.guest_run.specs.Run.{End, Exited, Trapped, UnknownCall, first_end}
 use Rattle.command_plan.specs.declared.status.Status.{Status}
 use Rattle.command_plan.specs.declared.status.Status.TheVariants.{Yes, RunFailed}
 use Rattle.run_causes.specs.Texts.{trap_text, call_text, elf_text, args_text, box_text, spent_text}
-use Rattle.command_plan.specs.Words.{is_file_word, usage}
+use Rattle.command_plan.specs.Words.{as_steps, is_file_word, usage}
 use Rattle.command_plan.specs.Plan.{Plan, answers, needs}
-
--- a number of steps, from 1 to 2 ^ 48
-abbrev pub within_steps : Option ℕ → Option ℕ
-within_steps None = None
-within_steps (Some steps) = if nat_le 1 steps && nat_le steps (2 ^ 48) then Some steps else None
-
-unfoldable pub as_steps : List ℕ → Option ℕ
-as_steps word = within_steps (as_decimal word)
 
 -- a refused start
 abbrev pub refusal_text : Refusal → List ℕ

@@ -12,8 +12,8 @@ ghost use Rattle.command_plan.specs.Plan.{answers};
 ghost use Rattle.machine_commands.specs.RunProgram.{setting_of, end_plan, start_plan, status_of, run_file, run_words, run_plan};
 
 use crate::run_texts;
-use crate::words::{are_texts, steps_of};
-use command_plan::words::is_file_word;
+use crate::words::are_texts;
+use command_plan::words::{is_file_word, steps_of};
 use command_plan::{Answer, Status, Stop, fetch_file, usage};
 use ddc_base::{Bytes, OutOfMemory, Shelf};
 use guest_run::{Guest, RunBox, RunEnd, RunRam, StartRefusal};

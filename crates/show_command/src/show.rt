@@ -5,9 +5,9 @@ ghost use Rattle.report.specs.Reading.{report_of, Reads};
 ghost use Rattle.report.specs.Reports.{IsReport};
 ghost use Rattle.command_plan.specs.Performs.{Performs};
 ghost use Rattle.command_plan.specs.Steps.{Says};
-ghost use Rattle.audit_commands.specs.Show.{shown, show_file, show_plan};
+ghost use Rattle.show_command.specs.Show.{shown, show_file, show_plan};
 
-use crate::texts;
+use audit_commands::texts;
 use command_plan::words::is_file_word;
 use command_plan::{Answer, Status, Stop, fetch, usage};
 use ddc_base::{Bytes, Shelf};
