@@ -1,6 +1,5 @@
 -- A resumed audit comes to the answer of its position's continuation.
 use Rattle.std.proofs.Common.{◌≡◌, ℕ, List, Some, sym, ap, ◌∙◌}
-use Rattle.std.proofs.lemmas.Option.{same_Some}
 use Rattle.recipe.specs.Kept.{IsRecipe}
 use Rattle.recipe.specs.declared.contents.Said.{Said}
 use Rattle.wheeler.specs.Positions.{Position, Standing, On, Over, continue, finish, forward}
@@ -18,7 +17,10 @@ module _ (recipe : Said) (inputs : List (List ℕ)) (p : Position) (is : IsRecip
 
   answered : (most : ℕ) (answer : Progress) (now : Standing) → (Some now ≡ Some (forward recipe inputs p most)) × (answer ≡ said_of (forward recipe inputs p most))
       → finish recipe inputs now ≡ continue recipe inputs p
-  answered most answer now a = after most now (sym (same_Some a.0))
+  answered most answer now a =
+      let some : Some now ≡ Some (forward recipe inputs p most) = a.0 in
+      let same : forward recipe inputs p most ≡ now = cc in
+      after most now same
 
   pub continues : (most : ℕ) (answer : Progress) (now : Standing) → Advances (standing_at recipe inputs p) most answer (Some now)
       → finish recipe inputs now ≡ continue recipe inputs p
