@@ -1,7 +1,7 @@
 -- Each text has one answer as a save, since what the rules ask of it is decided.
 use Rattle.std.proofs.Common.{◌≡◌, ◌≢◌, ℕ, ◌^◌, true, List, [], ◌∷◌, length, map, Result, Ok, Err, refl, sym, ap, ◌∙◌, subst₂}
 use Rattle.std.proofs.Math.Decide.{map_dec, dec_le, dec_lt, ℕ_discrete}
-use Rattle.checkpoints.proofs.Decisions.{both, by_case, choose, is_all, is_in, is_list, is_test}
+use Rattle.checkpoints.proofs.Decisions.{both, by_case, choose, chosen, is_all, is_in, is_list, is_test, passed}
 use Rattle.checkpoints.proofs.Decided.{are_bytes, is_content, is_in_range, is_joined}
 use Rattle.ddc_base.specs.declared.digests.Digest.{Digest}
 use Rattle.mem_files.specs.Names.{is_stripped_name}
@@ -103,12 +103,6 @@ module _ (recipe : Said) (inputs : List (List ℕ)) (text : List ℕ) where
 
   pub answered : Answer recipe inputs text
   answered = let judges = judges (formed text) refl in record { result = judged (formed text); resumes = judges.0; settled = judges.1 }
-
-  chosen : {X P : Type 0} (d : Dec P) (a b : X) → P → choose d a b ≡ a
-  chosen d a b p = by_case (λ x. x ≡ a) d a b (λ p. refl) (λ not. absurd (not p))
-
-  passed : {X P : Type 0} (d : Dec P) (a b : X) → ¬ P → choose d a b ≡ b
-  passed d a b not = by_case (λ x. x ≡ b) d a b (λ p. absurd (not p)) (λ not. refl)
 
   pub is_answer : (result : Result Position SaveRefusal) → Resumes recipe inputs text result → result ≢ Err OutOfMemory → answered.result ≡ result
   unfolding answered

@@ -55,3 +55,9 @@ choose (no not) a b = b
 pub by_case : {X P : Type 0} (F : X → Type 0) (d : Dec P) (a b : X) → (P → F a) → (¬ P → F b) → F (choose d a b)
 by_case F (yes p) a b f g = f p
 by_case F (no not) a b f g = g not
+
+pub chosen : {X P : Type 0} (d : Dec P) (a b : X) → P → choose d a b ≡ a
+chosen d a b p = by_case (λ x. x ≡ a) d a b (λ p. refl) (λ not. absurd (not p))
+
+pub passed : {X P : Type 0} (d : Dec P) (a b : X) → ¬ P → choose d a b ≡ b
+passed d a b not = by_case (λ x. x ≡ b) d a b (λ p. absurd (not p)) (λ not. refl)
