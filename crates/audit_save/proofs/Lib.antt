@@ -2,3 +2,4 @@ mod Judged
 mod Written
 mod Exactly
 mod Placed
+pub mod SaveLengths
