@@ -1,3 +1,4 @@
 mod Present
 mod Slicing
 mod Stretching
+mod Continuing

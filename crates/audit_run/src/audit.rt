@@ -145,7 +145,7 @@ impl Audit {
     }
 
     /// The audit of this recipe and these inputs at the position that a save says, whether an audit was ever there or not. Its answer is
-    /// that of the position's continuation (`wheeler::laws`).
+    /// that of the position's continuation (`laws::resumed_audits_continue`).
     ///
     /// The form is judged first, then the digests, then whether it is a position.
     pub fn resume(

@@ -6,6 +6,7 @@
 mod advance;
 mod audit;
 mod entering;
+pub mod laws;
 mod place;
 mod setting;
 mod stage_run;

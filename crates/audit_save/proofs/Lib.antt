@@ -1,4 +1,6 @@
+pub mod Answered
 mod Judged
 mod Written
 mod Exactly
 mod Placed
+pub mod SaveLengths

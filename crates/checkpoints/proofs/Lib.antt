@@ -1,8 +1,12 @@
+pub mod Decided
+pub mod Decisions
 pub mod Exactly
 pub mod FileTurns
 pub mod Memories
 pub mod PageCounts
 pub mod Restored
 pub mod SameText
+pub mod StateLengths
 pub mod States
+pub mod TextLengths
 pub mod Turns
