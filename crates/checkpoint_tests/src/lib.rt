@@ -12,6 +12,8 @@ mod pieces;
 #[cfg(test)]
 mod saves;
 #[cfg(test)]
+mod starts;
+#[cfg(test)]
 mod states;
 
 /// Adds 32 bytes that stand for a digest, each of them the given one.

@@ -9,6 +9,8 @@ use ddc_base::Bytes;
 use recipe::{Inputs, Recipe};
 
 #[cfg(test)]
+mod places;
+#[cfg(test)]
 mod saves;
 #[cfg(test)]
 mod worked;

@@ -1,5 +1,5 @@
 use crate::are_inputs;
-use crate::worked::{RECIPE, REPORT, inputs};
+use crate::worked::{RECIPE, REPORT, edited, inputs, with};
 use audit_run::{Audit, Progress, SaveRefusal};
 use ddc_base::{Bytes, OutOfMemory};
 use recipe::Recipe;
@@ -15,7 +15,7 @@ fn recipe_of(alloc: Global, text: &str) -> Result<Recipe, OutOfMemory> {
 }
 
 /// The worked audit after so many steps, and its save.
-fn save_at(alloc: Global, steps: u64) -> Result<Bytes, OutOfMemory> {
+pub(crate) fn save_at(alloc: Global, steps: u64) -> Result<Bytes, OutOfMemory> {
     let recipe = recipe_of(alloc, RECIPE)?;
     let inputs = inputs(alloc, b"abc")?;
     if !are_inputs(&recipe, &inputs) || steps < 1 {
@@ -44,22 +44,17 @@ fn resumed(alloc: Global, recipe: &str, source: &[u8], text: &[u8]) -> Result<Au
     Audit::resume(alloc, recipe, inputs, text)
 }
 
-/// Why a text is refused.
-fn refusal(alloc: Global, recipe: &str, source: &[u8], text: &[u8]) -> Option<SaveRefusal> {
+/// Why a text is refused as a save of this recipe and this third input.
+pub(crate) fn refusal(
+    alloc: Global,
+    recipe: &str,
+    source: &[u8],
+    text: &[u8],
+) -> Option<SaveRefusal> {
     match resumed(alloc, recipe, source, text) {
         Ok(_) => None,
         Err(why) => Some(why),
     }
-}
-
-/// A text with other bytes from an offset on.
-fn changed(alloc: Global, text: &[u8], at: usize, bytes: &[u8]) -> Result<Bytes, OutOfMemory> {
-    let before = text.get(..at).unwrap_or(&[]);
-    let after = text.get(at..).unwrap_or(&[]);
-    let mut new = Bytes::from_slice(alloc, before)?;
-    new.extend(bytes)?;
-    new.extend(after.get(bytes.len()..).unwrap_or(&[]))?;
-    Ok(new)
 }
 
 /// The report of an audit that is over with one.
@@ -70,27 +65,82 @@ fn report_of(alloc: Global, audit: &Audit) -> Result<Bytes, OutOfMemory> {
     }
 }
 
+/// The place of the worked audit after so many steps: each of its two stages takes 32.
+fn place_after(steps: u64) -> (u32, u64) {
+    if steps < 32 {
+        (1, steps)
+    } else {
+        (2, steps - 32)
+    }
+}
+
 #[test]
 fn a_resumed_audit_has_the_undivided_report(rt: HostRuntime) -> Result<(), Fail> {
     let alloc = rt.alloc();
-    let places: [(u64, (u32, u64)); 6] = [
-        (1, (1, 1)),
-        (31, (1, 31)),
-        (32, (2, 0)),
-        (33, (2, 1)),
-        (45, (2, 13)),
-        (63, (2, 31)),
-    ];
-    for (steps, place) in places {
+    for steps in 1..64 {
         let text = save_at(alloc, steps)?;
         let result = resumed(alloc, RECIPE, b"abc", text.as_slice());
         assert!(rt; result.is_ok());
         if let Ok(mut audit) = result {
-            assert_eq!(rt; audit.place(), place);
+            assert_eq!(rt; audit.place(), place_after(steps));
             assert_eq!(rt; audit.advance(100), Progress::Equal);
             let report = report_of(alloc, &audit)?;
             assert_eq!(rt; report.as_slice(), REPORT.as_bytes());
         }
+    }
+    Ok(())
+}
+
+/// The report of the worked audit in pieces of so many steps, which is saved and resumed behind each of them.
+fn report_by(alloc: Global, steps: u64) -> Result<Bytes, OutOfMemory> {
+    let mut text = save_at(alloc, steps)?;
+    for _ in 0..64 {
+        let mut audit = match resumed(alloc, RECIPE, b"abc", text.as_slice()) {
+            Ok(audit) if steps > 0 => audit,
+            _ => return Err(OutOfMemory),
+        };
+        match audit.advance(steps) {
+            Progress::Paused => text = audit.save()?,
+            Progress::Equal => return report_of(alloc, &audit),
+            _ => return Err(OutOfMemory),
+        }
+    }
+    Err(OutOfMemory)
+}
+
+#[test]
+fn pieces_have_the_undivided_report(rt: HostRuntime) -> Result<(), Fail> {
+    let alloc = rt.alloc();
+    for steps in [1, 7, 20, 31, 32, 63] {
+        let report = report_by(alloc, steps)?;
+        assert_eq!(rt; report.as_slice(), REPORT.as_bytes(), "{steps}");
+    }
+    Ok(())
+}
+
+/// After 45 steps x8, at 657, has how many bytes the copier reads at once, and a turn of its loop takes 11 steps.
+#[test]
+fn an_audit_goes_on_from_what_a_save_says(rt: HostRuntime) -> Result<(), Fail> {
+    let alloc = rt.alloc();
+    let text = save_at(alloc, 45)?;
+    let table: [(u8, &str); 3] = [
+        (3, "stage two 32"),
+        (2, "stage two 43"),
+        (1, "stage two 54"),
+    ];
+    for (bytes, line) in table {
+        let text = edited(alloc, text.as_slice(), (657, 2, &[bytes, 0]))?;
+        let mut audit = match resumed(alloc, RECIPE, b"abc", text.as_slice()) {
+            Ok(audit) => audit,
+            Err(_) => return Err("refused".into()),
+        };
+        assert_eq!(rt; audit.advance(1_000), Progress::Equal);
+        let wanted = with(alloc, REPORT, "stage two 32", line)?;
+        assert_eq!(rt;
+            report_of(alloc, &audit)?.as_slice(),
+            wanted.as_bytes(),
+            "{line}"
+        );
     }
     Ok(())
 }
@@ -108,42 +158,10 @@ fn saves_of_others_are_refused(rt: HostRuntime) -> Result<(), Fail> {
         refusal(alloc, RECIPE, b"abd", text),
         Some(SaveRefusal::OtherRecipe)
     );
-    let other = match RECIPE.split_once("steps = 100000") {
-        Some((before, after)) => format!(in alloc; "{before}steps = 200000{after}")?,
-        None => format!(in alloc; "")?,
-    };
+    let other = with(alloc, RECIPE, "steps = 100000", "steps = 200000")?;
     assert_eq!(rt;
         refusal(alloc, other.as_str(), b"abc", text),
         Some(SaveRefusal::OtherRecipe)
     );
-    Ok(())
-}
-
-/// After 45 steps one stage is done: its steps are at 176, its artefact at 345, and the state of the second one begins at 577.
-#[test]
-fn each_rule_of_a_place_is_kept(rt: HostRuntime) -> Result<(), Fail> {
-    let alloc = rt.alloc();
-    let text = save_at(alloc, 45)?;
-    let table: [(usize, &[u8], Option<SaveRefusal>); 10] = [
-        (0, b"e", Some(SaveRefusal::Form(0))),
-        // The steps of the stage that is done: none, its limit, one more.
-        (176, &[0], Some(SaveRefusal::State)),
-        (176, &[0xa0, 0x86, 0x01], None),
-        (176, &[0xa1, 0x86, 0x01], Some(SaveRefusal::State)),
-        // Its artefact.
-        (345, &[0], Some(SaveRefusal::State)),
-        // The present stage's steps: the last that is left, none left.
-        (585, &[0x9f, 0x86, 0x01], None),
-        (585, &[0xa0, 0x86, 0x01], Some(SaveRefusal::State)),
-        // An odd pc, and another heap.
-        (593, &[1], Some(SaveRefusal::State)),
-        (865, &[1], Some(SaveRefusal::State)),
-        // Another register.
-        (657, &[2, 0], None),
-    ];
-    for (at, bytes, wanted) in table {
-        let new = changed(alloc, text.as_slice(), at, bytes)?;
-        assert_eq!(rt; refusal(alloc, RECIPE, b"abc", new.as_slice()), wanted);
-    }
     Ok(())
 }

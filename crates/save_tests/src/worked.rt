@@ -89,3 +89,29 @@ pub(crate) fn inputs(alloc: Global, source: &[u8]) -> Result<Inputs, OutOfMemory
     inputs.push(Bytes::from_slice(alloc, b"abc")?)?;
     Ok(inputs)
 }
+
+/// A text with another in place of the first piece that is `old`.
+pub(crate) fn with(alloc: Global, text: &str, old: &str, new: &str) -> Result<String, OutOfMemory> {
+    match text.split_once(old) {
+        Some((before, after)) => Ok(format!(in alloc; "{before}{new}{after}")?),
+        None => Ok(format!(in alloc; "nothing to change: {old}")?),
+    }
+}
+
+/// An offset, how many bytes from there on give way, and to which.
+pub(crate) type Edit = (usize, usize, &'static [u8]);
+
+/// A text with bytes in place of others.
+pub(crate) fn edited(
+    alloc: Global,
+    text: &[u8],
+    edit: (usize, usize, &[u8]),
+) -> Result<Bytes, OutOfMemory> {
+    let (at, count, bytes) = edit;
+    let before = text.get(..at).unwrap_or(&[]);
+    let after = text.get(at..).unwrap_or(&[]);
+    let mut new = Bytes::from_slice(alloc, before)?;
+    new.extend(bytes)?;
+    new.extend(after.get(count..).unwrap_or(&[]))?;
+    Ok(new)
+}
