@@ -44,7 +44,7 @@ module _ (recipe report : List ℕ) (files : Files) where
   Goes answer _ = IsTrue (is_compared answer.status) → Went recipe report files answer
 
   refused : (status : Status) (text : List ℕ) → IsRefusal status → Goes (told files status text) (told files status text)
-  refused status text no compared = absurd cc
+  refused status text refusal compared = let both : false ≡ true = sym refusal.1 ∙ compared in absurd cc
 
   by_answer : (said : Said) (inputs : List (List ℕ)) → Holds recipe said inputs files → is_input said report ≡ false → (answer : Answer) → bench said inputs ≡ answer
       → Goes (outcome (audited said report answer) files) (outcome (audited said report answer) files)

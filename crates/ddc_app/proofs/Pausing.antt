@@ -127,8 +127,8 @@ compared recipe save report c first piece given e over = by (bench c.said c.inpu
         report_held = same.held ∙ set_held first report (report_text made);
       }))
       ∙ sym same.status
-  by (Fails number (Runs cause step)) comes same = let no = sym (ap is_compared same.status) ∙ over in absurd cc
-  by (Fails number (Checks cause)) comes same = let no = sym (ap is_compared same.status) ∙ over in absurd cc
+  by (Fails number (Runs cause step)) comes same = let never = sym (ap is_compared same.status) ∙ over in absurd cc
+  by (Fails number (Checks cause)) comes same = let never = sym (ap is_compared same.status) ∙ over in absurd cc
 
 pub accepted : (recipe save report : List ℕ) (steps : ℕ) (counts : List ℕ) (files : Files) → AreWords recipe save report files → All IsCount (steps ∷ counts) → HoldBytes files
     → IsTrue (is_compared (in_pieces recipe save report steps counts files).status)
@@ -146,12 +146,12 @@ accepted recipe save report steps counts files words are bytes over = by (begins
 
   settled : (b : Begun recipe save report files steps piece whole)
       → Settles recipe save report (case_of recipe save report steps files piece whole words b) files (sum (steps ∷ counts)) last → (verify recipe report last.files).status ≡ last.status
-  settled b (inl p) = let no = sym (ap is_compared p.status) ∙ over in absurd cc
+  settled b (inl p) = let never = sym (ap is_compared p.status) ∙ over in absurd cc
   settled b (inr e) =
       compared recipe save report (case_of recipe save report steps files piece whole words b) files last (are_inputs recipe b.said b.inputs files b.holds bytes) e over
 
   by : Refused piece whole ⊎ Begun recipe save report files steps piece whole → (verify recipe report last.files).status ≡ last.status
   by (inl r) =
-      let no = sym r.refusal.1 ∙ ap (λ (o : Outcome). is_compared o.status) (sym (stays_over recipe save report piece counts r.refusal.0)) ∙ over in
+      let never = sym r.refusal.1 ∙ ap (λ (o : Outcome). is_compared o.status) (sym (stays_over recipe save report piece counts r.refusal.0)) ∙ over in
       absurd cc
   by (inr b) = settled b (all_settle recipe save report steps counts files piece whole words are bytes b)

@@ -66,7 +66,7 @@ other_stays files save report content apart =
     (others-insert files save content).others report (λ same. let equal = (bytes_eq-Decides save report).1 (sym same) in cc)
 
 module _ (recipe save report : List ℕ) (c : Case recipe save report) (first now : Files) (h : Holds recipe c.said c.inputs now)
-  (same : finite.get now report ≡ finite.get first report) where
+    (same : finite.get now report ≡ finite.get first report) where
   answer_paused : (answer : Answer) → is_paused (outcome (audited c.said report answer) now).status ≡ false
   unfolding completed
   answer_paused (Completes made) = never_paused made.compare.result

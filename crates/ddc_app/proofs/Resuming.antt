@@ -53,7 +53,7 @@ reads_again said inputs p is given place =
 -- ---- the words
 
 module _ (recipe save report : List ℕ) (files : Files) (three : IsTrue (are_three_files recipe save report)) (said : Said) (inputs : List (List ℕ))
-  (h : Holds recipe said inputs files) where
+    (h : Holds recipe said inputs files) where
   pub resume_opens : (steps : ℕ) → IsCount steps
       → resume recipe save report steps files ≡ outcome (cond (is_input said report) usage (resume_recipe save report steps said)) files
   unfolding resume_files

@@ -49,10 +49,10 @@ module _ (recipe report : List ℕ) (files : Files) where
   Goes answer _ = IsTrue (is_compared answer.status) → Replayed recipe report files answer
 
   refused : (status : Status) (text : List ℕ) → IsRefusal status → Goes (told files status text) (told files status text)
-  refused status text no compared = absurd cc
+  refused status text refusal compared = let both : false ≡ true = sym refusal.1 ∙ compared in absurd cc
 
   module _ (bytes : List ℕ) (said : Said) (held : loaded files recipe 1_048_576 ≡ Bytes bytes) (reads : recipe_of bytes ≡ Ok said)
-    (text : List ℕ) (text_held : loaded files report 1_073_741_824 ≡ Bytes text) where
+      (text : List ℕ) (text_held : loaded files report 1_073_741_824 ≡ Bytes text) where
     by_fault : (made : Report) → report_of text ≡ Ok made → (inputs : List (List ℕ)) → AreHeld 268_435_456 1_073_741_824 files (paths said) inputs
         → (fault : Option (Part × ℕ)) → first_fault said inputs made ≡ fault
         → Goes (outcome (judged said made.compare fault) files) (outcome (judged said made.compare fault) files)
@@ -72,7 +72,7 @@ module _ (recipe report : List ℕ) (files : Files) where
     by_report : (reading : Result Report ℕ) → report_of text ≡ reading
         → Goes (outcome (with_report (verify_report said) reading) files) (outcome (with_report (verify_report said) reading) files)
     unfolding verify_report
-    by_report (Err number) text_reads compared = absurd cc
+    by_report (Err number) text_reads = λ compared. absurd cc
     by_report (Ok made) text_reads =
         let next : List (List ℕ) → Plan = λ inputs. verified said inputs made in
         both_need_all Goes files refused 268_435_456 1_073_741_824 (paths said) next next

@@ -26,7 +26,7 @@ abbrev pub IsRefusal : Status → Type 0
 IsRefusal status = (is_paused status ≡ false) × (is_compared status ≡ false)
 
 module _ (Both : Outcome → Outcome → Type 0) (files : Files)
-  (refused : (status : Status) (text : List ℕ) → IsRefusal status → Both (told files status text) (told files status text)) where
+    (refused : (status : Status) (text : List ℕ) → IsRefusal status → Both (told files status text) (told files status text)) where
   pub both_need : (name : List ℕ) (limit : ℕ) (first second : List ℕ → Plan)
       → ((content : List ℕ) → loaded files name limit ≡ Bytes content → Both (outcome (first content) files) (outcome (second content) files))
       → Both (outcome (needs name limit first) files) (outcome (needs name limit second) files)
