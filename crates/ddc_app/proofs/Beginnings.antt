@@ -4,6 +4,7 @@ use Rattle.std.specs.Prelude.{bytes_eq}
 use Rattle.std.proofs.lemmas.Bool.{and_parts}
 use Rattle.ddc_base.specs.declared.outside.Loaded.TheVariants.{Bytes}
 use Rattle.ddc_base.specs.Outside.{Files, loaded}
+use Rattle.recipe.specs.Kept.{IsRecipe}
 use Rattle.recipe.specs.Reading.{recipe_of}
 use Rattle.recipe.specs.declared.contents.Said.{Said}
 use Rattle.wheeler.specs.Bench.{bench}
@@ -17,13 +18,14 @@ use Rattle.ddc_app.specs.Accepting.{audit, is_compared}
 use Rattle.ddc_app.specs.Pausing.{AreWords, IsCount, is_paused, part}
 use Rattle.ddc_app.proofs.CountWords.{count-again}
 use Rattle.ddc_app.proofs.Loads.{two_apart}
-use Rattle.ddc_app.proofs.Openings.{Holds}
+use Rattle.ddc_app.proofs.Openings.{Holds, said_keeps}
 use Rattle.ddc_app.proofs.Walks.{IsRefusal, both_need_all, both_need_recipe, told}
 
 -- ---- the words
 
 -- three words that name three files
 pub record Apart (recipe save report : List ℕ) : Type 0 where
+  pub three : IsTrue (are_three_files recipe save report)
   pub two : are_two_files recipe report ≡ true
   pub recipe_save : bytes_eq recipe save ≡ false
   pub recipe_report : bytes_eq recipe report ≡ false
@@ -33,7 +35,13 @@ pub three_apart : (recipe save report : List ℕ) → IsTrue (are_three_files re
 three_apart recipe save report three =
     let last = and_parts (are_two_files recipe save && are_two_files recipe report) (are_two_files save report) three in
     let both = and_parts (are_two_files recipe save) (are_two_files recipe report) last.0 in
-    record { two = both.1; recipe_save = two_apart recipe save both.0; recipe_report = two_apart recipe report both.1; save_report = two_apart save report last.1 }
+    record {
+      three = three;
+      two = both.1;
+      recipe_save = two_apart recipe save both.0;
+      recipe_report = two_apart recipe report both.1;
+      save_report = two_apart save report last.1;
+    }
 
 -- the words of either command lead to its plan
 pub with_words : (recipe save report : List ℕ) (steps : ℕ) (next : ℕ → Plan) (files : Files) → IsTrue (are_three_files recipe save report) → IsCount steps
@@ -44,18 +52,24 @@ with_words recipe save report steps next files three count =
 
 -- ---- the first piece
 
+-- the audit of a recipe and its inputs, by words that name three files of which neither the save nor the report is an input
+pub record Case (recipe save report : List ℕ) : Type 0 where
+  pub words : Apart recipe save report
+  pub said : Said
+  pub inputs : List (List ℕ)
+  pub is : IsRecipe said
+  pub no_report : is_input said report ≡ false
+  pub no_save : is_input said save ≡ false
+
 pub record Refused (piece whole : Outcome) : Type 0 where
   pub same : piece ≡ whole
   pub refusal : IsRefusal piece.status
 
 pub record Begun (recipe save report : List ℕ) (files : Files) (steps : ℕ) (piece whole : Outcome) : Type 0 where
-  pub said : Said
-  pub inputs : List (List ℕ)
-  pub holds : Holds recipe said inputs files
-  pub no_report : is_input said report ≡ false
-  pub no_save : is_input said save ≡ false
-  pub comes : piece ≡ outcome (came_to said inputs save report (position said inputs steps)) files
-  pub answers : whole ≡ outcome (audited said report (bench said inputs)) files
+  pub c : Case recipe save report
+  pub holds : Holds recipe c.said c.inputs files
+  pub comes : piece ≡ outcome (came_to c.said c.inputs save report (position c.said c.inputs steps)) files
+  pub answers : whole ≡ outcome (audited c.said report (bench c.said c.inputs)) files
 
 module _ (recipe save report : List ℕ) (steps : ℕ) (files : Files) where
   abbrev pub Begins : Outcome → Outcome → Type 0
@@ -64,19 +78,16 @@ module _ (recipe save report : List ℕ) (steps : ℕ) (files : Files) where
   refused : (status : Status) (text : List ℕ) → IsRefusal status → Begins (told files status text) (told files status text)
   refused status text refusal = inl (record { same = refl; refusal = refusal })
 
-  begins_apart : (bytes : List ℕ) (said : Said) → loaded files recipe 1_048_576 ≡ Bytes bytes → recipe_of bytes ≡ Ok said → is_input said report ≡ false → is_input said save ≡ false
+  begins_apart : Apart recipe save report → (bytes : List ℕ) (said : Said) → loaded files recipe 1_048_576 ≡ Bytes bytes → recipe_of bytes ≡ Ok said → is_input said report ≡ false → is_input said save ≡ false
       → Begins (outcome (part_recipe save report steps said) files) (outcome (audit_recipe report said) files)
   unfolding part_recipe audit_recipe
-  begins_apart bytes said held reads no_report no_save =
+  begins_apart words bytes said held reads no_report no_save =
       subst (λ (clash : Bool). Begins (outcome (cond clash usage (needs_inputs said (λ inputs. came_to said inputs save report (position said inputs steps)))) files)
       (outcome (needs_inputs said (λ inputs. audited said report (bench said inputs))) files)) (sym no_save)
       (both_need_all Begins files refused 268_435_456 1_073_741_824 (paths said) (λ inputs. came_to said inputs save report (position said inputs steps))
       (λ inputs. audited said report (bench said inputs)) (λ inputs inputs_held. inr (record {
-        said = said;
-        inputs = inputs;
+        c = record { words = words; said = said; inputs = inputs; is = said_keeps bytes said reads; no_report = no_report; no_save = no_save };
         holds = record { bytes = bytes; recipe_held = held; reads = reads; inputs_held = inputs_held };
-        no_report = no_report;
-        no_save = no_save;
         comes = refl;
         answers = refl;
       })))
@@ -85,7 +96,7 @@ module _ (recipe save report : List ℕ) (steps : ℕ) (files : Files) where
   unfolding part_files audit_files
   begins_files words =
       both_need_recipe Begins files refused recipe report (part_recipe save report steps) (audit_recipe report)
-      (λ bytes said held reads no_report. begins_apart bytes said held reads no_report (words.apart bytes said held reads))
+      (λ bytes said held reads no_report. begins_apart (three_apart recipe save report words.three) bytes said held reads no_report (words.apart bytes said held reads))
 
   pub begins : AreWords recipe save report files → IsCount steps → Begins (part recipe save report steps files) (audit recipe report files)
   begins words count =

@@ -16,36 +16,22 @@ use Rattle.audit_commands.specs.Audit.{audited, completed}
 use Rattle.ddc_app.specs.Accepting.{HoldBytes, audit, is_compared, verify}
 use Rattle.ddc_app.specs.Pausing.{AreSame, AreWords, IsCount, Pieces, in_pieces, is_paused, part, resume, resumed}
 use Rattle.ddc_app.proofs.Accepting.{Replays, judges}
-use Rattle.ddc_app.proofs.Beginnings.{Begun, Refused, begins, three_apart}
+use Rattle.ddc_app.proofs.Beginnings.{Begun, Case, Refused, begins}
 use Rattle.ddc_app.proofs.Loads.{set_held}
-use Rattle.ddc_app.proofs.Openings.{are_inputs, is_recipe}
-use Rattle.ddc_app.proofs.Pieces.{Case, Ends, Pauses, Settles, alike, piece_of, settles}
+use Rattle.ddc_app.proofs.Openings.{are_inputs}
+use Rattle.ddc_app.proofs.Pieces.{Ends, Settles, alike, piece_of, settles}
 use Rattle.ddc_app.proofs.Resuming.{resumes_at}
 
 -- ---- the first piece
 
-case_of : (recipe save report : List ℕ) (steps : ℕ) (files : Files) (piece whole : Outcome) → AreWords recipe save report files
-    → Begun recipe save report files steps piece whole → Case recipe save report
-case_of recipe save report steps files piece whole words b = record {
-  words = three_apart recipe save report words.three;
-  said = b.said;
-  inputs = b.inputs;
-  is = is_recipe recipe b.said b.inputs files b.holds;
-  no_report = b.no_report;
-  no_save = b.no_save;
-}
+first_settles : (recipe save report : List ℕ) (steps : ℕ) (files : Files) (piece whole : Outcome) (b : Begun recipe save report files steps piece whole)
+    → Settles recipe save report b.c files steps piece
+first_settles recipe save report steps files piece whole b =
+    subst (Settles recipe save report b.c files steps) (sym b.comes)
+    (settles recipe save report b.c files files b.holds refl steps (position b.c.said b.c.inputs steps) refl)
 
-first_settles : (recipe save report : List ℕ) (steps : ℕ) (files : Files) (piece whole : Outcome) (words : AreWords recipe save report files)
-    → (b : Begun recipe save report files steps piece whole) → Settles recipe save report (case_of recipe save report steps files piece whole words b) files steps piece
-unfolding case_of
-first_settles recipe save report steps files piece whole words b =
-    let c = case_of recipe save report steps files piece whole words b in
-    subst (Settles recipe save report c files steps) (sym b.comes) (settles recipe save report c files files b.holds refl steps (position b.said b.inputs steps) refl)
-
--- a part of an audit is over by one of the commands `part`, or by the pauses
 pub parts : (recipe save report : List ℕ) (steps : ℕ) (files : Files) → AreWords recipe save report files → IsCount steps
     → Pieces recipe save report files steps (part recipe save report steps files)
-unfolding case_of
 parts recipe save report steps files words count = by (begins recipe save report steps files words count) where
   piece : Outcome
   piece = part recipe save report steps files
@@ -53,8 +39,7 @@ parts recipe save report steps files words count = by (begins recipe save report
   by : Refused piece (audit recipe report files) ⊎ Begun recipe save report files steps piece (audit recipe report files) → Pieces recipe save report files steps piece
   by (inl r) = inr (alike report piece (audit recipe report files) r.same)
   by (inr b) =
-      piece_of recipe save report (case_of recipe save report steps files piece (audit recipe report files) words b) files steps piece b.answers
-      (first_settles recipe save report steps files piece (audit recipe report files) words b)
+      piece_of recipe save report b.c files steps piece b.answers (first_settles recipe save report steps files piece (audit recipe report files) b)
 
 -- ---- the pieces after it
 
@@ -64,7 +49,7 @@ stays_over recipe save report piece [] over = refl
 stays_over recipe save report piece (steps ∷ counts) over =
     ap (λ b. cond b (resumed recipe save report (resume recipe save report steps piece.files) counts) piece) over
 
-module _ (recipe save report : List ℕ) (c : Case recipe save report) (first : Files) (words : AreWords recipe save report first) (given : IsInputs c.said c.inputs) where
+module _ (recipe save report : List ℕ) (c : Case recipe save report) (first : Files) (given : IsInputs c.said c.inputs) where
   further : (counts : List ℕ) → All IsCount counts → (total : ℕ) (piece : Outcome) → Settles recipe save report c first total piece
       → Settles recipe save report c first (fold (λ a x. a + x) total counts) (resumed recipe save report piece counts)
   further [] are total piece settled = settled
@@ -73,25 +58,22 @@ module _ (recipe save report : List ℕ) (c : Case recipe save report) (first : 
   further (steps ∷ counts) are total piece (inl p) =
       let next : Outcome = resume recipe save report steps piece.files in
       let counted = All-head IsCount steps counts are in
-      let comes = resumes_at recipe save report c piece.files words.three given p.holds total p.place p.stands p.save_held steps counted in
+      let comes = resumes_at recipe save report c piece.files given p.holds total p.place p.stands p.save_held steps counted in
       subst (λ (s : Status). Settles recipe save report c first (fold (λ a x. a + x) (total + steps) counts) (cond (is_paused s) (resumed recipe save report next counts) piece)) (sym p.status)
       (further counts (All-tail IsCount steps counts are) (total + steps) next
       (subst (Settles recipe save report c first (total + steps)) (sym comes)
       (settles recipe save report c first piece.files p.holds p.same_report (total + steps) (position c.said c.inputs (total + steps)) refl)))
 
-all_settle : (recipe save report : List ℕ) (steps : ℕ) (counts : List ℕ) (files : Files) (piece whole : Outcome) (words : AreWords recipe save report files)
-    → All IsCount (steps ∷ counts) → HoldBytes files → (b : Begun recipe save report files steps piece whole)
-    → Settles recipe save report (case_of recipe save report steps files piece whole words b) files (sum (steps ∷ counts)) (resumed recipe save report piece counts)
-unfolding case_of
-all_settle recipe save report steps counts files piece whole words are bytes b =
-    let c = case_of recipe save report steps files piece whole words b in
+all_settle : (recipe save report : List ℕ) (steps : ℕ) (counts : List ℕ) (files : Files) (piece whole : Outcome) → All IsCount (steps ∷ counts)
+    → HoldBytes files → (b : Begun recipe save report files steps piece whole)
+    → Settles recipe save report b.c files (sum (steps ∷ counts)) (resumed recipe save report piece counts)
+all_settle recipe save report steps counts files piece whole are bytes b =
     let none : steps ≡ 0 + steps = omega arith in
-    further recipe save report c files words (are_inputs recipe b.said b.inputs files b.holds bytes) counts (All-tail IsCount steps counts are) (0 + steps) piece
-    (subst (λ n. Settles recipe save report c files n piece) none (first_settles recipe save report steps files piece whole words b))
+    further recipe save report b.c files (are_inputs recipe b.c.said b.c.inputs files b.holds bytes) counts (All-tail IsCount steps counts are) (0 + steps) piece
+    (subst (λ n. Settles recipe save report b.c files n piece) none (first_settles recipe save report steps files piece whole b))
 
 pub same : (recipe save report : List ℕ) (steps : ℕ) (counts : List ℕ) (files : Files) → AreWords recipe save report files → All IsCount (steps ∷ counts) → HoldBytes files
     → Pieces recipe save report files (sum (steps ∷ counts)) (in_pieces recipe save report steps counts files)
-unfolding case_of
 same recipe save report steps counts files words are bytes = by (begins recipe save report steps files words (All-head IsCount steps counts are)) where
   piece : Outcome
   piece = part recipe save report steps files
@@ -102,13 +84,13 @@ same recipe save report steps counts files words are bytes = by (begins recipe s
   by : Refused piece whole ⊎ Begun recipe save report files steps piece whole → Pieces recipe save report files (sum (steps ∷ counts)) (resumed recipe save report piece counts)
   by (inl r) = inr (alike report (resumed recipe save report piece counts) whole (stays_over recipe save report piece counts r.refusal.0 ∙ r.same))
   by (inr b) =
-      piece_of recipe save report (case_of recipe save report steps files piece whole words b) files (sum (steps ∷ counts)) (resumed recipe save report piece counts) b.answers
-      (all_settle recipe save report steps counts files piece whole words are bytes b)
+      piece_of recipe save report b.c files (sum (steps ∷ counts)) (resumed recipe save report piece counts) b.answers
+      (all_settle recipe save report steps counts files piece whole are bytes b)
 
 -- ---- its report
 
 -- a piece that compares leaves the bench's report
-compared : (recipe save report : List ℕ) (c : Case recipe save report) (first : Files) (piece : Outcome) → IsInputs c.said c.inputs → Ends recipe save report c first piece
+compared : (recipe save report : List ℕ) (c : Case recipe save report) (first : Files) (piece : Outcome) → IsInputs c.said c.inputs → Ends recipe save report c first (bench c.said c.inputs) piece
     → IsTrue (is_compared piece.status) → (verify recipe report piece.files).status ≡ piece.status
 unfolding completed
 compared recipe save report c first piece given e over = by (bench c.said c.inputs) refl e.same where
@@ -133,7 +115,6 @@ compared recipe save report c first piece given e over = by (bench c.said c.inpu
 pub accepted : (recipe save report : List ℕ) (steps : ℕ) (counts : List ℕ) (files : Files) → AreWords recipe save report files → All IsCount (steps ∷ counts) → HoldBytes files
     → IsTrue (is_compared (in_pieces recipe save report steps counts files).status)
     → (verify recipe report (in_pieces recipe save report steps counts files).files).status ≡ (in_pieces recipe save report steps counts files).status
-unfolding case_of
 accepted recipe save report steps counts files words are bytes over = by (begins recipe save report steps files words (All-head IsCount steps counts are)) where
   piece : Outcome
   piece = part recipe save report steps files
@@ -145,13 +126,13 @@ accepted recipe save report steps counts files words are bytes over = by (begins
   last = resumed recipe save report piece counts
 
   settled : (b : Begun recipe save report files steps piece whole)
-      → Settles recipe save report (case_of recipe save report steps files piece whole words b) files (sum (steps ∷ counts)) last → (verify recipe report last.files).status ≡ last.status
+      → Settles recipe save report b.c files (sum (steps ∷ counts)) last → (verify recipe report last.files).status ≡ last.status
   settled b (inl p) = let never = sym (ap is_compared p.status) ∙ over in absurd cc
   settled b (inr e) =
-      compared recipe save report (case_of recipe save report steps files piece whole words b) files last (are_inputs recipe b.said b.inputs files b.holds bytes) e over
+      compared recipe save report b.c files last (are_inputs recipe b.c.said b.c.inputs files b.holds bytes) e over
 
   by : Refused piece whole ⊎ Begun recipe save report files steps piece whole → (verify recipe report last.files).status ≡ last.status
   by (inl r) =
       let never = sym r.refusal.1 ∙ ap (λ (o : Outcome). is_compared o.status) (sym (stays_over recipe save report piece counts r.refusal.0)) ∙ over in
       absurd cc
-  by (inr b) = settled b (all_settle recipe save report steps counts files piece whole words are bytes b)
+  by (inr b) = settled b (all_settle recipe save report steps counts files piece whole are bytes b)

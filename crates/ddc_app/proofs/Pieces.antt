@@ -5,8 +5,6 @@ use Rattle.std.specs.FinMap as finite
 use Rattle.std.proofs.lemmas.Slice.Eq.{bytes_eq-Decides}
 use Rattle.ddc_base.specs.Outside.{Files}
 use Rattle.ddc_base.proofs.StoredFiles.{others-insert}
-use Rattle.recipe.specs.Kept.{IsRecipe}
-use Rattle.recipe.specs.declared.contents.Said.{Said}
 use Rattle.report.specs.Reports.{report_text}
 use Rattle.report.specs.declared.types.Compared.{Compared}
 use Rattle.report.specs.declared.types.Compared.TheVariants.{Equal, Differs}
@@ -22,22 +20,13 @@ use Rattle.wheeler.proofs.Continues.{position-bench}
 use Rattle.wheeler.proofs.Rules.{rules}
 use Rattle.command_plan.specs.declared.status.Status.TheVariants.{Paused}
 use Rattle.command_plan.specs.Plan.{Outcome, outcome}
-use Rattle.audit_commands.specs.Audit.{audited, compared_status, completed, is_input}
+use Rattle.audit_commands.specs.Audit.{audited, compared_status, completed}
 use Rattle.pause_commands.specs.Pause.{came_to, paused}
 use Rattle.ddc_app.specs.Accepting.{audit}
 use Rattle.ddc_app.specs.Pausing.{AreSame, Pieces, StandsAt, is_paused}
-use Rattle.ddc_app.proofs.Beginnings.{Apart}
+use Rattle.ddc_app.proofs.Beginnings.{Case}
 use Rattle.ddc_app.proofs.Loads.{set_held}
 use Rattle.ddc_app.proofs.Openings.{Holds, holds_again}
-
--- the audit of a recipe and its inputs, by words that name three files of which neither the save nor the report is an input
-pub record Case (recipe save report : List ℕ) : Type 0 where
-  pub words : Apart recipe save report
-  pub said : Said
-  pub inputs : List (List ℕ)
-  pub is : IsRecipe said
-  pub no_report : is_input said report ≡ false
-  pub no_save : is_input said save ≡ false
 
 -- a piece pauses behind so many steps
 pub record Pauses (recipe save report : List ℕ) (c : Case recipe save report) (first : Files) (total : ℕ) (piece : Outcome) : Type 0 where
@@ -48,14 +37,15 @@ pub record Pauses (recipe save report : List ℕ) (c : Case recipe save report) 
   pub stands : position c.said c.inputs total ≡ On place
   pub save_held : finite.get piece.files save ≡ Some (text_of (save_of c.said c.inputs place))
 
--- a piece comes to the bench's answer
-pub record Ends (recipe save report : List ℕ) (c : Case recipe save report) (first : Files) (piece : Outcome) : Type 0 where
+-- a piece comes to an answer
+pub record Ends (recipe save report : List ℕ) (c : Case recipe save report) (first : Files) (answer : Answer) (piece : Outcome) : Type 0 where
   pub not_paused : is_paused piece.status ≡ false
   pub holds : Holds recipe c.said c.inputs piece.files
-  pub same : AreSame report piece (outcome (audited c.said report (bench c.said c.inputs)) first)
+  pub same : AreSame report piece (outcome (audited c.said report answer) first)
 
 abbrev pub Settles : (recipe save report : List ℕ) → Case recipe save report → Files → ℕ → Outcome → Type 0
-Settles recipe save report c first total piece = Pauses recipe save report c first total piece ⊎ Ends recipe save report c first piece
+Settles recipe save report c first total piece =
+    Pauses recipe save report c first total piece ⊎ Ends recipe save report c first (bench c.said c.inputs) piece
 
 never_paused : (result : Compared) → is_paused (compared_status result) ≡ false
 never_paused (Equal size) = refl
@@ -67,23 +57,17 @@ other_stays files save report content apart =
 
 module _ (recipe save report : List ℕ) (c : Case recipe save report) (first now : Files) (h : Holds recipe c.said c.inputs now)
     (same : finite.get now report ≡ finite.get first report) where
-  answer_paused : (answer : Answer) → is_paused (outcome (audited c.said report answer) now).status ≡ false
+  ends : (answer : Answer) → Ends recipe save report c first answer (outcome (audited c.said report answer) now)
   unfolding completed
-  answer_paused (Completes made) = never_paused made.compare.result
-  answer_paused (Fails number (Runs cause step)) = refl
-  answer_paused (Fails number (Checks cause)) = refl
-
-  answer_holds : (answer : Answer) → Holds recipe c.said c.inputs (outcome (audited c.said report answer) now).files
-  unfolding completed
-  answer_holds (Completes made) = holds_again recipe c.said c.inputs now h report (report_text made) c.words.recipe_report c.no_report
-  answer_holds (Fails number (Runs cause step)) = h
-  answer_holds (Fails number (Checks cause)) = h
-
-  answer_same : (answer : Answer) → AreSame report (outcome (audited c.said report answer) now) (outcome (audited c.said report answer) first)
-  unfolding completed
-  answer_same (Completes made) = record { status = refl; text = refl; held = set_held now report (report_text made) ∙ sym (set_held first report (report_text made)) }
-  answer_same (Fails number (Runs cause step)) = record { status = refl; text = refl; held = same }
-  answer_same (Fails number (Checks cause)) = record { status = refl; text = refl; held = same }
+  ends (Completes made) =
+      let text : List ℕ = report_text made in
+      record {
+        not_paused = never_paused made.compare.result;
+        holds = holds_again recipe c.said c.inputs now h report text c.words.recipe_report c.no_report;
+        same = record { status = refl; text = refl; held = set_held now report text ∙ sym (set_held first report text) };
+      }
+  ends (Fails number (Runs cause step)) = record { not_paused = refl; holds = h; same = record { status = refl; text = refl; held = same } }
+  ends (Fails number (Checks cause)) = record { not_paused = refl; holds = h; same = record { status = refl; text = refl; held = same } }
 
   pub settles : (total : ℕ) (stands : Standing) → position c.said c.inputs total ≡ stands
       → Settles recipe save report c first total (outcome (came_to c.said c.inputs save report stands) now)
@@ -101,11 +85,7 @@ module _ (recipe save report : List ℕ) (c : Case recipe save report) (first no
   settles total (Over answer) stands =
       let benched : bench c.said c.inputs ≡ answer =
       sym (position-bench c.said (may-step c.said (rules c.said c.is)) c.inputs total) ∙ ap (finish c.said c.inputs) stands in
-      inr (record {
-        not_paused = answer_paused answer;
-        holds = answer_holds answer;
-        same = subst (λ (a : Answer). AreSame report (outcome (audited c.said report answer) now) (outcome (audited c.said report a) first)) (sym benched) (answer_same answer);
-      })
+      inr (subst (λ (a : Answer). Ends recipe save report c first a (outcome (audited c.said report answer) now)) (sym benched) (ends answer))
 
 -- what comes to the same outcome
 pub alike : (report : List ℕ) (piece whole : Outcome) → piece ≡ whole → AreSame report piece whole

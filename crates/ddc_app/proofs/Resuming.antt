@@ -24,10 +24,10 @@ use Rattle.audit_commands.specs.Audit.{audit_files, audit_recipe, audited, is_in
 use Rattle.pause_commands.specs.Pause.{are_three_files, came_to, read_as, resume_files, resume_recipe, resume_text, resumed}
 use Rattle.ddc_app.specs.Accepting.{HoldBytes, audit}
 use Rattle.ddc_app.specs.Pausing.{AreWords, IsCount, Pieces, StandsAt, resume}
-use Rattle.ddc_app.proofs.Beginnings.{three_apart, with_words}
+use Rattle.ddc_app.proofs.Beginnings.{Case, three_apart, with_words}
 use Rattle.ddc_app.proofs.Loads.{follows, is_loaded}
 use Rattle.ddc_app.proofs.Openings.{Holds, are_inputs, inputs_open, is_recipe, recipe_opens}
-use Rattle.ddc_app.proofs.Pieces.{Case, Settles, alike, piece_of, settles}
+use Rattle.ddc_app.proofs.Pieces.{Settles, alike, piece_of, settles}
 
 -- ---- the save
 
@@ -70,19 +70,19 @@ module _ (recipe save report : List ℕ) (files : Files) (three : IsTrue (are_th
 -- ---- the piece
 
 -- the save of the position behind so many steps leads on to the one behind more
-pub resumes_at : (recipe save report : List ℕ) (c : Case recipe save report) (files : Files) → IsTrue (are_three_files recipe save report) → IsInputs c.said c.inputs
+pub resumes_at : (recipe save report : List ℕ) (c : Case recipe save report) (files : Files) → IsInputs c.said c.inputs
     → Holds recipe c.said c.inputs files → (count : ℕ) (p : Position) → position c.said c.inputs count ≡ On p
     → finite.get files save ≡ Some (text_of (save_of c.said c.inputs p)) → (steps : ℕ) → IsCount steps
     → resume recipe save report steps files ≡ outcome (came_to c.said c.inputs save report (position c.said c.inputs (count + steps))) files
 unfolding resume_recipe resume_text
-resumes_at recipe save report c files three given h count p stands held steps counted =
+resumes_at recipe save report c files given h count p stands held steps counted =
     let text : List ℕ = text_of (save_of c.said c.inputs p) in
     let place = is_place c.said c.inputs count p c.is given stands in
     let goes_on : forward c.said c.inputs p steps ≡ position c.said c.inputs (count + steps) =
     sym (ap (λ (o : Standing). forward_from c.said c.inputs o steps) stands)
     ∙ forward_from-sum c.said c.inputs (beginning c.said c.inputs) count steps (count + steps) refl in
     let next : List (List ℕ) → Plan = λ inputs. resumed c.said inputs save report steps (read_as c.said inputs text) in
-    resume_opens recipe save report files three c.said c.inputs h steps counted
+    resume_opens recipe save report files c.words.three c.said c.inputs h steps counted
     ∙ ap (λ clash. outcome (cond clash usage (resume_recipe save report steps c.said)) files) c.no_report
     ∙ ap (λ clash. outcome (cond clash usage (needs save 4_294_967_296 (resume_text save report steps c.said))) files) c.no_save
     ∙ follows save 4_294_967_296 (resume_text save report steps c.said) files text (is_loaded files save text 4_294_967_296 held (short c.said c.inputs p c.is given place))
@@ -115,7 +115,7 @@ resumes recipe save report count steps files words counted bytes at = by (is_inp
         no_report = clash;
         no_save = words.apart at.bytes at.said at.recipe_held at.recipe_reads;
       } in
-      let comes = resumes_at recipe save report c files words.three (are_inputs recipe at.said at.inputs files h bytes) h count at.position at.stands at.save_held steps counted in
+      let comes = resumes_at recipe save report c files (are_inputs recipe at.said at.inputs files h bytes) h count at.position at.stands at.save_held steps counted in
       piece_of recipe save report c files (count + steps) (resume recipe save report steps files)
       (audits ∙ ap (λ clash. outcome (cond clash usage (audit_recipe report at.said)) files) clash
       ∙ inputs_open recipe at.said at.inputs files h (λ inputs. audited at.said report (bench at.said inputs)))
