@@ -1,3 +1,4 @@
+pub mod Answered
 mod Judged
 mod Written
 mod Exactly

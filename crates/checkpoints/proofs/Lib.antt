@@ -1,3 +1,5 @@
+pub mod Decided
+pub mod Decisions
 pub mod Exactly
 pub mod FileTurns
 pub mod Memories

@@ -1,6 +1,5 @@
-use Rattle.std.proofs.Common.{◌≡◌, ◌+◌, true, false, List, length, drop, All, refl, sym, ap, subst, ◌∙◌, arith}
+use Rattle.std.proofs.Common.{◌≡◌, ◌+◌, true, false, length, drop, All, refl, sym, ap, subst, ◌∙◌, arith}
 use Rattle.save_text.specs.Seen.{view}
-use Rattle.wheeler.specs.declared.answer.Finished.{Finished}
 use Rattle.wheeler.specs.Positions.{at}
 use Rattle.wheeler.specs.Valid.{AreDone}
 use Rattle.audit_save.specs.Saves.{done_in}
