@@ -3,3 +3,4 @@ mod Judged
 mod Written
 mod Exactly
 mod Placed
+pub mod SaveLengths

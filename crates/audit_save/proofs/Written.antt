@@ -1,12 +1,10 @@
 -- The save of a position has a text.
-use Rattle.std.proofs.Common.{◌≡◌, ℕ, zero, suc, ◌^◌, ◌<◌, ◌≤◌, Bool, true, false, nat_le, not, ◌&&◌, ◌==◌, Option, None, Some, List, [], ◌∷◌, length, map, All, IsTrue, refl, ap, ◌∙◌, arith, append_assoc}
-use Rattle.std.specs.List.{list_any}
-use Rattle.std.proofs.lemmas.Bool.{leb-true}
+use Rattle.std.proofs.Common.{◌≡◌, ℕ, zero, suc, ◌^◌, ◌<◌, ◌≤◌, Bool, true, false, ◌&&◌, Option, None, Some, List, [], ◌∷◌, length, map, All, IsTrue, refl, ap, ◌∙◌, arith, append_assoc}
 use Rattle.std.proofs.lemmas.List.{length-map}
 use Rattle.std.proofs.lemmas.List.Elements.{All-cons, All-head, All-nil, All-tail}
-use Rattle.byte_fields.specs.Spelling.{Counted, InTurn}
+use Rattle.byte_fields.specs.Spelling.{InTurn}
+use Rattle.checkpoints.proofs.FileTurns.{short_name}
 use Rattle.checkpoints.proofs.States as states
-use Rattle.mem_files.specs.Names.{begins_with_dot_slash, is_file_name, is_stripped_name}
 use Rattle.recipe.specs.declared.contents.Said.{Said}
 use Rattle.recipe.specs.declared.parts.Stage.{Stage}
 use Rattle.recipe.specs.Kept as kept
@@ -36,19 +34,11 @@ first_two a b e = (and_left a b e, and_right a b e) where
   and_right true b e = e
   and_right false b e = absurd cc
 
-short_name : (name : List ℕ) → is_stripped_name name ≡ true → length name < 2 ^ 16
-short_name name e =
-    let a = first_two (is_file_name name) (not (begins_with_dot_slash name)) e in
-    let b = first_two (nat_le 1 (length name) && nat_le (length name) 255) (not (list_any (λ byte. byte == 0) name)) a.0 in
-    let c = first_two (nat_le 1 (length name)) (nat_le (length name) 255) b.0 in
-    let high = leb-true (length name) 255 c.1 in
-    omega arith
-
 mark_of : (mark : Mark) → IsSmallMark mark → IsMark mark
 mark_of mark small = record { length = small.length; digest = record { full = small.digest.count } }
 
 left_of : (last : Option (List ℕ)) (file : LeftLine) → IsLeftLine file → is_behind last file.name ≡ true → IsLeft last file
-left_of last file line behind = record { short = short_name file.name line.named; behind = behind; mark = mark_of file.mark line.mark }
+left_of last file line behind = let most = (short_name file.name line.named).1 in record { short = omega arith; behind = behind; mark = mark_of file.mark line.mark }
 
 abbrev IsBegun : Option (List ℕ) → List LeftLine → Type 0
 IsBegun last [] = Unit {0}
@@ -90,7 +80,7 @@ stages_turn [] (f ∷ done) any few are = absurd are
 stages_turn (stage ∷ stages) (f ∷ done) any few are =
     (stage_is stage f (All-head HasFew stage stages few) are.0, stages_turn stages done 0 (All-tail HasFew stage stages few) are.1)
 
-few_done : (stages : List Stage) (done : List Finished) → AreFinished stages done → length done ≤ length stages
+pub few_done : (stages : List Stage) (done : List Finished) → AreFinished stages done → length done ≤ length stages
 few_done stages [] are = omega arith
 few_done [] (f ∷ done) are = absurd are
 few_done (stage ∷ stages) (f ∷ done) are = let rest = few_done stages done are.1 in omega arith

@@ -43,21 +43,19 @@ above {A} number value low (x ∷ xs) below =
     onto P x xs first others zero d less = first
     onto P x xs first others (suc k) d less = others k d (omega arith)
 
-short_name : (name : List ℕ) → is_stripped_name name ≡ true → (1 ≤ length name) × (length name < 2 ^ 16)
+pub short_name : (name : List ℕ) → is_stripped_name name ≡ true → (1 ≤ length name) × (length name ≤ 255)
 short_name name e =
     let a = first_two (is_file_name name) (not (begins_with_dot_slash name)) e in
     let b = first_two (nat_le 1 (length name) && nat_le (length name) 255) (not (list_any (λ byte. eqb byte 0) name)) a.0 in
     let c = first_two (nat_le 1 (length name)) (nat_le (length name) 255) b.0 in
-    let low = leb-true 1 (length name) c.0 in
-    let high = leb-true (length name) 255 c.1 in
-    (low, omega arith)
+    (leb-true 1 (length name) c.0, leb-true (length name) 255 c.1)
 
-abbrev Named : List ℕ × ℕ → Type 0
+abbrev pub Named : List ℕ × ℕ → Type 0
 Named e = lists.IsName e.0
 
 name_here : (name : Option (List ℕ)) (number : ℕ) (others : List (List ℕ × ℕ)) → All Named (with_name name number others) → IsName name × All Named others
 name_here None number others all = (tt, all)
-name_here (Some name) number others all = (short_name name (All-head Named (name, number) others all).0, All-tail Named (name, number) others all)
+name_here (Some name) number others all = let short = short_name name (All-head Named (name, number) others all).0 in let most = short.1 in ((short.0, omega arith), All-tail Named (name, number) others all)
 
 file_turn : (files : List ListedFile) (least : ℕ) → finite.is_sorted nat_cmp (contents files) ≡ true → All (λ f. least ≤ f.number) files → All (λ f. f.number < 5120) files → All (λ f. IsContent f.content) files → All Named (named files)
     → InTurn IsFile after_file least files
@@ -122,6 +120,8 @@ slot_count (e ∷ slots) least turn low le =
 
 -- files and descriptors in turn, few enough for a count
 pub record HaveText (l : FileLists) : Type 0 where
+  pub few_files : length l.files ≤ 5120
+  pub few_slots : length l.slots ≤ 1024
   pub files : (length l.files < 2 ^ 32) × InTurn IsFile after_file 0 l.files
   pub slots : (length l.slots < 2 ^ 32) × InTurn IsDescriptor after_descriptor 0 l.slots
 
@@ -131,4 +131,4 @@ have_text l order range joined =
     let slots = slot_turn l.files l.slots 0 order.slots_rise (λ k d less. omega arith) range.low_slots range.good_slots joined.held range.low_numbers in
     let few_files = file_count l.files 0 files range.low_numbers (omega arith) in
     let few_slots = slot_count l.slots 0 slots range.low_slots (omega arith) in
-    record { files = (omega arith, files); slots = (omega arith, slots) }
+    record { few_files = omega arith; few_slots = omega arith; files = (omega arith, files); slots = (omega arith, slots) }

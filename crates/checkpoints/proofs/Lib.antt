@@ -6,5 +6,7 @@ pub mod Memories
 pub mod PageCounts
 pub mod Restored
 pub mod SameText
+pub mod StateLengths
 pub mod States
+pub mod TextLengths
 pub mod Turns

@@ -1,14 +1,16 @@
 -- How many pages a guest can have.
-use Rattle.std.proofs.Common.{◌≡◌, ℕ, zero, suc, ◌+◌, ◌-◌, ◌*◌, ◌/◌, ◌^◌, ◌<◌, ◌≤◌, Bool, true, false, cond, eqb, not, max, List, [], ◌∷◌, add-one, refl, ap, ◌∙◌, arith}
+use Rattle.std.proofs.Common.{◌≡◌, ℕ, zero, suc, ◌+◌, ◌-◌, ◌*◌, ◌/◌, ◌^◌, ◌<◌, ◌≤◌, Bool, true, false, cond, eqb, not, max, Option, None, Some, is_some, List, [], ◌∷◌, length, length-append, add-one, refl, ap, ◌∙◌, arith}
 use Rattle.std.specs.Prelude.{count_by, sum_by, ◌&&◌, ◌||◌, nat_lt, nat_le}
+use Rattle.std.specs.FinMap as finite
 use Rattle.std.proofs.lemmas.List.Sums.{sum_by-cons}
 use Rattle.std.proofs.lemmas.Bool.{leb-false, ltb-false}
-use Rattle.paged_mem.specs.Memory.{Memory, page_up}
+use Rattle.paged_mem.specs.Memory.{Memory, bytes_at, page_up, prepended}
 use Rattle.linux_calls.specs.declared.Heap.{Heap}
 use Rattle.linux_calls.specs.HeapOf.{is_beside_heap}
 use Rattle.guest_run.specs.Valid.{Fits, pages_beside, pages_from}
-use Rattle.memory_parts.specs.Canonical.{is_mapped, runs_from, runs_of, with_page}
+use Rattle.memory_parts.specs.Canonical.{ArePlaced, is_mapped, listed, pages_from as listed_from, runs_from, runs_of, with_page}
 use Rattle.state_text.specs.declared.parts.Run.{Run}
+use Rattle.state_text.specs.StateText.{PageText, after_run, is_page}
 
 abbrev pages_in : List Run → ℕ
 pages_in runs = sum_by (λ (run : Run). run.pages) runs
@@ -93,3 +95,36 @@ few_pages m heap fits =
     let of_heap = between (λ n. not (beside n)) low high inside 0 (2 ^ 26) in
     let few = fits.few in
     omega arith
+
+-- a run has a page
+pub runs_few : (least : ℕ) (runs : List Run) → ArePlaced least runs → length runs ≤ pages_in runs
+runs_few least [] turn = omega arith
+runs_few least (run ∷ runs) turn = let some = turn.0.some in let rest = runs_few (after_run run) runs turn.1 in omega (arith, cons-pages run runs)
+
+-- a page is listed only where its first byte is mapped
+listed_few : (m : Memory) (page count : ℕ) → length (listed page (bytes_at m (4096 * page) (suc count))) ≤ cond (is_mapped m page) 1 0
+unfolding bytes_at
+listed_few m page count = first (finite.get m (4096 * page)) (bytes_at m (suc (4096 * page)) count)
+  where
+    shown : (bytes : List ℕ) (b : Bool) → length {A = PageText} (cond b (record { number = page; bytes = bytes } ∷ []) []) ≤ 1
+    shown bytes true = omega arith
+    shown bytes false = omega arith
+
+    first : (o : Option ℕ) (later : Option (List ℕ)) → length (listed page (prepended o later)) ≤ cond (is_some o) 1 0
+    first None later = omega arith
+    first (Some byte) None = omega arith
+    first (Some byte) (Some bytes) = shown (byte ∷ bytes) (is_page (byte ∷ bytes))
+
+by_page : (page here later : ℕ) (runs : List Run) (b : Bool) → here ≤ cond b 1 0 → later ≤ pages_in runs → here + later ≤ pages_in (cond b (with_page page runs) runs)
+by_page page here later runs true first rest = omega (arith, page_more page runs)
+by_page page here later runs false first rest = omega arith
+
+-- no more pages are listed than the runs have
+pub pages_few : (m : Memory) (page count : ℕ) → length (listed_from m page count) ≤ pages_in (runs_from (is_mapped m) page count)
+unfolding listed_from runs_from
+pages_few m page zero = omega arith
+pages_few m page (suc count) =
+    let here = listed page (bytes_at m (4096 * page) 4096) in
+    let later = listed_from m (page + 1) count in
+    let few = by_page page (length here) (length later) (runs_from (is_mapped m) (page + 1) count) (is_mapped m page) (listed_few m page 4095) (pages_few m (page + 1) count) in
+    omega (arith, length-append here later)

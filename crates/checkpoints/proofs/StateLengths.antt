@@ -1,0 +1,118 @@
+-- The text of a guest's state is short.
+use Rattle.std.proofs.Common.{◌≡◌, ℕ, ◌+◌, ◌^◌, ◌≤◌, Option, None, Some, List, [], ◌∷◌, length, All, arith, length-append}
+use Rattle.std.specs.Prelude.{sum_by}
+use Rattle.std.specs.Int.{w64}
+use Rattle.std.proofs.lemmas.List.{length-drop}
+use Rattle.std.proofs.lemmas.List.Elements.{All-cons, All-head, All-nil, All-tail}
+use Rattle.byte_fields.specs.Spelling.{number_text}
+use Rattle.mem_files.specs.Lists.{ListedFile, lists_of, named, with_name}
+use Rattle.mem_files.specs.declared.slot.Slot.{Slot}
+use Rattle.mem_files.specs.declared.slot.Slot.TheVariants.{File}
+use Rattle.linux_calls.specs.declared.Heap.{Heap}
+use Rattle.file_parts.proofs.GoodLists.{good_join, good_order, good_range}
+use Rattle.guest_run.specs.State.{GuestState}
+use Rattle.guest_run.specs.Valid.{IsValid}
+use Rattle.memory_parts.specs.Canonical.{AreShown, runs_of}
+use Rattle.state_text.specs.declared.parts.Run.{Run}
+use Rattle.state_text.specs.StateText.{PageText, StateText, after_page, magic}
+use Rattle.state_text.specs.Spelled.{body_text, descriptor_text, file_text, flags_of, heap_text, name_bytes, page_text, run_text, slot_text, text_of}
+use Rattle.checkpoints.specs.Checkpoint.{state_of}
+use Rattle.checkpoints.proofs.FileTurns.{Named, have_text, short_name}
+use Rattle.checkpoints.proofs.PageCounts.{few_pages, pages_few, runs_few}
+use Rattle.checkpoints.proofs.TextLengths.{HasAtMost, after_byte, alike, counted, items, itself, joined, number16, number32, number64, within}
+use Rattle.checkpoints.proofs.Turns.{pages_shown, runs_placed}
+
+-- ---- its parts
+
+heap_most : (heap : Heap) → HasAtMost 24 (heap_text heap)
+heap_most heap = joined (number64 heap.first) (joined (number64 heap.now) (number64 heap.limit))
+
+run_most : (run : Run) → HasAtMost 8 (run_text run)
+run_most run = joined (number32 run.first) (number32 run.pages)
+
+page_most : (page : PageText) → length page.bytes ≡ 4096 → HasAtMost 4100 (page_text page)
+page_most page full = joined {n = 4096} (number32 page.number) (record { long = omega arith })
+
+pages_most : (least : ℕ) (pages : List PageText) → AreShown least pages → All (λ page. HasAtMost 4100 (page_text page)) pages
+pages_most least [] turn = All-nil (λ page. HasAtMost 4100 (page_text page))
+pages_most least (page ∷ pages) turn = All-cons (λ page. HasAtMost 4100 (page_text page)) page pages (page_most page turn.0.full) (pages_most (after_page page) pages turn.1)
+
+slot_most : (slot : Slot) → HasAtMost 13 (slot_text slot)
+slot_most (File number cursor access) = joined (number32 number) (joined (number64 cursor) (itself (flags_of access ∷ [])))
+slot_most _ = record { long = omega arith }
+
+descriptor_most : (d : ℕ × Slot) → HasAtMost 18 (descriptor_text d)
+descriptor_most d = joined (number32 d.0) (after_byte (slot_most d.1))
+
+name_most : (name : Option (List ℕ)) (number : ℕ) (others : List (List ℕ × ℕ)) → All Named (with_name name number others) → HasAtMost 255 (name_bytes name) × All Named others
+name_most None number others all = (record { long = omega arith }, all)
+name_most (Some name) number others all = (record { long = (short_name name (All-head Named (name, number) others all).0).1 }, All-tail Named (name, number) others all)
+
+file_most : (file : ListedFile) → HasAtMost 255 (name_bytes file.name) → HasAtMost (265 + length file.content) (file_text file)
+file_most file name =
+    within (joined (number32 file.number) (joined (joined (number16 (length (name_bytes file.name))) name) (joined (number32 (length file.content)) (itself file.content)))) (omega arith)
+
+files_most : (files : List ListedFile) → All Named (named files) → All (λ file. HasAtMost (265 + length file.content) (file_text file)) files
+files_most [] all = All-nil (λ file. HasAtMost (265 + length file.content) (file_text file))
+files_most (file ∷ files) all =
+    let name = name_most file.name file.number (named files) all in
+    All-cons (λ file. HasAtMost (265 + length file.content) (file_text file)) file files (file_most file name.0) (files_most files name.1)
+
+-- ---- the whole
+
+-- what a text says has few parts
+record IsSmall (s : StateText) : Type 0 where
+  registers : length s.registers ≡ 31
+  runs : length s.runs ≤ 329_728
+  pages : length s.pages ≤ 329_728
+  shown : AreShown 0 s.pages
+  files : length s.files ≤ 5_120
+  names : All Named (named s.files)
+  descriptors : length s.descriptors ≤ 1_024
+  contents : length s.stream1 + length s.stream2 + sum_by (λ file. length file.content) s.files ≤ 536_870_912
+
+body_most : (s : StateText) → IsSmall s → HasAtMost 1_892_769_080 (body_text s)
+unfolding body_text
+body_most s small =
+    let runs = small.runs in
+    let pages = small.pages in
+    let files = small.files in
+    let descriptors = small.descriptors in
+    let contents = small.contents in
+    within (joined (number64 s.steps) (joined (number64 s.pc)
+    (joined (alike (number_text w64) 8 s.registers (λ k d less. number64 _))
+    (joined (heap_most s.heap)
+    (joined (counted run_text s.runs (alike run_text 8 s.runs (λ k d less. run_most _)))
+    (joined (counted page_text s.pages (alike page_text 4100 s.pages (pages_most 0 s.pages small.shown)))
+    (joined (counted file_text s.files (items file_text (λ file. length file.content) 265 s.files (files_most s.files small.names)))
+    (joined (counted descriptor_text s.descriptors (alike descriptor_text 18 s.descriptors (λ k d less. descriptor_most _)))
+    (joined (joined (number32 (length s.stream1)) (itself s.stream1)) (joined (number32 (length s.stream2)) (itself s.stream2))))))))))) (omega (arith, small.registers))
+
+is_small : (g : GuestState) → IsValid g → IsSmall (state_of g)
+unfolding state_of
+is_small g valid =
+    let m = g.hart.memory in
+    let l = lists_of g.world in
+    let range = good_range g.world valid.files in
+    let text = have_text l (good_order g.world valid.files) range (good_join g.world valid.files) in
+    let mapped = few_pages m g.heap valid.fits in
+    let runs = runs_few 0 (runs_of m) (runs_placed m) in
+    let pages = pages_few m 0 (2 ^ 26) in
+    let count = valid.hart.count in
+    let contents : 0 + length g.world.stream1 + length g.world.stream2 + sum_by (λ (file : ListedFile). length file.content) l.files ≤ 536_870_912 = range.small_total in
+    record {
+      registers = omega (arith, length-drop 1 g.hart.registers);
+      runs = omega arith;
+      pages = omega arith;
+      shown = pages_shown m;
+      files = text.few_files;
+      names = range.good_names;
+      descriptors = text.few_slots;
+      contents = omega arith;
+    }
+
+pub body_short : (g : GuestState) → IsValid g → length (body_text (state_of g)) ≤ 1_892_769_080
+body_short g valid = (body_most (state_of g) (is_small g valid)).long
+
+pub short : (g : GuestState) → IsValid g → length (text_of (state_of g)) ≤ 1_892_769_088
+short g valid = omega (arith, body_short g valid, length-append magic (body_text (state_of g)))
