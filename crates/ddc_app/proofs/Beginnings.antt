@@ -14,8 +14,8 @@ use Rattle.command_plan.specs.Plan.{Plan, Outcome, outcome}
 use Rattle.command_plan.specs.Words.{are_two_files, as_steps, usage}
 use Rattle.audit_commands.specs.Audit.{audit_files, audit_recipe, audited, is_input, needs_inputs, paths}
 use Rattle.pause_commands.specs.Pause.{are_three_files, came_to, part_files, part_recipe, with_steps}
-use Rattle.ddc_app.specs.Accepting.{audit, is_compared}
-use Rattle.ddc_app.specs.Pausing.{AreWords, IsCount, is_paused, part}
+use Rattle.ddc_app.specs.Accepting.{audit}
+use Rattle.ddc_app.specs.Pausing.{AreWords, IsCount, part}
 use Rattle.ddc_app.proofs.CountWords.{count-again}
 use Rattle.ddc_app.proofs.Loads.{two_apart}
 use Rattle.ddc_app.proofs.Openings.{Holds, said_keeps}

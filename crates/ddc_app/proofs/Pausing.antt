@@ -1,5 +1,5 @@
 -- An audit in any pieces comes to the same as the undivided audit, and its report is accepted.
-use Rattle.std.proofs.Common.{◌≡◌, ℕ, ◌+◌, Bool, true, false, cond, IsTrue, ◌⊎◌, inl, inr, List, [], ◌∷◌, refl, sym, ap, ◌∙◌, subst, arith, All}
+use Rattle.std.proofs.Common.{◌≡◌, ℕ, ◌+◌, false, cond, IsTrue, ◌⊎◌, inl, inr, List, [], ◌∷◌, refl, sym, ap, ◌∙◌, subst, arith, All}
 use Rattle.std.specs.List.{fold, sum}
 use Rattle.std.proofs.lemmas.List.Elements.{All-head, All-tail}
 use Rattle.ddc_base.specs.Outside.{Files}
@@ -15,7 +15,7 @@ use Rattle.command_plan.specs.Plan.{Outcome, outcome}
 use Rattle.audit_commands.specs.Audit.{audited, completed}
 use Rattle.ddc_app.specs.Accepting.{HoldBytes, audit, is_compared, verify}
 use Rattle.ddc_app.specs.Pausing.{AreSame, AreWords, IsCount, Pieces, in_pieces, is_paused, part, resume, resumed}
-use Rattle.ddc_app.proofs.Accepting.{Replays, judges}
+use Rattle.ddc_app.proofs.Accepting.{judges}
 use Rattle.ddc_app.proofs.Beginnings.{Begun, Case, Refused, begins}
 use Rattle.ddc_app.proofs.Loads.{set_held}
 use Rattle.ddc_app.proofs.Openings.{are_inputs}

@@ -1,5 +1,5 @@
 -- What a piece of an audit comes to, over any files that hold the recipe and its inputs.
-use Rattle.std.proofs.Common.{◌≡◌, ◌≢◌, ℕ, ◌+◌, ◌<◌, Bool, true, false, cond, IsTrue, ◌⊎◌, inl, inr, Some, Result, Ok, Err, List, length, decimal, refl, sym, ap, ◌∙◌, subst, arith}
+use Rattle.std.proofs.Common.{◌≡◌, ℕ, false, ◌⊎◌, inl, inr, Some, List, refl, sym, ap, ◌∙◌, subst}
 use Rattle.std.specs.Prelude.{bytes_eq}
 use Rattle.std.specs.FinMap as finite
 use Rattle.std.proofs.lemmas.Slice.Eq.{bytes_eq-Decides}
@@ -23,7 +23,7 @@ use Rattle.command_plan.specs.Plan.{Outcome, outcome}
 use Rattle.audit_commands.specs.Audit.{audited, compared_status, completed}
 use Rattle.pause_commands.specs.Pause.{came_to, paused}
 use Rattle.ddc_app.specs.Accepting.{audit}
-use Rattle.ddc_app.specs.Pausing.{AreSame, Pieces, StandsAt, is_paused}
+use Rattle.ddc_app.specs.Pausing.{AreSame, Pieces, is_paused}
 use Rattle.ddc_app.proofs.Beginnings.{Case}
 use Rattle.ddc_app.proofs.Loads.{set_held}
 use Rattle.ddc_app.proofs.Openings.{Holds, holds_again}

@@ -1,7 +1,6 @@
 -- From the save of a position an audit goes on as it would have without a pause.
-use Rattle.std.proofs.Common.{◌≡◌, ◌≢◌, ℕ, ◌+◌, ◌<◌, Bool, true, false, cond, IsTrue, ◌⊎◌, inl, inr, Some, Result, Ok, Err, List, length, nat_le, refl, sym, ap, ◌∙◌, subst, arith}
+use Rattle.std.proofs.Common.{◌≡◌, ◌≢◌, ℕ, ◌+◌, Bool, true, false, cond, IsTrue, inr, Some, Result, Ok, Err, List, refl, sym, ap, ◌∙◌, subst}
 use Rattle.std.specs.FinMap as finite
-use Rattle.ddc_base.specs.declared.outside.Loaded.TheVariants.{Bytes}
 use Rattle.ddc_base.specs.Outside.{Files}
 use Rattle.recipe.specs.Kept.{IsRecipe}
 use Rattle.recipe.specs.declared.contents.Said.{Said}
@@ -13,14 +12,14 @@ use Rattle.audit_save.proofs.Answered.{answered}
 use Rattle.audit_save.proofs.Exactly.{is_only}
 use Rattle.audit_save.proofs.SaveLengths.{short}
 use Rattle.wheeler.specs.Bench.{bench}
-use Rattle.wheeler.specs.Positions.{Position, Standing, On, Over, beginning, forward, forward_from, position}
+use Rattle.wheeler.specs.Positions.{Position, Standing, On, beginning, forward, forward_from, position}
 use Rattle.wheeler.specs.Valid.{IsInputs, IsPosition, IsStanding}
 use Rattle.wheeler.proofs.Forwards.{forward_from-sum}
 use Rattle.wheeler.proofs.Places.{beginning-standing, from-standing}
 use Rattle.wheeler.proofs.Rules.{rules}
-use Rattle.command_plan.specs.Plan.{Plan, Outcome, needs, outcome}
-use Rattle.command_plan.specs.Words.{are_two_files, usage}
-use Rattle.audit_commands.specs.Audit.{audit_files, audit_recipe, audited, is_input, needs_inputs}
+use Rattle.command_plan.specs.Plan.{Plan, needs, outcome}
+use Rattle.command_plan.specs.Words.{usage}
+use Rattle.audit_commands.specs.Audit.{audit_files, audit_recipe, audited, is_input}
 use Rattle.pause_commands.specs.Pause.{are_three_files, came_to, read_as, resume_files, resume_recipe, resume_text, resumed}
 use Rattle.ddc_app.specs.Accepting.{HoldBytes, audit}
 use Rattle.ddc_app.specs.Pausing.{AreWords, IsCount, Pieces, StandsAt, resume}
