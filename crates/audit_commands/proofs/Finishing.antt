@@ -35,8 +35,10 @@ pub finishes : (old : AuditState) (answer : Progress) (new : Option Standing) �
     → Comes (Over (bench old.recipe old.inputs)) answer new
 finishes old answer new is none a = comes old (2 ^ 64 - 1) answer new (Over (bench old.recipe old.inputs)) (ends_at old is none) a
 
--- the same of an audit that keeps its recipe and its inputs
-pub carried : (recipe : Said) (inputs : List (List ℕ)) (same : Said) (given : List (List ℕ)) (out : List ℕ) (old new : ShelfState) (result : Result Answer Stop) → same ≡ recipe → given ≡ inputs
-    → Performs (audited same out (bench same given)) old new result → Performs (audited recipe out (bench recipe inputs)) old new result
-carried recipe inputs same given out old new result r i p =
-    subst (λ (said : Said). Performs (audited said out (bench said inputs)) old new result) r (subst (λ contents. Performs (audited same out (bench same contents)) old new result) i p)
+-- what an audit of a recipe and its inputs comes to, if it keeps its recipe
+pub carried : (recipe : Said) (inputs : List (List ℕ)) (kept : Said) (audit : AuditState) (out : List ℕ) (old new : ShelfState) (result : Result Answer Stop) → kept ≡ audit.recipe
+    → audit ≡ record { recipe = recipe; inputs = inputs; stands = None } → Performs (audited kept out (bench audit.recipe audit.inputs)) old new result
+    → Performs (audited recipe out (bench recipe inputs)) old new result
+carried recipe inputs kept audit out old new result k is p =
+    subst (λ (a : AuditState). Performs (audited a.recipe out (bench a.recipe a.inputs)) old new result) is
+    (subst (λ (said : Said). Performs (audited said out (bench audit.recipe audit.inputs)) old new result) k p)
