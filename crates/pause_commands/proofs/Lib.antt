@@ -1,1 +1,3 @@
 mod Written
+pub mod Coming
+pub mod Reading

@@ -146,17 +146,14 @@ fn resume_inputs<S: Shelf>(
     match resume(alloc, recipe, inputs, text) {
         Ok(audit) => go_on(alloc, audit, steps, save, report, shelf),
         Err(SaveRefusal::OutOfMemory) => Err(Stop::OutOfMemory),
-        Err(refusal) => refused(alloc, refusal),
+        Err(SaveRefusal::Form(offset)) => refused(alloc, SaveRefusal::Form(offset)),
+        Err(SaveRefusal::OtherRecipe) => refused(alloc, SaveRefusal::OtherRecipe),
+        Err(SaveRefusal::State) => refused(alloc, SaveRefusal::State),
     }
 }
 
 /// The audit that a save says. The save's text is let go.
-fn resume(
-    alloc: Global,
-    recipe: Recipe,
-    inputs: Inputs,
-    text: Bytes,
-) -> Result<Audit, SaveRefusal>
+fn resume(alloc: Global, recipe: Recipe, inputs: Inputs, text: Bytes) -> Result<Audit, SaveRefusal>
     requires { IsInputs recipe inputs }
     ensures { ResumesAudit recipe inputs text result }
 {
