@@ -1,6 +1,6 @@
 pub mod Answered
 mod Judged
 mod Written
-mod Exactly
+pub mod Exactly
 mod Placed
 pub mod SaveLengths

@@ -1,4 +1,12 @@
 pub mod Ending
 pub mod Loads
+pub mod Walks
+pub mod Openings
 pub mod Accepting
 pub mod Verifying
+pub mod CountWords
+pub mod Beginnings
+pub mod Pieces
+pub mod Resuming
+pub mod Pausing
+pub mod Leaving

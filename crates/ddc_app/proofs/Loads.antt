@@ -1,22 +1,23 @@
 -- What a plan's loads find, and find again after another name was set.
-use Rattle.std.proofs.Common.{◌≡◌, ℕ, ◌-◌, ◌≤◌, ◌||◌, Bool, true, false, cond, IsTrue, Option, Some, None, List, [], ◌∷◌, length, map, min, nat_le, le_trans, refl, ap, ◌∙◌, subst, arith}
+use Rattle.std.proofs.Common.{◌≡◌, ℕ, ◌-◌, ◌<◌, ◌≤◌, ◌&&◌, ◌||◌, not, Bool, true, false, cond, Option, Some, None, List, [], ◌∷◌, length, map, min, nat_le, le_trans, refl, ap, ◌∙◌, subst, arith}
 use Rattle.std.specs.List.{list_any}
 use Rattle.std.specs.Prelude.{All, bytes_eq}
 use Rattle.std.specs.Cmp.Lexicographic.{nat_list_cmp_total}
 use Rattle.std.specs.FinMap as finite
 use Rattle.std.proofs.Math.Nat.{min-le_left}
-use Rattle.std.proofs.lemmas.Bool.{leb-true}
+use Rattle.std.proofs.lemmas.Bool.{and_parts, leb-true}
+use Rattle.std.proofs.lemmas.Bool.Decides.{nat_tests}
 use Rattle.std.proofs.lemmas.List.Elements.{All-cons, All-nil}
 use Rattle.std.proofs.lemmas.Map.Text.{is_eq-slice_cmp}
 use Rattle.std.proofs.lemmas.Slice.Eq.{bytes_eq-Decides}
-use Rattle.ddc_base.specs.declared.outside.Loaded.{Loaded}
-use Rattle.ddc_base.specs.declared.outside.Loaded.TheVariants.{Bytes, Absent, TooLong}
+use Rattle.ddc_base.specs.declared.outside.Loaded.TheVariants.{Bytes, TooLong}
 use Rattle.ddc_base.specs.Outside.{Files, loaded, loaded_of}
 use Rattle.ddc_base.proofs.StoredFiles.{others-insert}
 use Rattle.mem_files.specs.Outputs.{IsContent}
 use Rattle.command_plan.specs.declared.status.Status.TheVariants.{FileRefused}
-use Rattle.command_plan.specs.Plan.{Plan, Outcome, needs, needs_all, follow, outcome}
-use Rattle.ddc_app.specs.Accepting.{HoldBytes, is_compared}
+use Rattle.command_plan.specs.Plan.{Plan, needs, needs_all, follow, outcome}
+use Rattle.command_plan.specs.Words.{are_two_files, is_file_word}
+use Rattle.ddc_app.specs.Accepting.{HoldBytes}
 use Rattle.ddc_app.specs.Holding.{AreHeld}
 
 -- ---- one load
@@ -27,20 +28,14 @@ pub follows : (name : List ℕ) (limit : ℕ) (next : List ℕ → Plan) (files 
 follows name limit next files content held =
     ap (λ l. follow l (λ c. outcome (next c) files) (λ text. record { status = FileRefused; text = text; files = files }) name) held
 
--- a load after which a plan comes to a comparison was answered
-pub record Found (name : List ℕ) (limit : ℕ) (files : Files) : Type 0 where
-  pub content : List ℕ
-  pub held : loaded files name limit ≡ Bytes content
+fits : (size limit : ℕ) → size < limit → nat_le size limit ≡ true
+fits size limit below = grind (arith, nat_tests)
 
-pub found : (name : List ℕ) (limit : ℕ) (next : List ℕ → Plan) (files : Files) → IsTrue (is_compared (outcome (needs name limit next) files).status)
-    → Found name limit files
-found name limit next files compared = by (loaded files name limit) refl compared where
-  by : (l : Loaded) → loaded files name limit ≡ l
-      → IsTrue (is_compared (follow l (λ c. outcome (next c) files) (λ text. record { status = FileRefused; text = text; files = files }) name).status)
-      → Found name limit files
-  by (Bytes content) is compared = record { content = content; held = is }
-  by Absent is compared = absurd cc
-  by TooLong is compared = absurd cc
+-- what is held below the limit is loaded
+pub is_loaded : (files : Files) (name content : List ℕ) (limit : ℕ) → finite.get files name ≡ Some content → length content < limit
+    → loaded files name limit ≡ Bytes content
+is_loaded files name content limit held below =
+    ap (loaded_of limit) held ∙ ap (λ b. cond b (Bytes content) TooLong) (fits (length content) limit below)
 
 -- what was loaded is held, within the limit
 pub within : (limit : ℕ) (held : Option (List ℕ)) (content : List ℕ) → loaded_of limit held ≡ Bytes content → (held ≡ Some content) × (length content ≤ limit)
@@ -61,6 +56,13 @@ pub other_held : (files : Files) (name content other : List ℕ) (limit : ℕ) �
 other_held files name content other limit apart =
     ap (loaded_of limit) ((others-insert files name content).others other (λ same. let equal = (bytes_eq-Decides other name).1 same in cc))
 
+-- two words that name two files are not equal
+pub two_apart : (first second : List ℕ) → are_two_files first second ≡ true → bytes_eq first second ≡ false
+two_apart first second two = by (bytes_eq first second) (and_parts (is_file_word first && is_file_word second) (not (bytes_eq first second)) two).1 where
+  by : (b : Bool) → not b ≡ true → b ≡ false
+  by true is = cc
+  by false is = refl
+
 -- ---- loads in a row
 
 pub follow_all : (most room : ℕ) (files : Files) (names contents : List (List ℕ)) (next : List (List ℕ) → Plan) → AreHeld most room files names contents
@@ -71,20 +73,6 @@ follow_all most room files [] (content ∷ contents) next held = absurd held
 follow_all most room files (name ∷ names) (content ∷ contents) next held =
     follows name (min most room) (λ content. needs_all most (room - length content) names (λ contents. next (content ∷ contents))) files content held.0
     ∙ follow_all most (room - length content) files names contents (λ contents. next (content ∷ contents)) held.1
-
-pub record FoundAll (most room : ℕ) (names : List (List ℕ)) (files : Files) : Type 0 where
-  pub contents : List (List ℕ)
-  pub held : AreHeld most room files names contents
-
-pub found_all : (most room : ℕ) (names : List (List ℕ)) (next : List (List ℕ) → Plan) (files : Files)
-    → IsTrue (is_compared (outcome (needs_all most room names next) files).status) → FoundAll most room names files
-found_all most room [] next files compared = record { contents = []; held = tt }
-found_all most room (name ∷ names) next files compared =
-    let rest : List ℕ → Plan = λ content. needs_all most (room - length content) names (λ contents. next (content ∷ contents)) in
-    let first = found name (min most room) rest files compared in
-    let later = found_all most (room - length first.content) names (λ contents. next (first.content ∷ contents)) files
-    (subst (λ (o : Outcome). IsTrue (is_compared o.status)) (follows name (min most room) rest files first.content first.held) compared) in
-    record { contents = first.content ∷ later.contents; held = (first.held, later.held) }
 
 -- they are found again where none of them was set
 pub found_again : {A : Type 0} (most room : ℕ) (files : Files) (name content : List ℕ) (path : A → List ℕ) (values : List A) (contents : List (List ℕ))

@@ -1,6 +1,6 @@
 -- An audit in pieces: what `part` and `resume` come to over files, beside what the undivided `audit` comes to. docs/reference/command-line.md
 -- says the same for people.
-use Rattle.std.specs.Prelude.{◌≡◌, ◌≢◌, ℕ, ◌^◌, ◌≤◌, ◌⊎◌, Bool, true, false, IsTrue, All, List, [], ◌∷◌, Ok, Some, codes, decimal, if◌then◌else◌}
+use Rattle.std.specs.Prelude.{◌≡◌, ◌≢◌, ℕ, ◌^◌, ◌≤◌, ◌⊎◌, Bool, true, false, IsTrue, List, [], ◌∷◌, Ok, Some, codes, decimal, if◌then◌else◌}
 use Rattle.std.specs.FinMap as map
 use Rattle.ddc_base.specs.declared.outside.Loaded.TheVariants.{Bytes}
 use Rattle.ddc_base.specs.Outside.{Files, loaded}

@@ -54,5 +54,5 @@ pub fn pauses()
     ensures accepted { (recipe save report : List ℕ) (steps : ℕ) (counts : List ℕ) (files : Files) → AreWords recipe save report files
         → All IsCount (steps ∷ counts) → HoldBytes files → IsTrue (is_compared (in_pieces recipe save report steps counts files).status)
         → (verify recipe report (in_pieces recipe save report steps counts files).files).status
-            ≡ (in_pieces recipe save report steps counts files).status }
+        ≡ (in_pieces recipe save report steps counts files).status }
 {}

@@ -1,0 +1,114 @@
+-- What a piece of an audit comes to, over any files that hold the recipe and its inputs.
+use Rattle.std.proofs.Common.{◌≡◌, ℕ, false, ◌⊎◌, inl, inr, Some, List, refl, sym, ap, ◌∙◌, subst}
+use Rattle.std.specs.Prelude.{bytes_eq}
+use Rattle.std.specs.FinMap as finite
+use Rattle.std.proofs.lemmas.Slice.Eq.{bytes_eq-Decides}
+use Rattle.ddc_base.specs.Outside.{Files}
+use Rattle.ddc_base.proofs.StoredFiles.{others-insert}
+use Rattle.report.specs.Reports.{report_text}
+use Rattle.report.specs.declared.types.Compared.{Compared}
+use Rattle.report.specs.declared.types.Compared.TheVariants.{Equal, Differs}
+use Rattle.save_text.specs.Spelled.{text_of}
+use Rattle.audit_save.specs.Saves.{save_of}
+use Rattle.wheeler.specs.Bench.{bench}
+use Rattle.wheeler.specs.Positions.{Position, Standing, On, Over, finish, position}
+use Rattle.wheeler.specs.declared.answer.Answer.{Answer}
+use Rattle.wheeler.specs.declared.answer.Answer.TheVariants.{Completes, Fails}
+use Rattle.wheeler.specs.declared.answer.Fault.TheVariants.{Runs, Checks}
+use Rattle.wheeler.proofs.Closing.{may-step}
+use Rattle.wheeler.proofs.Continues.{position-bench}
+use Rattle.wheeler.proofs.Rules.{rules}
+use Rattle.command_plan.specs.declared.status.Status.TheVariants.{Paused}
+use Rattle.command_plan.specs.Plan.{Outcome, outcome}
+use Rattle.audit_commands.specs.Audit.{audited, compared_status, completed}
+use Rattle.pause_commands.specs.Pause.{came_to, paused}
+use Rattle.ddc_app.specs.Accepting.{audit}
+use Rattle.ddc_app.specs.Pausing.{AreSame, Pieces, is_paused}
+use Rattle.ddc_app.proofs.Beginnings.{Case}
+use Rattle.ddc_app.proofs.Loads.{set_held}
+use Rattle.ddc_app.proofs.Openings.{Holds, holds_again}
+
+-- a piece pauses behind so many steps
+pub record Pauses (recipe save report : List ℕ) (c : Case recipe save report) (first : Files) (total : ℕ) (piece : Outcome) : Type 0 where
+  pub status : piece.status ≡ Paused
+  pub holds : Holds recipe c.said c.inputs piece.files
+  pub same_report : finite.get piece.files report ≡ finite.get first report
+  pub place : Position
+  pub stands : position c.said c.inputs total ≡ On place
+  pub save_held : finite.get piece.files save ≡ Some (text_of (save_of c.said c.inputs place))
+
+-- a piece comes to an answer
+pub record Ends (recipe save report : List ℕ) (c : Case recipe save report) (first : Files) (answer : Answer) (piece : Outcome) : Type 0 where
+  pub not_paused : is_paused piece.status ≡ false
+  pub holds : Holds recipe c.said c.inputs piece.files
+  pub same : AreSame report piece (outcome (audited c.said report answer) first)
+
+abbrev pub Settles : (recipe save report : List ℕ) → Case recipe save report → Files → ℕ → Outcome → Type 0
+Settles recipe save report c first total piece =
+    Pauses recipe save report c first total piece ⊎ Ends recipe save report c first (bench c.said c.inputs) piece
+
+never_paused : (result : Compared) → is_paused (compared_status result) ≡ false
+never_paused (Equal size) = refl
+never_paused (Differs offset made given) = refl
+
+other_stays : (files : Files) (save report content : List ℕ) → bytes_eq save report ≡ false → finite.get (finite.insert files save content) report ≡ finite.get files report
+other_stays files save report content apart =
+    (others-insert files save content).others report (λ same. let equal = (bytes_eq-Decides save report).1 (sym same) in cc)
+
+module _ (recipe save report : List ℕ) (c : Case recipe save report) (first now : Files) (h : Holds recipe c.said c.inputs now)
+    (same : finite.get now report ≡ finite.get first report) where
+  ends : (answer : Answer) → Ends recipe save report c first answer (outcome (audited c.said report answer) now)
+  unfolding completed
+  ends (Completes made) =
+      let text : List ℕ = report_text made in
+      record {
+        not_paused = never_paused made.compare.result;
+        holds = holds_again recipe c.said c.inputs now h report text c.words.recipe_report c.no_report;
+        same = record { status = refl; text = refl; held = set_held now report text ∙ sym (set_held first report text) };
+      }
+  ends (Fails number (Runs cause step)) = record { not_paused = refl; holds = h; same = record { status = refl; text = refl; held = same } }
+  ends (Fails number (Checks cause)) = record { not_paused = refl; holds = h; same = record { status = refl; text = refl; held = same } }
+
+  pub settles : (total : ℕ) (stands : Standing) → position c.said c.inputs total ≡ stands
+      → Settles recipe save report c first total (outcome (came_to c.said c.inputs save report stands) now)
+  unfolding paused
+  settles total (On place) stands =
+      let text : List ℕ = text_of (save_of c.said c.inputs place) in
+      inl (record {
+        status = refl;
+        holds = holds_again recipe c.said c.inputs now h save text c.words.recipe_save c.no_save;
+        same_report = other_stays now save report text c.words.save_report ∙ same;
+        place = place;
+        stands = stands;
+        save_held = set_held now save text;
+      })
+  settles total (Over answer) stands =
+      let benched : bench c.said c.inputs ≡ answer =
+      sym (position-bench c.said (may-step c.said (rules c.said c.is)) c.inputs total) ∙ ap (finish c.said c.inputs) stands in
+      inr (subst (λ (a : Answer). Ends recipe save report c first a (outcome (audited c.said report answer) now)) (sym benched) (ends answer))
+
+-- what comes to the same outcome
+pub alike : (report : List ℕ) (piece whole : Outcome) → piece ≡ whole → AreSame report piece whole
+alike report piece whole same =
+    record { status = ap (λ (o : Outcome). o.status) same; text = ap (λ (o : Outcome). o.text) same; held = ap (λ (o : Outcome). finite.get o.files report) same }
+
+-- what was settled, in the words of the laws
+pub piece_of : (recipe save report : List ℕ) (c : Case recipe save report) (first : Files) (total : ℕ) (piece : Outcome)
+    → audit recipe report first ≡ outcome (audited c.said report (bench c.said c.inputs)) first → Settles recipe save report c first total piece
+    → Pieces recipe save report first total piece
+piece_of recipe save report c first total piece answers (inl p) =
+    inl (
+      p.status,
+      record {
+        bytes = p.holds.bytes;
+        recipe_held = p.holds.recipe_held;
+        said = c.said;
+        recipe_reads = p.holds.reads;
+        inputs = c.inputs;
+        inputs_held = p.holds.inputs_held;
+        position = p.place;
+        stands = p.stands;
+        save_held = p.save_held;
+      },
+    )
+piece_of recipe save report c first total piece answers (inr e) = inr (subst (AreSame report piece) (sym answers) e.same)

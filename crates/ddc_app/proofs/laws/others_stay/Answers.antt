@@ -1,0 +1,8 @@
+use Rattle.ddc_app.proofs.Leaving.{part_stays, resume_stays}
+use Rattle.ddc_app.proofs.laws.others_stay.Goals as goal
+
+pub returns-clause-part : goal.returns-clause-part
+returns-clause-part c = part_stays
+
+pub returns-clause-resume : goal.returns-clause-resume
+returns-clause-resume c = resume_stays
