@@ -1,3 +1,4 @@
 mod Written
 pub mod Coming
 pub mod Reading
+pub mod Apart

@@ -6,14 +6,17 @@ ghost use Rattle.audit_run.specs.Saved.{IsOn};
 ghost use Rattle.audit_run.specs.Seen.{standing};
 ghost use Rattle.audit_commands.specs.Inside.Finishing.{Comes};
 ghost use Rattle.command_plan.specs.Performs.{Performs};
+ghost use Rattle.pause_commands.specs.Inside.Apart.{IsApart};
 ghost use Rattle.pause_commands.specs.Pause.{came_to, paused};
 
 use crate::texts;
 use audit_commands::audit::conclude;
+use audit_commands::inputs::is_input;
 use audit_commands::texts::stage_name;
 use audit_run::{Audit, Progress};
-use command_plan::{Answer, Status, Stop, keep};
+use command_plan::{Answer, Status, Stop, keep, usage};
 use ddc_base::Shelf;
+use recipe::Recipe;
 use std::alloc::Global;
 
 /// Goes on by at most so many steps, and then keeps the save or the report.
@@ -81,4 +84,18 @@ fn keep_save<S: Shelf>(
         text: line,
     };
     keep(alloc, shelf, save, text.as_slice(), answer)
+}
+
+/// Ends the command where a file is one of the recipe's inputs.
+pub(crate) fn apart(alloc: Global, recipe: &Recipe, file: &str) -> Result<(), Stop>
+    ensures { IsApart recipe.now file.now result }
+{
+    if is_input(recipe, file) {
+        match usage(alloc) {
+            Ok(answer) => Err(Stop::Answered(answer)),
+            Err(stop) => Err(stop),
+        }
+    } else {
+        Ok(())
+    }
 }

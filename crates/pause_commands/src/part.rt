@@ -3,12 +3,13 @@ ghost use Rattle.std.specs.Prelude.{◌≤◌, IfSome, map};
 ghost use Rattle.ddc_base.specs.Outside.{IsFileName};
 ghost use Rattle.wheeler.specs.Positions.{position};
 ghost use Rattle.wheeler.specs.Valid.{IsInputs};
+ghost use Rattle.audit_commands.specs.Audit.{needs_inputs};
 ghost use Rattle.command_plan.specs.Performs.{Performs};
 ghost use Rattle.pause_commands.specs.Pause.{came_to, part_files, part_plan, part_recipe, with_steps};
 
-use crate::going::go_on;
+use crate::going::{apart, go_on};
 use crate::words::are_three_files;
-use audit_commands::inputs::{fetch_inputs, fetch_recipe, is_input};
+use audit_commands::inputs::{fetch_inputs, fetch_recipe};
 use audit_run::Audit;
 use command_plan::words::steps_of;
 use command_plan::{Answer, Stop, usage};
@@ -73,8 +74,7 @@ fn part_files<S: Shelf>(
     }
 }
 
-/// Fetches the inputs, and goes on with them.
-#[tactic(auto, using(command_plan::proofs::Performing::performing, command_plan::proofs::Gathering::obtaining), unfolding(crate::specs::Pause::part_recipe))]
+/// Goes on where the save is to be none of the inputs.
 fn part_recipe<S: Shelf>(
     alloc: Global,
     recipe: Recipe,
@@ -88,9 +88,28 @@ fn part_recipe<S: Shelf>(
     requires report { IsFileName report.now }
     ensures { Performs (part_recipe save.now report.now steps recipe) (S.state shelf.old) (S.state shelf.new) result }
 {
-    if is_input(&recipe, save) {
-        return usage(alloc);
+    match apart(alloc, &recipe, save) {
+        Ok(()) => part_apart(alloc, recipe, save, report, steps, shelf),
+        Err(stop) => Err(stop),
     }
+}
+
+/// Fetches the inputs, and goes on with them.
+#[tactic(auto, using(command_plan::proofs::Gathering::obtaining))]
+fn part_apart<S: Shelf>(
+    alloc: Global,
+    recipe: Recipe,
+    save: &str,
+    report: &str,
+    steps: u64,
+    shelf: &mut S,
+) -> Result<Answer, Stop>
+    requires some { 1 ≤ steps }
+    requires save { IsFileName save.now }
+    requires report { IsFileName report.now }
+    ensures { Performs (needs_inputs recipe (λ inputs. came_to recipe inputs save.now report.now (position recipe inputs steps)))
+        (S.state shelf.old) (S.state shelf.new) result }
+{
     match fetch_inputs(alloc, shelf, &recipe) {
         Ok(inputs) => part_inputs(alloc, recipe, inputs, save, report, steps, shelf),
         Err(stop) => Err(stop),

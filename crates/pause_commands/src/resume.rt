@@ -5,15 +5,15 @@ ghost use Rattle.wheeler.specs.Valid.{IsInputs};
 ghost use Rattle.audit_run.specs.Saved.{ResumesAudit};
 ghost use Rattle.command_plan.specs.declared.status.Status.TheVariants.{SaveRefused};
 ghost use Rattle.command_plan.specs.Performs.{Performs};
-ghost use Rattle.command_plan.specs.Plan.{answers};
-ghost use Rattle.command_plan.specs.Steps.{Says};
+ghost use Rattle.command_plan.specs.Plan.{answers, needs};
+ghost use Rattle.command_plan.specs.Steps.{Fetches, Says};
 ghost use Rattle.pause_commands.specs.Pause.{read_as, resume_files, resume_plan, resume_recipe, resume_text, resumed, with_steps};
 ghost use Rattle.pause_commands.specs.Texts.{refused_line};
 
-use crate::going::go_on;
+use crate::going::{apart, go_on};
 use crate::texts;
 use crate::words::are_three_files;
-use audit_commands::inputs::{fetch_inputs, fetch_recipe, is_input};
+use audit_commands::inputs::{fetch_inputs, fetch_recipe};
 use audit_run::Audit;
 use audit_save::SaveRefusal;
 use command_plan::words::steps_of;
@@ -82,8 +82,7 @@ fn resume_files<S: Shelf>(
     }
 }
 
-/// Fetches the save, and goes on with it.
-#[tactic(auto, using(command_plan::proofs::Performing::performing), unfolding(crate::specs::Pause::resume_recipe))]
+/// Goes on where the save is to be none of the inputs.
 fn resume_recipe<S: Shelf>(
     alloc: Global,
     recipe: Recipe,
@@ -97,11 +96,38 @@ fn resume_recipe<S: Shelf>(
     requires report { IsFileName report.now }
     ensures { Performs (resume_recipe save.now report.now steps recipe) (S.state shelf.old) (S.state shelf.new) result }
 {
-    if is_input(&recipe, save) {
-        return usage(alloc);
+    match apart(alloc, &recipe, save) {
+        Ok(()) => resume_apart(alloc, recipe, save, report, steps, shelf),
+        Err(stop) => Err(stop),
     }
-    let text = fetch(alloc, shelf, save, SAVE_LIMIT)?;
-    resume_text(alloc, recipe, text, save, report, steps, shelf)
+}
+
+/// Fetches the save, and goes on with it.
+fn resume_apart<S: Shelf>(
+    alloc: Global,
+    recipe: Recipe,
+    save: &str,
+    report: &str,
+    steps: u64,
+    shelf: &mut S,
+) -> Result<Answer, Stop>
+    requires some { 1 ≤ steps }
+    requires save { IsFileName save.now }
+    requires report { IsFileName report.now }
+    ensures { Performs (needs save.now 4_294_967_296 (resume_text save.now report.now steps recipe)) (S.state shelf.old) (S.state shelf.new) result }
+{
+    match fetch_save(alloc, shelf, save) {
+        Ok(text) => resume_text(alloc, recipe, text, save, report, steps, shelf),
+        Err(stop) => Err(stop),
+    }
+}
+
+/// The content of a save, of at most as many bytes as any may have.
+fn fetch_save<S: Shelf>(alloc: Global, shelf: &mut S, save: &str) -> Result<Bytes, Stop>
+    requires { IsFileName save.now }
+    ensures { Fetches save.now 4_294_967_296 (S.state shelf.old) (S.state shelf.new) result }
+{
+    fetch(alloc, shelf, save, SAVE_LIMIT)
 }
 
 /// Fetches the inputs, and goes on with them.
