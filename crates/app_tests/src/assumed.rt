@@ -1,5 +1,6 @@
 //! The assumptions that `verify` prints under its answer, of three recipes, each with an equal binary and with another one.
 //! They were written down from docs/reference/argument.md.
+
 use crate::worked::{COPY, decoded};
 use ddc_app::{Status, run};
 use ddc_base::{MemShelf, MemSink, OutOfMemory};

@@ -1,5 +1,6 @@
 //! Audits of one recipe over the files of a worked program, and of that recipe with one change.
 //! What they come to was written down from the rules, and the digests are those of `sha256sum`.
+
 use crate::worked::{COPY, EXIT, decoded, with};
 use ddc_app::{Status, run};
 use ddc_base::{MemShelf, MemSink, OutOfMemory};

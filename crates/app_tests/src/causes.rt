@@ -1,5 +1,6 @@
 //! Audits of one stage, by each cause with which a run or a check ends one.
 //! The causes were written down from docs/reference/audit.md, and the code from the instruction set manual (objdump reads it so).
+
 use crate::worked::{COPY, EXIT, decoded, program_of, with};
 use ddc_app::{Status, run};
 use ddc_base::{Bytes, MemShelf, MemSink, OutOfMemory};

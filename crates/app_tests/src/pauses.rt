@@ -1,5 +1,6 @@
 //! Audits in pieces: the worked recipe, whose two stages take 32 steps each, and that recipe with one change.
 //! What they come to was written down from docs/reference/command-line.md and docs/reference/save.md.
+
 use crate::audits::{REPORT, audit_shelf};
 use crate::worked::with;
 use ddc_app::{Status, run};

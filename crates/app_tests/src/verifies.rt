@@ -1,5 +1,6 @@
 //! Replays of one report, of the report with one change, and over changed files.
 //! What they come to was written down from docs/reference/verify.md and docs/reference/report.md.
+
 use crate::audits::{REPORT, audit_shelf};
 use crate::worked::{EXIT, with};
 use ddc_app::{Status, run};

@@ -1,4 +1,5 @@
 //! Two worked programs, and what the tests of audits make of them and of recipes.
+
 use ddc_base::{Bytes, OutOfMemory, read_hex};
 use std::alloc::Global;
 

@@ -3,7 +3,7 @@ use Rattle.std.proofs.Common.{ℕ, IsTrue, List, length, ◌&&◌, nat_le}
 use Rattle.std.specs.List.{list_all}
 use Rattle.std.proofs.lemmas.Bool.{and_parts, leb-true}
 use Rattle.ddc_base.specs.Outside.{IsFileName}
-use Rattle.recipe_text.specs.Reading.{is_path, is_path_byte}
+use Rattle.recipe.specs.Text.Reading.{is_path, is_path_byte}
 
 -- a path is a name that a shelf takes
 pub path_names : (path : List ℕ) → IsTrue (is_path path) → IsFileName path

@@ -1,3 +1,6 @@
 pub mod Texts
 pub mod Audit
 pub mod Inside
+pub mod PauseTexts
+pub mod Pause
+pub mod Show

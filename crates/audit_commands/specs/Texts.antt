@@ -2,19 +2,19 @@
 use Rattle.std.specs.Prelude.{ℕ, ◌-◌, List, [], ◌∷◌, Option, Some, None, codes, decimal, slice_get, unwrap_or}
 use Rattle.std.specs.Option.{option_map}
 use Rattle.ddc_base.specs.Lines.{line}
-use Rattle.run_causes.specs.Texts.{spaced, trap_text, call_text, elf_text, args_text, box_text, spent_text}
-use Rattle.recipe_text.specs.Keys.{key_word, table_word}
-use Rattle.recipe_text.specs.Refusals.{refusal_number, refusal_place, refusal_key}
-use Rattle.recipe_text.specs.declared.keys.Key.{Key}
-use Rattle.recipe_text.specs.declared.keys.Place.{Place}
-use Rattle.recipe_text.specs.declared.refusal.RecipeRefusal.{RecipeRefusal}
+use Rattle.command_plan.specs.Causes.Texts.{spaced, trap_text, call_text, elf_text, args_text, box_text, spent_text}
+use Rattle.recipe.specs.Text.Keys.{key_word, table_word}
+use Rattle.recipe.specs.Text.Refusals.{refusal_number, refusal_place, refusal_key}
+use Rattle.recipe.specs.declared.text.keys.Key.{Key}
+use Rattle.recipe.specs.declared.text.keys.Place.{Place}
+use Rattle.recipe.specs.declared.text.refusal.RecipeRefusal.{RecipeRefusal}
 use Rattle.recipe.specs.declared.parts.Stage.{Stage}
 use Rattle.report.specs.declared.types.CompareLine.{CompareLine}
 use Rattle.report.specs.declared.types.Compared.{Compared}
 use Rattle.report.specs.declared.types.Compared.TheVariants.{Equal, Differs}
-use Rattle.source_check.specs.Causes.{hex_cause_number, hex_cause_place, m1_cause_number, m1_cause_place}
-use Rattle.source_check.specs.declared.cause.CheckCause.{CheckCause}
-use Rattle.source_check.specs.declared.cause.CheckCause.TheVariants as check
+use Rattle.wheeler.specs.SourceCheck.Causes.{hex_cause_number, hex_cause_place, m1_cause_number, m1_cause_place}
+use Rattle.wheeler.specs.declared.source_check.cause.CheckCause.{CheckCause}
+use Rattle.wheeler.specs.declared.source_check.cause.CheckCause.TheVariants as check
 use Rattle.wheeler.specs.declared.cause.RunCause.{RunCause}
 use Rattle.wheeler.specs.declared.cause.RunCause.TheVariants as run
 use Rattle.wheeler.specs.declared.cause.StartCause.{StartCause}

@@ -1,4 +1,5 @@
 //! `audit RECIPE REPORT`: the stages of a recipe are run, and their report is saved.
+
 ghost use Rattle.std.specs.Prelude.{◌≡◌, None, map, IfOk};
 ghost use Rattle.ddc_base.specs.Outside.{IsFileName};
 ghost use Rattle.recipe.specs.Kept.{IsRecipe};
@@ -23,9 +24,9 @@ use command_plan::{Answer, Status, Stop, keep, usage};
 use ddc_base::{OutOfMemory, Shelf};
 use recipe::{Inputs, Recipe};
 use report::{CompareLine, Compared, Report};
-use source_check::CheckCause;
 use std::alloc::Global;
 use wheeler::RunCause;
+use wheeler::source_check::CheckCause;
 
 /// Performs the command on the words after its name.
 #[tactic(auto, using(command_plan::proofs::Performing::performing))]

@@ -1,10 +1,11 @@
 //! The texts of causes.
+
 ghost use Rattle.std.specs.Prelude.{◌≡◌, IfOk, string_bytes};
 ghost use Rattle.audit_commands.specs.Texts.{start_cause_text, run_cause_text, check_cause_text};
 
 use ddc_base::OutOfMemory;
-use source_check::CheckCause;
 use std::alloc::Global;
+use wheeler::source_check::CheckCause;
 use wheeler::{RunCause, StartCause};
 
 /// A run that made no artefact.
@@ -13,11 +14,11 @@ pub fn run_cause(alloc: Global, cause: RunCause) -> Result<String, OutOfMemory>
 {
     match cause {
         RunCause::Start(cause) => start_cause(alloc, cause),
-        RunCause::Trap(cause) => run_causes::trap(alloc, cause),
-        RunCause::Call(number) => run_causes::call(alloc, number),
+        RunCause::Trap(cause) => command_plan::causes::trap(alloc, cause),
+        RunCause::Call(number) => command_plan::causes::call(alloc, number),
         RunCause::Status(status) => Ok(format!(in alloc; "status {status}")?),
         RunCause::NoOutput => Ok(String::from_str(alloc, "no-output")?),
-        RunCause::Spent => Ok(String::from_str(alloc, run_causes::spent())?),
+        RunCause::Spent => Ok(String::from_str(alloc, command_plan::causes::spent())?),
         RunCause::Crowded => Ok(String::from_str(alloc, "crowded")?),
     }
 }
@@ -27,9 +28,9 @@ fn start_cause(alloc: Global, cause: StartCause) -> Result<String, OutOfMemory>
     ensures { IfOk result (λ text. string_bytes text ≡ start_cause_text cause) }
 {
     match cause {
-        StartCause::Elf(refusal) => run_causes::elf(alloc, refusal),
-        StartCause::ArgsTooLong => Ok(String::from_str(alloc, run_causes::args())?),
-        StartCause::BoxTooLarge => Ok(String::from_str(alloc, run_causes::box_files())?),
+        StartCause::Elf(refusal) => command_plan::causes::elf(alloc, refusal),
+        StartCause::ArgsTooLong => Ok(String::from_str(alloc, command_plan::causes::args())?),
+        StartCause::BoxTooLarge => Ok(String::from_str(alloc, command_plan::causes::box_files())?),
     }
 }
 

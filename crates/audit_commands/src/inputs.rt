@@ -1,4 +1,5 @@
 //! What the commands of a recipe begin with: the recipe, and its inputs.
+
 ghost use Rattle.std.specs.Prelude.{◌≡◌, ◌≤◌, IfOk, Ok, Err, All, length, map};
 ghost use Rattle.std.specs.List.{list_any};
 ghost use Rattle.ddc_base.specs.Outside.{IsFileName};

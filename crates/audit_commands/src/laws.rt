@@ -1,4 +1,5 @@
 //! Laws of what the commands of audits say. Each law is the contract of a function that does nothing.
+
 ghost use Rattle.recipe.specs.declared.contents.Said.{Said};
 ghost use Rattle.std.specs.Prelude.{◌≡◌, ◌≤◌, ℕ, List, length};
 ghost use Rattle.wheeler.specs.Bench.{bench};

@@ -1,16 +1,17 @@
 //! The lines that these commands print.
+
 ghost use Rattle.std.specs.Prelude.{◌≡◌, ◌∷◌, ◌++◌, [], codes, decimal, IfOk};
 ghost use Rattle.ddc_base.specs.Lines.{line};
-ghost use Rattle.recipe_text.specs.Keys.{key_word, table_word};
+ghost use Rattle.recipe.specs.Text.Keys.{key_word, table_word};
 ghost use Rattle.audit_commands.specs.Texts.{report_line, recipe_line, stage_name, run_failed_line, check_failed_line, compared_line};
 
 use crate::causes::{check_cause, run_cause};
 use ddc_base::{Bytes, Name, OutOfMemory};
 use recipe::{Key, Place, Recipe, RecipeRefusal};
 use report::{CompareLine, Compared};
-use source_check::CheckCause;
 use std::alloc::Global;
 use wheeler::RunCause;
+use wheeler::source_check::CheckCause;
 
 /// A file is no report, from this line on.
 #[tactic(auto, unfolding(crate::specs::Texts::report_line))]

@@ -11,7 +11,7 @@ use Rattle.wheeler.specs.Positions.{Position, Standing, forward, todo}
 use Rattle.wheeler.specs.Valid.{AreDone, AreFinished, IsAt, IsInputs, IsPosition, IsStanding}
 use Rattle.wheeler.proofs.Places.{all-made, forward-standing}
 use Rattle.wheeler.proofs.Rules.{rules}
-use Rattle.audit_stage.specs.Rules.{AreMade, IsStage}
+use Rattle.audit_run.specs.Stage.Rules.{AreMade, IsStage}
 use Rattle.audit_run.specs.Inside.Parts.{later}
 
 -- a list from an index on

@@ -20,7 +20,7 @@ use Rattle.wheeler.proofs.Endings.{ended}
 use Rattle.wheeler.proofs.Places.{done-more}
 use Rattle.wheeler.proofs.Rules.{rules}
 use Rattle.wheeler.proofs.Slices.{end-place, slice-end, slice-on, slice-spent}
-use Rattle.audit_stage.specs.Makes.{Makes}
+use Rattle.audit_run.specs.Stage.Makes.{Makes}
 use Rattle.audit_run.specs.declared.place.Moved.TheVariants as moved
 use Rattle.audit_run.specs.Advances.{Wants, WantsBy}
 use Rattle.audit_run.specs.Inside.Parts.{Slices}

@@ -9,7 +9,7 @@ use Rattle.wheeler.specs.declared.answer.Answer.{Answer}
 use Rattle.wheeler.specs.declared.answer.Answer.TheVariants.{Completes, Fails}
 use Rattle.wheeler.specs.declared.answer.Fault.TheVariants.{Runs, Checks}
 use Rattle.wheeler.specs.Positions.{Position, Standing, On, Over, forward_from, todo}
-use Rattle.audit_stage.specs.Makes.{Makes}
+use Rattle.audit_run.specs.Stage.Makes.{Makes}
 use Rattle.audit_run.specs.declared.place.Progress.{Progress}
 use Rattle.audit_run.specs.declared.place.Progress.TheVariants as said
 use Rattle.audit_run.specs.Seen.{AuditState, standing}

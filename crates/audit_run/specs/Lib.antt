@@ -2,3 +2,6 @@ pub mod Seen
 pub mod Saved
 pub mod Advances
 pub mod Inside
+pub mod Check
+pub mod Save
+pub mod Stage

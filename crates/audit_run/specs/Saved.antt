@@ -1,8 +1,8 @@
 -- What the save of an audit says, and what resuming gives. docs/reference/save.md says the same for people.
 use Rattle.std.specs.Prelude.{◌≡◌, ℕ, List, Option, None, Some, Result, Ok, Err}
-use Rattle.audit_save.specs.Saves.{Resumes, save_of}
-use Rattle.audit_save.specs.declared.reading.SaveRefusal.{SaveRefusal}
-use Rattle.audit_save.specs.declared.reading.SaveRefusal.TheVariants.{Form, OtherRecipe, State, OutOfMemory}
+use Rattle.audit_run.specs.Save.Saves.{Resumes, save_of}
+use Rattle.audit_run.specs.declared.save.reading.SaveRefusal.{SaveRefusal}
+use Rattle.audit_run.specs.declared.save.reading.SaveRefusal.TheVariants.{Form, OtherRecipe, State, OutOfMemory}
 use Rattle.recipe.specs.declared.contents.Said.{Said}
 use Rattle.save_text.specs.Spelled.{text_of}
 use Rattle.wheeler.specs.Positions.{Position, Standing, On, Over}

@@ -1,4 +1,5 @@
 //! An advance, over the parts of an audit.
+
 ghost use Rattle.audit_run.specs.Advances.{Advances, said_of_answer, said_of_result};
 ghost use Rattle.audit_run.specs.Inside.Parts.{IsAtRest, IsPlace, IsStarted, SaysOf, seen, stands};
 ghost use Rattle.std.specs.Prelude.{◌≡◌, ◌≤◌, None, OnErr, OnOk};
@@ -6,8 +7,8 @@ ghost use Rattle.wheeler.specs.Valid.{IsInputs};
 
 use crate::entering::enter;
 use crate::place::{Entry, Place, Progress};
+use crate::stage::Done;
 use crate::stretch::advance_started;
-use audit_stage::Done;
 use ddc_base::{Bytes, OutOfMemory};
 use recipe::Recipe;
 use report::Compared;

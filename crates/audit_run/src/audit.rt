@@ -1,8 +1,9 @@
 //! The audit as callers see it.
+
 ghost use Rattle.audit_run.specs.Advances.{Advances};
 ghost use Rattle.audit_run.specs.Saved.{IsOn, IsResumed, IsResumedAt, IsSave, ResumesAudit};
 ghost use Rattle.audit_run.specs.Seen.{place_of, report_of, setting_of};
-ghost use Rattle.audit_save.specs.Saves.{save_of};
+ghost use Rattle.audit_run.specs.Save.Saves.{save_of};
 ghost use Rattle.report.specs.Reports.{IsReport};
 ghost use Rattle.save_text.specs.Spelled.{text_of};
 ghost use Rattle.std.specs.Option.{option_copied};
@@ -12,9 +13,9 @@ ghost use Rattle.wheeler.specs.Valid.{IsInputs, IsPosition};
 
 use crate::advance::advance_parts;
 use crate::place::{Place, Progress};
+use crate::save::SaveRefusal;
 use crate::setting::setting_of;
-use audit_save::SaveRefusal;
-use audit_stage::Done;
+use crate::stage::Done;
 use ddc_base::{Bytes, OutOfMemory};
 use guest_run::RunBox;
 use recipe::{Inputs, Recipe};
@@ -134,7 +135,7 @@ impl Audit {
         match &self.place {
             Place::Ready => unreachable!(),
             Place::Over(_) => unreachable!(),
-            Place::Running(guest) => audit_save::write(
+            Place::Running(guest) => crate::save::write(
                 alloc,
                 &self.recipe,
                 self.inputs.as_slice(),
@@ -162,7 +163,7 @@ impl Audit {
         // When each refusal comes.
         ensures exact { ResumesAudit recipe inputs text.now result }
     {
-        match audit_save::read(alloc, &recipe, inputs.as_slice(), text) {
+        match crate::save::read(alloc, &recipe, inputs.as_slice(), text) {
             Ok(place) => {
                 let (done, guest) = place.into_parts();
                 let place = Place::Running(guest);

@@ -1,4 +1,5 @@
 //! The start of the next stage, or the report.
+
 ghost use Rattle.audit_run.specs.Inside.Parts.{entry_standing};
 ghost use Rattle.mem_files.specs.Outputs.{IsContent};
 ghost use Rattle.recipe.specs.Kept.{IsRecipe};
@@ -7,7 +8,7 @@ ghost use Rattle.wheeler.specs.Positions.{enter, todo};
 ghost use Rattle.wheeler.specs.Valid.{AreDone};
 
 use crate::place::Entry;
-use audit_stage::{Done, report_of, start_stage};
+use crate::stage::{Done, report_of, start_stage};
 use ddc_base::{Bytes, OutOfMemory};
 use recipe::Recipe;
 use std::alloc::Global;

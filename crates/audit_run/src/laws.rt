@@ -1,4 +1,5 @@
 //! Laws of audits. Each law is the contract of a function that does nothing.
+
 ghost use Rattle.audit_run.specs.Advances.{Advances};
 ghost use Rattle.audit_run.specs.Saved.{standing_at};
 ghost use Rattle.audit_run.specs.declared.place.Progress.{Progress};

@@ -1,17 +1,21 @@
-//! The audit: stage after stage, and the comparison, in as many advances as a caller likes.
+//! The audit: stage after stage, and the comparison, in as many advances as a caller likes, saved and resumed between them. One
+//! stage is in `stage`, its check in `check`, and the saves in `save`.
 //!
 //! docs/reference/audit.md has the rules.
 #![tactic(auto)]
 
 mod advance;
 mod audit;
+pub mod check;
 mod entering;
 pub mod laws;
 mod place;
+pub mod save;
 mod setting;
+pub mod stage;
 mod stage_run;
 mod stretch;
 
+pub use crate::save::SaveRefusal;
 pub use audit::Audit;
-pub use audit_save::SaveRefusal;
 pub use place::Progress;

@@ -1,7 +1,8 @@
 //! Where an audit stands.
-use audit_stage::Done;
+
+use crate::stage::Done;
 use guest_run::{Guest, RunRam};
-use source_check::CheckCause;
+use wheeler::source_check::CheckCause;
 use wheeler::{Answer, Fault, RunCause};
 
 /// Where an audit stands.

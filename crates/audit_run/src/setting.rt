@@ -1,4 +1,5 @@
 //! The program and the box of the present stage.
+
 ghost use Rattle.audit_run.specs.Seen.{first_setting};
 ghost use Rattle.mem_files.specs.Outputs.{IsContent};
 ghost use Rattle.std.specs.Prelude.{◌≡◌, All, IfOk, option_map};
@@ -6,7 +7,7 @@ ghost use Rattle.wheeler.specs.Positions.{todo};
 ghost use Rattle.wheeler.specs.Stages.{contents};
 ghost use Rattle.wheeler.specs.Valid.{AreDone};
 
-use audit_stage::{Done, box_of, content};
+use crate::stage::{Done, box_of, content};
 use ddc_base::{Bytes, OutOfMemory};
 use guest_run::RunBox;
 use recipe::Recipe;

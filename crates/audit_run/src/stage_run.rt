@@ -1,13 +1,14 @@
 //! A slice of a stage's run, and its end.
+
 ghost use Rattle.audit_run.specs.Inside.Parts.{later, Slices};
-ghost use Rattle.audit_stage.specs.Rules.{IsStage};
+ghost use Rattle.audit_run.specs.Stage.Rules.{IsStage};
 ghost use Rattle.recipe.specs.Kept.{IsRecipe};
 ghost use Rattle.std.specs.Prelude.{◌≡◌, ◌≤◌};
 ghost use Rattle.wheeler.specs.Positions.{at};
 ghost use Rattle.wheeler.specs.Valid.{IsAt, IsInputs};
 
 use crate::place::Moved;
-use audit_stage::{Done, exited};
+use crate::stage::{Done, exited};
 use ddc_base::{Bytes, OutOfMemory};
 use guest_run::{Guest, RunEnd, RunRam};
 use recipe::{Recipe, Stage};

@@ -1,4 +1,5 @@
 //! An audit's steps, over its parts.
+
 ghost use Rattle.audit_run.specs.Inside.Parts.{IsPlace, IsStarted, later, Slices, stands, StopsIn, Stretches};
 ghost use Rattle.recipe.specs.Kept.{IsRecipe};
 ghost use Rattle.std.specs.Prelude.{◌≡◌, ◌++◌, ◌∷◌, [], ◌≤◌, OnErr, OnOk, Ok};
@@ -7,8 +8,8 @@ ghost use Rattle.wheeler.specs.Valid.{AreDone, IsInputs, IsPosition};
 
 use crate::entering::enter;
 use crate::place::{Entry, Moved, Place};
+use crate::stage::Done;
 use crate::stage_run::run_slice;
-use audit_stage::Done;
 use ddc_base::{Bytes, OutOfMemory};
 use guest_run::{Guest, RunRam};
 use recipe::Recipe;

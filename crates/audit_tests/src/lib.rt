@@ -3,8 +3,10 @@
 
 ghost use Rattle.std.specs.Prelude.{◌≡◌, ◌≤◌, ◌<◌, ◌-◌};
 
+pub mod meanings;
 #[cfg(test)]
 mod pieces;
+pub mod saves;
 
 /// The place of such an audit after so many steps: the stage's number, and the steps in it; (0, 0) where the audit is over.
 pub fn place_after(steps: u64) -> (u32, u64)

@@ -1,4 +1,5 @@
 //! Audits that are advanced in pieces.
+
 use crate::place_after;
 use audit_commands::inputs::{fetch_inputs, fetch_recipe};
 use audit_run::{Audit, Progress};

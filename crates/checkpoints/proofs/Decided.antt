@@ -17,7 +17,7 @@ use Rattle.linux_calls.specs.declared.Heap.{Heap}
 use Rattle.linux_calls.specs.HeapOf.{IsHeapOf}
 use Rattle.guest_run.specs.Stack.{stack_end, stack_size}
 use Rattle.guest_run.specs.Valid.{Fits, pages_beside}
-use Rattle.state_text.specs.StateText.{StateText}
+use Rattle.save_text.specs.StateText.StateText.{StateText}
 use Rattle.checkpoints.specs.Checkpoint.{IsInMemory, IsInRange, IsJoined, lists_in, mapped_of, memory_of}
 use Rattle.checkpoints.proofs.Decisions.{both, is_all, is_below, is_none, is_test}
 

@@ -1,12 +1,12 @@
 -- Exactly the texts of valid states are read, each as its guest.
 use Rattle.std.proofs.Common.{◌≡◌, ℕ, ◌^◌, ◌<◌, List, Result, Ok, Err, sym, ap, subst, ◌∙◌}
 use Rattle.std.specs.Prelude.{IfOk}
-use Rattle.byte_fields.proofs.Spells.{AreBytes, whole_takes}
+use Rattle.save_text.proofs.ByteFieldsLemmas.Spells.{AreBytes, whole_takes}
 use Rattle.guest_run.specs.State.{GuestState}
 use Rattle.guest_run.specs.Valid.{IsValid}
-use Rattle.state_text.specs.StateText.{StateText, formed}
-use Rattle.state_text.specs.Spelled.{IsText, text_of}
-use Rattle.state_text.proofs.Texts.{formed_again, spells_state}
+use Rattle.save_text.specs.StateText.StateText.{StateText, formed}
+use Rattle.save_text.specs.StateText.Spelled.{IsText, text_of}
+use Rattle.save_text.proofs.StateTextLemmas.Texts.{formed_again, spells_state}
 use Rattle.checkpoints.specs.declared.reading.StateRefusal.{StateRefusal}
 use Rattle.checkpoints.specs.declared.reading.StateRefusal.TheVariants as state
 use Rattle.checkpoints.specs.Checkpoint.{IsInRange, IsJoined, IsReadAs, ReadsState, guest_of, state_of}

@@ -9,7 +9,7 @@ use Rattle.std.specs.FinMap as finite
 use Rattle.std.specs.FinMap.Entries.{below_all}
 use Rattle.std.proofs.lemmas.Bool.{leb-true}
 use Rattle.std.proofs.lemmas.List.Elements.{All-head, All-tail}
-use Rattle.byte_fields.specs.Spelling.{InTurn}
+use Rattle.save_text.specs.ByteFields.Spelling.{InTurn}
 use Rattle.mem_files.specs.declared.slot.Slot.{Slot}
 use Rattle.mem_files.specs.declared.slot.Slot.TheVariants.{Input, Stream1, Stream2, File}
 use Rattle.mem_files.specs.Lists.{AreInRange, AreJoined, AreOrdered, FileLists, ListedFile, contents, is_listed, named, with_name}
@@ -17,8 +17,8 @@ use Rattle.mem_files.specs.Lists as lists
 use Rattle.mem_files.specs.Names.{begins_with_dot_slash, is_file_name, is_stripped_name}
 use Rattle.mem_files.specs.Outputs.{IsContent}
 use Rattle.mem_files.specs.Sound.{IsSlotAt}
-use Rattle.state_text.specs.StateText.{after_descriptor, after_file}
-use Rattle.state_text.specs.Spelled.{IsDescriptor, IsFile, IsName, IsSlot}
+use Rattle.save_text.specs.StateText.StateText.{after_descriptor, after_file}
+use Rattle.save_text.specs.StateText.Spelled.{IsDescriptor, IsFile, IsName, IsSlot}
 
 first_two : (a b : Bool) → (a && b) ≡ true → (a ≡ true) × (b ≡ true)
 first_two true b e = (refl, e)

@@ -10,3 +10,5 @@ pub mod StateLengths
 pub mod States
 pub mod TextLengths
 pub mod Turns
+pub mod FilePartsLemmas
+pub mod MemoryPartsLemmas

@@ -3,15 +3,15 @@ use Rattle.std.proofs.Common.{◌≡◌, ℕ, suc, ◌+◌, ◌*◌, ◌^◌, �
 use Rattle.std.specs.List.{AllByRecursion}
 use Rattle.std.specs.FinMap as finite
 use Rattle.std.proofs.lemmas.List.Elements.{All-from_recursion, All-head, All-tail}
-use Rattle.byte_fields.specs.Spelling.{InTurn}
+use Rattle.save_text.specs.ByteFields.Spelling.{InTurn}
 use Rattle.paged_mem.specs.Memory.{IsWhole, Memory, bytes_at, maps, prepended}
-use Rattle.memory_parts.specs.Canonical.{AreShown, ArePlaced, filled, filled_on}
-use Rattle.memory_parts.proofs.Filling.{any_order}
-use Rattle.state_text.specs.declared.parts.Page.{Page}
-use Rattle.state_text.specs.declared.parts.Run.{Run}
-use Rattle.state_text.specs.StateText.{PageText, StateText, after_page, after_run}
-use Rattle.state_text.specs.Spelled.{IsPage, IsRun, IsText}
-use Rattle.state_text.specs.Seen.{page_view}
+use Rattle.checkpoints.specs.MemoryParts.Canonical.{AreShown, ArePlaced, filled, filled_on}
+use Rattle.checkpoints.proofs.MemoryPartsLemmas.Filling.{any_order}
+use Rattle.save_text.specs.declared.state_text.parts.Page.{Page}
+use Rattle.save_text.specs.declared.state_text.parts.Run.{Run}
+use Rattle.save_text.specs.StateText.StateText.{PageText, StateText, after_page, after_run}
+use Rattle.save_text.specs.StateText.Spelled.{IsPage, IsRun, IsText}
+use Rattle.save_text.specs.StateText.Seen.{page_view}
 use Rattle.checkpoints.specs.Checkpoint.{mapped_of, memory_of}
 
 abbrev pub EndsWithin : Run → Type 0

@@ -8,9 +8,9 @@ use Rattle.paged_mem.specs.Memory.{Memory, bytes_at, page_up, prepended}
 use Rattle.linux_calls.specs.declared.Heap.{Heap}
 use Rattle.linux_calls.specs.HeapOf.{is_beside_heap}
 use Rattle.guest_run.specs.Valid.{Fits, pages_beside, pages_from}
-use Rattle.memory_parts.specs.Canonical.{ArePlaced, is_mapped, listed, pages_from as listed_from, runs_from, runs_of, with_page}
-use Rattle.state_text.specs.declared.parts.Run.{Run}
-use Rattle.state_text.specs.StateText.{PageText, after_run, is_page}
+use Rattle.checkpoints.specs.MemoryParts.Canonical.{ArePlaced, is_mapped, listed, pages_from as listed_from, runs_from, runs_of, with_page}
+use Rattle.save_text.specs.declared.state_text.parts.Run.{Run}
+use Rattle.save_text.specs.StateText.StateText.{PageText, after_run, is_page}
 
 abbrev pages_in : List Run → ℕ
 pages_in runs = sum_by (λ (run : Run). run.pages) runs

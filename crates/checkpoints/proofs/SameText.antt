@@ -8,22 +8,22 @@ use Rattle.std.specs.Cmp.{nat_cmp_is}
 use Rattle.std.specs.declared.cmp.Ordering.TheVariants.{Less}
 use Rattle.std.proofs.lemmas.List.Elements.{All-head, All-replicate, All-tail}
 use Rattle.std.proofs.lemmas.Option.{none-some}
-use Rattle.byte_fields.specs.Spelling.{InTurn}
+use Rattle.save_text.specs.ByteFields.Spelling.{InTurn}
 use Rattle.paged_mem.specs.Memory.{IsWhole, Memory, maps, with_bytes, zeros}
 use Rattle.paged_mem.proofs.Mapped.{length-zeros}
 use Rattle.paged_mem.proofs.Wholes.{same_after_write, whole-mapped}
 use Rattle.mem_files.specs.declared.slot.Slot.{Slot}
 use Rattle.mem_files.specs.Lists.{AreOrdered, ListedFile, lists_of, world_of}
-use Rattle.file_parts.proofs.SameLists.{same_lists}
-use Rattle.memory_parts.specs.Canonical.{ArePlaced, AreShown, filled, in_runs, mapped_runs, pages_of, runs_from, runs_of}
-use Rattle.memory_parts.proofs.PagesAgain.{IsZeroed, pages_again}
-use Rattle.memory_parts.proofs.RunsAgain.{get-mapped_runs, same_runs_again}
-use Rattle.state_text.specs.declared.parts.Run.{Run}
-use Rattle.state_text.specs.StateText.{PageText, StateText, after_page, after_run}
-use Rattle.state_text.specs.Spelled.{IsDescriptor, IsFile, IsPage, IsText}
+use Rattle.checkpoints.proofs.FilePartsLemmas.SameLists.{same_lists}
+use Rattle.checkpoints.specs.MemoryParts.Canonical.{ArePlaced, AreShown, filled, in_runs, mapped_runs, pages_of, runs_from, runs_of}
+use Rattle.checkpoints.proofs.MemoryPartsLemmas.PagesAgain.{IsZeroed, pages_again}
+use Rattle.checkpoints.proofs.MemoryPartsLemmas.RunsAgain.{get-mapped_runs, same_runs_again}
+use Rattle.save_text.specs.declared.state_text.parts.Run.{Run}
+use Rattle.save_text.specs.StateText.StateText.{PageText, StateText, after_page, after_run}
+use Rattle.save_text.specs.StateText.Spelled.{IsDescriptor, IsFile, IsPage, IsText}
 use Rattle.checkpoints.specs.Checkpoint.{IsInRange, guest_of, lists_in, mapped_of, memory_of, state_of}
 use Rattle.checkpoints.proofs.FileTurns.{paired}
-use Rattle.memory_parts.proofs.Filled.{Alike, maps-alike}
+use Rattle.checkpoints.proofs.MemoryPartsLemmas.Filled.{Alike, maps-alike}
 use Rattle.checkpoints.proofs.Memories.{EndsWithin, IsMappedIn, placed, shown}
 use Rattle.checkpoints.proofs.PageCounts.{few_pages}
 use Rattle.guest_run.specs.Valid.{Fits}

@@ -4,18 +4,18 @@ use Rattle.std.specs.Prelude.{sum_by}
 use Rattle.std.specs.Int.{w64}
 use Rattle.std.proofs.lemmas.List.{length-drop}
 use Rattle.std.proofs.lemmas.List.Elements.{All-cons, All-head, All-nil, All-tail}
-use Rattle.byte_fields.specs.Spelling.{number_text}
+use Rattle.save_text.specs.ByteFields.Spelling.{number_text}
 use Rattle.mem_files.specs.Lists.{ListedFile, lists_of, named, with_name}
 use Rattle.mem_files.specs.declared.slot.Slot.{Slot}
 use Rattle.mem_files.specs.declared.slot.Slot.TheVariants.{File}
 use Rattle.linux_calls.specs.declared.Heap.{Heap}
-use Rattle.file_parts.proofs.GoodLists.{good_join, good_order, good_range}
+use Rattle.checkpoints.proofs.FilePartsLemmas.GoodLists.{good_join, good_order, good_range}
 use Rattle.guest_run.specs.State.{GuestState}
 use Rattle.guest_run.specs.Valid.{IsValid}
-use Rattle.memory_parts.specs.Canonical.{AreShown, runs_of}
-use Rattle.state_text.specs.declared.parts.Run.{Run}
-use Rattle.state_text.specs.StateText.{PageText, StateText, after_page, magic}
-use Rattle.state_text.specs.Spelled.{body_text, descriptor_text, file_text, flags_of, heap_text, name_bytes, page_text, run_text, slot_text, text_of}
+use Rattle.checkpoints.specs.MemoryParts.Canonical.{AreShown, runs_of}
+use Rattle.save_text.specs.declared.state_text.parts.Run.{Run}
+use Rattle.save_text.specs.StateText.StateText.{PageText, StateText, after_page, magic}
+use Rattle.save_text.specs.StateText.Spelled.{body_text, descriptor_text, file_text, flags_of, heap_text, name_bytes, page_text, run_text, slot_text, text_of}
 use Rattle.checkpoints.specs.Checkpoint.{state_of}
 use Rattle.checkpoints.proofs.FileTurns.{Named, have_text, short_name}
 use Rattle.checkpoints.proofs.PageCounts.{few_pages, pages_few, runs_few}

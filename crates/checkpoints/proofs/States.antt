@@ -4,22 +4,22 @@ use Rattle.std.specs.Prelude.{slice_index}
 use Rattle.std.specs.FinMap as finite
 use Rattle.std.proofs.lemmas.List.{length-drop}
 use Rattle.std.proofs.lemmas.List.Elements.{All-cons, All-drop, All-head, All-nil, All-tail}
-use Rattle.byte_fields.specs.Spelling.{Alike, InTurn}
+use Rattle.save_text.specs.ByteFields.Spelling.{Alike, InTurn}
 use Rattle.paged_mem.specs.Memory.{IsWhole, Memory}
 use Rattle.mem_files.specs.Lists.{lists_of}
-use Rattle.file_parts.proofs.GoodLists.{good_join, good_order, good_range}
-use Rattle.file_parts.proofs.SameWorld.{same_world}
+use Rattle.checkpoints.proofs.FilePartsLemmas.GoodLists.{good_join, good_order, good_range}
+use Rattle.checkpoints.proofs.FilePartsLemmas.SameWorld.{same_world}
 use Rattle.guest_run.specs.State.{GuestState}
 use Rattle.guest_run.specs.Valid.{Fits, IsValid}
-use Rattle.memory_parts.specs.Canonical.{ArePlaced, AreShown, filled, mapped_runs, pages_of, runs_of}
-use Rattle.memory_parts.proofs.Again.{same_again}
-use Rattle.memory_parts.proofs.RunsAgain.{zero_runs_mapped}
-use Rattle.state_text.specs.declared.parts.Run.{Run}
-use Rattle.state_text.specs.StateText.{PageText, StateText, after_page, after_run}
-use Rattle.state_text.specs.Spelled.{IsPage, IsRun, IsText}
+use Rattle.checkpoints.specs.MemoryParts.Canonical.{ArePlaced, AreShown, filled, mapped_runs, pages_of, runs_of}
+use Rattle.checkpoints.proofs.MemoryPartsLemmas.Again.{same_again}
+use Rattle.checkpoints.proofs.MemoryPartsLemmas.RunsAgain.{zero_runs_mapped}
+use Rattle.save_text.specs.declared.state_text.parts.Run.{Run}
+use Rattle.save_text.specs.StateText.StateText.{PageText, StateText, after_page, after_run}
+use Rattle.save_text.specs.StateText.Spelled.{IsPage, IsRun, IsText}
 use Rattle.checkpoints.specs.Checkpoint.{IsInRange, IsJoined, guest_of, state_of}
 use Rattle.checkpoints.proofs.FileTurns.{have_text}
-use Rattle.memory_parts.proofs.Filled.{maps-alike}
+use Rattle.checkpoints.proofs.MemoryPartsLemmas.Filled.{maps-alike}
 use Rattle.checkpoints.proofs.Memories.{EndsWithin, IsMappedIn}
 use Rattle.checkpoints.proofs.PageCounts.{few_pages}
 use Rattle.checkpoints.proofs.Turns.{few_listed, few_runs, pages_mapped, pages_shown, runs_alike, runs_placed}

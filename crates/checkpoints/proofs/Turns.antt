@@ -4,13 +4,13 @@ use Rattle.std.specs.FinMap as finite
 use Rattle.std.proofs.lemmas.List.Elements.{All-cons, All-nil}
 use Rattle.paged_mem.specs.Memory.{IsWhole, Memory, bytes_at}
 use Rattle.paged_mem.proofs.Maps.{length_of_bytes_at}
-use Rattle.memory_parts.specs.Canonical.{ArePlaced, AreShown, is_mapped, listed, mapped_runs, pages_from, pages_of, runs_from, runs_of, with_page}
-use Rattle.memory_parts.specs.Inside.Zeros.{zero_runs}
-use Rattle.memory_parts.proofs.Again.{runs_in, runs_out}
-use Rattle.memory_parts.proofs.RunsAgain.{zero_runs_mapped}
-use Rattle.state_text.specs.declared.parts.Run.{Run}
-use Rattle.state_text.specs.StateText.{PageText, after_run, is_page}
-use Rattle.memory_parts.proofs.Filled.{Alike}
+use Rattle.checkpoints.specs.MemoryParts.Canonical.{ArePlaced, AreShown, is_mapped, listed, mapped_runs, pages_from, pages_of, runs_from, runs_of, with_page}
+use Rattle.checkpoints.specs.MemoryParts.Inside.Zeros.{zero_runs}
+use Rattle.checkpoints.proofs.MemoryPartsLemmas.Again.{runs_in, runs_out}
+use Rattle.checkpoints.proofs.MemoryPartsLemmas.RunsAgain.{zero_runs_mapped}
+use Rattle.save_text.specs.declared.state_text.parts.Run.{Run}
+use Rattle.save_text.specs.StateText.StateText.{PageText, after_run, is_page}
+use Rattle.checkpoints.proofs.MemoryPartsLemmas.Filled.{Alike}
 use Rattle.checkpoints.proofs.Memories.{IsMappedIn}
 
 -- ---- runs

@@ -5,11 +5,11 @@ use Rattle.paged_mem.specs.Memory.{Memory, maps}
 use Rattle.mem_files.specs.Lists.{AreInRange, AreJoined, FileLists, lists_of, world_of}
 use Rattle.guest_run.specs.State.{GuestState}
 use Rattle.guest_run.specs.Valid.{Fits}
-use Rattle.memory_parts.specs.Canonical.{filled, mapped_runs, pages_of, runs_of}
-use Rattle.state_text.specs.StateText.{StateText, formed}
+use Rattle.checkpoints.specs.MemoryParts.Canonical.{filled, mapped_runs, pages_of, runs_of}
+use Rattle.save_text.specs.StateText.StateText.{StateText, formed}
 use Rattle.mem_files.specs.World.{World}
-use Rattle.file_parts.specs.declared.restoring.RestoreRefusal.{RestoreRefusal}
-use Rattle.file_parts.specs.declared.restoring.RestoreRefusal.TheVariants as restored
+use Rattle.checkpoints.specs.declared.file_parts.restoring.RestoreRefusal.{RestoreRefusal}
+use Rattle.checkpoints.specs.declared.file_parts.restoring.RestoreRefusal.TheVariants as restored
 use Rattle.checkpoints.specs.declared.reading.StateRefusal.{StateRefusal}
 use Rattle.checkpoints.specs.declared.reading.StateRefusal.TheVariants as state
 use Rattle.checkpoints.specs.declared.memory.MemoryRefusal.{MemoryRefusal}

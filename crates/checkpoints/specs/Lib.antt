@@ -1,1 +1,3 @@
 pub mod Checkpoint
+pub mod FileParts
+pub mod MemoryParts

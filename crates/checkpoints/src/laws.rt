@@ -1,9 +1,10 @@
 //! Laws about the definitions.
+
 ghost use Rattle.std.specs.Prelude.{◌+◌, ◌*◌, ◌^◌, ◌≤◌, All, IsTrue, sum_by};
 ghost use Rattle.guest_run.specs.Valid.{Fits};
 ghost use Rattle.paged_mem.specs.Memory.{maps};
-ghost use Rattle.state_text.specs.StateText.{StateText};
-ghost use Rattle.state_text.specs.Spelled.{IsText};
+ghost use Rattle.save_text.specs.StateText.StateText.{StateText};
+ghost use Rattle.save_text.specs.StateText.Spelled.{IsText};
 ghost use Rattle.checkpoints.specs.Checkpoint.{mapped_of, memory_of};
 
 /// That runs have no more pages than a guest can have follows from the other rules, so that to count them first refuses nothing else.

@@ -1,15 +1,18 @@
-//! Guests as texts, and back: a guest that stands between two steps has one text, and is read of it as it was.
+//! Guests as texts, and back: a guest that stands between two steps has one text, and is read of it as it was. The parts of
+//! a guest are its memory (`memory_parts`) and its files (`file_parts`).
 //!
 //! docs/reference/save.md has the rules for a reader, and specs/Checkpoint.antt the same for the prover.
 #![tactic(auto)]
 
+pub mod file_parts;
 pub mod laws;
 mod memory;
+pub mod memory_parts;
 mod reading;
 mod restoring;
 mod writing;
 
-pub use file_parts::RestoreRefusal;
+pub use crate::file_parts::RestoreRefusal;
 pub use reading::{StateRefusal, read_state};
 pub use restoring::guest_of;
 pub use writing::{put_state, write_state};

@@ -1,13 +1,14 @@
 //! The memory that a text says.
+
 ghost use Rattle.std.specs.Prelude.{◌≡◌, ◌+◌, ◌-◌, ◌^◌, ◌≤◌, ◌↔◌, All, IsTrue, MatchResult, SomeIff, sum_by};
-ghost use Rattle.state_text.specs.Spelled.{IsText};
-ghost use Rattle.state_text.specs.Seen.{view};
+ghost use Rattle.save_text.specs.StateText.Spelled.{IsText};
+ghost use Rattle.save_text.specs.StateText.Seen.{view};
 ghost use Rattle.checkpoints.specs.Checkpoint.{IsInMemory, RefusesMemory, memory_of};
 
+use crate::memory_parts::{are_mapped, fill_pages, map_runs};
 use ddc_base::OutOfMemory;
-use memory_parts::{are_mapped, fill_pages, map_runs};
 use paged_mem::Ram;
-use state_text::{Parts, Run};
+use save_text::state_text::{Parts, Run};
 use std::alloc::Global;
 
 /// How many pages a guest can have: 67,584 beside its heap, and 262,144 of its heap.

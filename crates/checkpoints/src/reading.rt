@@ -1,15 +1,16 @@
 //! A guest read of its text.
+
 ghost use Rattle.std.specs.Prelude.{◌≡◌, ◌<◌, ◌^◌, IfOk};
 ghost use Rattle.guest_run.specs.State.{GuestState};
 ghost use Rattle.guest_run.specs.Valid.{IsValid};
-ghost use Rattle.state_text.specs.Spelled.{text_of};
+ghost use Rattle.save_text.specs.StateText.Spelled.{text_of};
 ghost use Rattle.checkpoints.specs.Checkpoint.{IsReadAs, ReadsState, state_of, state_refusal_number};
 
+use crate::file_parts::RestoreRefusal;
 use crate::restoring::guest_of;
-use file_parts::RestoreRefusal;
 use guest_run::Guest;
 use paged_mem::Ram;
-use state_text::{TextRefusal, read};
+use save_text::state_text::{TextRefusal, read};
 use std::alloc::Global;
 
 /// Why a text is no guest's. Its form is judged first, then counts and ranges, then references.

@@ -1,19 +1,20 @@
 //! The guest that a text says.
+
 ghost use Rattle.std.specs.Prelude.{◌≡◌, ◌∷◌, [], ◌%◌, OnOk, map};
-ghost use Rattle.byte_fields.specs.Spelling.{InTurn};
-ghost use Rattle.state_text.specs.StateText.{after_descriptor, after_file};
-ghost use Rattle.state_text.specs.Spelled.{IsDescriptor, IsFile, IsText};
-ghost use Rattle.state_text.specs.Seen.{descriptor_view, file_view, view};
+ghost use Rattle.save_text.specs.ByteFields.Spelling.{InTurn};
+ghost use Rattle.save_text.specs.StateText.StateText.{after_descriptor, after_file};
+ghost use Rattle.save_text.specs.StateText.Spelled.{IsDescriptor, IsFile, IsText};
+ghost use Rattle.save_text.specs.StateText.Seen.{descriptor_view, file_view, view};
 ghost use Rattle.checkpoints.specs.Checkpoint.{Becomes, MakesFiles, lists_in};
 
+use crate::file_parts::{FileParts, RestoreRefusal, restore};
 use crate::memory::{MemoryRefusal, memory_of};
 use ddc_base::OutOfMemory;
-use file_parts::{FileParts, RestoreRefusal, restore};
 use guest_run::{Guest, fit_together};
 use mem_files::Files;
 use paged_mem::Ram;
 use rv64_machine::Hart;
-use state_text::{Descriptor, File, Parts};
+use save_text::state_text::{Descriptor, File, Parts};
 use std::alloc::Global;
 
 /// The guest that a text says: `Range` where a count or a range is that of no guest, and only then `FileRef`, where a reference is.

@@ -1,15 +1,16 @@
 //! The text of a guest.
+
 ghost use Rattle.std.specs.Prelude.{◌≡◌, ◌++◌, IfOk, OnOk, drop};
-ghost use Rattle.state_text.specs.Spelled.{IsText, text_of};
-ghost use Rattle.state_text.specs.Seen.{view};
+ghost use Rattle.save_text.specs.StateText.Spelled.{IsText, text_of};
+ghost use Rattle.save_text.specs.StateText.Seen.{view};
 ghost use Rattle.checkpoints.specs.Checkpoint.{state_of};
 
+use crate::memory_parts::{pages, runs};
 use ddc_base::{Bytes, OutOfMemory};
 use guest_run::Guest;
-use memory_parts::{pages, runs};
 use paged_mem::Ram;
 use rv64_machine::Hart;
-use state_text::{Parts, descriptors_of, files_of, put_parts};
+use save_text::state_text::{Parts, descriptors_of, files_of, put_parts};
 use std::alloc::Global;
 
 /// The one text of a guest's state.

@@ -13,7 +13,7 @@ use Rattle.command_plan.specs.declared.status.Status.{Status}
 use Rattle.command_plan.specs.Plan.{Plan, Outcome, outcome}
 use Rattle.command_plan.specs.Words.{are_two_files, as_steps, usage}
 use Rattle.audit_commands.specs.Audit.{audit_files, audit_recipe, audited, is_input, needs_inputs, paths}
-use Rattle.pause_commands.specs.Pause.{are_three_files, came_to, part_files, part_recipe, with_steps}
+use Rattle.audit_commands.specs.Pause.{are_three_files, came_to, part_files, part_recipe, with_steps}
 use Rattle.ddc_app.specs.Accepting.{audit}
 use Rattle.ddc_app.specs.Pausing.{AreWords, IsCount, part}
 use Rattle.ddc_app.proofs.CountWords.{count-again}

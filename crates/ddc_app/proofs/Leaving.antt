@@ -6,8 +6,8 @@ use Rattle.ddc_base.proofs.StoredFiles.{others-insert}
 use Rattle.recipe.specs.declared.contents.Said.{Said}
 use Rattle.report.specs.Reports.{report_text}
 use Rattle.save_text.specs.Spelled.{text_of}
-use Rattle.audit_save.specs.Saves.{save_of}
-use Rattle.audit_save.specs.declared.reading.SaveRefusal.{SaveRefusal}
+use Rattle.audit_run.specs.Save.Saves.{save_of}
+use Rattle.audit_run.specs.declared.save.reading.SaveRefusal.{SaveRefusal}
 use Rattle.wheeler.specs.Positions.{Position, Standing, On, Over, forward, position}
 use Rattle.wheeler.specs.declared.answer.Answer.TheVariants.{Completes, Fails}
 use Rattle.wheeler.specs.declared.answer.Fault.TheVariants.{Runs, Checks}
@@ -15,7 +15,7 @@ use Rattle.command_plan.specs.declared.status.Status.{Status}
 use Rattle.command_plan.specs.Plan.{Plan, Outcome, needs, outcome}
 use Rattle.command_plan.specs.Words.{as_steps, usage}
 use Rattle.audit_commands.specs.Audit.{completed, is_input, needs_inputs, paths}
-use Rattle.pause_commands.specs.Pause.{are_three_files, came_to, part_files, part_recipe, paused, read_as, resume_files, resume_recipe, resume_text, resumed, with_steps}
+use Rattle.audit_commands.specs.Pause.{are_three_files, came_to, part_files, part_recipe, paused, read_as, resume_files, resume_recipe, resume_text, resumed, with_steps}
 use Rattle.ddc_app.specs.Pausing.{part, resume}
 use Rattle.ddc_app.proofs.Walks.{IsRefusal, both_need, both_need_all, both_need_recipe, told}
 

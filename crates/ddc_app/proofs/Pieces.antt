@@ -9,7 +9,7 @@ use Rattle.report.specs.Reports.{report_text}
 use Rattle.report.specs.declared.types.Compared.{Compared}
 use Rattle.report.specs.declared.types.Compared.TheVariants.{Equal, Differs}
 use Rattle.save_text.specs.Spelled.{text_of}
-use Rattle.audit_save.specs.Saves.{save_of}
+use Rattle.audit_run.specs.Save.Saves.{save_of}
 use Rattle.wheeler.specs.Bench.{bench}
 use Rattle.wheeler.specs.Positions.{Position, Standing, On, Over, finish, position}
 use Rattle.wheeler.specs.declared.answer.Answer.{Answer}
@@ -21,7 +21,7 @@ use Rattle.wheeler.proofs.Rules.{rules}
 use Rattle.command_plan.specs.declared.status.Status.TheVariants.{Paused}
 use Rattle.command_plan.specs.Plan.{Outcome, outcome}
 use Rattle.audit_commands.specs.Audit.{audited, compared_status, completed}
-use Rattle.pause_commands.specs.Pause.{came_to, paused}
+use Rattle.audit_commands.specs.Pause.{came_to, paused}
 use Rattle.ddc_app.specs.Accepting.{audit}
 use Rattle.ddc_app.specs.Pausing.{AreSame, Pieces, is_paused}
 use Rattle.ddc_app.proofs.Beginnings.{Case}

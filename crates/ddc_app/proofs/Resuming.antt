@@ -5,12 +5,12 @@ use Rattle.ddc_base.specs.Outside.{Files}
 use Rattle.recipe.specs.Kept.{IsRecipe}
 use Rattle.recipe.specs.declared.contents.Said.{Said}
 use Rattle.save_text.specs.Spelled.{text_of}
-use Rattle.audit_save.specs.declared.reading.SaveRefusal.{SaveRefusal}
-use Rattle.audit_save.specs.declared.reading.SaveRefusal.TheVariants.{Form, OtherRecipe, State, OutOfMemory}
-use Rattle.audit_save.specs.Saves.{IsResumedAs, save_of}
-use Rattle.audit_save.proofs.Answered.{answered}
-use Rattle.audit_save.proofs.Exactly.{is_only}
-use Rattle.audit_save.proofs.SaveLengths.{short}
+use Rattle.audit_run.specs.declared.save.reading.SaveRefusal.{SaveRefusal}
+use Rattle.audit_run.specs.declared.save.reading.SaveRefusal.TheVariants.{Form, OtherRecipe, State, OutOfMemory}
+use Rattle.audit_run.specs.Save.Saves.{IsResumedAs, save_of}
+use Rattle.audit_run.proofs.SaveLemmas.Answered.{answered}
+use Rattle.audit_run.proofs.SaveLemmas.Exactly.{is_only}
+use Rattle.audit_run.proofs.SaveLemmas.SaveLengths.{short}
 use Rattle.wheeler.specs.Bench.{bench}
 use Rattle.wheeler.specs.Positions.{Position, Standing, On, beginning, forward, forward_from, position}
 use Rattle.wheeler.specs.Valid.{IsInputs, IsPosition, IsStanding}
@@ -20,7 +20,7 @@ use Rattle.wheeler.proofs.Rules.{rules}
 use Rattle.command_plan.specs.Plan.{Plan, needs, outcome}
 use Rattle.command_plan.specs.Words.{usage}
 use Rattle.audit_commands.specs.Audit.{audit_files, audit_recipe, audited, is_input}
-use Rattle.pause_commands.specs.Pause.{are_three_files, came_to, read_as, resume_files, resume_recipe, resume_text, resumed}
+use Rattle.audit_commands.specs.Pause.{are_three_files, came_to, read_as, resume_files, resume_recipe, resume_text, resumed}
 use Rattle.ddc_app.specs.Accepting.{HoldBytes, audit}
 use Rattle.ddc_app.specs.Pausing.{AreWords, IsCount, Pieces, StandsAt, resume}
 use Rattle.ddc_app.proofs.Beginnings.{Case, three_apart, with_words}

@@ -16,7 +16,7 @@ use Rattle.verifier.specs.declared.part.Part.{Part}
 use Rattle.verifier.specs.Faults.{first_fault}
 use Rattle.verifier.specs.Verdicts.{true_verdict}
 use Rattle.meaning.specs.Meaning.{Compiles, Prescribes}
-use Rattle.conclusion.specs.Verdicts.{Shows}
+use Rattle.verifier.specs.Conclusion.Verdicts.{Shows}
 use Rattle.command_plan.specs.declared.status.Status.{Status}
 use Rattle.command_plan.specs.declared.status.Status.TheVariants as status
 use Rattle.command_plan.specs.Answered.{is_answer}

@@ -3,12 +3,12 @@ use Rattle.std.specs.Prelude.{ℕ, List, [], ◌∷◌, bytes_eq, codes, if◌th
 use Rattle.command_plan.specs.Plan.{Plan}
 use Rattle.command_plan.specs.Words.{usage}
 use Rattle.audit_commands.specs.Audit.{audit_plan}
-use Rattle.show_command.specs.Show.{show_plan}
-use Rattle.language_commands.specs.Asm.{asm_plan}
-use Rattle.language_commands.specs.Hex0.{hex0_plan}
-use Rattle.machine_commands.specs.List.{list_plan}
-use Rattle.machine_commands.specs.RunProgram.{run_plan}
-use Rattle.pause_commands.specs.Pause.{part_plan, resume_plan}
+use Rattle.audit_commands.specs.Show.{show_plan}
+use Rattle.tool_commands.specs.Asm.{asm_plan}
+use Rattle.tool_commands.specs.Hex0.{hex0_plan}
+use Rattle.tool_commands.specs.List.{list_plan}
+use Rattle.tool_commands.specs.RunProgram.{run_plan}
+use Rattle.audit_commands.specs.Pause.{part_plan, resume_plan}
 use Rattle.verify_command.specs.Verify.{verify_plan}
 
 -- what a command line does

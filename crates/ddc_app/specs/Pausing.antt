@@ -7,14 +7,14 @@ use Rattle.ddc_base.specs.Outside.{Files, loaded}
 use Rattle.recipe.specs.Reading.{recipe_of}
 use Rattle.recipe.specs.declared.contents.Said.{Said}
 use Rattle.save_text.specs.Spelled.{text_of}
-use Rattle.audit_save.specs.Saves.{save_of}
+use Rattle.audit_run.specs.Save.Saves.{save_of}
 use Rattle.wheeler.specs.Positions as positions
 use Rattle.wheeler.specs.Positions.{Position, On}
 use Rattle.command_plan.specs.declared.status.Status.{Status}
 use Rattle.command_plan.specs.declared.status.Status.TheVariants.{Paused}
 use Rattle.command_plan.specs.Plan.{Outcome, outcome}
 use Rattle.audit_commands.specs.Audit.{is_input, paths}
-use Rattle.pause_commands.specs.Pause.{are_three_files}
+use Rattle.audit_commands.specs.Pause.{are_three_files}
 use Rattle.ddc_app.specs.Accepting.{audit}
 use Rattle.ddc_app.specs.Commands.{plan_of}
 use Rattle.ddc_app.specs.Holding.{AreHeld}

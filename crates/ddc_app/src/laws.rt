@@ -1,12 +1,13 @@
 //! Laws of what commands come to. Each law is the contract of a function that does nothing.
+
 ghost use Rattle.ddc_app.specs.Accepting.{HoldBytes, audit, is_compared, verify};
 ghost use Rattle.ddc_app.specs.Pausing.{AreWords, IsCount, LeavesOthers, Pieces, StandsAt, in_pieces, part, resume};
 ghost use Rattle.ddc_app.specs.Verified.{Verified};
 ghost use Rattle.ddc_base.specs.Outside.{Files};
 ghost use Rattle.std.specs.Prelude.{◌≡◌, ◌+◌, [], ◌∷◌, All, IsTrue, List, sum, ℕ};
 
-use conclusion::laws::a_true_report_shows;
 use meaning::Meaning;
+use verifier::conclusion::laws::a_true_report_shows;
 
 /// An audit's own report is accepted: where `audit RECIPE REPORT` over files of bytes comes to 0 or 3, `verify RECIPE REPORT` over the
 /// files afterwards comes to the same.

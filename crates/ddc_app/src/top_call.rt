@@ -9,15 +9,12 @@ ghost use Rattle.ddc_app.specs.Run.{plan_for, due, IsDue, TakesOne, NamesFault, 
 ghost use Rattle.ddc_app.specs.Concluding.{PutEnds, Concludes};
 
 use crate::laws::verified;
-use audit_commands::audit;
+use audit_commands::{audit, part, resume, show};
 use command_plan::{Answer, Status, Stop, usage};
 use ddc_base::{PutFail, Shelf, Sink};
-use language_commands::{asm, hex0};
-use machine_commands::{list, run};
 use meaning::Meaning;
-use pause_commands::{part, resume};
-use show_command::show;
 use std::alloc::Global;
+use tool_commands::{asm, hex0, list, run};
 use verify_command::verify;
 
 /// Everything that the program does: it takes the words of the command line, without the program's own name, and answers the

@@ -1,4 +1,5 @@
 //! The checks of the header, of where the segments lie, and of the entry.
+
 ghost use Rattle.elf_load.specs.Fields.{e_phoff, e_phnum};
 ghost use Rattle.elf_load.specs.Image.{first_refusal, header_rules, placing_rules, entry_rules};
 ghost use Rattle.elf_load.specs.Inside.Checks.{HoldsTable, Judges};

@@ -1,4 +1,5 @@
 //! The fields of the ELF header and of a program header, each read at its offset.
+
 ghost use Rattle.elf_load.specs.Fields.{field, ei_class, ei_data, e_type, e_machine, e_entry, e_phoff, e_phentsize, e_phnum, p_type, p_memsz};
 ghost use Rattle.elf_load.specs.Segments.{segment_at};
 ghost use Rattle.std.specs.Prelude.{◌≡◌, ◌+◌, ◌≤◌, length};

@@ -1,4 +1,5 @@
 //! What holds of every image. The law is the contract of a function that does nothing.
+
 ghost use Rattle.elf_load.specs.declared.Image.{Image};
 ghost use Rattle.elf_load.specs.Image.{image_of, IsLoadable};
 ghost use Rattle.std.specs.Prelude.{◌≡◌, ℕ, List, Ok, length};

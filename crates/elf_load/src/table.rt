@@ -1,4 +1,5 @@
 //! The header table: the segments that it lists, in order.
+
 ghost use Rattle.elf_load.specs.Fields.{headers, e_phoff, e_phnum};
 ghost use Rattle.elf_load.specs.Image.{first_refusal, table_rules};
 ghost use Rattle.elf_load.specs.Inside.Checks.{HoldsTable, Judges};

@@ -1,4 +1,5 @@
 //! Whether a memory and a heap fit together.
+
 ghost use Rattle.guest_run.specs.Valid.{Fits, pages_beside, pages_from};
 ghost use Rattle.guest_run.specs.Inside.Bounds.{HasBounds};
 ghost use Rattle.linux_calls.specs.HeapOf.{IsHeapOf, is_beside_heap};

@@ -1,4 +1,5 @@
 //! The files that a program is given.
+
 ghost use Rattle.guest_run.specs.Setting.{files_size, IsBoxFile};
 ghost use Rattle.guest_run.specs.Start.{start_world, with_given};
 ghost use Rattle.mem_files.specs.Calls.{placed, with_file};

@@ -1,4 +1,5 @@
 //! What holds of every start and every run. Each law is the contract of a function that does nothing.
+
 ghost use Rattle.guest_run.specs.Program.{Run};
 ghost use Rattle.guest_run.specs.Run.{after, end_at, first_end, End, Exited, Runs};
 ghost use Rattle.guest_run.specs.Setting.{IsBox, Setting};

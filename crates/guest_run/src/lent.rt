@@ -1,4 +1,5 @@
 //! Bytes that their owner lends.
+
 ghost use Rattle.std.specs.Prelude.{◌≡◌, length};
 
 use std::marker::Model;

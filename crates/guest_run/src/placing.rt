@@ -1,4 +1,5 @@
 //! The memory of a program that starts.
+
 ghost use Rattle.elf_load.specs.Segments.{first_page, page_end, paged_size, AreApart, IsPlaced};
 ghost use Rattle.guest_run.specs.Placed.{with_segment, with_segments, with_stack};
 ghost use Rattle.guest_run.specs.Stack.{stack_end, stack_size};

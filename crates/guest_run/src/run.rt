@@ -1,4 +1,5 @@
 //! The steps of a guest, over its parts.
+
 ghost use Rattle.guest_run.specs.Run.{Runs, Steps};
 ghost use Rattle.guest_run.specs.State.{guest_state};
 ghost use Rattle.guest_run.specs.Inside.Stretch.{Stretches};

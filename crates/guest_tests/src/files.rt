@@ -1,4 +1,5 @@
 //! Files: scripts of calls, with what Linux's manual pages and the limits of this project say of them.
+
 ghost use Rattle.mem_files.specs.Calls.{fits};
 ghost use Rattle.std.specs.Prelude.{◌≡◌, Ok, length};
 

@@ -1,4 +1,5 @@
 //! The loader.
+
 use crate::exit_program::EXIT;
 use elf_load::*;
 use std::test::Fail;

@@ -1,4 +1,5 @@
 //! Programs that start and run.
+
 ghost use Rattle.guest_run.specs.Setting.{IsText};
 ghost use Rattle.std.specs.Prelude.{◌≤◌, IfOk};
 

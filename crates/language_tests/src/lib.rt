@@ -11,6 +11,7 @@ use std::alloc::Global;
 mod hex0;
 #[cfg(test)]
 mod linked;
+pub mod m1;
 #[cfg(test)]
 mod sources;
 

@@ -1,7 +1,8 @@
 //! hex2 sources and what Debian's hex2 makes of them, as tests/languages/make-cases prints it.
+
 use crate::zeros;
 use ddc_base::Bytes;
-use hex_link::{HexLanguage, value};
+use hex_langs::link::{HexLanguage, value};
 use std::alloc::Global;
 use std::process::Abort;
 use std::test::Fail;

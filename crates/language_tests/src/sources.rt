@@ -1,7 +1,8 @@
 //! Sources of hex1 and hex2 with what the reference pages say of them.
+
 use ddc_base::Bytes;
-use hex_items::{HexRefusal, Item, Kind, items1, items2};
-use hex_link::{HexLanguage, laws, link, value};
+use hex_langs::items::{HexRefusal, Item, Kind, items1, items2};
+use hex_langs::link::{HexLanguage, laws, link, value};
 use std::alloc::Global;
 use std::process::Abort;
 use std::test::Fail;
@@ -135,7 +136,7 @@ fn items_of_a_source(rt: HostRuntime) -> Result<(), Fail> {
     laws::bytes_end_behind_the_last();
     laws::names_do_not_matter();
     laws::plain_sources();
-    hex_items::laws::plain_sources();
+    hex_langs::items::laws::plain_sources();
     Ok(())
 }
 

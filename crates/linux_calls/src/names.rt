@@ -1,4 +1,5 @@
 //! The calls that take a path.
+
 ghost use Rattle.std.specs.Prelude.{◌≡◌};
 ghost use Rattle.linux_calls.specs.Paths.{named, name_at};
 ghost use Rattle.linux_calls.specs.Calls.{answer_of, unlinked, accessed, mode_changed, opened_as};

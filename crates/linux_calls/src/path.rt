@@ -1,4 +1,5 @@
 //! Paths: how they are read, and the directory argument beside them.
+
 ghost use Rattle.std.specs.Prelude.{◌≡◌, ◌%◌, MatchResult, IfOk, IsTrue, Ok, Err};
 ghost use Rattle.mem_files.specs.Names.{is_stripped_name};
 ghost use Rattle.linux_calls.specs.Paths.{low, text_at, name_at, named, in_directory};

@@ -1,4 +1,5 @@
 //! The heap.
+
 ghost use Rattle.std.specs.Prelude.{◌≡◌, ◌≤◌, ◌<◌, ◌+◌, ◌-◌, ◌%◌, ◌^◌, true, OnOk, OnErr};
 ghost use Rattle.paged_mem.specs.Memory.{IsFree, maps, page_up};
 ghost use Rattle.linux_calls.specs.HeapOf.{IsHeapOf, resized};

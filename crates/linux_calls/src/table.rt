@@ -1,4 +1,5 @@
 //! The call table.
+
 ghost use Rattle.std.specs.Prelude.{◌≡◌};
 ghost use Rattle.linux_calls.specs.HeapOf.{IsHeapOf};
 ghost use Rattle.linux_calls.specs.Calls.{state, syscall, answering};

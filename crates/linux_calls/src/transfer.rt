@@ -1,4 +1,5 @@
 //! The calls that move bytes between memory and files.
+
 ghost use Rattle.std.specs.Prelude.{◌≡◌, ℕ, true, IfOk, Some};
 ghost use Rattle.std.specs.FinMap.{get};
 ghost use Rattle.paged_mem.specs.Memory.{bytes_at, maps};

@@ -2,8 +2,8 @@
 use Rattle.std.proofs.Common.{◌≡◌, ℕ, Bool, true, cond, not, List, [], ◌∷◌, ◌++◌, sym, ap, ◌∙◌, Option, Some, None, is_some, Result, Ok, Err}
 use Rattle.indexmap.specs.IndexMap.{get, IndexMap, insert_entry}
 use Rattle.indexmap.proofs.CallerLemmas.{insert_entry-new}
-use Rattle.m1_words.specs.Words.{Found, open_quote, Word, Words, word_list, words_of}
-use Rattle.m1_words.specs.Representation.Ahead.{words_at}
+use Rattle.m1_lang.specs.Words.Words.{Found, open_quote, Word, Words, word_list, words_of}
+use Rattle.m1_lang.specs.Words.Representation.Ahead.{words_at}
 use Rattle.m1_lang.specs.declared.refusal.M1Refusal.{M1Refusal}
 use Rattle.m1_lang.specs.declared.refusal.M1Refusal.TheVariants as refusal
 use Rattle.m1_lang.specs.Definitions.{with_defined, Defined, definitions, definitions_in, is_value, parts, same_text, unless_open, value_in}

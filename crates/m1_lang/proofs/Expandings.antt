@@ -3,13 +3,13 @@ use Rattle.std.proofs.Common.{◌≡◌, ◌≤◌, ◌<◌, ℕ, nat_lt, true, 
 use Rattle.std.proofs.lemmas.Bool.{cond-true, cond-false}
 use Rattle.std.proofs.lemmas.Bool.Decides.{nat_tests}
 use Rattle.indexmap.specs.IndexMap.{get, IndexMap}
-use Rattle.hex_items.specs.declared.item.Item.{Item}
-use Rattle.hex_items.specs.declared.words.Open.{Open}
-use Rattle.hex_items.specs.Reading.{Ends, formed, Formed, Reading, with_front, word_end}
-use Rattle.m1_words.specs.declared.meaning.WordFault.{WordFault}
-use Rattle.m1_words.specs.Words.{Found, Word, word_list, Words, words_of}
-use Rattle.m1_words.specs.Forms.{tokens_of}
-use Rattle.m1_words.specs.Representation.Ahead.{words_at}
+use Rattle.hex_langs.specs.declared.items.item.Item.{Item}
+use Rattle.hex_langs.specs.declared.items.words.Open.{Open}
+use Rattle.hex_langs.specs.Items.Reading.{Ends, formed, Formed, Reading, with_front, word_end}
+use Rattle.m1_lang.specs.declared.words.meaning.WordFault.{WordFault}
+use Rattle.m1_lang.specs.Words.Words.{Found, Word, word_list, Words, words_of}
+use Rattle.m1_lang.specs.Words.Forms.{tokens_of}
+use Rattle.m1_lang.specs.Words.Representation.Ahead.{words_at}
 use Rattle.m1_lang.specs.declared.refusal.M1Refusal.{M1Refusal}
 use Rattle.m1_lang.specs.declared.refusal.M1Refusal.TheVariants as refusal
 use Rattle.m1_lang.specs.Definitions.{definitions_in, is_define, parts, plain_words, same_text}

@@ -5,24 +5,24 @@ use Rattle.std.specs.Prelude.{ℤ, pos, negsuc, neg_ℤ, ◌+ℤ◌}
 use Rattle.std.specs.Int.{w32, to_le_bytes}
 use Rattle.std.specs.List.{AllByRecursion}
 use Rattle.hex.specs.Hex.{hex_digit_value}
-use Rattle.hex_items.specs.declared.item.Item.{Item}
-use Rattle.hex_items.specs.declared.token.Dialect.TheVariants.{Hex2}
-use Rattle.hex_items.specs.declared.token.Fault.{Fault}
-use Rattle.hex_items.specs.declared.token.Token.{Token}
-use Rattle.hex_items.specs.declared.token.Token.TheVariants.{Byte, Field}
-use Rattle.hex_items.specs.Tokens.{byte_of, gap_length, opens_gap, token_at}
-use Rattle.hex_items.specs.Reading.{Ending, Faulted, formed, Formed, Halted, items_of, Reading, Whole}
-use Rattle.hex_writer.specs.Writable.{AreWritable}
-use Rattle.hex_writer.specs.Writing.{items_text}
-use Rattle.hex_writer.proofs.GoodTokens.{byte-below, digit-below, IsBelow, IsGoodFound, token-good}
-use Rattle.hex_writer.proofs.Texts.{items_of-written}
-use Rattle.hex_writer.proofs.Writables.{AreGood, formed-writable, IsGood}
-use Rattle.m1_words.specs.declared.meaning.WordFault.{WordFault}
-use Rattle.m1_words.specs.declared.meaning.WordFault.TheVariants.{UnknownWord}
-use Rattle.m1_words.specs.Digits.{cons_byte, digit_bytes}
-use Rattle.m1_words.specs.Numbers.{number_in}
-use Rattle.m1_words.specs.Forms.{begins_with, between, byte_tokens, defined_tokens, FormTokens, form_or, form_tokens, immediate_field, ranged_tokens, is_within, number_behind, number_tokens, numbered_or, numbered_tokens, one_token, padded, quoted_tokens, store_field, takes_number, token_over, Tokens, tokens_of, rounded_field, value_tokens, whole_token, number_word}
-use Rattle.m1_words.specs.Words.{Found, Unclosed, Word, word_list, word_more, Words, words_from, words_of}
+use Rattle.hex_langs.specs.declared.items.item.Item.{Item}
+use Rattle.hex_langs.specs.declared.items.token.Dialect.TheVariants.{Hex2}
+use Rattle.hex_langs.specs.declared.items.token.Fault.{Fault}
+use Rattle.hex_langs.specs.declared.items.token.Token.{Token}
+use Rattle.hex_langs.specs.declared.items.token.Token.TheVariants.{Byte, Field}
+use Rattle.hex_langs.specs.Items.Tokens.{byte_of, gap_length, opens_gap, token_at}
+use Rattle.hex_langs.specs.Items.Reading.{Ending, Faulted, formed, Formed, Halted, items_of, Reading, Whole}
+use Rattle.hex_langs.specs.Writer.Writable.{AreWritable}
+use Rattle.hex_langs.specs.Writer.Writing.{items_text}
+use Rattle.hex_langs.proofs.WriterLemmas.GoodTokens.{byte-below, digit-below, IsBelow, IsGoodFound, token-good}
+use Rattle.hex_langs.proofs.WriterLemmas.Texts.{items_of-written}
+use Rattle.hex_langs.proofs.WriterLemmas.Writables.{AreGood, formed-writable, IsGood}
+use Rattle.m1_lang.specs.declared.words.meaning.WordFault.{WordFault}
+use Rattle.m1_lang.specs.declared.words.meaning.WordFault.TheVariants.{UnknownWord}
+use Rattle.m1_lang.specs.Words.Digits.{cons_byte, digit_bytes}
+use Rattle.m1_lang.specs.Words.Numbers.{number_in}
+use Rattle.m1_lang.specs.Words.Forms.{begins_with, between, byte_tokens, defined_tokens, FormTokens, form_or, form_tokens, immediate_field, ranged_tokens, is_within, number_behind, number_tokens, numbered_or, numbered_tokens, one_token, padded, quoted_tokens, store_field, takes_number, token_over, Tokens, tokens_of, rounded_field, value_tokens, whole_token, number_word}
+use Rattle.m1_lang.specs.Words.Words.{Found, Unclosed, Word, word_list, word_more, Words, words_from, words_of}
 use Rattle.m1_lang.specs.declared.refusal.M1Refusal.{M1Refusal}
 use Rattle.m1_lang.specs.declared.refusal.M1Refusal.TheVariants.{TooLong}
 use Rattle.m1_lang.specs.Laws.{IsOfBytes}

@@ -4,9 +4,9 @@ use Rattle.std.proofs.lemmas.Bool.Decides.{nat_tests}
 use Rattle.std.specs.List.{position_or_len}
 use Rattle.std.proofs.Math.Seq.{drop-append_seam, take-append_seam}
 use Rattle.hex_langs.specs.Hex0.{begins_comment}
-use Rattle.hex_items.specs.Tokens.{gap_length, is_blank, opens_gap}
-use Rattle.m1_words.specs.Words.{until_closed, Found, is_quote, open_quote, Word, word_list, word_more, Words, words_from, words_of}
-use Rattle.m1_words.proofs.Splits.{passed, split-inside}
+use Rattle.hex_langs.specs.Items.Tokens.{gap_length, is_blank, opens_gap}
+use Rattle.m1_lang.specs.Words.Words.{until_closed, Found, is_quote, open_quote, Word, word_list, word_more, Words, words_from, words_of}
+use Rattle.m1_lang.proofs.WordsLemmas.Splits.{passed, split-inside}
 use Rattle.m1_lang.specs.Laws.{AreBlanks, IsLayout, IsOneWord, laid_out, Layout, texts_in}
 
 -- ---- blanks

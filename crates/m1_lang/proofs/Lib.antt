@@ -6,3 +6,4 @@ pub mod Goods
 pub mod Unplaced
 pub mod Moves
 pub mod Layouts
+pub mod WordsLemmas

@@ -2,7 +2,7 @@
 use Rattle.std.proofs.Common.{◌≡◌, ℕ, Bool, true, false, cond, not, ◌||◌, List, [], ◌∷◌, ◌++◌, refl, sym, ap, subst, ◌∙◌, Option, Some, None, is_some, Ok, Err}
 use Rattle.std.proofs.Common.{true≢false}
 use Rattle.std.proofs.lemmas.Slice.Eq.{bytes_eq-Decides}
-use Rattle.m1_words.specs.Words.{Word}
+use Rattle.m1_lang.specs.Words.Words.{Word}
 use Rattle.m1_lang.specs.declared.refusal.M1Refusal.TheVariants as refusal
 use Rattle.m1_lang.specs.Definitions.{with_defined, Cut, Defined, Defines, definitions, is_value, Part, Plain, plain_words, same_text, value_in}
 use Rattle.m1_lang.proofs.Unplaced.{expansion_by_values, expansion_with, ok, parts_expansion}

@@ -2,10 +2,10 @@
 use Rattle.std.proofs.Common.{◌≡◌, ℕ, ◌≤◌, Bool, true, false, cond, List, [], ◌∷◌, length, refl, ap, arith}
 use denote.Bor.{Bor}
 use Rattle.std.proofs.lemmas.List.{drop_all}
-use Rattle.m1_words.specs.Words.{Over, Word, Words, word_list, words_from}
-use Rattle.m1_words.specs.Representation.Ahead.{FindsAhead, words_at}
-use Rattle.m1_words.specs.declared.splitting.Ahead.{Ahead}
-use Rattle.m1_words.specs.declared.splitting.Ahead.TheVariants as next
+use Rattle.m1_lang.specs.Words.Words.{Over, Word, Words, word_list, words_from}
+use Rattle.m1_lang.specs.Words.Representation.Ahead.{FindsAhead, words_at}
+use Rattle.m1_lang.specs.declared.words.splitting.Ahead.{Ahead}
+use Rattle.m1_lang.specs.declared.words.splitting.Ahead.TheVariants as next
 use Rattle.m1_lang.specs.Definitions.{Cut, Defined, Defines, definitions, is_define, parts, Plain, plain_words}
 use Rattle.m1_lang.specs.Representation.Passes.{behind_define, parts_at, plain_behind}
 

@@ -3,17 +3,17 @@ use Rattle.std.proofs.Common.{◌≡◌, ℕ, suc, ◌-◌, replicate, ◌+◌, 
 use Rattle.std.proofs.lemmas.Bool.{cond-true, cond-false}
 use Rattle.std.proofs.lemmas.Bool.Decides.{nat_tests}
 use Rattle.std.proofs.lemmas.List.{append-nil}
-use Rattle.hex_items.specs.declared.item.Item.{Item}
-use Rattle.hex_items.specs.declared.token.Token.{Token}
-use Rattle.hex_items.specs.declared.token.Token.TheVariants.{Byte}
-use Rattle.m1_words.specs.Representation.Meanings.{front_bytes}
-use Rattle.hex_items.specs.declared.words.Open.{Open}
-use Rattle.hex_items.specs.declared.words.Halt.{Halt}
-use Rattle.hex_items.specs.declared.words.Halt.TheVariants as halt
-use Rattle.hex_items.specs.Reading.{Ending, formed, Formed, Halted, Reading, Then, with_front}
-use Rattle.hex_items.specs.Words.{Step, taken, Takes}
-use Rattle.hex_items.proofs.Readings.{formed-halt, formed-token, takes-ok, with_front-twice}
-use Rattle.m1_words.specs.declared.meaning.WordFault.{WordFault}
+use Rattle.hex_langs.specs.declared.items.item.Item.{Item}
+use Rattle.hex_langs.specs.declared.items.token.Token.{Token}
+use Rattle.hex_langs.specs.declared.items.token.Token.TheVariants.{Byte}
+use Rattle.m1_lang.specs.Words.Representation.Meanings.{front_bytes}
+use Rattle.hex_langs.specs.declared.items.words.Open.{Open}
+use Rattle.hex_langs.specs.declared.items.words.Halt.{Halt}
+use Rattle.hex_langs.specs.declared.items.words.Halt.TheVariants as halt
+use Rattle.hex_langs.specs.Items.Reading.{Ending, formed, Formed, Halted, Reading, Then, with_front}
+use Rattle.hex_langs.specs.Items.Words.{Step, taken, Takes}
+use Rattle.hex_langs.proofs.ItemsLemmas.Readings.{formed-halt, formed-token, takes-ok, with_front-twice}
+use Rattle.m1_lang.specs.declared.words.meaning.WordFault.{WordFault}
 use Rattle.m1_lang.specs.declared.refusal.M1Refusal.TheVariants.{TooLong}
 use Rattle.m1_lang.specs.Expansion.{at_once, counted_items, halt_refusal, unless_refused}
 use Rattle.m1_lang.specs.Representation.Passes.{TakesTokens}

@@ -2,19 +2,19 @@
 use Rattle.std.proofs.Common.{◌≡◌, ℕ, nat_lt, Bool, true, false, cond, not, List, [], ◌∷◌, ◌++◌, length, map, refl, sym, ap, subst, ◌∙◌, arith, Option, Some, None, is_some, Result, Ok, Err}
 use Rattle.std.proofs.lemmas.Bool.{cond-false}
 use Rattle.std.proofs.lemmas.Bool.Decides.{nat_tests}
-use Rattle.hex_items.specs.declared.item.Item.{Item}
-use Rattle.hex_items.specs.declared.item.Kind.{Kind}
-use Rattle.hex_items.specs.declared.token.Token.{Token}
-use Rattle.hex_items.specs.declared.token.Token.TheVariants.{Byte, Field, Reference, Alone}
-use Rattle.hex_items.specs.declared.words.Begun.{Begun}
-use Rattle.hex_items.specs.declared.words.Begun.TheVariants.{Nothing, One, Two, Three}
-use Rattle.hex_items.specs.declared.words.Open.{Open}
-use Rattle.hex_items.specs.declared.words.Halt.TheVariants as halt
-use Rattle.hex_items.specs.Words.{byte_in, field_in, reference_in, Step, taken}
-use Rattle.hex_items.specs.Reading.{behind_step, Ending, Ends, Faulted, Faulty, formed, Formed, Halted, Reading, Then, Whole}
-use Rattle.m1_words.specs.declared.meaning.WordFault.{WordFault}
-use Rattle.m1_words.specs.Forms.{Tokens, tokens_of}
-use Rattle.m1_words.specs.Words.{Word, word_list, words_of}
+use Rattle.hex_langs.specs.declared.items.item.Item.{Item}
+use Rattle.hex_langs.specs.declared.items.item.Kind.{Kind}
+use Rattle.hex_langs.specs.declared.items.token.Token.{Token}
+use Rattle.hex_langs.specs.declared.items.token.Token.TheVariants.{Byte, Field, Reference, Alone}
+use Rattle.hex_langs.specs.declared.items.words.Begun.{Begun}
+use Rattle.hex_langs.specs.declared.items.words.Begun.TheVariants.{Nothing, One, Two, Three}
+use Rattle.hex_langs.specs.declared.items.words.Open.{Open}
+use Rattle.hex_langs.specs.declared.items.words.Halt.TheVariants as halt
+use Rattle.hex_langs.specs.Items.Words.{byte_in, field_in, reference_in, Step, taken}
+use Rattle.hex_langs.specs.Items.Reading.{behind_step, Ending, Ends, Faulted, Faulty, formed, Formed, Halted, Reading, Then, Whole}
+use Rattle.m1_lang.specs.declared.words.meaning.WordFault.{WordFault}
+use Rattle.m1_lang.specs.Words.Forms.{Tokens, tokens_of}
+use Rattle.m1_lang.specs.Words.Words.{Word, word_list, words_of}
 use Rattle.m1_lang.specs.declared.refusal.M1Refusal.{M1Refusal}
 use Rattle.m1_lang.specs.declared.refusal.M1Refusal.TheVariants as refusal
 use Rattle.m1_lang.specs.Definitions.{with_defined, Cut, Defined, defined_with, Defines, definitions, is_define, is_value, Part, parts, Plain, plain_words, unless_open, value_in}

@@ -3,8 +3,8 @@
 use Rattle.std.specs.Prelude.{ℕ, nat_eq, Bool, not, if◌then◌else◌, List, [], ◌∷◌, ◌++◌, codes, is_some, Option, Some, None, Result, Ok, Err}
 use Rattle.std.specs.Map.{lookup}
 use Rattle.std.specs.Cmp.Lexicographic.{pointwise}
-use Rattle.m1_words.specs.Words.{Word, Words, open_quote, word_list}
-use Rattle.m1_words.specs.Forms.{value_tokens}
+use Rattle.m1_lang.specs.Words.Words.{Word, Words, open_quote, word_list}
+use Rattle.m1_lang.specs.Words.Forms.{value_tokens}
 use Rattle.m1_lang.specs.declared.refusal.M1Refusal.{M1Refusal}
 use Rattle.m1_lang.specs.declared.refusal.M1Refusal.TheVariants.{BadDefine, DoubleDefine, OpenString}
 

@@ -1,14 +1,14 @@
 -- What an M1 source expands to: the items of hex2 that its words give, or its first refusal. docs/reference/m1.md says the same for people.
 use Rattle.std.specs.Prelude.{◌≡◌, ℕ, nat_lt, if◌then◌else◌, List, [], ◌∷◌, length, Option, None, Result, Ok, Err}
-use Rattle.hex_items.specs.declared.item.Item.{Item}
-use Rattle.hex_items.specs.declared.token.Token.{Token}
-use Rattle.hex_items.specs.declared.words.Halt.{Halt}
-use Rattle.hex_items.specs.declared.words.Halt.TheVariants as halt
-use Rattle.hex_items.specs.Reading.{Ending, Ends, Faulted, Faulty, formed, Formed, Halted, Reading, Then, Whole}
-use Rattle.m1_words.specs.declared.meaning.WordFault.{WordFault}
-use Rattle.m1_words.specs.declared.meaning.WordFault.TheVariants as fault
-use Rattle.m1_words.specs.Words.{Word, word_list, words_of}
-use Rattle.m1_words.specs.Forms.{Tokens, tokens_of}
+use Rattle.hex_langs.specs.declared.items.item.Item.{Item}
+use Rattle.hex_langs.specs.declared.items.token.Token.{Token}
+use Rattle.hex_langs.specs.declared.items.words.Halt.{Halt}
+use Rattle.hex_langs.specs.declared.items.words.Halt.TheVariants as halt
+use Rattle.hex_langs.specs.Items.Reading.{Ending, Ends, Faulted, Faulty, formed, Formed, Halted, Reading, Then, Whole}
+use Rattle.m1_lang.specs.declared.words.meaning.WordFault.{WordFault}
+use Rattle.m1_lang.specs.declared.words.meaning.WordFault.TheVariants as fault
+use Rattle.m1_lang.specs.Words.Words.{Word, word_list, words_of}
+use Rattle.m1_lang.specs.Words.Forms.{Tokens, tokens_of}
 use Rattle.m1_lang.specs.declared.refusal.M1Refusal.{M1Refusal}
 use Rattle.m1_lang.specs.declared.refusal.M1Refusal.TheVariants.{UnknownWord, NumberRange, Dangling, TooLong, OutOfMemory}
 use Rattle.m1_lang.specs.Definitions.{Defined, definitions_in, parts, plain_words, value_in}

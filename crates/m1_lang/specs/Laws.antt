@@ -1,8 +1,8 @@
 -- What the laws of M1 say.
 use Rattle.std.specs.Prelude.{◌≡◌, ℕ, ◌<◌, ◌≤◌, false, true, List, [], ◌∷◌, ◌++◌, map, length, Some, None}
 use Rattle.std.specs.List.{AllByRecursion, flat_map}
-use Rattle.hex_items.specs.Tokens.{is_blank, opens_gap}
-use Rattle.m1_words.specs.Words.{open_quote, Word, word_list, word_more, words_of}
+use Rattle.hex_langs.specs.Items.Tokens.{is_blank, opens_gap}
+use Rattle.m1_lang.specs.Words.Words.{open_quote, Word, word_list, word_more, words_of}
 use Rattle.m1_lang.specs.Definitions.{Cut, Defines, Part, parts, Plain}
 
 -- each is a byte

@@ -3,3 +3,4 @@ pub mod Expansion
 pub mod Laws
 pub mod Refusals
 pub mod Representation
+pub mod Words

@@ -1,13 +1,14 @@
 //! The definitions of an M1 source.
+
 ghost use Rattle.std.specs.Prelude.{◌≡◌, ◌≤◌, length};
-ghost use Rattle.m1_words.specs.Words.{words_of};
+ghost use Rattle.m1_lang.specs.Words.Words.{words_of};
 ghost use Rattle.m1_lang.specs.Definitions.{definitions_in, is_define};
 ghost use Rattle.m1_lang.specs.Representation.Passes.{quote_or, open_at, DefinesOne, Tabulates};
 
 use crate::refusal::M1Refusal;
-use hex_items::Name;
+use crate::words::{Ahead, Value, next_word};
+use hex_langs::items::Name;
 use indexmap::IndexMap;
-use m1_words::{Ahead, Value, next_word};
 use std::alloc::Global;
 
 pub(crate) fn is_define(text: &[u8]) -> bool

@@ -1,8 +1,9 @@
 //! The items that an M1 source expands to.
+
 ghost use Rattle.std.specs.Prelude.{◌≡◌, ◌≤◌, length, None};
 ghost use Rattle.indexmap.specs.IndexMap.{get};
-ghost use Rattle.hex_items.specs.Reading.{formed};
-ghost use Rattle.m1_words.specs.Forms.{tokens_of};
+ghost use Rattle.hex_langs.specs.Items.Reading.{formed};
+ghost use Rattle.m1_lang.specs.Words.Forms.{tokens_of};
 ghost use Rattle.m1_lang.specs.Definitions.{same_text};
 ghost use Rattle.m1_lang.specs.Expansion.{counted_items, Expands, expansion_of, halt_refusal, word_refusal};
 ghost use Rattle.m1_lang.specs.Representation.Passes.{reading_at, SkipsOne, TakesWord};
@@ -10,9 +11,9 @@ ghost use Rattle.m1_lang.specs.Representation.Passes.{reading_at, SkipsOne, Take
 use crate::definitions::{definitions_of, is_define};
 use crate::refusal::M1Refusal;
 use crate::taking::{meaning_by, take_meaning};
-use hex_items::{Halt, Items, LONGEST_SOURCE, Name, Open};
+use crate::words::{Ahead, Value, WordFault, next_word};
+use hex_langs::items::{Halt, Items, LONGEST_SOURCE, Name, Open};
 use indexmap::IndexMap;
-use m1_words::{Ahead, Value, WordFault, next_word};
 use std::alloc::Global;
 
 /// The items that an M1 source of at most 67,108,864 bytes expands to, or its first refusal: a quote that isn't closed, then the

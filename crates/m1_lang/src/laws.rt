@@ -1,10 +1,11 @@
 //! What holds of every M1 source. Each law is the contract of a function that does nothing.
-ghost use Rattle.hex_items.specs.declared.item.Item.{Item};
-ghost use Rattle.hex_items.specs.declared.token.Dialect.TheVariants.{Hex2};
-ghost use Rattle.hex_items.specs.Reading.{items_of};
-ghost use Rattle.hex_writer.specs.Writing.{items_text};
+
+ghost use Rattle.hex_langs.specs.declared.items.item.Item.{Item};
+ghost use Rattle.hex_langs.specs.declared.items.token.Dialect.TheVariants.{Hex2};
+ghost use Rattle.hex_langs.specs.Items.Reading.{items_of};
+ghost use Rattle.hex_langs.specs.Writer.Writing.{items_text};
 ghost use Rattle.m1_lang.specs.Expansion.{expansion_of};
-ghost use Rattle.m1_words.specs.Words.{open_quote, words_of};
+ghost use Rattle.m1_lang.specs.Words.Words.{open_quote, words_of};
 ghost use Rattle.m1_lang.specs.Definitions.{Defines, Part};
 ghost use Rattle.m1_lang.specs.Laws.{AreBlanks, IsOfBytes, IsLayout, IsCutIntoWords, laid_out, Layout, parts_in, texts_in};
 ghost use Rattle.std.specs.Prelude.{◌≡◌, ◌↔◌, ℕ, ◌≤◌, List, ◌∷◌, ◌++◌, None, Ok, length, map};

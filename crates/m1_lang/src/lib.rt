@@ -1,4 +1,4 @@
-//! M1: the items of hex2 that a source expands to.
+//! M1: the items of hex2 that a source expands to; its single words are in `words`.
 //!
 //! The rules, with their public source, are in docs/reference/m1.md.
 #![tactic(auto)]
@@ -8,7 +8,8 @@ mod expansion;
 pub mod laws;
 mod refusal;
 mod taking;
+pub mod words;
 
 pub use expansion::expand;
-pub use hex_writer::write_items;
+pub use hex_langs::writer::write_items;
 pub use refusal::M1Refusal;

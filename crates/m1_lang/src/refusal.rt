@@ -1,4 +1,5 @@
 //! The refusals of M1.
+
 ghost use Rattle.std.specs.Prelude.{◌≡◌};
 ghost use Rattle.m1_lang.specs.Refusals.{m1_refusal_number, m1_refusal_place};
 

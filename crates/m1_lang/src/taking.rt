@@ -1,15 +1,16 @@
 //! Taking what words give.
+
 ghost use Rattle.std.specs.Prelude.{◌≡◌, ◌≤◌, ℕ, [], ◌∷◌, IfSome, length, map, replicate};
 ghost use Rattle.indexmap.specs.IndexMap.{get};
-ghost use Rattle.hex_items.specs.declared.token.Token.TheVariants.{Byte};
-ghost use Rattle.m1_words.specs.Forms.{defined_tokens, padded, tokens_of};
-ghost use Rattle.m1_words.specs.Representation.Meanings.{MeansResult, MeansTokens, front_bytes, meaning_tokens};
+ghost use Rattle.hex_langs.specs.declared.items.token.Token.TheVariants.{Byte};
+ghost use Rattle.m1_lang.specs.Words.Forms.{defined_tokens, padded, tokens_of};
+ghost use Rattle.m1_lang.specs.Words.Representation.Meanings.{MeansResult, MeansTokens, front_bytes, meaning_tokens};
 ghost use Rattle.m1_lang.specs.Definitions.{same_text};
 ghost use Rattle.m1_lang.specs.Representation.Passes.{TakesTokens};
 
-use hex_items::{Begun, Halt, Items, Name, Open, byte_of, take, take_byte, take_four};
+use crate::words::{Meaning, Value, WordFault, meaning_of};
+use hex_langs::items::{Begun, Halt, Items, Name, Open, byte_of, take, take_byte, take_four};
 use indexmap::IndexMap;
-use m1_words::{Meaning, Value, WordFault, meaning_of};
 
 /// Takes bytes.
 fn take_bytes<'s>(

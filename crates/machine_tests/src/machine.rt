@@ -1,4 +1,5 @@
 //! Rows and acts of the machine, beside what an independent machine did and by the standard's tables.
+
 mod cases;
 
 ghost use Rattle.paged_mem.specs.Memory.{with_bytes, zeros};

@@ -1,4 +1,5 @@
 //! Scripts of calls, run on both memories with the same answers. What is wanted follows from docs/reference/memory.md.
+
 use crate::page_address;
 use paged_mem::{FlatRam, PageView, PagedRam, Ram, StoreRefusal, Width};
 use std::process::Abort;

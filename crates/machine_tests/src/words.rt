@@ -1,4 +1,5 @@
 //! Rows of words as the GNU assembler makes them.
+
 use rv64_table::{Op, laws, row_of, rows};
 
 /// Words as the GNU assembler makes them, with their operations.

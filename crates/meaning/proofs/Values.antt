@@ -5,20 +5,20 @@ use Rattle.std.proofs.lemmas.Bool.{eqb-true}
 use Rattle.std.proofs.lemmas.Option.{cond_some}
 use Rattle.ddc_base.specs.Difference.{first_difference}
 use Rattle.ddc_base.proofs.Differences.{first_difference-same}
-use Rattle.languages.specs.declared.Language.{Language}
-use Rattle.languages.specs.declared.Language.TheVariants.{Hex0, Hex1, Hex2, M1}
+use Rattle.ddc_base.specs.declared.languages.Language.{Language}
+use Rattle.ddc_base.specs.declared.languages.Language.TheVariants.{Hex0, Hex1, Hex2, M1}
 use Rattle.hex_langs.specs.Hex0.{hex0_of}
-use Rattle.hex_items.specs.declared.reader.HexRefusal.{HexRefusal}
-use Rattle.hex_items.specs.declared.token.Dialect.TheVariants as dialect
-use Rattle.hex_items.specs.Reading.{items_of}
-use Rattle.hex_link.specs.Values.{linked}
+use Rattle.hex_langs.specs.declared.items.reader.HexRefusal.{HexRefusal}
+use Rattle.hex_langs.specs.declared.items.token.Dialect.TheVariants as dialect
+use Rattle.hex_langs.specs.Items.Reading.{items_of}
+use Rattle.hex_langs.specs.Link.Values.{linked}
 use Rattle.recipe.specs.declared.contents.Said.{Said}
 use Rattle.recipe.specs.declared.parts.Source.{Source}
 use Rattle.recipe.specs.declared.parts.SourceLanguage.{SourceLanguage}
 use Rattle.recipe.specs.declared.parts.SourceLanguage.TheVariants.{Defined, Other}
 use Rattle.recipe.specs.declared.parts.Stage.{Stage}
 use Rattle.recipe.specs.Lookups.{hex_check, is_hex, source_named}
-use Rattle.source_check.specs.Checks.{check, checked, differs, hex_value, joined, value_of}
+use Rattle.wheeler.specs.SourceCheck.Checks.{check, checked, differs, hex_value, joined, value_of}
 use Rattle.wheeler.specs.Contents.{Contents, SourceText, check_of, defined, source_check, text_check, text_of}
 use Rattle.meaning.specs.AllContents.{text_by, text_named}
 use Rattle.meaning.specs.Values.{binary_in, binary_of, bytes_of}

@@ -2,8 +2,8 @@
 use Rattle.std.specs.Prelude.{ℕ, Option, None, Some, Result, Ok, Err, List}
 use Rattle.recipe.specs.declared.parts.SourceLanguage.{SourceLanguage}
 use Rattle.recipe.specs.declared.parts.SourceLanguage.TheVariants.{Defined, Other}
-use Rattle.source_check.specs.declared.cause.CheckCause.{CheckCause}
-use Rattle.source_check.specs.Checks.{Value, Bytes, Items, joined, value_of}
+use Rattle.wheeler.specs.declared.source_check.cause.CheckCause.{CheckCause}
+use Rattle.wheeler.specs.SourceCheck.Checks.{Value, Bytes, Items, joined, value_of}
 use Rattle.wheeler.specs.Contents.{SourceText}
 
 -- a value's bytes; a value of M1 is items, which stand for no bytes of their own

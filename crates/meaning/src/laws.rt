@@ -1,4 +1,5 @@
 //! Laws of every meaning. Each law is the contract of a function that does nothing.
+
 ghost use Rattle.meaning.specs.Concludes.{Concludes};
 ghost use Rattle.recipe.specs.Kept.{IsRecipe};
 ghost use Rattle.recipe.specs.declared.contents.Said.{Said};

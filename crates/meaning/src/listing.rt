@@ -1,12 +1,13 @@
 //! The assumptions of an audit.
+
 ghost use Rattle.meaning.specs.Assumptions.{assumed, checked_line, compiles_line, implements_line, input_line, is_trusted, line_by_check, stage_line};
 ghost use Rattle.recipe.specs.Lookups.{hex_check};
 ghost use Rattle.std.specs.List.{cons_option};
 ghost use Rattle.std.specs.Prelude.{◌≡◌, ◌++◌, [], IfOk, OnOk, option_map};
 
 use crate::assumption::{Assumption, Assumptions};
+use ddc_base::languages::Language;
 use ddc_base::{ListOf, Name, OutOfMemory};
-use languages::Language;
 use recipe::{Input, Recipe, SourceLanguage, Stage};
 use std::alloc::Global;
 

@@ -1,4 +1,5 @@
 //! The calls, over a table: the first rule that fits.
+
 ghost use Rattle.std.specs.Prelude.{◌≡◌, ◌+◌, ◌-◌, ◌<◌, ◌≤◌, ◌≢◌, ◌^◌, pos, ◌+ℤ◌, IfOk, IsOkAnd, IsSome, OnOk, OnErr, MatchResult, Ok, Err, Some, None, length, take, drop, []};
 ghost use Rattle.std.specs.Option.{option_copied};
 ghost use Rattle.std.specs.FinMap as map;

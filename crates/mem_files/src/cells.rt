@@ -1,4 +1,5 @@
 //! Lists of cells, of which some hold a value.
+
 ghost use Rattle.std.specs.Prelude.{◌≡◌, ◌+◌, ◌^◌, ◌<◌, ◌≤◌, max, MatchOption, OnOk, Option, None, length, slice_index_or};
 ghost use Rattle.std.specs.Option.{option_copied};
 ghost use Rattle.mem_files.specs.Inside.Cells.{AreEmpty, IsFirstFull, SameCells};

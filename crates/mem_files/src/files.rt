@@ -1,4 +1,5 @@
 //! The files of a guest, with what each call answers.
+
 ghost use Rattle.std.specs.Prelude.{◌≡◌, ◌⊎◌, IsTrue, IfOk, IsOkAnd, MatchResult, OnErr, OnOk, Ok, Err, is_some, length, option_map};
 ghost use Rattle.std.specs.Option.{option_copied};
 ghost use Rattle.std.specs.FinMap as map;

@@ -1,4 +1,5 @@
 //! What the calls do together: laws about their definitions.
+
 ghost use Rattle.std.specs.Prelude.{◌≡◌, ◌<◌, ◌≤◌, ℕ, ℤ, pos, List, length, All, IsTrue, IsSome, IsOkAnd, Ok, Some, None, false};
 ghost use Rattle.std.specs.FinMap as map;
 ghost use Rattle.mem_files.specs.declared.slot.Slot.TheVariants.{File};

@@ -1,4 +1,5 @@
 //! Names of files.
+
 ghost use Rattle.std.specs.Prelude.{◌≡◌, ◌==◌, take};
 ghost use Rattle.std.specs.List.{list_any};
 ghost use Rattle.mem_files.specs.Names.{stripped, is_file_name, is_stripped_name, begins_with_dot_slash};

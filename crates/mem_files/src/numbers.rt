@@ -1,4 +1,5 @@
 //! Numbers of which some are used.
+
 ghost use Rattle.std.specs.Prelude.{◌≡◌, ◌+◌, ◌*◌, ◌^◌, ◌<◌, ◌≤◌, ℕ, IfOk, true, false, length, set, drop, replicate, slice_index_or};
 ghost use Rattle.mem_files.specs.Inside.Numbers.{mark, IsRightBut};
 

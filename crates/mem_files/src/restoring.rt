@@ -1,4 +1,5 @@
 //! A table made of lists.
+
 ghost use Rattle.std.specs.Prelude.{◌≡◌, ◌+◌, ◌<◌, ◌≤◌, ◌^◌, IfOk, IfSome, OnOk, IsTrue, None, [], map as map_list, length, sum_by};
 ghost use Rattle.std.specs.List.{All, IsDistinct};
 ghost use Rattle.std.specs.Option.{option_copied};

@@ -1,4 +1,5 @@
 //! What a descriptor stands for, and how calls refuse.
+
 ghost use Rattle.std.specs.Prelude.{◌≡◌};
 ghost use Rattle.mem_files.specs.Access.{is_read, is_written};
 ghost use Rattle.mem_files.specs.declared.slot.FileRefusal.TheVariants as file;

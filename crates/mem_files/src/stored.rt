@@ -1,4 +1,5 @@
 //! One file as it lies in memory.
+
 ghost use Rattle.std.specs.Prelude.{◌≡◌, ◌+◌, ◌-◌, ◌<◌, ◌≤◌, ◌^◌, IfOk, OnOk, OnErr, IsSome, Some, None, is_some, length, unwrap_or, take, drop, replicate, ◌++◌, []};
 ghost use Rattle.std.specs.Option.{option_copied};
 ghost use Rattle.mem_files.specs.Calls.{written_over};

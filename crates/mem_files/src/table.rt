@@ -1,4 +1,5 @@
 //! Names, files, descriptors and streams as they lie in memory: each call here is one change of the world.
+
 ghost use Rattle.std.specs.Prelude.{◌≡◌, ◌+◌, ◌-◌, ◌<◌, ◌^◌, IfOk, OnOk, OnErr, IsSome, Some, None, option_map, ℕ, ◌≤◌, List, length, false, find, map as map_list, [], ◌++◌};
 ghost use Rattle.std.specs.Option.{option_copied};
 ghost use Rattle.std.specs.FinMap as map;

@@ -5,12 +5,12 @@ use Rattle.std.specs.List.{IsDistinct}
 use Rattle.std.proofs.lemmas.List.{map_push}
 use Rattle.toml.specs.Data.{Data, Members}
 use Rattle.ddc_base.specs.Names.{IsName, name_of}
-use Rattle.recipe_text.specs.declared.keys.Key.{Key}
-use Rattle.recipe_text.specs.declared.keys.Key.TheVariants as key
-use Rattle.recipe_text.specs.declared.keys.Place.{Place}
-use Rattle.recipe_text.specs.declared.refusal.RecipeRefusal.TheVariants.{BadName, BadPath, DoubleName}
-use Rattle.recipe_text.specs.Reading.{or_refused, refused_unless, is_path, a_text, a_name, a_path, is_word, a_word, a_number, a_table, an_array, a_list, required, optional, no_other_key}
-use Rattle.recipe_text.proofs.Accepted.{bound, ok_same, or_ok, unless_ok, bind_unless, required_ok, optional_ok, name_ok, path_ok, word_ok, number_ok, list_ok, array_ok, gathered_each, gathered_keeps, gathered_length, Few, At, Read}
+use Rattle.recipe.specs.declared.text.keys.Key.{Key}
+use Rattle.recipe.specs.declared.text.keys.Key.TheVariants as key
+use Rattle.recipe.specs.declared.text.keys.Place.{Place}
+use Rattle.recipe.specs.declared.text.refusal.RecipeRefusal.TheVariants.{BadName, BadPath, DoubleName}
+use Rattle.recipe.specs.Text.Reading.{or_refused, refused_unless, is_path, a_text, a_name, a_path, is_word, a_word, a_number, a_table, an_array, a_list, required, optional, no_other_key}
+use Rattle.recipe.proofs.TextLemmas.Accepted.{bound, ok_same, or_ok, unless_ok, bind_unless, required_ok, optional_ok, name_ok, path_ok, word_ok, number_ok, list_ok, array_ok, gathered_each, gathered_keeps, gathered_length, Few, At, Read}
 use Rattle.recipe.specs.declared.parts.Input.{Input}
 use Rattle.recipe.specs.declared.parts.Output.{Output}
 use Rattle.recipe.specs.declared.parts.Source.{Source}

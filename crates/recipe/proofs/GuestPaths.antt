@@ -5,8 +5,8 @@ use Rattle.std.specs.List.{list_all, list_any}
 use Rattle.std.proofs.lemmas.Bool.Decides.{nat_tests}
 use Rattle.mem_files.specs.Names as files
 use Rattle.mem_files.proofs.KeepingCalls.{stripped-is}
-use Rattle.recipe_text.specs.Reading.{is_path, is_path_byte}
-use Rattle.recipe_text.proofs.Accepted.{both_true, path_of_ok}
+use Rattle.recipe.specs.Text.Reading.{is_path, is_path_byte}
+use Rattle.recipe.proofs.TextLemmas.Accepted.{both_true, path_of_ok}
 use Rattle.recipe.specs.declared.parts.Output.{Output}
 use Rattle.recipe.specs.declared.parts.Output.TheVariants.{Stream, File}
 use Rattle.recipe.specs.Tables.{guest_path, output_of}

@@ -4,9 +4,9 @@ use Rattle.std.specs.Prelude.{IfSome, bytes_eq, slice_get, unwrap_or}
 use Rattle.std.specs.List.{IsDistinct}
 use Rattle.sha2.specs.Sha256.{sha256}
 use Rattle.toml.specs.Data.{Members}
-use Rattle.recipe_text.specs.declared.keys.Key.TheVariants as key
-use Rattle.recipe_text.specs.Reading.{a_list, a_number, a_table, no_other_key, document_of, gathered, optional, required}
-use Rattle.recipe_text.proofs.Accepted.{bound, ok_same, required_ok, optional_ok, list_ok, gathered_each, gathered_keeps, gathered_length, passes_at, unless_ok, Few, Read}
+use Rattle.recipe.specs.declared.text.keys.Key.TheVariants as key
+use Rattle.recipe.specs.Text.Reading.{a_list, a_number, a_table, no_other_key, document_of, gathered, optional, required}
+use Rattle.recipe.proofs.TextLemmas.Accepted.{bound, ok_same, required_ok, optional_ok, list_ok, gathered_each, gathered_keeps, gathered_length, passes_at, unless_ok, Few, Read}
 use Rattle.recipe.specs.declared.contents.Said.{Said}
 use Rattle.recipe.specs.declared.parts.Input.{Input}
 use Rattle.recipe.specs.declared.parts.Source.{Source}

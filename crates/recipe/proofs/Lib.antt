@@ -5,3 +5,4 @@ pub mod Keeps
 pub mod MoreStages
 pub mod NoWant
 pub mod SecondWalk
+pub mod TextLemmas

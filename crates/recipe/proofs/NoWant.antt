@@ -4,13 +4,13 @@ use Rattle.std.specs.Prelude.{is_some, not, option_and_then}
 use Rattle.std.specs.List.{list_all}
 use Rattle.toml.specs.Data.{Data, Members, get_member, as_str}
 use Rattle.ddc_base.specs.Names.{name_of}
-use Rattle.recipe_text.specs.declared.keys.Key.{Key}
-use Rattle.recipe_text.specs.declared.keys.Key.TheVariants as key
-use Rattle.recipe_text.specs.declared.keys.Place.{Place}
-use Rattle.recipe_text.specs.declared.refusal.RecipeRefusal.TheVariants.{Missing, BadName, DoubleName, NotMadeYet, BadPath, OutOfMemory}
-use Rattle.recipe_text.specs.Keys.{key_word}
-use Rattle.recipe_text.specs.Reading.{or_refused, refused_unless, gathered, each_passes, a_text, a_name, a_path, a_word, a_number, a_table, an_array, a_list, required, optional, no_other_key, document_of}
-use Rattle.recipe_text.proofs.Sated.{Sated, fine, sated_bind, sated_ok, sated_or, sated_unless, sated_gathered, sated_passes, sated_text, sated_name, sated_path, sated_word, sated_number, sated_table, sated_array, sated_list, sated_required, sated_optional, sated_no_other_key, sated_document}
+use Rattle.recipe.specs.declared.text.keys.Key.{Key}
+use Rattle.recipe.specs.declared.text.keys.Key.TheVariants as key
+use Rattle.recipe.specs.declared.text.keys.Place.{Place}
+use Rattle.recipe.specs.declared.text.refusal.RecipeRefusal.TheVariants.{Missing, BadName, DoubleName, NotMadeYet, BadPath, OutOfMemory}
+use Rattle.recipe.specs.Text.Keys.{key_word}
+use Rattle.recipe.specs.Text.Reading.{or_refused, refused_unless, gathered, each_passes, a_text, a_name, a_path, a_word, a_number, a_table, an_array, a_list, required, optional, no_other_key, document_of}
+use Rattle.recipe.proofs.TextLemmas.Sated.{Sated, fine, sated_bind, sated_ok, sated_or, sated_unless, sated_gathered, sated_passes, sated_text, sated_name, sated_path, sated_word, sated_number, sated_table, sated_array, sated_list, sated_required, sated_optional, sated_no_other_key, sated_document}
 use Rattle.recipe.specs.declared.contents.Said.{Said}
 use Rattle.recipe.specs.declared.parts.Content.{Content}
 use Rattle.recipe.specs.declared.parts.Content.TheVariants as content

@@ -2,12 +2,12 @@
 use Rattle.std.proofs.Common.{◌≡◌, ℕ, zero, suc, ◌+◌, ◌-◌, Bool, true, List, [], ◌∷◌, take, Option, Some, None, Ok, refl, sym, ap, subst, ◌∙◌, arith}
 use Rattle.std.specs.Prelude.{is_some, IsSome, slice_get, option_and_then}
 use Rattle.std.specs.List.{list_all}
-use Rattle.recipe_text.specs.declared.keys.Key.{Key}
-use Rattle.recipe_text.specs.declared.keys.Key.TheVariants as key
-use Rattle.recipe_text.specs.declared.keys.Place.{Place}
-use Rattle.recipe_text.specs.declared.refusal.RecipeRefusal.TheVariants.{BadName, NotMadeYet}
-use Rattle.recipe_text.specs.Reading.{refused_unless, each_passes}
-use Rattle.recipe_text.proofs.Accepted.{bound, unless_ok, both_true, passes_at, some_same}
+use Rattle.recipe.specs.declared.text.keys.Key.{Key}
+use Rattle.recipe.specs.declared.text.keys.Key.TheVariants as key
+use Rattle.recipe.specs.declared.text.keys.Place.{Place}
+use Rattle.recipe.specs.declared.text.refusal.RecipeRefusal.TheVariants.{BadName, NotMadeYet}
+use Rattle.recipe.specs.Text.Reading.{refused_unless, each_passes}
+use Rattle.recipe.proofs.TextLemmas.Accepted.{bound, unless_ok, both_true, passes_at, some_same}
 use Rattle.recipe.specs.declared.contents.Said.{Said}
 use Rattle.recipe.specs.declared.parts.Content.{Content}
 use Rattle.recipe.specs.declared.parts.Content.TheVariants as content

@@ -4,7 +4,7 @@ use Rattle.std.specs.List.{IsDistinct}
 use Rattle.sha2.specs.Sha256.{sha256}
 use Rattle.ddc_base.specs.Names.{IsName}
 use Rattle.mem_files.specs.Names.{is_stripped_name}
-use Rattle.recipe_text.specs.Reading.{is_path, is_word}
+use Rattle.recipe.specs.Text.Reading.{is_path, is_word}
 use Rattle.recipe.specs.declared.contents.Said.{Said}
 use Rattle.recipe.specs.declared.parts.Input.{Input}
 use Rattle.recipe.specs.declared.parts.Output.{Output}

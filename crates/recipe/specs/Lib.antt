@@ -4,3 +4,4 @@ pub mod Lookups
 pub mod Reading
 pub mod SecondWalk
 pub mod Tables
+pub mod Text

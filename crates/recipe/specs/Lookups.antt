@@ -2,7 +2,7 @@
 use Rattle.std.specs.Prelude.{ℕ, ◌<◌, length, Bool, true, false, List, bytes_eq, slice_get, Option, Some, None, option_and_then, option_map, if◌then◌else◌}
 use Rattle.std.specs.List.{find, position}
 use Rattle.std.specs.Option.{option_or}
-use Rattle.languages.specs.declared.Language.TheVariants.{Hex0, Hex1, Hex2, M1}
+use Rattle.ddc_base.specs.declared.languages.Language.TheVariants.{Hex0, Hex1, Hex2, M1}
 use Rattle.recipe.specs.declared.parts.Content.{Content}
 use Rattle.recipe.specs.declared.parts.Content.TheVariants as content
 use Rattle.recipe.specs.declared.parts.Input.{Input}

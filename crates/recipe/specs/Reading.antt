@@ -1,8 +1,8 @@
 -- What the bytes of a recipe say, or the first refusal of its two walks (docs/reference/recipe.md).
 use Rattle.std.specs.Prelude.{ℕ, List, [], Result, Ok}
 use Rattle.sha2.specs.Sha256.{sha256}
-use Rattle.recipe_text.specs.Reading.{◌>>=◌, ◌>>◌, gathered, document_of}
-use Rattle.recipe_text.specs.declared.refusal.RecipeRefusal.{RecipeRefusal}
+use Rattle.recipe.specs.Text.Reading.{◌>>=◌, ◌>>◌, gathered, document_of}
+use Rattle.recipe.specs.declared.text.refusal.RecipeRefusal.{RecipeRefusal}
 use Rattle.recipe.specs.declared.contents.Said.{Said}
 use Rattle.recipe.specs.SecondWalk.{second_walk}
 use Rattle.recipe.specs.Tables.{top_table, next_input, next_source, next_stage, compare_table}

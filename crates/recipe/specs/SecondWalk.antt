@@ -1,12 +1,12 @@
 -- The second walk: what the names of a recipe refer to (docs/reference/recipe.md, "The second walk").
 use Rattle.std.specs.Prelude.{ℕ, ◌+◌, ◌-◌, Bool, true, false, List, take, Option, Some, None, is_some, Result, Ok, Err}
 use Rattle.std.specs.List.{list_all}
-use Rattle.recipe_text.specs.Reading.{◌>>◌, refused_unless, each_passes}
-use Rattle.recipe_text.specs.declared.keys.Key.{Key}
-use Rattle.recipe_text.specs.declared.keys.Key.TheVariants as key
-use Rattle.recipe_text.specs.declared.keys.Place.{Place}
-use Rattle.recipe_text.specs.declared.refusal.RecipeRefusal.{RecipeRefusal}
-use Rattle.recipe_text.specs.declared.refusal.RecipeRefusal.TheVariants.{Missing, BadName, NotMadeYet}
+use Rattle.recipe.specs.Text.Reading.{◌>>◌, refused_unless, each_passes}
+use Rattle.recipe.specs.declared.text.keys.Key.{Key}
+use Rattle.recipe.specs.declared.text.keys.Key.TheVariants as key
+use Rattle.recipe.specs.declared.text.keys.Place.{Place}
+use Rattle.recipe.specs.declared.text.refusal.RecipeRefusal.{RecipeRefusal}
+use Rattle.recipe.specs.declared.text.refusal.RecipeRefusal.TheVariants.{Missing, BadName, NotMadeYet}
 use Rattle.recipe.specs.declared.parts.Content.{Content}
 use Rattle.recipe.specs.declared.parts.Content.TheVariants as content
 use Rattle.recipe.specs.declared.parts.Input.{Input}

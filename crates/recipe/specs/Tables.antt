@@ -3,16 +3,16 @@ use Rattle.std.specs.Prelude.{ℕ, ◌+◌, ◌^◌, Bool, ◌||◌, not, List, 
 use Rattle.std.specs.List.{list_any}
 use Rattle.toml.specs.Data.{Data, Members, get_member, as_str}
 use Rattle.ddc_base.specs.Names.{name_of}
-use Rattle.languages.specs.Words.{language_named}
+use Rattle.ddc_base.specs.Languages.Words.{language_named}
 use Rattle.mem_files.specs.Names.{stripped}
-use Rattle.recipe_text.specs.Keys.{key_word}
-use Rattle.recipe_text.specs.Reading.{◌>>=◌, ◌>>◌, or_refused, refused_unless, gathered, a_text, a_name, a_path, a_word, a_number, a_table, an_array, a_list, path_of, required, optional, no_other_key}
-use Rattle.recipe_text.specs.declared.keys.Key.{Key}
-use Rattle.recipe_text.specs.declared.keys.Key.TheVariants as key
-use Rattle.recipe_text.specs.declared.keys.Place.{Place}
-use Rattle.recipe_text.specs.declared.keys.Table.TheVariants as table
-use Rattle.recipe_text.specs.declared.refusal.RecipeRefusal.{RecipeRefusal}
-use Rattle.recipe_text.specs.declared.refusal.RecipeRefusal.TheVariants.{Missing, BadName, DoubleName, BadPath}
+use Rattle.recipe.specs.Text.Keys.{key_word}
+use Rattle.recipe.specs.Text.Reading.{◌>>=◌, ◌>>◌, or_refused, refused_unless, gathered, a_text, a_name, a_path, a_word, a_number, a_table, an_array, a_list, path_of, required, optional, no_other_key}
+use Rattle.recipe.specs.declared.text.keys.Key.{Key}
+use Rattle.recipe.specs.declared.text.keys.Key.TheVariants as key
+use Rattle.recipe.specs.declared.text.keys.Place.{Place}
+use Rattle.recipe.specs.declared.text.keys.Table.TheVariants as table
+use Rattle.recipe.specs.declared.text.refusal.RecipeRefusal.{RecipeRefusal}
+use Rattle.recipe.specs.declared.text.refusal.RecipeRefusal.TheVariants.{Missing, BadName, DoubleName, BadPath}
 use Rattle.recipe.specs.declared.parts.Compare.{Compare}
 use Rattle.recipe.specs.declared.parts.Input.{Input}
 use Rattle.recipe.specs.declared.parts.Output.{Output}

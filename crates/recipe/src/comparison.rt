@@ -1,15 +1,15 @@
 ghost use Rattle.std.specs.Prelude.{◌≡◌};
 ghost use Rattle.toml.specs.View.{table_view};
-ghost use Rattle.recipe_text.specs.Reading.{Gives};
+ghost use Rattle.recipe.specs.Text.Reading.{Gives};
 ghost use Rattle.recipe.specs.Tables.{compare_table};
 
 use crate::parts::Compare;
-use recipe_text::{Key, Place, RecipeRefusal, no_other_key, required_name};
+use crate::text::{Key, Place, RecipeRefusal, no_other_key, required_name};
 use toml::Table;
 
 /// The place of the one table `compare`.
 pub(crate) const COMPARE: Place = Place {
-    table: recipe_text::Table::Compare,
+    table: crate::text::Table::Compare,
     number: 0,
 };
 

@@ -1,20 +1,20 @@
 ghost use Rattle.std.specs.Prelude.{◌≡◌, ◌≤◌, IfOk, IfSome, length, option_map};
 ghost use Rattle.toml.specs.View.{table_view};
-ghost use Rattle.recipe_text.specs.Inside.Views.{tables_view};
-ghost use Rattle.recipe_text.specs.Reading.{Gives, a_list, a_table, optional, required};
+ghost use Rattle.recipe.specs.Text.Inside.Views.{tables_view};
+ghost use Rattle.recipe.specs.Text.Reading.{Gives, a_list, a_table, optional, required};
 ghost use Rattle.recipe.specs.Inside.Views.{top_view};
 ghost use Rattle.recipe.specs.Tables.{top_table};
 
-use crate::top_tables::Top;
-use recipe_text::{
+use crate::text::{
     Key, Place, RecipeRefusal, find, no_other_key, required, required_number, table, tables,
 };
+use crate::top_tables::Top;
 use std::alloc::Global;
 use toml::Table;
 
 /// The place of the top.
 const TOP: Place = Place {
-    table: recipe_text::Table::Top,
+    table: crate::text::Table::Top,
     number: 0,
 };
 
@@ -48,7 +48,7 @@ pub(crate) fn top_of<'a>(alloc: Global, top: &'a Table) -> Result<Top<'a>, Recip
 }
 
 /// 1 to 256 tables at a key of the top.
-#[tactic(auto, unfolding(recipe_text::specs::Reading::required))]
+#[tactic(auto, unfolding(crate::specs::Text::Reading::required))]
 fn required_tables<'a>(
     alloc: Global,
     key: Key,
@@ -61,7 +61,7 @@ fn required_tables<'a>(
 }
 
 /// Up to 256 tables at a key of the top, where it is there.
-#[tactic(auto, unfolding(recipe_text::specs::Reading::optional))]
+#[tactic(auto, unfolding(crate::specs::Text::Reading::optional))]
 fn optional_tables<'a>(
     alloc: Global,
     key: Key,
@@ -77,7 +77,7 @@ fn optional_tables<'a>(
 }
 
 /// The table at a key of the top.
-#[tactic(auto, unfolding(recipe_text::specs::Reading::required))]
+#[tactic(auto, unfolding(crate::specs::Text::Reading::required))]
 fn required_table<'a>(key: Key, top: &'a Table) -> Result<&'a Table, RecipeRefusal>
     ensures { Gives (λ x. table_view x.now) result (required a_table TOP key (table_view top.now)) }
 {

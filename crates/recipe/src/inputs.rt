@@ -1,13 +1,13 @@
 ghost use Rattle.std.specs.Prelude.{◌≡◌, ◌<◌, ◌≤◌, ◌^◌, ◌-◌, [], IfOk, length};
 ghost use Rattle.toml.specs.View.{table_view, view};
-ghost use Rattle.recipe_text.specs.Inside.Views.{tables_view};
-ghost use Rattle.recipe_text.specs.Reading.{Gives, a_path, gathered, required};
+ghost use Rattle.recipe.specs.Text.Inside.Views.{tables_view};
+ghost use Rattle.recipe.specs.Text.Reading.{Gives, a_path, gathered, required};
 ghost use Rattle.recipe.specs.Tables.{input_table, next_input};
 
 use crate::names::required_new_name;
 use crate::parts::Input;
+use crate::text::{Key, Path, Place, RecipeRefusal, no_other_key, optional_name, path, required};
 use ddc_base::ListOf;
-use recipe_text::{Key, Path, Place, RecipeRefusal, no_other_key, optional_name, path, required};
 use std::alloc::Global;
 use toml::Table;
 
@@ -31,7 +31,7 @@ fn next_input(alloc: Global, inputs: &ListOf<Input>, table: &Table) -> Result<In
     ensures { Gives (λ x. x) result (next_input inputs.now (table_view table.now)) }
 {
     let place = Place {
-        table: recipe_text::Table::Input,
+        table: crate::text::Table::Input,
         number: inputs.len() as u32 + 1,
     };
     input_of(alloc, inputs.as_slice(), place, table)
@@ -59,7 +59,7 @@ fn input_of(
 }
 
 /// The path of an input.
-#[tactic(auto, unfolding(recipe_text::specs::Reading::required))]
+#[tactic(auto, unfolding(crate::specs::Text::Reading::required))]
 fn required_path(alloc: Global, place: Place, table: &Table) -> Result<Path, RecipeRefusal>
     ensures { Gives (λ x. x) result (required a_path place Key.Path (table_view table.now)) }
 {

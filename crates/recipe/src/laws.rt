@@ -1,6 +1,7 @@
 //! Laws of the definitions.
+
 ghost use Rattle.std.specs.Prelude.{◌≡◌, ℕ, List, IsSome, take, Err};
-ghost use Rattle.recipe_text.specs.declared.refusal.RecipeRefusal.TheVariants.{OutOfMemory};
+ghost use Rattle.recipe.specs.declared.text.refusal.RecipeRefusal.TheVariants.{OutOfMemory};
 ghost use Rattle.recipe.specs.declared.parts.Input.{Input};
 ghost use Rattle.recipe.specs.declared.parts.Stage.{Stage};
 ghost use Rattle.recipe.specs.Lookups.{content_of};

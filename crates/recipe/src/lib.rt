@@ -1,4 +1,5 @@
-//! The recipe of an audit: its tables, read from a TOML text by two walks, and what its names stand for.
+//! The recipe of an audit: its tables, read from a TOML text by two walks, and what its names stand for. What stands at a
+//! key of a table is read in `text`.
 //!
 //! Its rules for people: docs/reference/recipe.md.
 #![tactic(auto)]
@@ -17,11 +18,12 @@ mod references;
 mod sources;
 mod stage_files;
 mod stages;
+pub mod text;
 mod top_tables;
 
+pub use crate::text::{Key, Path, Place, RecipeRefusal, Table};
 pub use accepted::Recipe;
 pub use parts::{
     Compare, Content, Input, Inputs, Output, Source, SourceLanguage, Stage, StageFile,
 };
 pub use reading::read;
-pub use recipe_text::{Key, Path, Place, RecipeRefusal, Table};

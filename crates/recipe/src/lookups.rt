@@ -1,4 +1,5 @@
 //! What the names of a recipe stand for.
+
 ghost use Rattle.std.specs.Prelude.{◌≡◌, ◌<◌, IfSome, length, option_and_then, option_map, slice_get};
 ghost use Rattle.recipe.specs.Lookups.{IsIndex};
 ghost use Rattle.recipe.specs.Lookups.{content_of, content_source, hex_check, input_at, is_hex, source_named, stage_at, stage_source};
@@ -6,7 +7,7 @@ ghost use Rattle.recipe.specs.Lookups.{content_of, content_source, hex_check, in
 use crate::contents::Said;
 use crate::parts::{Content, Input, Source, SourceLanguage, Stage};
 use ddc_base::Name;
-use languages::Language;
+use ddc_base::languages::Language;
 
 /// The index of the input of a name.
 pub(crate) fn input_at(inputs: &[Input], name: &Name) -> Option<usize>

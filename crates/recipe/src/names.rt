@@ -1,16 +1,17 @@
 //! Names that no table above has.
+
 ghost use Rattle.std.specs.Prelude.{◌≡◌};
 ghost use Rattle.toml.specs.View.{table_view, view};
-ghost use Rattle.recipe_text.specs.Reading.{Gives, required};
+ghost use Rattle.recipe.specs.Text.Reading.{Gives, required};
 ghost use Rattle.recipe.specs.Tables.{a_new_name, is_input_name, is_source_name, is_stage_name, is_taken};
 
 use crate::parts::{Input, Source, Stage};
+use crate::text::{Key, Place, RecipeRefusal, name, required};
 use ddc_base::Name;
-use recipe_text::{Key, Place, RecipeRefusal, name, required};
 use toml::{Table, Value};
 
 /// The name of a table, which none of these has.
-#[tactic(auto, unfolding(recipe_text::specs::Reading::required))]
+#[tactic(auto, unfolding(crate::specs::Text::Reading::required))]
 pub(crate) fn required_new_name(
     inputs: &[Input],
     sources: &[Source],

@@ -1,6 +1,6 @@
+use crate::text::Path;
+use ddc_base::languages::Language;
 use ddc_base::{Bytes, ListOf, Name};
-use languages::Language;
-use recipe_text::Path;
 
 /// The inputs' contents, in the recipe's order.
 pub type Inputs = ListOf<Bytes>;

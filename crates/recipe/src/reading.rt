@@ -1,5 +1,5 @@
 ghost use Rattle.std.specs.Prelude.{◌≡◌, ◌≤◌, IfOk, length};
-ghost use Rattle.recipe_text.specs.Reading.{Gives};
+ghost use Rattle.recipe.specs.Text.Reading.{Gives};
 ghost use Rattle.recipe.specs.Reading.{first_walk, recipe_of};
 
 use crate::accepted::Recipe;
@@ -10,7 +10,7 @@ use crate::inputs::inputs_of;
 use crate::references::second_walk;
 use crate::sources::sources_of;
 use crate::stages::stages_of;
-use recipe_text::{RecipeRefusal, document};
+use crate::text::{RecipeRefusal, document};
 use std::alloc::Global;
 
 /// Reads a recipe: the first refusal of its two walks, or what it says.

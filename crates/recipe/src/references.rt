@@ -1,8 +1,9 @@
 //! The second walk: what the names of a recipe refer to.
+
 ghost use Rattle.std.specs.Prelude.{◌≡◌, ◌<◌, ◌≤◌, ◌^◌, ◌-◌, length, is_some, Some};
 ghost use Rattle.std.specs.List.{list_all};
-ghost use Rattle.recipe_text.specs.Reading.{Gives, each_passes, refused_unless};
-ghost use Rattle.recipe_text.specs.declared.refusal.RecipeRefusal.TheVariants.{NotMadeYet as NotYet};
+ghost use Rattle.recipe.specs.Text.Reading.{Gives, each_passes, refused_unless};
+ghost use Rattle.recipe.specs.declared.text.refusal.RecipeRefusal.TheVariants.{NotMadeYet as NotYet};
 ghost use Rattle.recipe.specs.Lookups as spec;
 ghost use Rattle.recipe.specs.Lookups.{IsIndex};
 ghost use Rattle.recipe.specs.SecondWalk.{check_refers, checks_source, compare_refers, has_source, input_refers, is_argued, is_content, is_defined, program_has_source, refers_to_source, second_walk, source_refers, stage_refers, stage_refers_after};
@@ -11,8 +12,8 @@ use crate::comparison::COMPARE;
 use crate::contents::Said;
 use crate::lookups::{content_of, content_source, input_at, source_named, stage_at};
 use crate::parts::{Content, Input, Source, SourceLanguage, Stage, StageFile};
+use crate::text::{Key, Place, RecipeRefusal, Table};
 use ddc_base::Name;
-use recipe_text::{Key, Place, RecipeRefusal, Table};
 
 /// Whether all names refer to what is there by then.
 #[tactic(auto, unfolding(crate::specs::SecondWalk::second_walk))]

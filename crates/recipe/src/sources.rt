@@ -1,16 +1,16 @@
 ghost use Rattle.std.specs.Prelude.{◌≡◌, ◌<◌, ◌≤◌, ◌^◌, ◌-◌, [], IfOk, length};
 ghost use Rattle.toml.specs.View.{table_view, view};
-ghost use Rattle.recipe_text.specs.Inside.Views.{tables_view};
-ghost use Rattle.recipe_text.specs.Reading.{Gives, a_list, a_name, gathered, required};
+ghost use Rattle.recipe.specs.Text.Inside.Views.{tables_view};
+ghost use Rattle.recipe.specs.Text.Reading.{Gives, a_list, a_name, gathered, required};
 ghost use Rattle.recipe.specs.Tables.{a_language, next_source, source_language, source_table};
 
 use crate::names::required_new_name;
 use crate::parts::{Input, Source, SourceLanguage};
-use ddc_base::{ListOf, Name};
-use languages::Language;
-use recipe_text::{
+use crate::text::{
     Key, Place, RecipeRefusal, names, no_other_key, optional_number, required, text,
 };
+use ddc_base::languages::Language;
+use ddc_base::{ListOf, Name};
 use std::alloc::Global;
 use toml::{Table, Value};
 
@@ -46,7 +46,7 @@ fn next_source(
     ensures { Gives (λ x. x) result (next_source inputs.now sources.now (table_view table.now)) }
 {
     let place = Place {
-        table: recipe_text::Table::Source,
+        table: crate::text::Table::Source,
         number: sources.len() as u32 + 1,
     };
     source_of(alloc, inputs, sources.as_slice(), place, table)
@@ -77,7 +77,7 @@ fn source_of(
 }
 
 /// The language of a source.
-#[tactic(auto, unfolding(recipe_text::specs::Reading::required))]
+#[tactic(auto, unfolding(crate::specs::Text::Reading::required))]
 fn required_language(place: Place, table: &Table) -> Result<SourceLanguage, RecipeRefusal>
     ensures { Gives (λ x. x) result (required a_language place Key.Lang (table_view table.now)) }
 {
@@ -107,7 +107,7 @@ fn source_language(word: &[u8]) -> Option<SourceLanguage>
 }
 
 /// The files of a source.
-#[tactic(auto, unfolding(recipe_text::specs::Reading::required))]
+#[tactic(auto, unfolding(crate::specs::Text::Reading::required))]
 fn required_names(alloc: Global, place: Place, table: &Table) -> Result<ListOf<Name>, RecipeRefusal>
     ensures { Gives (λ x. x) result (required (a_list a_name 1 64) place Key.Files (table_view table.now)) }
 {

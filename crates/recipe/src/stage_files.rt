@@ -1,20 +1,21 @@
 //! The files of a stage and what it makes: the paths of its program.
+
 ghost use Rattle.std.specs.Prelude.{◌≡◌, [], IfOk, map, option_map, unwrap_or};
 ghost use Rattle.toml.specs.View.{table_view, view};
-ghost use Rattle.recipe_text.specs.Reading.{Gives, gathered, optional, required};
+ghost use Rattle.recipe.specs.Text.Reading.{Gives, gathered, optional, required};
 ghost use Rattle.recipe.specs.Tables.{an_output, entry_text, guest_path, is_file_path, next_file, output_of, some_files};
 
 use crate::parts::{Output, StageFile};
-use ddc_base::{Bytes, ListOf, Name, OutOfMemory};
-use mem_files::strip;
-use recipe_text::{
+use crate::text::{
     Key, Place, RecipeRefusal, array, find, is_path, no_other_key, required, table, text,
 };
+use ddc_base::{Bytes, ListOf, Name, OutOfMemory};
+use mem_files::strip;
 use std::alloc::Global;
 use toml::{Table, Value};
 
 /// The files of a stage, none where the key is absent.
-#[tactic(auto, unfolding(recipe_text::specs::Reading::optional))]
+#[tactic(auto, unfolding(crate::specs::Text::Reading::optional))]
 pub(crate) fn optional_files(
     alloc: Global,
     place: Place,
@@ -88,7 +89,7 @@ fn next_file(
 }
 
 /// The string at a key of an entry.
-#[tactic(auto, unfolding(recipe_text::specs::Reading::a_text))]
+#[tactic(auto, unfolding(crate::specs::Text::Reading::a_text))]
 fn entry_text<'a>(place: Place, key: Key, entry: &'a Table) -> Result<&'a str, RecipeRefusal>
     ensures { Gives (λ x. x.now) result (entry_text place Key.Files key (table_view entry.now)) }
 {
@@ -114,7 +115,7 @@ fn is_file_path(files: &[StageFile], path: &[u8]) -> bool
 }
 
 /// What a stage makes.
-#[tactic(auto, unfolding(recipe_text::specs::Reading::required))]
+#[tactic(auto, unfolding(crate::specs::Text::Reading::required))]
 pub(crate) fn required_output(
     alloc: Global,
     place: Place,

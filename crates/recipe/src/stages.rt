@@ -1,17 +1,17 @@
 ghost use Rattle.std.specs.Prelude.{◌≡◌, ◌<◌, ◌≤◌, ◌^◌, ◌-◌, [], IfOk, length, unwrap_or};
 ghost use Rattle.toml.specs.View.{table_view, view};
-ghost use Rattle.recipe_text.specs.Inside.Views.{tables_view};
-ghost use Rattle.recipe_text.specs.Reading.{Gives, a_list, a_word, gathered, optional, required};
+ghost use Rattle.recipe.specs.Text.Inside.Views.{tables_view};
+ghost use Rattle.recipe.specs.Text.Reading.{Gives, a_list, a_word, gathered, optional, required};
 ghost use Rattle.recipe.specs.Tables.{next_stage, stage_table};
 
 use crate::names::required_new_name;
 use crate::parts::{Input, Source, Stage};
 use crate::stage_files::{optional_files, required_output};
-use ddc_base::{Bytes, ListOf};
-use recipe_text::{
+use crate::text::{
     Key, Place, RecipeRefusal, find, no_other_key, optional_name, optional_number, required,
     required_name, required_number, words,
 };
+use ddc_base::{Bytes, ListOf};
 use std::alloc::Global;
 use toml::Table;
 
@@ -63,7 +63,7 @@ fn next_stage(
     ensures { Gives (λ x. x) result (next_stage inputs.now sources.now stages.now (table_view table.now)) }
 {
     let place = Place {
-        table: recipe_text::Table::Stage,
+        table: crate::text::Table::Stage,
         number: stages.len() as u32 + 1,
     };
     stage_of(alloc, inputs, sources, stages.as_slice(), place, table)
@@ -107,7 +107,7 @@ fn stage_of(
 }
 
 /// The arguments of a stage's program.
-#[tactic(auto, unfolding(recipe_text::specs::Reading::required))]
+#[tactic(auto, unfolding(crate::specs::Text::Reading::required))]
 fn required_args(alloc: Global, place: Place, table: &Table) -> Result<ListOf<Bytes>, RecipeRefusal>
     ensures { Gives (λ x. x) result (required (a_list a_word 1 64) place Key.Args (table_view table.now)) }
 {
@@ -122,7 +122,7 @@ fn required_args(alloc: Global, place: Place, table: &Table) -> Result<ListOf<By
 }
 
 /// The environment of a stage's program, where it names one.
-#[tactic(auto, unfolding(recipe_text::specs::Reading::optional))]
+#[tactic(auto, unfolding(crate::specs::Text::Reading::optional))]
 fn optional_env(
     alloc: Global,
     place: Place,

@@ -1,4 +1,5 @@
 //! One change of the good recipe for each refusal at each key.
+
 use crate::texts::{GOOD, answer, with};
 use ddc_base::OutOfMemory;
 use std::alloc::Global;

@@ -1,4 +1,5 @@
 //! The example of docs/reference/recipe.md and that page's changes of it.
+
 use crate::texts::{EXAMPLE, answer, with};
 use std::test::Fail;
 

@@ -15,6 +15,7 @@ mod document;
 mod limits;
 #[cfg(test)]
 mod orders;
+pub mod reports;
 #[cfg(test)]
 mod said;
 #[cfg(test)]

@@ -1,4 +1,5 @@
 //! Lengths at each limit and one past it: a piece is repeated so often between two others.
+
 use crate::repeated;
 use crate::texts::{GOOD, answer, with};
 use std::test::Fail;

@@ -1,4 +1,5 @@
 //! Two faults at once, or more: which one is answered.
+
 use crate::texts::{GOOD, answer, with};
 use ddc_base::OutOfMemory;
 use std::alloc::Global;

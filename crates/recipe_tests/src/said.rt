@@ -1,4 +1,5 @@
 //! What recipes say, in words, and the sources of programs.
+
 use crate::texts::GOOD;
 use ddc_base::{Bytes, ListOf, Name, OutOfMemory};
 use recipe::{Content, Output, Recipe, Source, SourceLanguage, Stage, read};

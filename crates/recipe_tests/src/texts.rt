@@ -1,4 +1,5 @@
 //! A good recipe with every key, texts made of it, and what the reader answers, in words.
+
 use ddc_base::OutOfMemory;
 use recipe::{RecipeRefusal, read};
 use std::alloc::Global;

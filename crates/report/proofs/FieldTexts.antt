@@ -12,8 +12,8 @@ use Rattle.ddc_base.specs.Decimals.{as_decimal}
 use Rattle.ddc_base.specs.Names.{IsName, is_name, name_of}
 use Rattle.ddc_base.specs.declared.digests.Digest.{Digest}
 use Rattle.ddc_base.proofs.Decimals.{as_decimal-is}
-use Rattle.languages.specs.Words.{language_named, language_word}
-use Rattle.languages.proofs.Named.{named-word, word-named}
+use Rattle.ddc_base.specs.Languages.Words.{language_named, language_word}
+use Rattle.ddc_base.proofs.LanguagesLemmas.Named.{named-word, word-named}
 use Rattle.report.specs.declared.types.Mark.{Mark}
 use Rattle.report.specs.declared.types.Compared.{Compared}
 use Rattle.report.specs.declared.types.Compared.TheVariants.{Equal, Differs}

@@ -4,7 +4,7 @@ use Rattle.std.specs.Str.{bytes_eq}
 use Rattle.hex.specs.Hex.{encode_lower}
 use Rattle.ddc_base.specs.Lines.{line as line_text}
 use Rattle.ddc_base.specs.Names.{IsName}
-use Rattle.languages.specs.Words.{language_named, language_word}
+use Rattle.ddc_base.specs.Languages.Words.{language_named, language_word}
 use Rattle.report.specs.declared.line.Line.{Line}
 use Rattle.report.specs.declared.line.Line.TheVariants.{Header, Recipe, Input, Stage, Stream1, Stream2, Left, Made, Checked, Compare, End}
 use Rattle.report.specs.declared.types.Mark.{Mark}

@@ -8,9 +8,9 @@ use Rattle.std.proofs.lemmas.Bool.Decides.{Decides-ltb, nat_tests}
 use Rattle.std.proofs.lemmas.List.Elements.{All-head, All-tail}
 use Rattle.hex.specs.Hex.{encode_with, encode_lower, lower_digits}
 use Rattle.ddc_base.specs.Names.{is_name_byte, is_name, IsName}
-use Rattle.languages.specs.Words.{language_word}
-use Rattle.languages.specs.declared.Language.{Language}
-use Rattle.languages.specs.declared.Language.TheVariants.{Hex0, Hex1, Hex2, M1}
+use Rattle.ddc_base.specs.Languages.Words.{language_word}
+use Rattle.ddc_base.specs.declared.languages.Language.{Language}
+use Rattle.ddc_base.specs.declared.languages.Language.TheVariants.{Hex0, Hex1, Hex2, M1}
 use Rattle.report.specs.Reports.{AreBytes}
 use Rattle.report.proofs.Cuts.{Without}
 

@@ -3,8 +3,8 @@ use Rattle.std.specs.Prelude.{ℕ, List, [], ◌∷◌, Option, Some, None, deci
 use Rattle.std.specs.List.{flat_map}
 use Rattle.hex.specs.Hex.{encode_lower}
 use Rattle.ddc_base.specs.Lines.{line}
-use Rattle.languages.specs.Words.{language_word}
-use Rattle.languages.specs.declared.Language.{Language}
+use Rattle.ddc_base.specs.Languages.Words.{language_word}
+use Rattle.ddc_base.specs.declared.languages.Language.{Language}
 use Rattle.report.specs.declared.line.Line.{Line}
 use Rattle.report.specs.declared.line.Line.TheVariants.{Header, Recipe, Input, Stage, Stream1, Stream2, Left, Made, Checked, Compare, End}
 use Rattle.report.specs.declared.types.Mark.{Mark}

@@ -1,4 +1,5 @@
 //! The fields of a line, each by itself.
+
 ghost use Rattle.std.specs.Prelude.{◌≡◌, ◌<◌, IsTrue, ◌+◌, ◌==◌, length, drop, IfOk, IfSome, option_map};
 ghost use Rattle.std.specs.List.{position, list_all};
 ghost use Rattle.ddc_base.specs.Inside.HexTests as test;

@@ -1,12 +1,13 @@
 //! A line of a report by itself.
+
 ghost use Rattle.std.specs.Prelude.{◌≡◌, IfOk};
 ghost use Rattle.report.specs.Inside.LinesRead.{line_of, longer_line_of, line_of_kind, header_of, recipe_of, input_of, stage_of, stream_of, left_of, made_of, checked_of, binary_of, compare_of};
 
 use crate::fields::{compared_of, cut_at, digest_of, file_name_of, mark_of};
 use crate::types::{CompareLine, Compared, InputLine, LeftLine, Mark};
 use ddc_base::digests::Digest;
+use ddc_base::languages::Language;
 use ddc_base::{Name, OutOfMemory, read_decimal};
-use languages::Language;
 use std::alloc::Global;
 
 /// A line of a report.

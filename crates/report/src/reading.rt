@@ -1,4 +1,5 @@
 //! Reading a report.
+
 ghost use Rattle.std.specs.Prelude.{◌≡◌, ◌<◌, length, IfOk, IfErr, IfSome, option_map};
 ghost use Rattle.report.specs.Reading.{report_of, Reads};
 ghost use Rattle.report.specs.Inside.Loops.{ReadsLines};

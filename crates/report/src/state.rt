@@ -1,4 +1,5 @@
 //! How far a report has been read, and which line may come next.
+
 ghost use Rattle.std.specs.Prelude.{◌≡◌, IfOk};
 ghost use Rattle.std.specs.Ordering.{nat_cmp, is_lt};
 ghost use Rattle.std.specs.Cmp.Lexicographic.{slice_cmp};
@@ -10,8 +11,8 @@ use crate::types::{
     CompareLine, InputLine, InputLines, LeftLine, LeftLines, Mark, Report, StageLine, StageLines,
 };
 use ddc_base::digests::Digest;
+use ddc_base::languages::Language;
 use ddc_base::{ListOf, Name, OutOfMemory};
-use languages::Language;
 use std::alloc::Global;
 use std::mem;
 

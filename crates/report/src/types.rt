@@ -1,6 +1,6 @@
 use ddc_base::digests::Digest;
+use ddc_base::languages::Language;
 use ddc_base::{Bytes, ListOf, Name};
-use languages::Language;
 
 /// The lines of the inputs, in the recipe's order.
 pub type InputLines = ListOf<InputLine>;

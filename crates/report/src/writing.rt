@@ -1,4 +1,5 @@
 //! Writing a report.
+
 ghost use Rattle.std.specs.Prelude.{◌≡◌, ◌++◌, ◌∷◌, ◌<◌, [], decimal, map, length, OnOk, IfOk};
 ghost use Rattle.std.specs.List.{flat_map};
 ghost use Rattle.hex.specs.Hex.{encode_lower};
@@ -9,8 +10,8 @@ ghost use Rattle.report.specs.declared.line.Line.TheVariants as line;
 ghost use Rattle.report.specs.declared.types.Compared.TheVariants as compared;
 
 use crate::types::{CompareLine, Compared, InputLine, LeftLine, Mark, Report, StageLine};
+use ddc_base::languages::Language;
 use ddc_base::{Bytes, Name, OutOfMemory, put_decimal, put_hex};
-use languages::Language;
 use std::alloc::Global;
 
 /// Room for the lines around the inputs and stages, for an input's line, for a stage's block without left files, and for a left file's line

@@ -1,4 +1,5 @@
 //! What the rows of the table compute, at 64 and at 32 bits.
+
 ghost use Rattle.std.specs.Prelude.{◌≡◌, ◌%◌, ◌*◌, ◌^◌, ◌<◌, pos};
 ghost use Rattle.paged_mem.specs.Ram.{count_of};
 ghost use Rattle.rv64_machine.specs.Meaning.{even, less};

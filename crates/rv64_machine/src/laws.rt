@@ -1,4 +1,5 @@
 //! What holds of every act. Each law is the contract of a function, which does nothing but the steps that it speaks of.
+
 ghost use Rattle.paged_mem.specs.Memory.{reads};
 ghost use Rattle.paged_mem.specs.Ram.{count_of};
 ghost use Rattle.paged_mem.specs.declared.ram.Width.{Width};

@@ -1,2 +1,4 @@
 pub mod Texts
 pub mod Written
+pub mod ByteFieldsLemmas
+pub mod StateTextLemmas

@@ -3,10 +3,10 @@ use Rattle.std.proofs.Common.{◌≡◌, ℕ, ◌^◌, ◌<◌, true, Option, No
 use Rattle.std.specs.Prelude.{IfOk}
 use Rattle.std.specs.Int.{w16, w32}
 use Rattle.std.proofs.lemmas.List.{append-nil}
-use Rattle.byte_fields.specs.Spelling.{blob_text, number_text}
-use Rattle.byte_fields.proofs.Spells.{AreBytes, Nothing, Spells, all_read, spells, spells_begun, spells_blob32, spells_bytes, spells_counted, spells_number, spells_that, spells_u32, spells_u64, then, whole_again, whole_takes, wide16}
-use Rattle.state_text.proofs.Texts.{spells_state}
-use Rattle.state_text.specs.declared.reading.TextRefusal.{TextRefusal}
+use Rattle.save_text.specs.ByteFields.Spelling.{blob_text, number_text}
+use Rattle.save_text.proofs.ByteFieldsLemmas.Spells.{AreBytes, Nothing, Spells, all_read, spells, spells_begun, spells_blob32, spells_bytes, spells_counted, spells_number, spells_that, spells_u32, spells_u64, then, whole_again, whole_takes, wide16}
+use Rattle.save_text.proofs.StateTextLemmas.Texts.{spells_state}
+use Rattle.save_text.specs.declared.state_text.reading.TextRefusal.{TextRefusal}
 use Rattle.save_text.specs.declared.parts.Parts.{Parts}
 use Rattle.save_text.specs.SaveText.{SaveText, after_left, digest_at, formed, is_behind, left_at, magic, mark_at, name_at, save_at, stage_at}
 use Rattle.save_text.specs.Spelled.{IsDigest, IsLeft, IsMark, IsStage, IsText, digest_text, left_text, mark_text, stage_text, text_of}

@@ -2,7 +2,7 @@
 use Rattle.std.proofs.Common.{ℕ, ◌^◌, ◌<◌, Option, None, Some, List, [], ◌∷◌, length, map, All, append_assoc}
 use Rattle.std.specs.List.{AllByRecursion}
 use Rattle.std.proofs.lemmas.List.Elements.{All-from_recursion}
-use Rattle.byte_fields.specs.Spelling.{InTurn}
+use Rattle.save_text.specs.ByteFields.Spelling.{InTurn}
 use Rattle.report.specs.declared.types.LeftLine.{LeftLine}
 use Rattle.save_text.specs.declared.parts.StagePart.{StagePart}
 use Rattle.save_text.specs.SaveText.{StageText, after_left}

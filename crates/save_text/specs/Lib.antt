@@ -1,3 +1,5 @@
 pub mod SaveText
 pub mod Spelled
 pub mod Seen
+pub mod ByteFields
+pub mod StateText

@@ -6,8 +6,8 @@ use Rattle.std.specs.Cmp.Lexicographic.{slice_cmp}
 use Rattle.ddc_base.specs.declared.digests.Digest.{Digest}
 use Rattle.report.specs.declared.types.LeftLine.{LeftLine}
 use Rattle.report.specs.declared.types.Mark.{Mark}
-use Rattle.byte_fields.specs.Reader.{Reader, ◌>>=◌, begun, blob, bytes, counted, done, that, u16, u32, u64, whole}
-use Rattle.state_text.specs.StateText.{StateText, state_at}
+use Rattle.save_text.specs.ByteFields.Reader.{Reader, ◌>>=◌, begun, blob, bytes, counted, done, that, u16, u32, u64, whole}
+use Rattle.save_text.specs.StateText.StateText.{StateText, state_at}
 
 -- ---- what a text says
 

@@ -1,9 +1,9 @@
 -- What the code has, as the definitions see it.
 use Rattle.std.specs.Prelude.{◌≡◌, ℕ, map, Result, Ok, Err}
 use Rattle.ddc_base.specs.declared.digests.Digest.{Digest}
-use Rattle.state_text.specs.Seen as state
-use Rattle.state_text.specs.declared.reading.TextRefusal.{TextRefusal}
-use Rattle.state_text.specs.declared.reading.TextRefusal.TheVariants.{Form, OutOfMemory}
+use Rattle.save_text.specs.StateText.Seen as state
+use Rattle.save_text.specs.declared.state_text.reading.TextRefusal.{TextRefusal}
+use Rattle.save_text.specs.declared.state_text.reading.TextRefusal.TheVariants.{Form, OutOfMemory}
 use Rattle.save_text.specs.declared.parts.InputPart.{InputPart}
 use Rattle.save_text.specs.declared.parts.Parts.{Parts}
 use Rattle.save_text.specs.declared.parts.StagePart.{StagePart}

@@ -4,8 +4,8 @@ use Rattle.std.specs.Int.{w16, w32, w64}
 use Rattle.ddc_base.specs.declared.digests.Digest.{Digest}
 use Rattle.report.specs.declared.types.LeftLine.{LeftLine}
 use Rattle.report.specs.declared.types.Mark.{Mark}
-use Rattle.byte_fields.specs.Spelling.{Counted, IsBlob, blob_text, list_text, number_text}
-use Rattle.state_text.specs.Spelled as state
+use Rattle.save_text.specs.ByteFields.Spelling.{Counted, IsBlob, blob_text, list_text, number_text}
+use Rattle.save_text.specs.StateText.Spelled as state
 use Rattle.save_text.specs.SaveText.{SaveText, StageText, after_left, is_behind, magic}
 
 -- ---- how it is spelled

@@ -1,16 +1,17 @@
 //! How each field of a save is read and written.
+
 ghost use Rattle.std.specs.Prelude.{◌≡◌, ◌<◌, ◌^◌, ◌++◌, All, None, OnOk, length};
 ghost use Rattle.std.specs.Option.{option_copied};
 ghost use Rattle.std.specs.Ordering.{is_lt, nat_cmp};
 ghost use Rattle.std.specs.Cmp.Lexicographic.{slice_cmp};
-ghost use Rattle.byte_fields.specs.Reader.{Gives, counted, several};
-ghost use Rattle.byte_fields.specs.Spelling.{list_text};
+ghost use Rattle.save_text.specs.ByteFields.Reader.{Gives, counted, several};
+ghost use Rattle.save_text.specs.ByteFields.Spelling.{list_text};
 ghost use Rattle.save_text.specs.SaveText.{after_left, digest_at, is_behind, left_at, mark_at, name_at};
 ghost use Rattle.save_text.specs.Spelled.{digest_text, left_text, mark_text};
 
+use crate::byte_fields::{Cursor, Item, Stop, put_blob16, put_u32};
 use crate::parts::{InputPart, StagePart};
 use crate::writing::put_stage;
-use byte_fields::{Cursor, Item, Stop, put_blob16, put_u32};
 use ddc_base::digests::Digest;
 use ddc_base::{Bytes, OutOfMemory};
 use report::{LeftLine, LeftLines, Mark};

@@ -1,12 +1,15 @@
-//! The text of a save: where an audit stands between two steps, as it is kept in a file.
+//! The text of a save: where an audit stands between two steps, as it is kept in a file. Below it stand the fields of such texts
+//! (`byte_fields`) and the text of a state (`state_text`).
 //!
 //! docs/reference/save.md has its fields for a reader, and specs/SaveText.antt the same for the prover. What the fields say may still be
 //! no place in any audit: that is judged above.
 #![tactic(auto)]
 
+pub mod byte_fields;
 mod fields;
 mod parts;
 mod reading;
+pub mod state_text;
 mod writing;
 
 pub use parts::{InputPart, Parts, StagePart};

@@ -33,5 +33,5 @@ pub struct Parts<'a> {
     /// The stages that are done, in the recipe's order.
     pub done: Vec<StagePart>,
     /// The present stage's guest.
-    pub state: state_text::Parts<'a>,
+    pub state: crate::state_text::Parts<'a>,
 }

@@ -1,13 +1,13 @@
 ghost use Rattle.std.specs.Prelude.{◌≡◌, IfOk, Ok};
-ghost use Rattle.byte_fields.specs.Reader.{Gives};
+ghost use Rattle.save_text.specs.ByteFields.Reader.{Gives};
 ghost use Rattle.save_text.specs.SaveText.{SaveText, formed, save_at};
 ghost use Rattle.save_text.specs.Spelled.{IsText, text_of};
 ghost use Rattle.save_text.specs.Seen.{Reads, view};
 
+use crate::byte_fields::{Cursor, Stop, counted};
 use crate::fields::digest_of;
 use crate::parts::Parts;
-use byte_fields::{Cursor, Stop, counted};
-use state_text::{TextRefusal, parts_at};
+use crate::state_text::{TextRefusal, parts_at};
 use std::alloc::Global;
 
 /// The eight bytes that begin the text of a save.

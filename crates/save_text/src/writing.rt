@@ -1,15 +1,15 @@
 ghost use Rattle.std.specs.Prelude.{◌≡◌, ◌<◌, ◌^◌, ◌++◌, All, IfOk, OnOk, length, map};
-ghost use Rattle.byte_fields.specs.Spelling.{list_text};
+ghost use Rattle.save_text.specs.ByteFields.Spelling.{list_text};
 ghost use Rattle.save_text.specs.Spelled.{IsShort, IsText, stage_text, text_of};
 ghost use Rattle.save_text.specs.Seen.{stage_view, view};
 
+use crate::byte_fields::{put_blob32, put_counted, put_u64};
 use crate::fields::{put_left, put_mark};
 use crate::parts::{Parts, StagePart};
 use crate::reading::MAGIC;
-use byte_fields::{put_blob32, put_counted, put_u64};
+use crate::state_text::put_parts;
 use ddc_base::{Bytes, OutOfMemory};
 use report::{LeftLine, Mark};
-use state_text::put_parts;
 use std::alloc::Global;
 
 /// Adds a stage that is done: its steps, the marks of its two streams, the files that it left, and its artefact.

@@ -18,7 +18,7 @@ use Rattle.guest_run.proofs.RunLaws.{first_end-found, no_end_at-zero}
 use Rattle.recipe.specs.declared.contents.Said.{Said}
 use Rattle.recipe.specs.declared.parts.Stage.{Stage}
 use Rattle.report.specs.declared.types.StageLine.{StageLine}
-use Rattle.source_check.specs.declared.cause.CheckCause.{CheckCause}
+use Rattle.wheeler.specs.declared.source_check.cause.CheckCause.{CheckCause}
 use Rattle.wheeler.specs.declared.answer.Fault.TheVariants.{Runs}
 use Rattle.wheeler.specs.declared.answer.Finished.{Finished}
 use Rattle.wheeler.specs.declared.cause.RunCause.TheVariants as run

@@ -7,3 +7,4 @@ pub mod OneReport
 mod Placing
 mod Rightness
 mod StageRules
+pub mod ConclusionLemmas

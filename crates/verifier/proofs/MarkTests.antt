@@ -7,8 +7,8 @@ use Rattle.std.proofs.lemmas.Slice.Eq.{bytes_eq-Decides}
 use Rattle.sha2.specs.Sha256.{sha256}
 use Rattle.ddc_base.specs.Difference.{first_difference}
 use Rattle.ddc_base.proofs.Differences.{first_difference-same}
-use Rattle.languages.specs.declared.Language.{Language}
-use Rattle.languages.specs.declared.Language.TheVariants.{Hex0, Hex1, Hex2, M1}
+use Rattle.ddc_base.specs.declared.languages.Language.{Language}
+use Rattle.ddc_base.specs.declared.languages.Language.TheVariants.{Hex0, Hex1, Hex2, M1}
 use Rattle.mem_files.specs.World.{World}
 use Rattle.mem_files.specs.Outputs.{left}
 use Rattle.report.specs.declared.types.Compared.{Compared}
@@ -16,7 +16,7 @@ use Rattle.report.specs.declared.types.Compared.TheVariants.{Equal, Differs}
 use Rattle.report.specs.declared.types.LeftLine.{LeftLine}
 use Rattle.report.specs.declared.types.Mark.{Mark}
 use Rattle.report.specs.declared.types.StageLine.{StageLine}
-use Rattle.source_check.specs.Checks.{differs}
+use Rattle.wheeler.specs.SourceCheck.Checks.{differs}
 use Rattle.wheeler.specs.Bench.{compared, compared_at}
 use Rattle.wheeler.specs.Stages.{left_line, mark_of}
 use Rattle.verifier.specs.Faults.{has_left, is_at, is_mark_of, names_left, same_language, says}

@@ -6,16 +6,16 @@ use Rattle.std.specs.Option.{option_map}
 use Rattle.std.proofs.lemmas.List.{append-nil, take_all}
 use Rattle.std.proofs.lemmas.Option.{same_Some}
 use Rattle.ddc_base.specs.Difference.{first_difference}
-use Rattle.hex_items.specs.declared.item.Item.{Item}
-use Rattle.hex_items.specs.declared.reader.HexRefusal.{HexRefusal}
-use Rattle.hex_link.specs.Link.{Links}
-use Rattle.languages.specs.declared.Language.{Language}
+use Rattle.hex_langs.specs.declared.items.item.Item.{Item}
+use Rattle.hex_langs.specs.declared.items.reader.HexRefusal.{HexRefusal}
+use Rattle.hex_langs.specs.Link.Link.{Links}
+use Rattle.ddc_base.specs.declared.languages.Language.{Language}
 use Rattle.recipe.specs.declared.contents.Said.{Said}
 use Rattle.recipe.specs.declared.parts.Source.{Source}
 use Rattle.recipe.specs.declared.parts.SourceLanguage.TheVariants.{Defined}
 use Rattle.recipe.specs.declared.parts.Stage.{Stage}
 use Rattle.recipe.specs.Lookups.{source_named}
-use Rattle.source_check.specs.Checks.{check, checked, differs, first_other_item, hex_value, joined, same_item}
+use Rattle.wheeler.specs.SourceCheck.Checks.{check, checked, differs, first_other_item, hex_value, joined, same_item}
 use Rattle.wheeler.specs.Contents.{Contents, check_of, defined, source_check, text_check, text_of}
 
 -- equal bytes have no difference

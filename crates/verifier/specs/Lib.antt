@@ -2,3 +2,4 @@ pub mod Words
 pub mod Faults
 pub mod Verdicts
 pub mod Inside
+pub mod Conclusion

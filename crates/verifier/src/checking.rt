@@ -1,22 +1,23 @@
 //! Whether an artefact is what its source stands for.
-ghost use Rattle.hex_items.specs.Reading.{Reads, items_of};
-ghost use Rattle.hex_items.specs.declared.item.Item.{Item as RowItem};
-ghost use Rattle.hex_items.specs.declared.reader.HexRefusal.{HexRefusal as Refusal};
-ghost use Rattle.hex_items.specs.declared.token.Dialect.TheVariants as dialect;
-ghost use Rattle.hex_link.specs.Link.{Links};
-ghost use Rattle.hex_link.specs.Values.{linked};
-ghost use Rattle.source_check.specs.Causes.{cause_of_hex, cause_of_m1};
-ghost use Rattle.source_check.specs.Checks.{check, checked, first_other_item, hex_value, items_against, joined, m1_value, same_item, same_kind};
+
+ghost use Rattle.hex_langs.specs.Items.Reading.{Reads, items_of};
+ghost use Rattle.hex_langs.specs.declared.items.item.Item.{Item as RowItem};
+ghost use Rattle.hex_langs.specs.declared.items.reader.HexRefusal.{HexRefusal as Refusal};
+ghost use Rattle.hex_langs.specs.declared.items.token.Dialect.TheVariants as dialect;
+ghost use Rattle.hex_langs.specs.Link.Link.{Links};
+ghost use Rattle.hex_langs.specs.Link.Values.{linked};
+ghost use Rattle.wheeler.specs.SourceCheck.Causes.{cause_of_hex, cause_of_m1};
+ghost use Rattle.wheeler.specs.SourceCheck.Checks.{check, checked, first_other_item, hex_value, items_against, joined, m1_value, same_item, same_kind};
 ghost use Rattle.std.specs.Prelude.{◌≡◌, ◌≤◌, ◌^◌, bytes_eq, is_none, ℕ, List, Result, IfOk};
 ghost use Rattle.verifier.specs.Inside.Holdings.{IsHeld, so_far};
 ghost use Rattle.wheeler.specs.Contents.{check_of, text_of};
 
 use crate::held::Held;
+use ddc_base::languages::Language;
 use ddc_base::{Bytes, OutOfMemory};
-use hex_items::{HexRefusal, Item, Items, Kind, Name, items1, items2};
 use hex_langs::hex0;
-use hex_link::link;
-use languages::Language;
+use hex_langs::items::{HexRefusal, Item, Items, Kind, Name, items1, items2};
+use hex_langs::link::link;
 use m1_lang::{M1Refusal, expand};
 use recipe::{Source, SourceLanguage, Stage};
 use std::alloc::Global;
@@ -80,7 +81,7 @@ fn joined(alloc: Global, held: &Held<'_>, source: &Source) -> Result<Bytes, OutO
 }
 
 /// Whether a language accepts a source and gives an artefact.
-#[tactic(auto, unfolding(source_check::specs::Checks::check))]
+#[tactic(auto, unfolding(wheeler::specs::SourceCheck::Checks::check))]
 fn gives(
     alloc: Global,
     language: Language,
@@ -196,7 +197,7 @@ fn same_items(ours: &Items<'_>, theirs: &Items<'_>) -> bool
 }
 
 /// Whether both are the same item.
-#[tactic(auto, unfolding(source_check::specs::Checks::same_item))]
+#[tactic(auto, unfolding(wheeler::specs::SourceCheck::Checks::same_item))]
 fn same_item(ours: &Item<'_>, theirs: &Item<'_>) -> bool
     ensures { result ≡ same_item ours.now theirs.now }
 {

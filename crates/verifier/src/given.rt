@@ -1,4 +1,5 @@
 //! What a stage's program is given.
+
 ghost use Rattle.mem_files.specs.Limits.{most_content, most_names};
 ghost use Rattle.mem_files.specs.Names.{is_stripped_name};
 ghost use Rattle.std.specs.FinMap as map;

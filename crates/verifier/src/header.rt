@@ -1,9 +1,10 @@
 //! What a report says of its recipe, beside the recipe.
+
 ghost use Rattle.std.specs.Prelude.{◌≡◌};
 ghost use Rattle.verifier.specs.Faults.{is_header, names_compared, names_inputs, names_stages, same_language};
 ghost use Rattle.wheeler.specs.Contents.{check_language, defined};
 
-use languages::Language;
+use ddc_base::languages::Language;
 use recipe::{Input, Recipe, SourceLanguage, Stage};
 use report::{CompareLine, InputLine, Report, StageLine};
 

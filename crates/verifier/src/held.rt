@@ -1,4 +1,5 @@
 //! What names stand for while a report is replayed.
+
 ghost use Rattle.std.specs.Prelude.{◌≡◌, [], get_or};
 ghost use Rattle.verifier.specs.Inside.Holdings.{so_far};
 ghost use Rattle.wheeler.specs.Contents.{content};

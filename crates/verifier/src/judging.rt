@@ -1,4 +1,5 @@
 //! The verdict on a report: its parts in order, up to the first that is not true.
+
 ghost use Rattle.mem_files.specs.Outputs.{IsContent};
 ghost use Rattle.recipe.specs.Kept.{IsRecipe};
 ghost use Rattle.std.specs.Option.{option_map};

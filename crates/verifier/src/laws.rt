@@ -1,4 +1,5 @@
 //! Laws of the definitions. Each law is the contract of a function that does nothing.
+
 ghost use Rattle.guest_run.specs.Program.{Run};
 ghost use Rattle.guest_run.specs.Setting.{Setting};
 ghost use Rattle.guest_run.specs.Start.{start_of};

@@ -1,4 +1,5 @@
 //! What a run left, beside a stage's line.
+
 ghost use Rattle.mem_files.specs.Calls.{content_at};
 ghost use Rattle.mem_files.specs.Names.{is_stripped_name};
 ghost use Rattle.mem_files.specs.Outputs.{left};

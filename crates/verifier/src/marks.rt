@@ -1,4 +1,5 @@
 //! Whether a mark is that of some bytes.
+
 ghost use Rattle.std.specs.Prelude.{◌≡◌};
 ghost use Rattle.verifier.specs.Faults.{is_mark_of};
 

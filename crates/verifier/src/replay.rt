@@ -1,4 +1,5 @@
 //! A stage's line, judged by a replay.
+
 ghost use Rattle.guest_run.specs.Run.{end_at};
 ghost use Rattle.guest_run.specs.Start.{start_of};
 ghost use Rattle.mem_files.specs.Outputs.{out};

@@ -1,4 +1,5 @@
 //! Why a stage's replay stops.
+
 ghost use Rattle.std.specs.Prelude.{◌≡◌};
 ghost use Rattle.verifier.specs.declared.stop.Stop.TheVariants.{OutOfMemory};
 

@@ -1,4 +1,5 @@
 //! A report that is fetched and read.
+
 ghost use Rattle.std.specs.Prelude.{Err};
 ghost use Rattle.ddc_base.specs.Outside.{IsFileName};
 ghost use Rattle.report.specs.Reading.{report_of};

@@ -1,4 +1,5 @@
 //! What the command prints.
+
 ghost use Rattle.audit_commands.specs.Texts.{compared_line};
 ghost use Rattle.ddc_base.specs.Lines.{line};
 ghost use Rattle.std.specs.Prelude.{◌≡◌, ◌++◌, [], ◌∷◌, IfOk, OnOk, codes, flat_map};

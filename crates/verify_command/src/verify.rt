@@ -1,4 +1,5 @@
 //! `verify RECIPE REPORT`: a report is judged by a replay.
+
 ghost use Rattle.std.specs.Prelude.{map, None};
 ghost use Rattle.ddc_base.specs.Outside.{IsFileName};
 ghost use Rattle.wheeler.specs.Valid.{IsInputs};
@@ -99,7 +100,7 @@ fn answer<M: Meaning>(
     requires { IsInputs recipe.now inputs.now }
     ensures { Says (verified recipe.now inputs.now report.now) result }
 {
-    match conclusion::verify::<M>(alloc, recipe, inputs, report) {
+    match verifier::conclusion::verify::<M>(alloc, recipe, inputs, report) {
         Verdict::Yes => accepted(alloc, recipe, &report.compare),
         Verdict::TrueButDiffers => accepted(alloc, recipe, &report.compare),
         Verdict::Refuted { part, place } => refuted(alloc, part, place),

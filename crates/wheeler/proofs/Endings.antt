@@ -21,7 +21,7 @@ use Rattle.recipe.specs.declared.parts.Output.{Output}
 use Rattle.recipe.specs.declared.parts.Output.TheVariants.{Stream, File}
 use Rattle.recipe.specs.declared.parts.Stage.{Stage}
 use Rattle.report.specs.Reports.{ascend}
-use Rattle.source_check.specs.declared.cause.CheckCause.{CheckCause}
+use Rattle.wheeler.specs.declared.source_check.cause.CheckCause.{CheckCause}
 use Rattle.wheeler.specs.declared.answer.Fault.{Fault}
 use Rattle.wheeler.specs.declared.answer.Fault.TheVariants.{Runs}
 use Rattle.wheeler.specs.declared.answer.Finished.{Finished}

@@ -10,3 +10,4 @@ pub mod Endings
 pub mod WellFormed
 pub mod Places
 pub mod Closing
+pub mod SourceCheckLemmas

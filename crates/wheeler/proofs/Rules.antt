@@ -11,7 +11,7 @@ use Rattle.ddc_base.specs.Names.{IsName}
 use Rattle.mem_files.specs.Names.{is_stripped_name}
 use Rattle.mem_files.specs.Sound.{AreBytes}
 use Rattle.guest_run.specs.Setting.{IsText}
-use Rattle.recipe_text.specs.Reading.{is_path, is_path_byte, is_word, is_word_byte}
+use Rattle.recipe.specs.Text.Reading.{is_path, is_path_byte, is_word, is_word_byte}
 use Rattle.recipe.specs.declared.contents.Said.{Said}
 use Rattle.recipe.specs.declared.parts.Input.{Input}
 use Rattle.recipe.specs.declared.parts.Stage.{Stage}

@@ -3,7 +3,7 @@
 use Rattle.std.specs.Prelude.{ℕ, Option, Some, None, option_and_then, List, [], map, get_or}
 use Rattle.std.specs.List.{fold}
 use Rattle.std.specs.FinMap as files
-use Rattle.languages.specs.declared.Language.{Language}
+use Rattle.ddc_base.specs.declared.languages.Language.{Language}
 use Rattle.guest_run.specs.Setting.{FileMap, Setting}
 use Rattle.recipe.specs.declared.contents.Said.{Said}
 use Rattle.recipe.specs.declared.parts.Content.{Content}
@@ -14,8 +14,8 @@ use Rattle.recipe.specs.declared.parts.SourceLanguage.TheVariants.{Defined, Othe
 use Rattle.recipe.specs.declared.parts.Stage.{Stage}
 use Rattle.recipe.specs.declared.parts.StageFile.{StageFile}
 use Rattle.recipe.specs.Lookups.{content_of, source_named}
-use Rattle.source_check.specs.declared.cause.CheckCause.{CheckCause}
-use Rattle.source_check.specs.Checks.{check, joined}
+use Rattle.wheeler.specs.declared.source_check.cause.CheckCause.{CheckCause}
+use Rattle.wheeler.specs.SourceCheck.Checks.{check, joined}
 
 -- the bytes of the inputs and of the artefacts so far, each in the recipe's order
 pub record Contents : Type 0 where

@@ -3,3 +3,4 @@ pub mod Stages
 pub mod Bench
 pub mod Positions
 pub mod Valid
+pub mod SourceCheck

@@ -1,7 +1,7 @@
 use crate::cause::RunCause;
+use crate::source_check::CheckCause;
 use ddc_base::Bytes;
 use report::{LeftLines, Mark, Report};
-use source_check::CheckCause;
 
 /// A stage that is done.
 #[derive(Debug, Drop)]

@@ -1,4 +1,5 @@
 //! Laws of benches, positions and reports, over a recipe that keeps its rules. Each law is the contract of a function that does nothing.
+
 ghost use Rattle.mem_files.specs.Limits.{most_content};
 ghost use Rattle.recipe.specs.Kept.{IsRecipe};
 ghost use Rattle.recipe.specs.declared.contents.Said.{Said};

@@ -1,4 +1,5 @@
-//! What an audit is: the contents, boxes and texts of its stages, the bench that runs them, its report, and the positions on the way.
+//! What an audit is: the contents, boxes and texts of its stages, the bench that runs them, its report, and the positions on the way;
+//! and the check of an artefact against its source (`source_check`).
 //!
 //! Its rules for people: docs/reference/audit.md. The crates that run an audit or judge its report have code of their own, which meets
 //! these definitions.
@@ -7,6 +8,7 @@
 mod answer;
 mod cause;
 pub mod laws;
+pub mod source_check;
 
 pub use answer::{Answer, Fault, Finished};
 pub use cause::{RunCause, StartCause};

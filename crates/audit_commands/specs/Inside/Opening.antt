@@ -1,6 +1,6 @@
 -- A recipe that was read, or what ends the command there.
 use Rattle.std.specs.Prelude.{◌≡◌, ℕ, false, Result, Ok, Err, List}
-use Rattle.recipe_text.specs.declared.refusal.RecipeRefusal.{RecipeRefusal as Refusal}
+use Rattle.recipe.specs.declared.text.refusal.RecipeRefusal.{RecipeRefusal as Refusal}
 use Rattle.recipe.specs.declared.contents.Said.{Said}
 use Rattle.command_plan.specs.declared.stop.Stop.{Stop}
 use Rattle.command_plan.specs.declared.stop.Stop.TheVariants as stop

@@ -1,16 +1,16 @@
 -- What the code's passes over a source do. No promise rests on its being read.
 use Rattle.std.specs.Prelude.{◌≡◌, ℕ, ◌<◌, ◌≤◌, List, [], ◌∷◌, length, Option, Some, None, Result, Ok, Err}
 use Rattle.indexmap.specs.IndexMap.{IndexMap}
-use Rattle.hex_items.specs.declared.item.Item.{Item}
-use Rattle.hex_items.specs.declared.token.Token.{Token}
-use Rattle.hex_items.specs.declared.words.Open.{Open}
-use Rattle.hex_items.specs.declared.words.Halt.{Halt}
-use Rattle.hex_items.specs.declared.words.Halt.TheVariants as halt
-use Rattle.hex_items.specs.Reading.{formed, Reading, with_front}
-use Rattle.m1_words.specs.declared.meaning.WordFault.{WordFault}
-use Rattle.m1_words.specs.Words.{open_quote, Word, word_list}
-use Rattle.m1_words.specs.Representation.Ahead.{words_at}
-use Rattle.m1_words.specs.Forms.{Tokens}
+use Rattle.hex_langs.specs.declared.items.item.Item.{Item}
+use Rattle.hex_langs.specs.declared.items.token.Token.{Token}
+use Rattle.hex_langs.specs.declared.items.words.Open.{Open}
+use Rattle.hex_langs.specs.declared.items.words.Halt.{Halt}
+use Rattle.hex_langs.specs.declared.items.words.Halt.TheVariants as halt
+use Rattle.hex_langs.specs.Items.Reading.{formed, Reading, with_front}
+use Rattle.m1_lang.specs.declared.words.meaning.WordFault.{WordFault}
+use Rattle.m1_lang.specs.Words.Words.{open_quote, Word, word_list}
+use Rattle.m1_lang.specs.Words.Representation.Ahead.{words_at}
+use Rattle.m1_lang.specs.Words.Forms.{Tokens}
 use Rattle.m1_lang.specs.declared.refusal.M1Refusal.{M1Refusal}
 use Rattle.m1_lang.specs.declared.refusal.M1Refusal.TheVariants as refusal
 use Rattle.m1_lang.specs.Definitions.{Defined, defined_with, definitions, with_defined, parts, plain_words, Part}

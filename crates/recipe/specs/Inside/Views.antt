@@ -1,6 +1,6 @@
 -- The tables of the top, as the definitions see them.
 use Rattle.toml.specs.View.{table_view}
-use Rattle.recipe_text.specs.Inside.Views.{tables_view}
+use Rattle.recipe.specs.Text.Inside.Views.{tables_view}
 use Rattle.recipe.specs.Tables as tables
 use Rattle.recipe.specs.declared.top_tables.Top.{Top}
 

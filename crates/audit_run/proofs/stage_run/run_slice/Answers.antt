@@ -3,7 +3,7 @@ use Rattle.guest_run.specs.Run.{Exited, Trapped, UnknownCall}
 use Rattle.wheeler.specs.declared.answer.Fault.TheVariants.{Runs}
 use Rattle.wheeler.specs.declared.cause.RunCause.TheVariants as run
 use Rattle.wheeler.specs.Stages.{exited_with}
-use Rattle.audit_stage.specs.Makes.{Makes}
+use Rattle.audit_run.specs.Stage.Makes.{Makes}
 use Rattle.audit_run.proofs.Slicing.{slices-end, slices-end-out, slices-goes, slices-out, slices-spent}
 use Rattle.audit_run.proofs.stage_run.run_slice.Goals as goal
 

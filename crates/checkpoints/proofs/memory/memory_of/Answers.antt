@@ -2,9 +2,9 @@ use Rattle.std.proofs.Common.{◌≡◌, All, map, refl, sym, subst, ap, ◌∙�
 use Rattle.std.specs.FinMap as finite
 use Rattle.std.proofs.lemmas.List.Elements.{All-map}
 use Rattle.paged_mem.specs.Memory.{Memory}
-use Rattle.memory_parts.specs.Canonical.{filled_on, mapped_runs}
-use Rattle.state_text.specs.declared.parts.Page.{Page}
-use Rattle.state_text.specs.Seen.{page_view, view}
+use Rattle.checkpoints.specs.MemoryParts.Canonical.{filled_on, mapped_runs}
+use Rattle.save_text.specs.declared.state_text.parts.Page.{Page}
+use Rattle.save_text.specs.StateText.Seen.{page_view, view}
 use Rattle.checkpoints.specs.Checkpoint.{mapped_of}
 use Rattle.checkpoints.proofs.Memories.{IsMappedIn, full_pages, is_made, placed, seen}
 use Rattle.checkpoints.proofs.memory.memory_of.Goals as goal

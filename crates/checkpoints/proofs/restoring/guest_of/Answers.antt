@@ -2,7 +2,7 @@ use Rattle.std.proofs.Common.{◌≡◌, ◌∷◌, refl, subst, ◌∙◌}
 use Rattle.rv64_machine.specs.Hart.{HartState}
 use Rattle.guest_run.specs.State.{guest_state}
 use Rattle.guest_run.specs.Valid.{Fits}
-use Rattle.state_text.specs.Seen.{view}
+use Rattle.save_text.specs.StateText.Seen.{view}
 use Rattle.checkpoints.specs.Checkpoint.{guest_of, memory_of}
 use Rattle.checkpoints.proofs.restoring.guest_of.Goals as goal
 

@@ -1,9 +1,9 @@
 use Rattle.std.proofs.Common.{ℕ}
 use Rattle.mem_files.specs.declared.slot.Slot.{Slot}
 use Rattle.mem_files.specs.declared.slot.Slot.TheVariants.{Input}
-use Rattle.state_text.specs.declared.parts.Descriptor.{Descriptor}
-use Rattle.state_text.specs.Spelled.{IsDescriptor}
-use Rattle.state_text.specs.Seen.{descriptor_view}
+use Rattle.save_text.specs.declared.state_text.parts.Descriptor.{Descriptor}
+use Rattle.save_text.specs.StateText.Spelled.{IsDescriptor}
+use Rattle.save_text.specs.StateText.Seen.{descriptor_view}
 use Rattle.checkpoints.proofs.Restored.{below}
 use Rattle.checkpoints.proofs.restoring.push_descriptors.Goals as goal
 

@@ -1,5 +1,5 @@
 use Rattle.std.proofs.Common.{◌≡◌, map, take}
-use Rattle.state_text.specs.Seen.{descriptor_view}
+use Rattle.save_text.specs.StateText.Seen.{descriptor_view}
 use Rattle.checkpoints.proofs.restoring.push_descriptors.Given as goal
 
 abbrev pub invariant-loop-descriptor : goal.invariant-loop-descriptor

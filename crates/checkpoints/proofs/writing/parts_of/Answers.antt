@@ -2,9 +2,9 @@ use Rattle.std.proofs.Common.{◌<◌, ◌^◌, drop, sym, subst, ap, ◌∙◌,
 use Rattle.rv64_machine.specs.Hart.{HartState}
 use Rattle.mem_files.specs.Lists.{AreInRange, lists_of}
 use Rattle.mem_files.specs.World.{World}
-use Rattle.file_parts.proofs.GoodLists.{good_range}
-use Rattle.memory_parts.specs.Canonical.{pages_of, runs_of}
-use Rattle.state_text.specs.Spelled.{IsText}
+use Rattle.checkpoints.proofs.FilePartsLemmas.GoodLists.{good_range}
+use Rattle.checkpoints.specs.MemoryParts.Canonical.{pages_of, runs_of}
+use Rattle.save_text.specs.StateText.Spelled.{IsText}
 use Rattle.checkpoints.proofs.States.{is_text, said}
 use Rattle.checkpoints.proofs.writing.parts_of.Goals as goal
 

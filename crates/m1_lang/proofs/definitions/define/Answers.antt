@@ -1,6 +1,6 @@
 use Rattle.std.proofs.Common.{arith, ap, sym, ◌∙◌, ◌≡◌, List, ℕ, None, Some}
 use Rattle.indexmap.specs.IndexMap.{get, insert_entry}
-use Rattle.m1_words.specs.Words.{Word}
+use Rattle.m1_lang.specs.Words.Words.{Word}
 use Rattle.m1_lang.specs.Definitions.{same_text}
 use Rattle.m1_lang.proofs.Definings.{defines-again, defines-new}
 use Rattle.m1_lang.proofs.definitions.define.Goals as goal

@@ -1,6 +1,6 @@
 use Rattle.std.proofs.Common.{arith, ap, sym, ◌∙◌, BuildHasherDefault, FoldHasher}
-use Rattle.m1_words.specs.Words.{open_quote, Over, Word, word_list, Words}
-use Rattle.m1_words.specs.Representation.Ahead.{words_at}
+use Rattle.m1_lang.specs.Words.Words.{open_quote, Over, Word, word_list, Words}
+use Rattle.m1_lang.specs.Words.Representation.Ahead.{words_at}
 use Rattle.m1_lang.specs.Definitions.{definitions, parts, unless_open}
 use Rattle.m1_lang.specs.Representation.Passes.{open_at}
 use Rattle.m1_lang.proofs.Definings.{meant-by, refused}

@@ -1,5 +1,5 @@
 use Rattle.std.proofs.Common.{arith, ap, sym, ◌∙◌}
-use Rattle.m1_words.specs.Words.{open_quote}
+use Rattle.m1_lang.specs.Words.Words.{open_quote}
 use Rattle.m1_lang.proofs.Passing.{words-end}
 use Rattle.m1_lang.proofs.definitions.open_quote.Goals as goal
 

@@ -1,5 +1,5 @@
 use Rattle.std.proofs.Common.{◌∙◌, ap, sym, List, ◌∷◌, arith}
-use Rattle.m1_words.specs.Words.{Word, Words, word_list}
+use Rattle.m1_lang.specs.Words.Words.{Word, Words, word_list}
 use Rattle.m1_lang.specs.Representation.Passes.{plain_behind}
 use Rattle.m1_lang.proofs.Passing.{nothing-left, no-word}
 use Rattle.m1_lang.proofs.expansion.behind_definition.Goals as goal

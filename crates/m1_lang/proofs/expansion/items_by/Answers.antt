@@ -1,8 +1,8 @@
 use Rattle.std.proofs.Common.{◌∙◌, ap, sym, arith, List, ℕ, Option, length}
 use Rattle.indexmap.specs.IndexMap.{get}
-use Rattle.hex_items.specs.Reading.{formed, Reading, with_front, word_end}
-use Rattle.m1_words.specs.declared.meaning.WordFault.{WordFault}
-use Rattle.m1_words.specs.Words.{Word, word_list}
+use Rattle.hex_langs.specs.Items.Reading.{formed, Reading, with_front, word_end}
+use Rattle.m1_lang.specs.declared.words.meaning.WordFault.{WordFault}
+use Rattle.m1_lang.specs.Words.Words.{Word, word_list}
 use Rattle.m1_lang.specs.Definitions.{same_text}
 use Rattle.m1_lang.specs.Expansion.{unless_refused}
 use Rattle.m1_lang.specs.Representation.Passes.{reading_at}

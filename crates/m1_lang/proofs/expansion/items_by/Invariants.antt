@@ -1,6 +1,6 @@
 use Rattle.std.proofs.Common.{◌≡◌, ◌≤◌, ◌-◌, length, None}
 use Rattle.indexmap.specs.IndexMap.{get}
-use Rattle.hex_items.specs.Reading.{formed, with_front}
+use Rattle.hex_langs.specs.Items.Reading.{formed, with_front}
 use Rattle.m1_lang.specs.Definitions.{same_text}
 use Rattle.m1_lang.specs.Representation.Passes.{reading_at}
 use Rattle.m1_lang.proofs.expansion.items_by.Given as goal

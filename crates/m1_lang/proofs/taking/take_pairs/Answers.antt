@@ -1,7 +1,7 @@
 use Rattle.std.proofs.Common.{◌≤◌, ◌∙◌, ap, arith, drop, length, List, ℕ, map}
 use Rattle.std.proofs.lemmas.List.{length-drop}
-use Rattle.hex_items.specs.declared.token.Token.TheVariants.{Byte}
-use Rattle.hex_items.specs.Reading.{formed, with_front}
+use Rattle.hex_langs.specs.declared.items.token.Token.TheVariants.{Byte}
+use Rattle.hex_langs.specs.Items.Reading.{formed, with_front}
 use Rattle.m1_lang.specs.Expansion.{at_once}
 use Rattle.m1_lang.proofs.Takings.{front-short}
 use Rattle.m1_lang.proofs.taking.take_pairs.Goals as goal

@@ -1,5 +1,5 @@
 use Rattle.std.proofs.Common.{◌+◌, ◌-◌, subst, arith, map, replicate, List, ℕ, Ok, Err}
-use Rattle.hex_items.specs.declared.token.Token.TheVariants.{Byte}
+use Rattle.hex_langs.specs.declared.items.token.Token.TheVariants.{Byte}
 use Rattle.m1_lang.proofs.Takings.{Left, left-more, left-refused, takes-one, zeros-more}
 use Rattle.m1_lang.proofs.taking.take_zeros.Goals as goal
 

@@ -1,5 +1,5 @@
 use Rattle.std.proofs.Common.{◌≤◌, ◌-◌, length, map, replicate}
-use Rattle.hex_items.specs.declared.token.Token.TheVariants.{Byte}
+use Rattle.hex_langs.specs.declared.items.token.Token.TheVariants.{Byte}
 use Rattle.m1_lang.proofs.Takings.{Left}
 use Rattle.m1_lang.proofs.taking.take_zeros.Given as goal
 

@@ -1,8 +1,8 @@
 use Rattle.std.proofs.lemmas.Result.{err_from_is_err_and}
 use Rattle.toml.specs.View.{table_view}
-use Rattle.recipe_text.specs.Inside.Views.{TableRef}
+use Rattle.recipe.specs.Text.Inside.Views.{TableRef}
 use Rattle.recipe.specs.Tables.{next_input}
-use Rattle.recipe_text.proofs.Walks.{gathers_more, gathers_fails, gathers_all}
+use Rattle.recipe.proofs.TextLemmas.Walks.{gathers_more, gathers_fails, gathers_all}
 use Rattle.recipe.proofs.inputs.inputs_of.Goals as goal
 
 pub returns-in_err-input-clause-inputs : goal.returns-in_err-input-clause-inputs

@@ -1,6 +1,6 @@
 use Rattle.toml.specs.View.{table_view}
 use Rattle.recipe.specs.Tables.{next_input}
-use Rattle.recipe_text.proofs.Walks.{Gathers}
+use Rattle.recipe.proofs.TextLemmas.Walks.{Gathers}
 use Rattle.recipe.proofs.inputs.inputs_of.Given as goal
 
 abbrev pub invariant-loop-table : goal.invariant-loop-table

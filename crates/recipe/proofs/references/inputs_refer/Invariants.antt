@@ -1,5 +1,5 @@
 use Rattle.recipe.specs.SecondWalk.{input_refers}
-use Rattle.recipe_text.proofs.Walks.{Passes}
+use Rattle.recipe.proofs.TextLemmas.Walks.{Passes}
 use Rattle.recipe.proofs.references.inputs_refer.Given as goal
 
 abbrev pub invariant-loop-input : goal.invariant-loop-input

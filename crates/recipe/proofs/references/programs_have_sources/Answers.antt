@@ -1,6 +1,6 @@
 use Rattle.std.proofs.lemmas.Result.{err_from_is_err_and}
 use Rattle.recipe.specs.SecondWalk.{program_has_source}
-use Rattle.recipe_text.proofs.Walks.{passes_more, passes_fails, passes_all}
+use Rattle.recipe.proofs.TextLemmas.Walks.{passes_more, passes_fails, passes_all}
 use Rattle.recipe.proofs.references.programs_have_sources.Goals as goal
 
 pub returns-in_err-program_has_source : goal.returns-in_err-program_has_source

@@ -1,5 +1,5 @@
 use Rattle.recipe.specs.SecondWalk.{program_has_source}
-use Rattle.recipe_text.proofs.Walks.{Passes}
+use Rattle.recipe.proofs.TextLemmas.Walks.{Passes}
 use Rattle.recipe.proofs.references.programs_have_sources.Given as goal
 
 abbrev pub invariant-loop-stage : goal.invariant-loop-stage

@@ -1,5 +1,5 @@
 use Rattle.recipe.specs.SecondWalk.{source_refers}
-use Rattle.recipe_text.proofs.Walks.{Passes}
+use Rattle.recipe.proofs.TextLemmas.Walks.{Passes}
 use Rattle.recipe.proofs.references.sources_refer.Given as goal
 
 abbrev pub invariant-loop-source : goal.invariant-loop-source

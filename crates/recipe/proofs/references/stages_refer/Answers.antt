@@ -1,6 +1,6 @@
 use Rattle.std.proofs.lemmas.Result.{err_from_is_err_and}
 use Rattle.recipe.specs.SecondWalk.{stage_refers}
-use Rattle.recipe_text.proofs.Walks.{passes_more, passes_fails, passes_all}
+use Rattle.recipe.proofs.TextLemmas.Walks.{passes_more, passes_fails, passes_all}
 use Rattle.recipe.proofs.references.stages_refer.Goals as goal
 
 pub returns-in_err-stage_refers : goal.returns-in_err-stage_refers

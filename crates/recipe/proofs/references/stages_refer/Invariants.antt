@@ -1,5 +1,5 @@
 use Rattle.recipe.specs.SecondWalk.{stage_refers}
-use Rattle.recipe_text.proofs.Walks.{Passes}
+use Rattle.recipe.proofs.TextLemmas.Walks.{Passes}
 use Rattle.recipe.proofs.references.stages_refer.Given as goal
 
 abbrev pub invariant-loop-stage : goal.invariant-loop-stage

@@ -1,8 +1,8 @@
 use Rattle.std.proofs.lemmas.Result.{err_from_is_err_and}
 use Rattle.toml.specs.View.{table_view}
-use Rattle.recipe_text.specs.Inside.Views.{TableRef}
+use Rattle.recipe.specs.Text.Inside.Views.{TableRef}
 use Rattle.recipe.specs.Tables.{next_source}
-use Rattle.recipe_text.proofs.Walks.{gathers_more, gathers_fails, gathers_all}
+use Rattle.recipe.proofs.TextLemmas.Walks.{gathers_more, gathers_fails, gathers_all}
 use Rattle.recipe.proofs.sources.sources_of.Goals as goal
 
 pub returns-in_err-source-clause-sources : goal.returns-in_err-source-clause-sources

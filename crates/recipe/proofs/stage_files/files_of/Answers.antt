@@ -1,8 +1,8 @@
 use Rattle.std.proofs.lemmas.Result.{err_from_is_err_and}
 use Rattle.toml.specs.View.{view}
-use Rattle.recipe_text.specs.declared.keys.Key.TheVariants as key
+use Rattle.recipe.specs.declared.text.keys.Key.TheVariants as key
 use Rattle.recipe.specs.Tables.{next_file}
-use Rattle.recipe_text.proofs.Walks.{gathers_more, gathers_fails, gathers_all}
+use Rattle.recipe.proofs.TextLemmas.Walks.{gathers_more, gathers_fails, gathers_all}
 use Rattle.recipe.proofs.stage_files.files_of.Goals as goal
 
 pub returns-in_err-file : goal.returns-in_err-file

@@ -1,7 +1,7 @@
 use Rattle.toml.specs.View.{view}
-use Rattle.recipe_text.specs.declared.keys.Key.TheVariants as key
+use Rattle.recipe.specs.declared.text.keys.Key.TheVariants as key
 use Rattle.recipe.specs.Tables.{next_file}
-use Rattle.recipe_text.proofs.Walks.{Gathers}
+use Rattle.recipe.proofs.TextLemmas.Walks.{Gathers}
 use Rattle.recipe.proofs.stage_files.files_of.Given as goal
 
 abbrev pub invariant-loop-entry : goal.invariant-loop-entry

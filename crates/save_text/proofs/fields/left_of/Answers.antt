@@ -3,7 +3,7 @@ use Rattle.std.specs.Option.{option_copied}
 use Rattle.std.proofs.lemmas.Result.{err_from_is_err_and}
 use Rattle.report.specs.declared.types.LeftLine.{LeftLine}
 use Rattle.save_text.specs.SaveText.{after_left, left_at}
-use Rattle.byte_fields.proofs.Loop.{goes_on, fails, is_done}
+use Rattle.save_text.proofs.ByteFieldsLemmas.Loop.{goes_on, fails, is_done}
 use Rattle.save_text.proofs.fields.left_of.Goals as goal
 
 pub returns-in_err-name : goal.returns-in_err-name

@@ -1,7 +1,7 @@
 use Rattle.std.proofs.Common.{◌≡◌, ◌-◌, None}
 use Rattle.std.specs.Option.{option_copied}
-use Rattle.byte_fields.specs.Reader.{several}
-use Rattle.byte_fields.proofs.Loop.{with_front}
+use Rattle.save_text.specs.ByteFields.Reader.{several}
+use Rattle.save_text.proofs.ByteFieldsLemmas.Loop.{with_front}
 use Rattle.save_text.specs.SaveText.{after_left, left_at}
 use Rattle.save_text.proofs.fields.left_of.Given as goal
 

@@ -1,7 +1,7 @@
 use Rattle.std.proofs.Common.{◌≡◌, ◌++◌, length, take}
 use Rattle.std.specs.List.{flat_map}
 use Rattle.std.specs.Int.{w32}
-use Rattle.byte_fields.specs.Spelling.{number_text}
+use Rattle.save_text.specs.ByteFields.Spelling.{number_text}
 use Rattle.save_text.specs.Spelled.{left_text}
 use Rattle.save_text.proofs.fields.put_left.Given as goal
 

@@ -1,5 +1,5 @@
 use Rattle.std.proofs.Common.{ap, sym, subst, length, ◌≤◌, arith}
-use Rattle.byte_fields.proofs.Spells.{AreBytes, rest_within}
+use Rattle.save_text.proofs.ByteFieldsLemmas.Spells.{AreBytes, rest_within}
 use Rattle.save_text.specs.Seen.{view}
 use Rattle.save_text.proofs.Texts.{spells_save}
 use Rattle.save_text.proofs.reading.all.Goals as goal

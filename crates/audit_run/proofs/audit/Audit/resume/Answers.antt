@@ -1,5 +1,5 @@
 use Rattle.std.proofs.Common.{◌≡◌, ℕ, List, Ok, subst}
-use Rattle.audit_save.specs.Saves.{Resumes, save_of}
+use Rattle.audit_run.specs.Save.Saves.{Resumes, save_of}
 use Rattle.save_text.specs.Spelled.{text_of}
 use Rattle.audit_run.specs.Saved.{standing_at}
 use Rattle.audit_run.proofs.audit.Audit.resume.Goals as goal

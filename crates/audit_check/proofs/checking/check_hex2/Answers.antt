@@ -1,7 +1,0 @@
-use Rattle.source_check.specs.Checks.{check}
-use Rattle.audit_check.proofs.Refused.{read-refused}
-use Rattle.audit_check.proofs.checking.check_hex2.Goals as goal
-
-pub returns-in-Err : goal.returns-in-Err
-unfolding check
-returns-in-Err c = read-refused _ _ _ c.in-Err.refusal _ c.in-Err.ensures c.hex_refused.ensures

@@ -1,5 +1,0 @@
-use Rattle.audit_check.proofs.Others.{SameBelow}
-use Rattle.audit_check.proofs.items.first_other_item.Given as goal
-
-abbrev pub invariant-loop-index : goal.invariant-loop-index
-invariant-loop-index l = SameBelow l.fn.ours l.fn.theirs l.index

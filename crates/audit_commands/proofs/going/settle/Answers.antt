@@ -1,0 +1,5 @@
+use Rattle.command_plan.proofs.Performing.{wants_memory}
+use Rattle.audit_commands.proofs.going.settle.Goals as goal
+
+pub returns-in-OutOfMemory : goal.returns-in-OutOfMemory
+returns-in-OutOfMemory g c = λ stands came. wants_memory _ _

@@ -1,0 +1,13 @@
+-- What the commands print beside the lines of `audit`. docs/reference/command-line.md says the same for people.
+use Rattle.std.specs.Prelude.{ℕ, List, [], ◌∷◌, codes, decimal}
+use Rattle.ddc_base.specs.Lines.{line}
+use Rattle.audit_run.specs.Save.Saves.{save_refusal_number}
+use Rattle.audit_run.specs.declared.save.reading.SaveRefusal.{SaveRefusal}
+
+-- an audit stands in this stage, after so many steps of it
+unfoldable pub paused_line : List ℕ → ℕ → List ℕ
+paused_line stage steps = line (codes "paused" ∷ stage ∷ decimal steps ∷ [])
+
+-- a file is no save of the recipe and its inputs
+unfoldable pub refused_line : SaveRefusal → List ℕ
+refused_line refusal = line (codes "save" ∷ codes "refused" ∷ decimal (save_refusal_number refusal) ∷ [])

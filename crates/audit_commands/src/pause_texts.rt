@@ -1,0 +1,28 @@
+//! What the commands print beside the lines of `audit`.
+
+ghost use Rattle.std.specs.Prelude.{◌≡◌, IfOk};
+ghost use Rattle.audit_commands.specs.PauseTexts.{paused_line, refused_line};
+
+use audit_run::save::SaveRefusal;
+use ddc_base::{Bytes, OutOfMemory};
+use std::alloc::Global;
+
+/// An audit stands in this stage, after so many steps of it.
+#[tactic(auto, using(crate::proofs::PauseWritten::written), unfolding(crate::specs::PauseTexts::paused_line))]
+pub fn paused(alloc: Global, stage: &[u8], steps: u64) -> Result<Bytes, OutOfMemory>
+    ensures { IfOk result (λ text. text ≡ paused_line stage.now steps) }
+{
+    let mut text = Bytes::from_slice(alloc, b"paused ")?;
+    text.extend(stage)?;
+    text.extend(format!(in alloc; " {steps}\n")?.as_bytes())?;
+    Ok(text)
+}
+
+/// A file is no save of the recipe and its inputs.
+#[tactic(auto, unfolding(crate::specs::PauseTexts::refused_line))]
+pub fn refused(alloc: Global, refusal: SaveRefusal) -> Result<Bytes, OutOfMemory>
+    ensures { IfOk result (λ text. text ≡ refused_line refusal) }
+{
+    let number = refusal.number();
+    Ok(Bytes::from_vec(format!(in alloc; "save refused {number}\n")?.into_bytes()))
+}

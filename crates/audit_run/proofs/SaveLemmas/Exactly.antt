@@ -1,0 +1,135 @@
+-- Exactly the saves of places in an audit are read, each as its place.
+use Rattle.std.proofs.Common.{◌≡◌, ℕ, List, [], ◌∷◌, map, Result, Ok, Err, refl, sym, ap, subst, ◌∙◌}
+use Rattle.std.specs.Prelude.{IfOk}
+use Rattle.save_text.proofs.ByteFieldsLemmas.Spells.{AreBytes, whole_takes}
+use Rattle.guest_run.specs.State.{GuestState}
+use Rattle.guest_run.specs.Valid.{IsValid}
+use Rattle.recipe.specs.declared.contents.Said.{Said}
+use Rattle.recipe.specs.declared.parts.Stage.{Stage}
+use Rattle.recipe.specs.Kept as kept
+use Rattle.checkpoints.specs.Checkpoint.{IsInRange, guest_of, state_of}
+use Rattle.checkpoints.proofs.SameText.{same_text}
+use Rattle.checkpoints.proofs.States.{in_range, joined, same_guest}
+use Rattle.save_text.specs.declared.parts.InputPart.{InputPart}
+use Rattle.save_text.specs.SaveText.{SaveText, StageText, formed}
+use Rattle.save_text.specs.Spelled.{IsText, text_of}
+use Rattle.save_text.specs.Seen.{input_view}
+use Rattle.save_text.proofs.Texts.{formed_again, spells_save}
+use Rattle.wheeler.specs.declared.answer.Finished.{Finished}
+use Rattle.wheeler.specs.Positions.{Position, at, todo}
+use Rattle.wheeler.specs.Valid.{AreDone, IsInputs, IsPosition}
+use Rattle.audit_run.specs.declared.save.reading.SaveRefusal.{SaveRefusal}
+use Rattle.audit_run.specs.declared.save.reading.SaveRefusal.TheVariants.{Form, OtherRecipe, State, OutOfMemory}
+use Rattle.audit_run.specs.Save.Saves.{IsOf, IsPlace, IsResumedAs, Resumes, digest_of, done_in, finished_of, position_of, save_of, stage_of}
+use Rattle.audit_run.specs.Save.Inside.Seen.{AreDigests}
+use Rattle.audit_run.proofs.SaveLemmas.Written.{has_text}
+
+-- ---- inputs
+
+pub same_digests : (parts : List InputPart) (inputs : List (List ℕ)) → AreDigests parts inputs → map input_view parts ≡ map digest_of inputs
+same_digests [] [] are = refl
+same_digests [] (input ∷ inputs) are = absurd are
+same_digests (part ∷ parts) [] are = absurd are
+same_digests (part ∷ parts) (input ∷ inputs) are = λ i. are.0 i ∷ same_digests parts inputs are.1 i
+
+pub are_digests : (parts : List InputPart) (inputs : List (List ℕ)) → map input_view parts ≡ map digest_of inputs → AreDigests parts inputs
+are_digests [] [] same = tt
+are_digests [] (input ∷ inputs) same = cc
+are_digests (part ∷ parts) [] same = cc
+are_digests (part ∷ parts) (input ∷ inputs) same = (cc, are_digests parts inputs cc)
+
+-- ---- what a save says of a position, and back
+
+same_stages : (stages : List StageText) → map stage_of (map finished_of stages) ≡ stages
+same_stages [] = refl
+same_stages (stage ∷ stages) = ap (λ ss. stage ∷ ss) (same_stages stages)
+
+same_done : (done : List Finished) → map finished_of (map stage_of done) ≡ done
+same_done [] = refl
+same_done (f ∷ done) = ap (λ fs. f ∷ fs) (same_done done)
+
+same_save : (recipe : Said) (inputs : List (List ℕ)) (save : SaveText) → IsText save → IsOf recipe inputs save → IsInRange save.state → save_of recipe inputs (position_of save) ≡ save
+same_save recipe inputs save text is range =
+    λ i. record {
+      recipe = sym is.same_recipe i;
+      inputs = sym is.same_inputs i;
+      stages = same_stages save.stages i;
+      state = same_text save.state text.state range i;
+    }
+
+same_position : (recipe : Said) (inputs : List (List ℕ)) (p : Position) → IsValid p.at → position_of (save_of recipe inputs p) ≡ p
+same_position recipe inputs p valid = λ i. at (same_done p.done i) (same_guest p.at valid i)
+
+spelled : (text : List ℕ) (save : SaveText) → AreBytes text → formed text ≡ Ok save → IsText save × (text ≡ text_of save)
+unfolding formed
+spelled text save fits is = whole_takes spells_save text save fits is
+
+same_said : (text : List ℕ) (s t : SaveText) → formed text ≡ Ok s → formed text ≡ Ok t → s ≡ t
+same_said text s t a b = let both : ◌≡◌ {A = Result SaveText ℕ} (Ok s) (Ok t) = sym a ∙ b in cc
+
+-- ---- each answer
+
+pub is_place : (recipe : Said) (inputs : List (List ℕ)) (text : List ℕ) (result : Result Position SaveRefusal) → IfOk result (λ p. IsValid p.at) → Resumes recipe inputs text result → IfOk result (λ p. IsPosition recipe p)
+unfolding guest_of
+is_place recipe inputs text (Ok p) valid (save, formed_is, is, (stage, stages, place), found) =
+    subst (IsPosition recipe) (sym found) (
+      stage,
+      stages,
+      record {
+        left = place.left;
+        within = place.within;
+        heap = place.heap;
+        valid = subst (λ (q : Position). IsValid q.at) found valid;
+        done = place.done;
+      },
+    )
+is_place recipe inputs text (Err refusal) valid resumes = tt
+
+pub is_found : (recipe : Said) (inputs : List (List ℕ)) (text : List ℕ) (result : Result Position SaveRefusal) → AreBytes text → Resumes recipe inputs text result
+    → IfOk result (λ p. text ≡ text_of (save_of recipe inputs p))
+is_found recipe inputs text (Ok p) fits (save, formed_is, is, (stage, stages, place), found) =
+    let spelt = spelled text save fits formed_is in
+    let same : save_of recipe inputs p ≡ save = ap (save_of recipe inputs) found ∙ same_save recipe inputs save spelt.0 is place.range in
+    spelt.1 ∙ ap text_of (sym same)
+is_found recipe inputs text (Err refusal) fits resumes = tt
+
+-- the save of a position
+
+saves_its_recipe : (recipe : Said) (inputs : List (List ℕ)) (p : Position) → IsOf recipe inputs (save_of recipe inputs p)
+saves_its_recipe recipe inputs p = record { same_recipe = refl; same_inputs = refl }
+
+saves_a_place : (recipe : Said) (inputs : List (List ℕ)) (p : Position) → IsPosition recipe p → IsPlace recipe (save_of recipe inputs p)
+unfolding state_of
+saves_a_place recipe inputs p (stage, stages, ok) =
+    let same : map finished_of (map stage_of p.done) ≡ p.done = same_done p.done in (
+      stage,
+      stages,
+      record {
+        left = ap (todo recipe) same ∙ ok.left;
+        done = subst (AreDone recipe) (sym same) ok.done;
+        range = in_range p.at ok.valid;
+        joined = joined p.at ok.valid;
+        within = ok.within;
+        heap = ok.heap;
+      },
+    )
+
+formed_of : (recipe : Said) (inputs : List (List ℕ)) (text : List ℕ) (p : Position) → kept.IsRecipe recipe → IsInputs recipe inputs → IsPosition recipe p → text ≡ text_of (save_of recipe inputs p)
+    → formed text ≡ Ok (save_of recipe inputs p)
+formed_of recipe inputs text p is given place said = ap formed said ∙ formed_again (save_of recipe inputs p) (has_text recipe inputs p is given place)
+
+pub is_only : (recipe : Said) (inputs : List (List ℕ)) (text : List ℕ) (result : Result Position SaveRefusal) → kept.IsRecipe recipe → IsInputs recipe inputs → Resumes recipe inputs text result
+    → (p : Position) → IsPosition recipe p → text ≡ text_of (save_of recipe inputs p) → IsResumedAs p result
+is_only recipe inputs text (Ok found) is given resumes p place said =
+    let same = same_said text resumes.0 (save_of recipe inputs p) resumes.1 (formed_of recipe inputs text p is given place said) in
+    resumes.4 ∙ ap position_of same ∙ same_position recipe inputs p place.2.valid
+is_only recipe inputs text (Err OutOfMemory) is given resumes p place said = tt
+is_only recipe inputs text (Err (Form offset)) is given resumes p place said =
+    let both : ◌≡◌ {A = Result SaveText ℕ} (Err offset) (Ok (save_of recipe inputs p)) = sym resumes ∙ formed_of recipe inputs text p is given place said in
+    cc
+is_only recipe inputs text (Err OtherRecipe) is given resumes p place said =
+    let same = same_said text resumes.0 (save_of recipe inputs p) resumes.1 (formed_of recipe inputs text p is given place said) in
+    resumes.2 (subst (IsOf recipe inputs) (sym same) (saves_its_recipe recipe inputs p))
+is_only recipe inputs text (Err State) is given resumes p place said =
+    let same = same_said text resumes.0 (save_of recipe inputs p) resumes.1 (formed_of recipe inputs text p is given place said) in
+    resumes.3 (subst (IsPlace recipe) (sym same) (saves_a_place recipe inputs p place))

@@ -1,0 +1,44 @@
+-- The place that a save's parts say.
+use Rattle.std.proofs.Common.{◌≡◌, ℕ, zero, suc, ◌+◌, ◌<◌, true, None, List, [], ◌∷◌, length, map, drop, get_or, All, refl, sym, ap, subst, ◌∙◌, arith}
+use Rattle.std.specs.Prelude.{nat_lt as ltb}
+use Rattle.std.proofs.lemmas.Bool.{ltb-true}
+use Rattle.std.proofs.lemmas.List.Elements.{All-cons, All-nil}
+use Rattle.save_text.specs.ByteFields.Spelling.{InTurn}
+use Rattle.recipe.specs.declared.contents.Said.{Said}
+use Rattle.recipe.specs.declared.parts.Stage.{Stage}
+use Rattle.save_text.specs.declared.parts.StagePart.{StagePart}
+use Rattle.save_text.specs.SaveText.{after_left}
+use Rattle.save_text.specs.Spelled.{IsLeft, IsStage}
+use Rattle.save_text.specs.Seen.{stage_view}
+use Rattle.wheeler.specs.declared.answer.Finished.{Finished}
+use Rattle.wheeler.specs.Positions.{todo}
+use Rattle.audit_run.specs.Save.Saves.{finished_of}
+
+-- the names of each stage's left files are in order
+abbrev pub IsOrdered : Finished → Type 0
+IsOrdered f = InTurn IsLeft after_left None f.left
+
+pub each_ordered : (parts : List StagePart) (any : ℕ) → InTurn (λ (any : ℕ). IsStage) (λ stage. 0) any (map stage_view parts) → All IsOrdered (map (λ part. finished_of (stage_view part)) parts)
+each_ordered [] any turn = All-nil IsOrdered
+each_ordered (part ∷ parts) any turn =
+    All-cons IsOrdered (finished_of (stage_view part)) (map (λ part. finished_of (stage_view part)) parts) turn.0.left.1 (each_ordered parts 0 turn.1)
+
+pub twice : (parts : List StagePart) → map (λ part. finished_of (stage_view part)) parts ≡ map finished_of (map stage_view parts)
+twice [] = refl
+twice (part ∷ parts) = ap (λ fs. finished_of (stage_view part) ∷ fs) (twice parts)
+
+at_index : {A : Type 0} (xs : List A) (i : ℕ) (x : A) → i < length xs → x ≡ get_or xs i x → drop i xs ≡ x ∷ drop (i + 1) xs
+at_index [] i x less is = absurd (omega arith)
+at_index (y ∷ xs) zero x less is = ap (λ z. z ∷ xs) (sym is)
+at_index (y ∷ xs) (suc i) x less is =
+    let same : suc i + 1 ≡ suc (i + 1) = omega arith in
+    at_index xs i x (omega arith) is ∙ ap (λ n. x ∷ drop n (y ∷ xs)) (sym same)
+
+-- the stage after those that are done
+pub present : (recipe : Said) (items : List Stage) (count : ℕ) (done fs : List Finished) (stage : Stage) → items ≡ recipe.stages → count ≡ length done → done ≡ fs → true ≡ ltb count (length items)
+    → stage ≡ get_or items count stage → todo recipe fs ≡ stage ∷ drop (length fs + 1) recipe.stages
+present recipe items count done fs stage same counted are inside there =
+    let index : count ≡ length fs = counted ∙ ap length are in
+    subst (λ n. drop n recipe.stages ≡ stage ∷ drop (n + 1) recipe.stages) index
+    (subst (λ (stages : List Stage). drop count stages ≡ stage ∷ drop (count + 1) stages) same
+    (at_index items count stage (ltb-true count (length items) (sym inside)) there))

@@ -1,0 +1,72 @@
+-- The save of every position is short.
+use Rattle.std.proofs.Common.{ℕ, ◌+◌, ◌*◌, ◌<◌, List, [], ◌∷◌, length, map, All, arith}
+use Rattle.std.specs.List.{flat_map}
+use Rattle.std.proofs.lemmas.List.{length-map}
+use Rattle.std.proofs.lemmas.List.Folds.{flat_map-map}
+use Rattle.std.proofs.lemmas.List.Elements.{All-cons, All-map, All-nil}
+use Rattle.checkpoints.specs.Checkpoint.{state_of}
+use Rattle.checkpoints.proofs.FileTurns.{short_name}
+use Rattle.checkpoints.proofs.StateLengths as state
+use Rattle.checkpoints.proofs.TextLengths.{HasAtMost, alike, counted, items, itself, joined, number16, number32, number64, within}
+use Rattle.recipe.specs.declared.contents.Said.{Said}
+use Rattle.recipe.specs.declared.parts.Stage.{Stage}
+use Rattle.recipe.specs.Kept.{IsRecipe}
+use Rattle.report.specs.declared.types.LeftLine.{LeftLine}
+use Rattle.report.specs.declared.types.Mark.{Mark}
+use Rattle.report.proofs.Marks.{is_digest}
+use Rattle.save_text.specs.SaveText.{magic}
+use Rattle.save_text.specs.Spelled.{digest_text, left_text, mark_text, stage_text, text_of}
+use Rattle.save_text.specs.StateText.Spelled as state_text
+use Rattle.wheeler.specs.declared.answer.Finished.{Finished}
+use Rattle.wheeler.specs.Positions.{Position}
+use Rattle.wheeler.specs.Stages.{artefact_bytes}
+use Rattle.wheeler.specs.Valid.{AreFinished, IsFinished, IsInputs, IsLeftLine, IsPosition, IsSmallMark}
+use Rattle.wheeler.proofs.Rules as rule
+use Rattle.audit_run.specs.Save.Saves.{digest_of, save_of, stage_of}
+use Rattle.audit_run.proofs.SaveLemmas.Written.{few_done}
+
+input_most : (input : List ℕ) → HasAtMost 32 (digest_text (digest_of input))
+input_most input = record { long = (let count = (is_digest input).count in omega arith) }
+
+mark_most : (mark : Mark) → IsSmallMark mark → HasAtMost 36 (mark_text mark)
+unfolding mark_text
+mark_most mark small = let count = small.digest.count in joined {n = 32} (number32 mark.length) (record { long = omega arith })
+
+left_most : (file : LeftLine) → IsLeftLine file → HasAtMost 293 (left_text file)
+left_most file line = joined {m = 257} (joined {n = 255} (number16 (length file.name)) (record { long = (short_name file.name line.named).1 })) (mark_most file.mark line.mark)
+
+stage_most : (stage : Stage) (f : Finished) → IsFinished stage f → HasAtMost (1_200_216 + length f.made) (stage_text (stage_of f))
+unfolding stage_text
+stage_most stage f is =
+    let few = is.few_left in
+    within (joined (number64 f.steps) (joined (mark_most f.stream1 is.stream1) (joined (mark_most f.stream2 is.stream2)
+    (joined (counted left_text f.left (alike left_text 293 f.left (λ k d less. left_most _ (is.each_left k d less)))) (joined (number32 (length f.made)) (itself f.made)))))) (omega arith)
+
+abbrev IsShort : Finished → Type 0
+IsShort f = HasAtMost (1_200_216 + length f.made) (stage_text (stage_of f))
+
+stages_most : (stages : List Stage) (done : List Finished) → AreFinished stages done → All IsShort done
+stages_most stages [] are = All-nil IsShort
+stages_most [] (f ∷ done) are = absurd are
+stages_most (stage ∷ stages) (f ∷ done) are = All-cons IsShort f done (stage_most stage f are.0) (stages_most stages done are.1)
+
+save_most : (recipe : Said) (inputs : List (List ℕ)) (p : Position) → IsRecipe recipe → IsInputs recipe inputs → IsPosition recipe p → HasAtMost 3_273_774_448 (text_of (save_of recipe inputs p))
+unfolding text_of
+save_most recipe inputs p is given (stage, stages, ok) =
+    let rules = rule.rules recipe is in
+    let digest = rules.digest.count in
+    let few_inputs = rules.few_inputs in
+    let few_stages = rules.few_stages in
+    let count = given.count in
+    let small = ok.done.small in
+    let few = few_done recipe.stages p.done ok.done.each in
+    let said : HasAtMost 32 (digest_text recipe.digest) = record { long = omega arith } in
+    let given_inputs = alike digest_text 32 (map digest_of inputs) (All-map (λ digest. HasAtMost 32 (digest_text digest)) digest_of inputs (λ k d less. input_most _)) in
+    let done : HasAtMost (length p.done * 1_200_216 + artefact_bytes p.done) (flat_map stage_text (map stage_of p.done)) =
+    rw flat_map-map (items (λ f. stage_text (stage_of f)) (λ f. length f.made) 1_200_216 p.done (stages_most recipe.stages p.done ok.done.each)) in
+    let at : HasAtMost 1_892_769_088 (state_text.text_of (state_of p.at)) = record { long = state.short p.at ok.valid } in
+    within (joined (itself magic) (joined said (joined (counted digest_text (map digest_of inputs) given_inputs) (joined (counted stage_text (map stage_of p.done) done) at))))
+    (omega (arith, length-map inputs digest_of))
+
+pub short : (recipe : Said) (inputs : List (List ℕ)) (p : Position) → IsRecipe recipe → IsInputs recipe inputs → IsPosition recipe p → length (text_of (save_of recipe inputs p)) < 4_294_967_296
+short recipe inputs p is given at = let long = (save_most recipe inputs p is given at).long in omega arith

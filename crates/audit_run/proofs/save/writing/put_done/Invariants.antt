@@ -1,0 +1,10 @@
+use Rattle.std.proofs.Common.{◌≡◌, ◌++◌, length, map, take}
+use Rattle.std.specs.List.{flat_map}
+use Rattle.std.specs.Int.{w32}
+use Rattle.save_text.specs.ByteFields.Spelling.{number_text}
+use Rattle.save_text.specs.Spelled.{stage_text}
+use Rattle.audit_run.specs.Save.Saves.{stage_of}
+use Rattle.audit_run.proofs.save.writing.put_done.Given as goal
+
+abbrev pub invariant-loop-stage : goal.invariant-loop-stage
+invariant-loop-stage l = l.out ≡ l.fn.out ++ (number_text w32 (length l.done) ++ flat_map stage_text (map stage_of (take l.stage-index l.done)))

@@ -1,0 +1,6 @@
+use Rattle.std.proofs.Common.{◌≡◌, ◌+◌, drop}
+use Rattle.wheeler.specs.Stages.{artefact_bytes}
+use Rattle.audit_run.proofs.stage.ending.artefact_bytes.Given as goal
+
+abbrev pub invariant-loop-stage : goal.invariant-loop-stage
+invariant-loop-stage l = l.total + artefact_bytes (drop l.stage-index l.done) ≡ artefact_bytes l.fn.done

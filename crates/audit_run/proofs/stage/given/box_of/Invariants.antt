@@ -1,0 +1,20 @@
+use Rattle.std.proofs.Common.{◌≡◌, [], take}
+use Rattle.std.specs.FinMap as finite
+use Rattle.std.specs.List.{fold}
+use Rattle.wheeler.specs.Contents.{with_file}
+use Rattle.wheeler.specs.Stages.{contents}
+use Rattle.audit_run.proofs.stage.given.box_of.Given as goal
+
+abbrev pub invariant-loop-text : goal.invariant-loop-text
+invariant-loop-text l = l.given ≡ record { args = take l.text-index l.stage.args; env = []; files = finite.empty; heap = l.stage.heap }
+
+abbrev pub invariant-loop-text-2 : goal.invariant-loop-text-2
+invariant-loop-text-2 l = l.given ≡ record { args = l.stage.args; env = take l.text-index l.stage.env; files = finite.empty; heap = l.stage.heap }
+
+abbrev pub invariant-loop-file : goal.invariant-loop-file
+invariant-loop-file l = l.given ≡ record {
+  args = l.stage.args;
+  env = l.stage.env;
+  files = fold (with_file l.recipe (contents l.inputs l.done)) finite.empty (take l.file-index l.stage.files);
+  heap = l.stage.heap;
+}

@@ -1,0 +1,95 @@
+-- The save of an audit, and the position that a save says. docs/reference/save.md says the same for people.
+use Rattle.std.specs.Prelude.{◌≡◌, ◌≢◌, ◌<◌, ℕ, List, ◌∷◌, map, Result, Ok, Err}
+use Rattle.sha2.specs.Sha256.{sha256}
+use Rattle.ddc_base.specs.declared.digests.Digest.{Digest}
+use Rattle.recipe.specs.declared.contents.Said.{Said}
+use Rattle.recipe.specs.declared.parts.Stage.{Stage}
+use Rattle.checkpoints.specs.Checkpoint.{IsInRange, IsJoined, guest_of, state_of}
+use Rattle.save_text.specs.SaveText.{SaveText, StageText, formed}
+use Rattle.wheeler.specs.declared.answer.Finished.{Finished}
+use Rattle.wheeler.specs.Positions.{Position, at, todo}
+use Rattle.wheeler.specs.Valid.{AreDone}
+use Rattle.audit_run.specs.declared.save.reading.SaveRefusal.{SaveRefusal}
+use Rattle.audit_run.specs.declared.save.reading.SaveRefusal.TheVariants.{Form, OtherRecipe, State, OutOfMemory}
+
+-- a stage that is done is said field by field
+abbrev pub stage_of : Finished → StageText
+stage_of f = record { steps = f.steps; stream1 = f.stream1; stream2 = f.stream2; left = f.left; made = f.made }
+
+abbrev pub finished_of : StageText → Finished
+finished_of s = record { steps = s.steps; stream1 = s.stream1; stream2 = s.stream2; left = s.left; made = s.made }
+
+abbrev pub digest_of : List ℕ → Digest
+digest_of bytes = record { 0 = sha256 bytes }
+
+-- what the save of a position says: of which recipe and which inputs it is, the stages that are done, and the present guest's state
+abbrev pub save_of : Said → List (List ℕ) → Position → SaveText
+save_of recipe inputs p = record {
+  recipe = recipe.digest;
+  inputs = map digest_of inputs;
+  stages = map stage_of p.done;
+  state = state_of p.at;
+}
+
+-- the position that a save says
+abbrev pub done_in : SaveText → List Finished
+done_in save = map finished_of save.stages
+
+abbrev pub position_of : SaveText → Position
+position_of save = at (done_in save) (guest_of save.state)
+
+-- a save of this recipe and of these inputs
+pub record IsOf (recipe : Said) (inputs : List (List ℕ)) (save : SaveText) : Type 0 where
+  pub same_recipe : save.recipe ≡ recipe.digest
+  pub same_inputs : save.inputs ≡ map digest_of inputs
+
+-- what makes a save of a recipe a place in its audit: fewer stages are done than it has, each as a stage of the recipe can be done; and the
+-- state is that of a guest, its steps are below the present stage's limit, and its heap may have as many bytes as that stage gives
+pub record IsPlaceIn (recipe : Said) (save : SaveText) (stage : Stage) (stages : List Stage) : Type 0 where
+  pub left : todo recipe (done_in save) ≡ stage ∷ stages
+  pub done : AreDone recipe (done_in save)
+  pub range : IsInRange save.state
+  pub joined : IsJoined save.state
+  pub within : save.state.steps < stage.steps
+  pub heap : save.state.heap.limit ≡ stage.heap
+
+abbrev pub IsPlace : Said → SaveText → Type 0
+IsPlace recipe save = (stage : Stage) × (stages : List Stage) × IsPlaceIn recipe save stage stages
+
+-- what becomes of what a save of the recipe says; want of memory says nothing of it
+abbrev pub Stands : Said → SaveText → Result Position SaveRefusal → Type 0
+Stands recipe save (Ok p) = IsPlace recipe save × (p ≡ position_of save)
+Stands recipe save (Err State) = ¬ (IsPlace recipe save)
+Stands recipe save (Err OutOfMemory) = Unit {0}
+Stands recipe save (Err (Form offset)) = ⊥
+Stands recipe save (Err OtherRecipe) = ⊥
+
+-- what becomes of a text: its form is judged first, then whether it is of this recipe and these inputs, then whether it is a place
+abbrev pub Resumes : Said → List (List ℕ) → List ℕ → Result Position SaveRefusal → Type 0
+Resumes recipe inputs text (Ok p) = (save : SaveText) × (formed text ≡ Ok save) × IsOf recipe inputs save × IsPlace recipe save × (p ≡ position_of save)
+Resumes recipe inputs text (Err (Form offset)) = formed text ≡ Err offset
+Resumes recipe inputs text (Err OtherRecipe) = (save : SaveText) × (formed text ≡ Ok save) × ¬ (IsOf recipe inputs save)
+Resumes recipe inputs text (Err State) = (save : SaveText) × (formed text ≡ Ok save) × IsOf recipe inputs save × ¬ (IsPlace recipe save)
+Resumes recipe inputs text (Err OutOfMemory) = Unit {0}
+
+-- the answer to a text: what the rules allow of it where memory is not wanting, of which there is exactly one
+-- (`laws::every_text_has_one_answer`)
+pub record Answer (recipe : Said) (inputs : List (List ℕ)) (text : List ℕ) : Type 0 where
+  pub result : Result Position SaveRefusal
+  pub resumes : Resumes recipe inputs text result
+  pub settled : result ≢ Err OutOfMemory
+
+-- a text is resumed as this position
+abbrev pub IsResumedAs : Position → Result Position SaveRefusal → Type 0
+IsResumedAs p (Ok found) = found ≡ p
+IsResumedAs p (Err OutOfMemory) = Unit {0}
+IsResumedAs p (Err (Form offset)) = ⊥
+IsResumedAs p (Err OtherRecipe) = ⊥
+IsResumedAs p (Err State) = ⊥
+
+-- the number of a refusal
+abbrev pub save_refusal_number : SaveRefusal → ℕ
+save_refusal_number (Form offset) = 1
+save_refusal_number OtherRecipe = 2
+save_refusal_number State = 3
+save_refusal_number OutOfMemory = 4

@@ -1,0 +1,161 @@
+//! Whether stages that a save says to be done can be: each stands for itself, by the recipe alone.
+
+ghost use Rattle.std.specs.Prelude.{◌≡◌, ◌+◌, ◌-◌, ◌≤◌, ◌↔◌, All, Contains, IsTrue, None, SomeIff, length};
+ghost use Rattle.save_text.specs.ByteFields.Spelling.{InTurn};
+ghost use Rattle.mem_files.specs.Names.{is_stripped_name};
+ghost use Rattle.mem_files.specs.Outputs.{IsContent};
+ghost use Rattle.mem_files.specs.Sound.{AreBytes};
+ghost use Rattle.report.specs.Reports.{ascend};
+ghost use Rattle.save_text.specs.SaveText.{after_left};
+ghost use Rattle.save_text.specs.Spelled.{IsLeft};
+ghost use Rattle.wheeler.specs.Stages.{artefact_bytes};
+ghost use Rattle.wheeler.specs.Valid.{AreDone, AreFinished, HasMark, IsFinished, IsLeftLine, IsSmallMark};
+
+use crate::stage::Done;
+use mem_files::{MAX_CONTENT, MAX_NAMES, is_stripped_name};
+use recipe::{Output, Recipe, Stage};
+use report::{LeftLine, Mark};
+use wheeler::MAX_ARTEFACTS;
+
+/// Whether these can be the first stages of the recipe that are done.
+pub(crate) fn are_done(recipe: &Recipe, done: &[Done]) -> bool
+    requires { All (λ f. InTurn IsLeft after_left None f.left) done.now }
+    ensures { IsTrue result ↔ AreDone recipe.now done.now }
+{
+    are_small(done) && are_finished(recipe.stages().as_slice(), done)
+}
+
+/// Whether all artefacts together are small enough.
+fn are_small(done: &[Done]) -> bool
+    ensures { IsTrue result ↔ (artefact_bytes done.now ≤ 1_073_741_824) }
+{
+    left_after(done, MAX_ARTEFACTS).is_some()
+}
+
+/// What is left of so many bytes behind all artefacts; `None` where they have more.
+fn left_after(done: &[Done], most: u64) -> Option<u64>
+    ensures { SomeIff result (artefact_bytes done.now ≤ most) (most - artefact_bytes done.now) }
+{
+    let mut left = most;
+    for stage in done {
+        let size = stage.made().len() as u64;
+        if size > left {
+            return None;
+        }
+        left -= size;
+    }
+    Some(left)
+}
+
+/// Whether each stage that is done is one of these, in order.
+fn are_finished(stages: &[Stage], done: &[Done]) -> bool
+    requires { All (λ f. InTurn IsLeft after_left None f.left) done.now }
+    ensures { IsTrue result ↔ AreFinished stages.now done.now }
+{
+    match done {
+        [] => true,
+        [first, later @ ..] => match stages {
+            [] => false,
+            [stage, rest @ ..] => is_finished(stage, first) && are_finished(rest, later),
+        },
+    }
+}
+
+/// Whether a stage can be done so.
+fn is_finished(stage: &Stage, done: &Done) -> bool
+    requires { InTurn IsLeft after_left None done.now.left }
+    ensures { IsTrue result ↔ IsFinished stage.now done.now }
+{
+    let finished = done.finished();
+    if !are_steps(finished.steps, stage.steps) {
+        return false;
+    }
+    if !is_small(finished.stream1) {
+        return false;
+    }
+    if !is_small(finished.stream2) {
+        return false;
+    }
+    if !are_left(finished.left.as_slice()) {
+        return false;
+    }
+    if !is_content(done.made()) {
+        return false;
+    }
+    has_mark(&stage.output, done)
+}
+
+fn are_steps(steps: u64, most: u64) -> bool
+    ensures { IsTrue result ↔ ((1 ≤ steps) × (steps ≤ most)) }
+{
+    steps >= 1 && steps <= most
+}
+
+fn is_small(mark: Mark) -> bool
+    ensures { IsTrue result ↔ IsSmallMark mark }
+{
+    mark.length < 1 << 32 && is_digest(&mark.digest.0)
+}
+
+fn is_digest(bytes: &[u8]) -> bool
+    ensures { IsTrue result ↔ ((length bytes.now ≡ 32) × AreBytes bytes.now) }
+{
+    bytes.len() == 32
+}
+
+fn is_content(bytes: &[u8]) -> bool
+    ensures { IsTrue result ↔ IsContent bytes.now }
+{
+    bytes.len() as u64 <= MAX_CONTENT
+}
+
+/// Whether a program can have left these files.
+fn are_left(files: &[LeftLine]) -> bool
+    requires { InTurn IsLeft after_left None files.now }
+    ensures { IsTrue result ↔ (All IsLeftLine files.now × (length files.now ≤ 4_096) × IsTrue (ascend files.now)) }
+{
+    if files.len() > MAX_NAMES {
+        return false;
+    }
+    are_lines(files)
+}
+
+fn are_lines(files: &[LeftLine]) -> bool
+    ensures { IsTrue result ↔ All IsLeftLine files.now }
+{
+    files.iter().all(|file| is_left(file))
+}
+
+fn is_left(file: &LeftLine) -> bool
+    ensures { IsTrue result ↔ IsLeftLine file.now }
+{
+    is_small(file.mark) && is_name(file.name.as_slice())
+}
+
+fn is_name(name: &[u8]) -> bool
+    ensures { IsTrue result ↔ (IsTrue (is_stripped_name name.now) × AreBytes name.now) }
+{
+    is_stripped_name(name)
+}
+
+/// Whether the artefact has the mark that was kept of the stage's output.
+fn has_mark(output: &Output, done: &Done) -> bool
+    ensures { IsTrue result ↔ HasMark output.now done.now }
+{
+    match output {
+        Output::Stream => done.finished().stream1 == done.mark(),
+        Output::File(path) => is_among(
+            done.finished().left.as_slice(),
+            path.as_slice(),
+            done.mark(),
+        ),
+    }
+}
+
+fn is_among(files: &[LeftLine], name: &[u8], mark: Mark) -> bool
+    ensures { IsTrue result ↔ Contains files.now (record { name = name.now; mark = mark }) }
+{
+    files
+        .iter()
+        .any(|file| file.name.as_slice() == name && file.mark == mark)
+}

@@ -1,0 +1,227 @@
+//! The place in an audit that a text says.
+
+ghost use Rattle.std.specs.Prelude.{◌≡◌, ◌↔◌, IfOk, IsTrue, map};
+ghost use Rattle.audit_run.specs.Save.Saves.{IsResumedAs, Resumes, Stands, digest_of, finished_of, save_of, save_refusal_number};
+ghost use Rattle.audit_run.specs.Save.Inside.Seen.{AreDigests};
+ghost use Rattle.guest_run.specs.Valid.{IsValid};
+ghost use Rattle.recipe.specs.Kept.{IsRecipe};
+ghost use Rattle.save_text.specs.Spelled.{IsText, text_of};
+ghost use Rattle.save_text.specs.Seen.{stage_view, view};
+ghost use Rattle.wheeler.specs.Positions.{Position, at};
+ghost use Rattle.wheeler.specs.Valid.{IsInputs, IsPosition};
+
+use crate::save::judging::are_done;
+use crate::stage::Done;
+use checkpoints::{RestoreRefusal, guest_of};
+use ddc_base::digests::Digest;
+use ddc_base::{Bytes, OutOfMemory, digest};
+use guest_run::{Guest, RunRam};
+use recipe::Recipe;
+use save_text::state_text::TextRefusal;
+use save_text::{InputPart, Parts, StagePart};
+use std::alloc::Global;
+use std::marker::Model;
+use wheeler::Finished;
+
+/// Why a text is no save of an audit.
+#[derive(Clone, Copy, Debug, PartialEq, Eq)]
+pub enum SaveRefusal {
+    /// The field that begins at this offset is the first that is wrong.
+    Form(u64),
+    /// It is of another recipe, or of other inputs.
+    OtherRecipe,
+    /// It says no place in the recipe's audit.
+    State,
+    OutOfMemory,
+}
+
+impl SaveRefusal {
+    /// The number of the refusal, from 1.
+    pub fn number(&self) -> u8
+        ensures { result ≡ save_refusal_number self.now }
+    {
+        match self {
+            SaveRefusal::Form(_) => 1,
+            SaveRefusal::OtherRecipe => 2,
+            SaveRefusal::State => 3,
+            SaveRefusal::OutOfMemory => 4,
+        }
+    }
+}
+
+/// Where an audit stands in a stage.
+#[derive(Debug, Drop)]
+pub struct Resumed {
+    done: Vec<Done>,
+    guest: Guest<RunRam>,
+}
+
+impl Model for Resumed {
+    ghost use Rattle.audit_run.specs.Save.Inside.Seen.{position_code};
+    ghost use Rattle.wheeler.specs.Positions.{Position, at};
+
+    ghost Value = { Position };
+
+    ghost coded = { position_code };
+
+    ghost view = { λ r. at r.done.items r.guest };
+}
+
+impl Resumed {
+    /// The stages that are done, in the recipe's order, and the present stage's guest.
+    pub fn into_parts(self) -> (Vec<Done>, Guest<RunRam>)
+        ensures { at result.0.items result.1 ≡ self }
+    {
+        let Resumed { done, guest } = self;
+        (done, guest)
+    }
+}
+
+/// Where the audit of this recipe and these inputs stands by a save of it.
+pub fn read(
+    alloc: Global,
+    recipe: &Recipe,
+    inputs: &[Bytes],
+    text: &[u8],
+) -> Result<Resumed, SaveRefusal>
+    requires { IsInputs recipe.now inputs.now }
+    // What is read is a place in the audit, and has this text.
+    ensures place { IfOk result (λ p. IsPosition recipe.now p) }
+    ensures found { IfOk result (λ p. text.now ≡ text_of (save_of recipe.now inputs.now p)) }
+    // The save of every place in the audit, reached or not, is read as that place, unless memory runs out.
+    ensures only { (p : Position) → IsPosition recipe.now p → text.now ≡ text_of (save_of recipe.now inputs.now p) → IsResumedAs p result }
+    // When each refusal comes.
+    ensures exact { Resumes recipe.now inputs.now text.now result }
+{
+    judged(alloc, recipe, inputs, text)
+}
+
+fn judged(
+    alloc: Global,
+    recipe: &Recipe,
+    inputs: &[Bytes],
+    text: &[u8],
+) -> Result<Resumed, SaveRefusal>
+    ensures kept { IsRecipe recipe.now }
+    ensures resumes { Resumes recipe.now inputs.now text.now result }
+    ensures valid { IfOk result (λ p. IsValid p.at) }
+{
+    let digest = recipe.digest();
+    let parts = match save_text::read(alloc, text) {
+        Ok(parts) => parts,
+        Err(TextRefusal::Form(offset)) => return Err(SaveRefusal::Form(offset)),
+        Err(TextRefusal::OutOfMemory) => return Err(SaveRefusal::OutOfMemory),
+    };
+    if !is_of(&parts, digest, inputs) {
+        return Err(SaveRefusal::OtherRecipe);
+    }
+    match place_of(alloc, recipe, parts) {
+        Ok(place) => Ok(place),
+        Err(SaveRefusal::State) => Err(SaveRefusal::State),
+        Err(SaveRefusal::OutOfMemory) => Err(SaveRefusal::OutOfMemory),
+        Err(SaveRefusal::Form(_)) => unreachable!(),
+        Err(SaveRefusal::OtherRecipe) => unreachable!(),
+    }
+}
+
+/// Whether a save is of the recipe of this digest and of these inputs.
+fn is_of(parts: &Parts<'_>, recipe: &Digest, inputs: &[Bytes]) -> bool
+    ensures { IsTrue result ↔ ((parts.now.recipe ≡ recipe.now) × AreDigests parts.now.inputs.items inputs.now) }
+{
+    if parts.recipe != *recipe {
+        return false;
+    }
+    are_digests(&parts.inputs, inputs)
+}
+
+fn are_digests(parts: &[InputPart], inputs: &[Bytes]) -> bool
+    ensures { IsTrue result ↔ AreDigests parts.now inputs.now }
+{
+    match parts {
+        [] => match inputs {
+            [] => true,
+            [_, ..] => false,
+        },
+        [part, more @ ..] => match inputs {
+            [] => false,
+            [input, rest @ ..] => { is_digest_of(part, input) && are_digests(more, rest) }
+        },
+    }
+}
+
+fn is_digest_of(part: &InputPart, input: &Bytes) -> bool
+    ensures { IsTrue result ↔ (part.now.digest ≡ digest_of input.now) }
+{
+    part.digest == digest(input.as_slice())
+}
+
+/// The place in a recipe's audit that a save says.
+fn place_of(alloc: Global, recipe: &Recipe, parts: Parts<'_>) -> Result<Resumed, SaveRefusal>
+    requires { IsText (view parts) }
+    ensures stands { Stands recipe.now (view parts.entry) result }
+    ensures valid { IfOk result (λ p. IsValid p.at) }
+{
+    let Parts {
+        done: parts,
+        state,
+        recipe: _,
+        inputs: _,
+    } = parts;
+    let done = match done_of(alloc, parts) {
+        Ok(done) => done,
+        Err(OutOfMemory) => return Err(SaveRefusal::OutOfMemory),
+    };
+    if !are_done(recipe, done.as_slice()) {
+        return Err(SaveRefusal::State);
+    }
+    let Some(stage) = recipe.stages().as_slice().get(done.as_slice().len()) else {
+        return Err(SaveRefusal::State);
+    };
+    if state.steps >= stage.steps {
+        return Err(SaveRefusal::State);
+    }
+    if state.heap.limit != stage.heap {
+        return Err(SaveRefusal::State);
+    }
+    match guest_of(alloc, &state) {
+        Ok(guest) => {
+            // Every guest is in a valid state: this call tells it.
+            guest.steps();
+            Ok(Resumed { done, guest })
+        }
+        Err(RestoreRefusal::Range) => Err(SaveRefusal::State),
+        Err(RestoreRefusal::FileRef) => Err(SaveRefusal::State),
+        Err(RestoreRefusal::OutOfMemory) => Err(SaveRefusal::OutOfMemory),
+    }
+}
+
+/// The stages that are done, as a save says them.
+fn done_of(alloc: Global, parts: Vec<StagePart>) -> Result<Vec<Done>, OutOfMemory>
+    ensures { IfOk result (λ done. done.items ≡ map (λ part. finished_of (stage_view part)) parts.items) }
+{
+    let mut done = Vec::new(alloc);
+    for part in parts {
+        done.push(finished_of(part))?;
+    }
+    Ok(done)
+}
+
+/// A stage that is done, as a save says it.
+fn finished_of(part: StagePart) -> Done
+    ensures { result ≡ finished_of (stage_view part) }
+{
+    let StagePart {
+        steps,
+        stream1,
+        stream2,
+        left,
+        made,
+    } = part;
+    Done::of(Finished {
+        steps,
+        stream1,
+        stream2,
+        left,
+        made,
+    })
+}

@@ -1,0 +1,18 @@
+//! One stage of an audit: what its program is given, its start, the end of its run, and the report of all stages.
+//!
+//! docs/reference/audit.md has the rules.
+
+mod contents;
+mod done;
+mod ending;
+mod given;
+mod left;
+mod marks;
+mod reporting;
+mod sources;
+
+pub use contents::content;
+pub use done::Done;
+pub use ending::exited;
+pub use given::{box_of, start_stage};
+pub use reporting::report_of;

@@ -1,0 +1,65 @@
+ghost use Rattle.std.specs.Prelude.{◌≡◌};
+ghost use Rattle.wheeler.specs.Stages.{mark_of};
+
+use crate::stage::marks::mark_of;
+use report::Mark;
+use std::marker::Model;
+use wheeler::Finished;
+
+/// A stage that is done, seen as `Finished`, with the mark of its artefact, so that this is taken once.
+#[derive(Debug, Drop)]
+pub struct Done {
+    finished: Finished,
+    mark: Mark,
+}
+
+impl Model for Done {
+    ghost use Rattle.wheeler.specs.declared.answer.Finished.{Finished};
+    ghost use Rattle.std.specs.Prelude.{◌≡◌};
+    ghost use Rattle.wheeler.specs.Stages.{mark_of};
+
+    ghost Value = { Finished };
+
+    ghost view = { λ done. done.finished };
+
+    ghost invariant = { λ done. done.mark ≡ mark_of done.finished.made };
+}
+
+impl Done {
+    /// A stage that is done, with the mark of its artefact.
+    pub(crate) fn new(finished: Finished, mark: Mark) -> Done
+        requires { mark ≡ mark_of finished.made }
+        ensures { result ≡ finished }
+    {
+        Done { finished, mark }
+    }
+
+    /// A stage that is done, of what is kept of it.
+    pub fn of(finished: Finished) -> Done
+        ensures { result ≡ finished }
+    {
+        let mark = mark_of(finished.made.as_slice());
+        Done { finished, mark }
+    }
+
+    /// What is kept of the stage.
+    pub fn finished(&self) -> &Finished
+        ensures { result.now ≡ self.now }
+    {
+        &self.finished
+    }
+
+    /// Its artefact.
+    pub fn made(&self) -> &[u8]
+        ensures { result.now ≡ self.now.made }
+    {
+        self.finished.made.as_slice()
+    }
+
+    /// The mark of its artefact.
+    pub fn mark(&self) -> Mark
+        ensures { result ≡ mark_of self.now.made }
+    {
+        self.mark
+    }
+}

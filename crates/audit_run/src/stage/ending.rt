@@ -1,0 +1,112 @@
+//! The end of a stage's run.
+
+ghost use Rattle.audit_run.specs.Stage.Makes.{Makes};
+ghost use Rattle.audit_run.specs.Stage.Rules.{IsStage};
+ghost use Rattle.mem_files.specs.Outputs.{out};
+ghost use Rattle.mem_files.specs.Sound.{IsSound};
+ghost use Rattle.recipe.specs.Kept as kept;
+ghost use Rattle.std.specs.Option.{option_copied};
+ghost use Rattle.std.specs.Prelude.{◌≡◌, ◌≤◌, IfOk, OnErr, Some};
+ghost use Rattle.wheeler.specs.Stages.{artefact_bytes, exited_with, finished, output_of};
+
+use crate::stage::done::Done;
+use crate::stage::left::{Known, left_lines};
+use crate::stage::marks::mark_of;
+use crate::stage::sources::check_of;
+use ddc_base::{Bytes, OutOfMemory};
+use mem_files::Files;
+use recipe::{Output, Recipe, Stage};
+use std::alloc::Global;
+use wheeler::{Fault, Finished, MAX_ARTEFACTS, RunCause};
+
+/// What a stage's run comes to whose program exited with a status at a step, counted from 1.
+///
+/// Want of memory comes only where an artefact was made, which is checked then and kept.
+pub fn exited(
+    alloc: Global,
+    recipe: &Recipe,
+    stage: &Stage,
+    inputs: &[Bytes],
+    done: &[Done],
+    files: &Files,
+    status: u8,
+    step: u64,
+) -> Result<Result<Done, Fault>, OutOfMemory>
+    requires recipe { kept.IsRecipe recipe.now }
+    requires stage { IsStage recipe.now stage.now }
+    requires small { artefact_bytes done.now ≤ 1_073_741_824 }
+    ensures answer { IfOk result (λ r. r ≡ exited_with recipe.now inputs.now done.now stage.now status step files.now) }
+    ensures want { OnErr result (Makes stage.now done.now status files.now) }
+{
+    if status != 0 {
+        return Ok(Err(Fault::Runs(RunCause::Status(status), step)));
+    }
+    let Some(made) = made_by(stage, files) else {
+        return Ok(Err(Fault::Runs(RunCause::NoOutput, step)));
+    };
+    if artefact_bytes(done) + made.len() as u64 > MAX_ARTEFACTS {
+        return Ok(Err(Fault::Runs(RunCause::Crowded, step)));
+    }
+    match check_of(alloc, recipe, stage, inputs, done, made)? {
+        Some(cause) => Ok(Err(Fault::Checks(cause))),
+        None => Ok(Ok(finish(alloc, stage, files, step, made)?)),
+    }
+}
+
+/// The bytes at a stage's output.
+fn made_by<'a>(stage: &Stage, files: &'a Files) -> Option<&'a [u8]>
+    requires { kept.IsOutput stage.now.output }
+    ensures { option_copied result ≡ out files.now (output_of stage.now.output) }
+{
+    match &stage.output {
+        Output::Stream => Some(files.stream(1)),
+        Output::File(path) => files.content(path.as_slice()),
+    }
+}
+
+/// The bytes of all artefacts so far.
+fn artefact_bytes(done: &[Done]) -> u64
+    requires { artefact_bytes done.now ≤ 1_073_741_824 }
+    ensures { result ≡ artefact_bytes done.now }
+{
+    let mut total = 0;
+    for stage in done {
+        total += stage.made().len() as u64;
+    }
+    total
+}
+
+/// The stage that is done: what its program left, with the marks, and a copy of the artefact, whose mark is taken once.
+#[tactic(auto, unfolding(wheeler::specs::Stages::finished))]
+fn finish(
+    alloc: Global,
+    stage: &Stage,
+    files: &Files,
+    steps: u64,
+    made: &[u8],
+) -> Result<Done, OutOfMemory>
+    requires { out files.now (output_of stage.now.output) ≡ Some made.now }
+    ensures { IfOk result (λ f. f ≡ finished steps files.now made.now) }
+{
+    let mark = mark_of(made);
+    let stream2 = mark_of(files.stream(2));
+    let (stream1, left) = match &stage.output {
+        Output::Stream => (mark, left_lines(alloc, files, &None)?),
+        Output::File(path) => {
+            let path = path.as_slice();
+            let known = Some(Known { path, mark });
+            (mark_of(files.stream(1)), left_lines(alloc, files, &known)?)
+        }
+    };
+    let made = Bytes::from_slice(alloc, made)?;
+    Ok(Done::new(
+        Finished {
+            steps,
+            stream1,
+            stream2,
+            left,
+            made,
+        },
+        mark,
+    ))
+}

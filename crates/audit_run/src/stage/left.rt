@@ -1,0 +1,61 @@
+//! The lines of the files that a stage's program left.
+
+ghost use Rattle.std.specs.Prelude.{◌≡◌, [], IfOk, IfSome, IsTrue, map, unwrap_or};
+ghost use Rattle.mem_files.specs.Calls.{content_at};
+ghost use Rattle.mem_files.specs.Names.{is_stripped_name};
+ghost use Rattle.mem_files.specs.Outputs.{left};
+ghost use Rattle.mem_files.specs.Sound.{IsSound};
+ghost use Rattle.wheeler.specs.Stages.{left_line, mark_of};
+
+use crate::stage::marks::mark_of;
+use ddc_base::{Bytes, OutOfMemory};
+use mem_files::Files;
+use report::{LeftLine, LeftLines, Mark};
+use std::alloc::Global;
+
+/// The file at a path, whose mark is known.
+#[derive(Clone, Copy)]
+pub(crate) struct Known<'a> {
+    pub(crate) path: &'a [u8],
+    pub(crate) mark: Mark,
+}
+
+/// The lines of all files that are left, by the bytes of their names.
+pub(crate) fn left_lines(
+    alloc: Global,
+    files: &Files,
+    known: &Option<Known<'_>>,
+) -> Result<LeftLines, OutOfMemory>
+    requires sound { IsSound files.now }
+    requires known { IfSome known.now (λ k. k.mark ≡ mark_of (unwrap_or (content_at files.now k.path.now) [])) }
+    ensures { IfOk result (λ lines. lines ≡ map left_line (left files.now)) }
+{
+    let mut lines = LeftLines::new(alloc);
+    let mut last: Option<&[u8]> = None;
+    while let Some(name) = files.name_after(last) {
+        lines.push(line_of(alloc, files, name, known)?)?;
+        last = Some(name);
+    }
+    Ok(lines)
+}
+
+/// The line of a file that is left.
+fn line_of(
+    alloc: Global,
+    files: &Files,
+    name: &[u8],
+    known: &Option<Known<'_>>,
+) -> Result<LeftLine, OutOfMemory>
+    requires name { IsTrue (is_stripped_name name.now) }
+    requires known { IfSome known.now (λ k. k.mark ≡ mark_of (unwrap_or (content_at files.now k.path.now) [])) }
+    ensures { IfOk result (λ line. line ≡ left_line (name.now, unwrap_or (content_at files.now name.now) [])) }
+{
+    let mark = match known {
+        Some(known) if known.path == name => known.mark,
+        _ => mark_of(files.content(name).unwrap_or(&[])),
+    };
+    Ok(LeftLine {
+        name: Bytes::from_slice(alloc, name)?,
+        mark,
+    })
+}

@@ -1,0 +1,139 @@
+//! The report of all stages.
+
+ghost use Rattle.ddc_base.specs.Difference.{first_difference as difference_of};
+ghost use Rattle.std.specs.Prelude.{◌≡◌, IfOk, length};
+ghost use Rattle.wheeler.specs.Bench.{compared, comparison, input_lines, report_of, stage_line, stage_lines};
+ghost use Rattle.wheeler.specs.Contents.{check_language};
+ghost use Rattle.wheeler.specs.Stages.{contents, mark_of};
+
+use crate::stage::contents::content;
+use crate::stage::done::Done;
+use crate::stage::marks::mark_of;
+use crate::stage::sources::{check_source, defined};
+use ddc_base::languages::Language;
+use ddc_base::{Bytes, OutOfMemory, first_difference};
+use recipe::{Input, Recipe, Stage};
+use report::{
+    CompareLine, Compared, InputLine, InputLines, LeftLine, LeftLines, Report, StageLine,
+    StageLines,
+};
+use std::alloc::Global;
+
+/// The report of all stages, with the comparison.
+#[tactic(auto, unfolding(wheeler::specs::Bench::report_of))]
+pub fn report_of(
+    alloc: Global,
+    recipe: &Recipe,
+    inputs: &[Bytes],
+    done: &[Done],
+) -> Result<Report, OutOfMemory>
+    ensures { IfOk result (λ report. report ≡ report_of recipe.now inputs.now done.now) }
+{
+    Ok(Report {
+        recipe: *recipe.digest(),
+        inputs: input_lines(alloc, recipe.inputs().as_slice(), inputs)?,
+        stages: stage_lines(alloc, recipe, recipe.stages().as_slice(), done)?,
+        compare: comparison(recipe, inputs, done),
+    })
+}
+
+/// The lines of the inputs.
+fn input_lines(alloc: Global, inputs: &[Input], given: &[Bytes]) -> Result<InputLines, OutOfMemory>
+    ensures { IfOk result (λ lines. lines ≡ input_lines inputs.now given.now) }
+{
+    let mut lines = InputLines::new(alloc);
+    for index in 0..inputs.len().min(given.len()) {
+        lines.push(InputLine {
+            name: inputs[index].name.copy(),
+            mark: mark_of(given[index].as_slice()),
+        })?;
+    }
+    Ok(lines)
+}
+
+/// The lines of the stages that are done.
+fn stage_lines(
+    alloc: Global,
+    recipe: &Recipe,
+    stages: &[Stage],
+    done: &[Done],
+) -> Result<StageLines, OutOfMemory>
+    ensures { IfOk result (λ lines. lines ≡ stage_lines recipe.now stages.now done.now) }
+{
+    let mut lines = StageLines::new(alloc);
+    for index in 0..stages.len().min(done.len()) {
+        lines.push(stage_line(alloc, recipe, &stages[index], &done[index])?)?;
+    }
+    Ok(lines)
+}
+
+/// The line of a stage that is done.
+fn stage_line(
+    alloc: Global,
+    recipe: &Recipe,
+    stage: &Stage,
+    done: &Done,
+) -> Result<StageLine, OutOfMemory>
+    ensures { IfOk result (λ line. line ≡ stage_line recipe.now stage.now done.now) }
+{
+    let finished = done.finished();
+    Ok(StageLine {
+        name: stage.name.copy(),
+        steps: finished.steps,
+        stream1: finished.stream1,
+        stream2: finished.stream2,
+        left: copy_of(alloc, finished.left.as_slice())?,
+        made: done.mark(),
+        checked: check_language(recipe, stage),
+    })
+}
+
+/// The same lines again.
+fn copy_of(alloc: Global, lines: &[LeftLine]) -> Result<LeftLines, OutOfMemory>
+    ensures { IfOk result (λ copy. copy ≡ lines.now) }
+{
+    let mut copy = LeftLines::new(alloc);
+    for line in lines {
+        copy.push(LeftLine {
+            name: Bytes::from_slice(alloc, line.name.as_slice())?,
+            mark: line.mark,
+        })?;
+    }
+    Ok(copy)
+}
+
+/// The language in which a stage's artefact is checked.
+#[tactic(auto, unfolding(wheeler::specs::Contents::check_language))]
+fn check_language(recipe: &Recipe, stage: &Stage) -> Option<Language>
+    ensures { result ≡ check_language recipe.now stage.now }
+{
+    match check_source(recipe, stage) {
+        Some(source) => defined(source.lang),
+        None => None,
+    }
+}
+
+/// What the recipe asks to compare.
+fn comparison(recipe: &Recipe, inputs: &[Bytes], done: &[Done]) -> CompareLine
+    ensures { result ≡ comparison recipe.now (contents inputs.now done.now) }
+{
+    let asked = recipe.compare();
+    CompareLine {
+        stage: asked.stage.copy(),
+        binary: asked.binary.copy(),
+        result: compared(
+            content(recipe, inputs, done, &asked.stage),
+            content(recipe, inputs, done, &asked.binary),
+        ),
+    }
+}
+
+/// How an artefact and a binary compare.
+fn compared(made: &[u8], binary: &[u8]) -> Compared
+    ensures { result ≡ compared made.now binary.now }
+{
+    match first_difference(made, binary) {
+        None => Compared::Equal(made.len() as u64),
+        Some(offset) => Compared::Differs(offset, made.len() as u64, binary.len() as u64),
+    }
+}

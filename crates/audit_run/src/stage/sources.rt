@@ -1,0 +1,107 @@
+//! The check of a stage's artefact.
+
+ghost use Rattle.std.specs.Prelude.{◌≡◌, ◌≤◌, ◌^◌, IfOk, map, option_map};
+ghost use Rattle.recipe.specs.Kept as kept;
+ghost use Rattle.wheeler.specs.SourceCheck.Checks.{joined};
+ghost use Rattle.wheeler.specs.Contents.{check_language, check_of, check_source, content, defined, text_check, text_of};
+ghost use Rattle.wheeler.specs.Stages.{contents};
+
+use crate::check::check;
+use crate::stage::contents::content;
+use crate::stage::done::Done;
+use ddc_base::languages::Language;
+use ddc_base::{Bytes, Name, OutOfMemory};
+use recipe::{Recipe, Source, SourceLanguage, Stage};
+use std::alloc::Global;
+use wheeler::source_check::CheckCause;
+
+/// What is wrong with a stage's artefact; `None` where it is right, or unchecked.
+#[tactic(auto, unfolding(wheeler::specs::Contents::check_of))]
+pub(crate) fn check_of(
+    alloc: Global,
+    recipe: &Recipe,
+    stage: &Stage,
+    inputs: &[Bytes],
+    done: &[Done],
+    made: &[u8],
+) -> Result<Option<CheckCause>, OutOfMemory>
+    requires { kept.IsRecipe recipe.now }
+    ensures { IfOk result (λ cause. cause ≡ check_of recipe.now (contents inputs.now done.now) stage.now made.now) }
+{
+    match check_source(recipe, stage) {
+        Some(source) => match defined(source.lang) {
+            Some(language) => check_text(alloc, recipe, source, language, inputs, done, made),
+            None => Ok(None),
+        },
+        None => Ok(None),
+    }
+}
+
+/// The source that a stage's check names.
+pub(crate) fn check_source<'a>(recipe: &'a Recipe, stage: &Stage) -> Option<&'a Source>
+    ensures { option_map (λ x. x.now) result ≡ check_source recipe.now stage.now }
+{
+    match &stage.check {
+        Some(name) => recipe.source(name),
+        None => None,
+    }
+}
+
+/// The language of a source, where ddc defines it.
+pub(crate) fn defined(language: SourceLanguage) -> Option<Language>
+    ensures { result ≡ defined language }
+{
+    match language {
+        SourceLanguage::Defined(language) => Some(language),
+        SourceLanguage::Other => None,
+    }
+}
+
+/// The check against a source's text, which is made only where the source has not just one file.
+#[tactic(auto, unfolding(wheeler::specs::Contents::text_of))]
+fn check_text(
+    alloc: Global,
+    recipe: &Recipe,
+    source: &Source,
+    language: Language,
+    inputs: &[Bytes],
+    done: &[Done],
+    made: &[u8],
+) -> Result<Option<CheckCause>, OutOfMemory>
+    requires { source.now.base ≤ 2 ^ 37 }
+    ensures { IfOk result (λ cause. cause ≡ text_check (text_of recipe.now (contents inputs.now done.now) source.now) (Some language) made.now) }
+{
+    match source.files.as_slice() {
+        [name] => check(
+            alloc,
+            language,
+            source.base,
+            content(recipe, inputs, done, name),
+            made,
+        ),
+        names => {
+            let text = joined(alloc, recipe, names, inputs, done)?;
+            check(alloc, language, source.base, text.as_slice(), made)
+        }
+    }
+}
+
+/// The contents of these names, with one LF between neighbours.
+fn joined(
+    alloc: Global,
+    recipe: &Recipe,
+    names: &[Name],
+    inputs: &[Bytes],
+    done: &[Done],
+) -> Result<Bytes, OutOfMemory>
+    ensures { IfOk result (λ text. text ≡ joined (map (content recipe.now (contents inputs.now done.now)) names.now)) }
+{
+    let mut text = Bytes::new(alloc);
+    for (index, name) in names.iter().enumerate() {
+        if index > 0 {
+            text.push(b'\n')?;
+        }
+        text.extend(content(recipe, inputs, done, name))?;
+    }
+    Ok(text)
+}

@@ -1,6 +1,0 @@
-use Rattle.std.proofs.Common.{◌≡◌, ◌+◌, drop}
-use Rattle.wheeler.specs.Stages.{artefact_bytes}
-use Rattle.audit_save.proofs.judging.left_after.Given as goal
-
-abbrev pub invariant-loop-stage : goal.invariant-loop-stage
-invariant-loop-stage l = l.most + artefact_bytes (drop l.stage-index l.done) ≡ l.left + artefact_bytes l.done

@@ -1,7 +1,0 @@
-use Rattle.std.proofs.Common.{◌≡◌, map}
-use Rattle.save_text.specs.Seen.{stage_view}
-use Rattle.audit_save.specs.Saves.{finished_of}
-use Rattle.audit_save.proofs.reading.done_of.Given as goal
-
-abbrev pub invariant-loop-part : goal.invariant-loop-part
-invariant-loop-part l = l.done.items ≡ map (λ part. finished_of (stage_view part)) l.yielded

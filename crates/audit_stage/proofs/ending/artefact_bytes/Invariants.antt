@@ -1,6 +1,0 @@
-use Rattle.std.proofs.Common.{◌≡◌, ◌+◌, drop}
-use Rattle.wheeler.specs.Stages.{artefact_bytes}
-use Rattle.audit_stage.proofs.ending.artefact_bytes.Given as goal
-
-abbrev pub invariant-loop-stage : goal.invariant-loop-stage
-invariant-loop-stage l = l.total + artefact_bytes (drop l.stage-index l.done) ≡ artefact_bytes l.fn.done

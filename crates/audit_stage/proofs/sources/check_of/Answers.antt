@@ -1,6 +1,0 @@
-use Rattle.std.proofs.Common.{sym}
-use Rattle.audit_stage.proofs.Placing.{check-based}
-use Rattle.audit_stage.proofs.sources.check_of.Goals as goal
-
-pub check_text-requires : goal.check_text-requires
-check_text-requires c = check-based c.args.recipe.now c.args.stage.now c.in-Some.source.now c.requires (sym c.in-Some.ensures)

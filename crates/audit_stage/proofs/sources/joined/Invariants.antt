@@ -1,8 +1,0 @@
-use Rattle.std.proofs.Common.{◌≡◌, map, take}
-use Rattle.source_check.specs.Checks.{joined}
-use Rattle.wheeler.specs.Contents.{content}
-use Rattle.wheeler.specs.Stages.{contents}
-use Rattle.audit_stage.proofs.sources.joined.Given as goal
-
-abbrev pub invariant-loop-index : goal.invariant-loop-index
-invariant-loop-index l = l.text ≡ joined (map (content l.recipe (contents l.inputs l.done)) (take l.index l.names))

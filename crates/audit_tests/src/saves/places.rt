@@ -1,0 +1,195 @@
+//! What makes a text a save of the worked recipe: each rule, broken and kept at its edge.
+
+use crate::saves::saves::{refusal, save_at};
+use crate::saves::worked::{Edit, RECIPE, edited};
+use audit_run::SaveRefusal;
+use ddc_base::{Bytes, OutOfMemory};
+use std::alloc::Global;
+use std::test::Fail;
+
+/// What is changed in the save after 45 steps, from its end on, and why the text is refused then.
+type Row = (&'static [Edit], Option<SaveRefusal>);
+
+const OTHER: Option<SaveRefusal> = Some(SaveRefusal::OtherRecipe);
+
+const STATE: Option<SaveRefusal> = Some(SaveRefusal::State);
+
+/// The recipe's digest is at 8, the inputs' from 44 on, and how many stages are done at 172.
+static FRONT: &[Row] = &[
+    (&[(0, 1, b"e")], Some(SaveRefusal::Form(0))),
+    (&[(8, 1, &[0x11])], OTHER),
+    (&[(39, 1, &[0x09])], OTHER),
+    (&[(44, 1, &[0xdb])], OTHER),
+    (&[(171, 1, &[0xac])], OTHER),
+    // No input, one less, one more.
+    (&[(44, 128, b""), (40, 1, &[0])], OTHER),
+    (&[(140, 32, b""), (40, 1, &[3])], OTHER),
+    (&[(172, 0, &[0; 32]), (40, 1, &[5])], OTHER),
+    // No stage is done.
+    (&[(176, 401, b""), (172, 1, &[0])], None),
+];
+
+/// One stage is done: its steps are at 176, its streams at 184 and 220, its left files at 256, and its artefact at 341.
+static DONE: &[Row] = &[
+    // Steps: none, one, the limit, one more.
+    (&[(176, 1, &[0])], STATE),
+    (&[(176, 1, &[1])], None),
+    (&[(176, 3, &[0xa0, 0x86, 0x01])], None),
+    (&[(176, 3, &[0xa1, 0x86, 0x01])], STATE),
+    (&[(183, 1, &[1])], STATE),
+    // Streams that are no output.
+    (&[(184, 4, &[0xff; 4])], None),
+    (&[(188, 1, &[0])], None),
+    (&[(220, 4, &[0xff; 4])], None),
+    (&[(224, 1, &[0])], None),
+    // The first left name.
+    (&[(260, 4, b"\0\0")], STATE),
+    (&[(260, 4, b"\x02\0./")], STATE),
+    (&[(260, 4, b"\x03\0./x")], STATE),
+    (&[(260, 4, b"\x03\0a/x")], None),
+    (&[(262, 2, b"i\0")], STATE),
+    (&[(262, 2, b"\0n")], STATE),
+    (&[(262, 2, &[b'i'; 255]), (260, 2, &[0xff, 0])], None),
+    (&[(262, 2, &[b'i'; 256]), (260, 2, &[0, 1])], STATE),
+    // Left names ascend.
+    (&[(260, 4, b"\x02\0ou")], None),
+    (&[(260, 4, b"\x03\0out")], Some(SaveRefusal::Form(303))),
+    (&[(262, 2, b"ow")], Some(SaveRefusal::Form(302))),
+    // The length and the digest of a file that is no output.
+    (&[(264, 1, &[0])], None),
+    (&[(268, 1, &[0])], None),
+    // The output's name, length and digest.
+    (&[(304, 1, b"u")], STATE),
+    (&[(305, 1, &[0xe7])], STATE),
+    (&[(309, 1, &[0xdb])], STATE),
+    (&[(340, 1, &[0x27])], STATE),
+    // The artefact is cut, or is another.
+    (&[(341, 1, &[0xe7])], Some(SaveRefusal::Form(576))),
+    (&[(345, 1, b""), (341, 1, &[0xe7])], STATE),
+    (&[(577, 0, b"\0"), (341, 1, &[0xe9])], STATE),
+    (&[(345, 1, &[0x7e])], STATE),
+    // An empty artefact that is the output.
+    (
+        &[
+            (345, 232, b""),
+            (341, 1, &[0]),
+            (
+                309,
+                32,
+                b"\xe3\xb0\xc4\x42\x98\xfc\x1c\x14\x9a\xfb\xf4\xc8\x99\x6f\xb9\x24\x27\xae\x41\xe4\x64\x9b\x93\x4c\xa4\x95\x99\x1b\x78\x52\xb8\x55",
+            ),
+            (305, 1, &[0]),
+        ],
+        None,
+    ),
+];
+
+/// The state begins at 577, its pc is at 593, x8 at 657 and the heap's limit at 865. The last descriptor's file is at 9,171, its cursor at
+/// 9,175, and the last field at 9,188.
+static PRESENT: &[Row] = &[
+    // Steps: none, the last that is left, none left.
+    (&[(585, 1, &[0])], None),
+    (&[(585, 3, &[0x9f, 0x86, 0x01])], None),
+    (&[(585, 3, &[0xa0, 0x86, 0x01])], STATE),
+    (&[(592, 1, &[1])], STATE),
+    // The pc, and a register.
+    (&[(593, 1, &[1])], STATE),
+    (&[(593, 1, &[0])], None),
+    (&[(657, 2, &[2, 0])], None),
+    // Heaps of guests, which the stage does not give.
+    (&[(865, 4, &[0xff, 0xff, 0xff, 0x1f])], STATE),
+    (&[(865, 4, &[1, 0, 0, 0x20])], STATE),
+    (&[(865, 4, &[0, 0, 0, 0x40])], STATE),
+    // A file that is not listed, and one that is; a cursor that is too large, and the largest.
+    (&[(9_171, 1, &[2])], STATE),
+    (&[(9_171, 1, &[0])], None),
+    (&[(9_175, 8, &[0, 0, 0, 0, 0, 0, 0, 0x80])], STATE),
+    (
+        &[(9_175, 8, &[0xff, 0xff, 0xff, 0xff, 0xff, 0xff, 0xff, 0x7f])],
+        None,
+    ),
+    // The end.
+    (&[(9_191, 1, b"")], Some(SaveRefusal::Form(9_188))),
+    (&[(9_188, 1, &[1])], Some(SaveRefusal::Form(9_192))),
+    (&[(9_192, 0, b"\0")], Some(SaveRefusal::Form(9_192))),
+    // The form is said before another recipe, and that before what is no place.
+    (
+        &[(9_192, 0, b"\0"), (593, 1, &[1]), (8, 1, &[0x11])],
+        Some(SaveRefusal::Form(9_192)),
+    ),
+    (&[(593, 1, &[1]), (8, 1, &[0x11])], OTHER),
+    (&[(176, 1, &[0]), (171, 1, &[0xac])], OTHER),
+    (
+        &[(9_192, 0, b"\0"), (176, 1, &[0])],
+        Some(SaveRefusal::Form(9_192)),
+    ),
+];
+
+/// Why a text is refused behind these edits.
+fn refusal_of(
+    alloc: Global,
+    text: &[u8],
+    edits: &[Edit],
+) -> Result<Option<SaveRefusal>, OutOfMemory> {
+    let mut new = Bytes::from_slice(alloc, text)?;
+    for edit in edits {
+        new = edited(alloc, new.as_slice(), *edit)?;
+    }
+    Ok(refusal(alloc, RECIPE, b"abc", new.as_slice()))
+}
+
+#[test]
+fn each_rule_has_its_refusal(rt: HostRuntime) -> Result<(), Fail> {
+    let alloc = rt.alloc();
+    let text = save_at(alloc, 45)?;
+    assert_eq!(rt; text.len(), 9_192);
+    for rows in [FRONT, DONE, PRESENT] {
+        for (edits, wanted) in rows {
+            assert_eq!(rt;
+                refusal_of(alloc, text.as_slice(), edits)?,
+                *wanted,
+                "{edits:?}"
+            );
+        }
+    }
+    Ok(())
+}
+
+/// The record of the stage that is done stands for both stages; then none is left to be the present one.
+#[test]
+fn a_stage_is_left(rt: HostRuntime) -> Result<(), Fail> {
+    let alloc = rt.alloc();
+    let text = save_at(alloc, 45)?;
+    let record = text.as_slice().get(176..577).unwrap_or(&[]);
+    let two = edited(alloc, text.as_slice(), (577, 0, record))?;
+    let two = edited(alloc, two.as_slice(), (172, 1, &[2]))?;
+    assert_eq!(rt; refusal(alloc, RECIPE, b"abc", two.as_slice()), STATE);
+    let three = edited(alloc, two.as_slice(), (577, 0, record))?;
+    let three = edited(alloc, three.as_slice(), (172, 1, &[3]))?;
+    assert_eq!(rt; refusal(alloc, RECIPE, b"abc", three.as_slice()), STATE);
+    Ok(())
+}
+
+/// A save whose done stage has left so many files more, before the others.
+fn crowded(alloc: Global, more: u16) -> Result<Bytes, OutOfMemory> {
+    let text = save_at(alloc, 45)?;
+    let mut files = Bytes::from_slice(alloc, &more.saturating_add(2).to_le_bytes())?;
+    files.extend(&[0; 2])?;
+    for number in 0..more {
+        let name = [(number / 128 % 64) as u8 + 1, (number % 128) as u8 + 1];
+        files.extend(&[2, 0])?;
+        files.extend(&name)?;
+        files.extend(&[0; 36])?;
+    }
+    edited(alloc, text.as_slice(), (256, 4, files.as_slice()))
+}
+
+#[test]
+fn left_files_are_counted(rt: HostRuntime) -> Result<(), Fail> {
+    let alloc = rt.alloc();
+    let most = crowded(alloc, 4_094)?;
+    assert_eq!(rt; refusal(alloc, RECIPE, b"abc", most.as_slice()), None);
+    let more = crowded(alloc, 4_095)?;
+    assert_eq!(rt; refusal(alloc, RECIPE, b"abc", more.as_slice()), STATE);
+    Ok(())
+}

@@ -1,0 +1,49 @@
+-- Pages that do not overlap may be written in any order.
+use Rattle.std.proofs.Common.{◌≡◌, ℕ, suc, ◌+◌, ◌*◌, ◌<◌, ◌≤◌, List, [], ◌∷◌, length, map, get_or, drop, refl, sym, ap, ◌∙◌, ◌⊎◌, arith, inl, inr, drop-cons, add-one}
+use Rattle.std.specs.FinMap.{get}
+use Rattle.std.proofs.lemmas.Bool.{cases_lt}
+use Rattle.std.proofs.lemmas.List.{drop_all}
+use Rattle.paged_mem.specs.Memory.{Memory, with_bytes}
+use Rattle.paged_mem.specs.Held.{get-with_bytes, get-with_bytes_below, get-with_bytes_above}
+use Rattle.paged_mem.proofs.Maps.{same_memory}
+use Rattle.save_text.specs.declared.state_text.parts.Page.{Page}
+use Rattle.save_text.specs.StateText.StateText.{PageText, after_page}
+use Rattle.save_text.specs.StateText.Seen.{page_view}
+use Rattle.checkpoints.specs.MemoryParts.Canonical.{filled, filled_on, AreShown}
+
+-- bytes at two places, one behind the other
+swapped : (m : Memory) (low high : ℕ) (xs ys : List ℕ) → low + length xs ≤ high → with_bytes (with_bytes m low xs) high ys ≡ with_bytes (with_bytes m high ys) low xs
+swapped m low high xs ys apart = same_memory _ _ (λ a. each a (cases_lt a low) (cases_lt a (low + length xs)) (cases_lt a high) (cases_lt a (high + length ys)))
+  where
+    each : (a : ℕ) → (a < low) ⊎ (low ≤ a) → (a < low + length xs) ⊎ (low + length xs ≤ a) → (a < high) ⊎ (high ≤ a) → (a < high + length ys) ⊎ (high + length ys ≤ a) → get (with_bytes (with_bytes m low xs) high ys) a ≡ get (with_bytes (with_bytes m high ys) low xs) a
+    each a (inl p) q r s = get-with_bytes_below (with_bytes m low xs) high ys a (omega arith) ∙ get-with_bytes_below m low xs a p ∙ sym (get-with_bytes_below (with_bytes m high ys) low xs a p ∙ get-with_bytes_below m high ys a (omega arith))
+    each a (inr p) (inl q) r s = get-with_bytes_below (with_bytes m low xs) high ys a (omega arith) ∙ get-with_bytes m low xs a p q ∙ sym (get-with_bytes (with_bytes m high ys) low xs a p q)
+    each a (inr p) (inr q) (inl r) s = get-with_bytes_below (with_bytes m low xs) high ys a r ∙ get-with_bytes_above m low xs a q ∙ sym (get-with_bytes_above (with_bytes m high ys) low xs a q ∙ get-with_bytes_below m high ys a r)
+    each a (inr p) (inr q) (inr r) (inl s) = get-with_bytes (with_bytes m low xs) high ys a r s ∙ sym (get-with_bytes_above (with_bytes m high ys) low xs a q ∙ get-with_bytes m high ys a r s)
+    each a (inr p) (inr q) (inr r) (inr s) = get-with_bytes_above (with_bytes m low xs) high ys a s ∙ get-with_bytes_above m low xs a q ∙ sym (get-with_bytes_above (with_bytes m high ys) low xs a q ∙ get-with_bytes_above m high ys a s)
+
+first_last : (m : Memory) (pages : List PageText) (least low : ℕ) (xs : List ℕ) → AreShown least pages → low + length xs ≤ 4096 * least → filled (with_bytes m low xs) pages ≡ with_bytes (filled m pages) low xs
+unfolding filled
+first_last m [] least low xs shown le = refl
+first_last m (p ∷ ps) least low xs shown le =
+    let from : least ≤ p.number = shown.0.from in
+    ap (λ (v : Memory). with_bytes v (4096 * p.number) p.bytes) (first_last m ps (after_page p) low xs shown.1 (omega arith))
+    ∙ swapped (filled m ps) low (4096 * p.number) xs p.bytes (omega arith)
+
+pub any_order : (m : Memory) (pages : List PageText) (least : ℕ) → AreShown least pages → filled_on m pages ≡ filled m pages
+unfolding filled filled_on
+any_order m [] least shown = refl
+any_order m (p ∷ ps) least shown =
+    let full : length p.bytes ≡ 4096 = shown.0.full in
+    any_order (with_bytes m (4096 * p.number) p.bytes) ps (after_page p) shown.1 ∙ first_last m ps (after_page p) (4096 * p.number) p.bytes shown.1 (omega arith)
+
+pub fill_step : (m new whole : Memory) (pages : List Page) (i number : ℕ) (other page : Page) → i < length pages → get_or pages i other ≡ page → number ≡ page.number → filled_on m (map page_view (drop i pages)) ≡ whole → new ≡ with_bytes m (4096 * number) page.bytes.now → filled_on new (map page_view (drop (i + 1) pages)) ≡ whole
+unfolding filled_on
+fill_step m new whole pages i number other page lt is same so_far new_is =
+    let next : drop i pages ≡ page ∷ drop (i + 1) pages = rw (add-one) (drop-cons pages i other lt ∙ ap (λ (p : Page). p ∷ drop (suc i) pages) is) in
+    ap (λ (v : Memory). filled_on v (map page_view (drop (i + 1) pages))) (new_is ∙ ap (λ (n : ℕ). with_bytes m (4096 * n) page.bytes.now) same)
+    ∙ sym (ap (λ (ps : List Page). filled_on m (map page_view ps)) next) ∙ so_far
+
+pub all_filled : (m whole : Memory) (pages : List Page) (i : ℕ) → length pages ≤ i → filled_on m (map page_view (drop i pages)) ≡ whole → m ≡ whole
+unfolding filled_on
+all_filled m whole pages i le so_far = ap (λ (ps : List Page). filled_on m (map page_view ps)) (sym (drop_all i pages le)) ∙ so_far

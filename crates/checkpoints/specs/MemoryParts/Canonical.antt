@@ -1,0 +1,79 @@
+-- The runs and the pages of a memory, in order: what a text of a state lists.
+use Rattle.std.specs.Prelude.{◌≡◌, ◌<◌, length, ℕ, zero, suc, ◌+◌, ◌*◌, ◌^◌, ◌≤◌, Bool, true, false, ◌&&◌, ◌||◌, nat_le, nat_lt, ◌==◌, Option, None, Some, List, [], ◌∷◌, ◌++◌, if◌then◌else◌}
+use Rattle.std.specs.FinMap.{contains_key, empty}
+use Rattle.paged_mem.specs.Memory.{Memory, bytes_at, with_bytes, zeros}
+use Rattle.save_text.specs.declared.state_text.parts.Run.{Run}
+use Rattle.save_text.specs.StateText.StateText.{PageText, is_page, after_run, after_page}
+use Rattle.save_text.specs.ByteFields.Spelling.{InTurn}
+
+abbrev pub is_mapped : Memory → ℕ → Bool
+is_mapped m page = contains_key m (4096 * page)
+
+-- a mapped page with the runs behind it: it begins the first of them where that follows at once
+abbrev pub with_page : ℕ → List Run → List Run
+with_page page [] = record { first = page; pages = 1 } ∷ []
+with_page page (run ∷ runs) = if run.first == page + 1 then record { first = page; pages = run.pages + 1 } ∷ runs else record { first = page; pages = 1 } ∷ (run ∷ runs)
+
+-- the runs of mapped pages among so many pages
+unfoldable pub runs_from : (ℕ → Bool) → ℕ → ℕ → List Run
+runs_from mapped page zero = []
+runs_from mapped page (suc count) = if mapped page then with_page page (runs_from mapped (page + 1) count) else runs_from mapped (page + 1) count
+
+-- a page that is mapped and not all zero is listed
+abbrev pub listed : ℕ → Option (List ℕ) → List PageText
+listed page None = []
+listed page (Some bytes) = if is_page bytes then record { number = page; bytes = bytes } ∷ [] else []
+
+unfoldable pub pages_from : Memory → ℕ → ℕ → List PageText
+pages_from m page zero = []
+pages_from m page (suc count) = listed page (bytes_at m (4096 * page) 4096) ++ pages_from m (page + 1) count
+
+abbrev pub runs_of : Memory → List Run
+runs_of m = runs_from (is_mapped m) 0 (2 ^ 26)
+
+abbrev pub pages_of : Memory → List PageText
+pages_of m = pages_from m 0 (2 ^ 26)
+
+-- ---- the memory that runs and pages say
+
+-- the memory with these runs mapped one after the other, all zeros
+unfoldable pub mapped_runs : Memory → List Run → Memory
+mapped_runs m [] = m
+mapped_runs m (run ∷ runs) = mapped_runs (with_bytes m (4096 * run.first) (zeros (4096 * run.pages))) runs
+
+-- the memory with these pages written over it
+unfoldable pub filled : Memory → List PageText → Memory
+filled m [] = m
+filled m (page ∷ pages) = with_bytes (filled m pages) (4096 * page.number) page.bytes
+
+-- a run behind the earlier ones, below the end of memory
+pub record IsPlaced (least : ℕ) (run : Run) : Type 0 where
+  pub from : least ≤ run.first
+  pub some : 1 ≤ run.pages
+  pub low : run.first + run.pages ≤ 2 ^ 26
+
+abbrev pub ArePlaced : ℕ → List Run → Type 0
+ArePlaced least runs = InTurn IsPlaced after_run least runs
+
+-- is a page in one of the runs?
+abbrev pub in_run : Run → ℕ → Bool
+in_run run page = nat_le run.first page && nat_lt page (run.first + run.pages)
+
+unfoldable pub in_runs : List Run → ℕ → Bool
+in_runs [] page = false
+in_runs (run ∷ runs) page = in_run run page || in_runs runs page
+
+-- a page behind the earlier ones, whole and not all zero
+pub record IsShown (least : ℕ) (page : PageText) : Type 0 where
+  pub from : least ≤ page.number
+  pub low : page.number < 2 ^ 26
+  pub full : length page.bytes ≡ 4096
+  pub some : is_page page.bytes ≡ true
+
+abbrev pub AreShown : ℕ → List PageText → Type 0
+AreShown least pages = InTurn IsShown after_page least pages
+
+-- the same, in the order in which they are written
+unfoldable pub filled_on : Memory → List PageText → Memory
+filled_on m [] = m
+filled_on m (page ∷ pages) = filled_on (with_bytes m (4096 * page.number) page.bytes) pages

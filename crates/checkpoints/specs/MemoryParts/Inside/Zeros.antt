@@ -1,0 +1,14 @@
+-- The memory that runs and pages say, from the last run on.
+use Rattle.std.specs.Prelude.{ℕ, ◌*◌, List, [], ◌∷◌}
+use Rattle.std.specs.FinMap.{empty}
+use Rattle.paged_mem.specs.Memory.{Memory, with_bytes, zeros}
+use Rattle.save_text.specs.declared.state_text.parts.Run.{Run}
+use Rattle.save_text.specs.StateText.StateText.{PageText}
+use Rattle.checkpoints.specs.MemoryParts.Canonical.{filled}
+
+unfoldable pub zero_runs : List Run → Memory
+zero_runs [] = empty
+zero_runs (run ∷ runs) = with_bytes (zero_runs runs) (4096 * run.first) (zeros (4096 * run.pages))
+
+abbrev pub memory_from : List Run → List PageText → Memory
+memory_from runs pages = filled (zero_runs runs) pages

@@ -1,0 +1,135 @@
+//! Files, descriptors and streams in lists that grow.
+
+ghost use Rattle.std.specs.Prelude.{◌≡◌, ◌<◌, ◌++◌, ◌∷◌, [], IfOk, IfSome, IsTrue, OnErr, OnOk, ◌↔◌, length};
+ghost use Rattle.mem_files.specs.Lists.{AreInRange, AreJoined, world_of};
+ghost use Rattle.std.specs.List.{All};
+ghost use Rattle.std.specs.Option.{option_copied};
+ghost use Rattle.mem_files.specs.Sound.{AreBytes};
+ghost use Rattle.checkpoints.specs.FileParts.Views.{empty_lists};
+
+use crate::file_parts::judging::{are_in_range, are_joined};
+use ddc_base::OutOfMemory;
+use mem_files::{FileView, Files, Slot};
+use std::alloc::Global;
+use std::marker::Model;
+
+/// The parts of which files are made: files and descriptors, ascending, and the contents of the streams. Names and contents
+/// are lent.
+///
+/// Seen as three lists.
+#[derive(Debug, Drop)]
+pub struct FileParts<'a> {
+    files: Vec<FileView<'a>>,
+    slots: Vec<(u32, Slot)>,
+    streams: Vec<&'a [u8]>,
+}
+
+impl<'a> Model for FileParts<'a> {
+    ghost use Rattle.mem_files.specs.Lists.{FileLists};
+    ghost use Rattle.checkpoints.specs.FileParts.Views.{view_of, lists_code, AreParts};
+
+    ghost Value = { FileLists };
+
+    ghost coded = { lists_code };
+
+    ghost view = { λ parts. view_of parts.files.items parts.slots.items parts.streams.items };
+
+    ghost invariant = { λ parts. AreParts (view_of parts.files.items parts.slots.items parts.streams.items) };
+}
+
+impl<'a> FileParts<'a> {
+    /// No file, no descriptor and no stream.
+    pub fn new(alloc: Global) -> FileParts<'a>
+        ensures { result ≡ empty_lists }
+    {
+        FileParts {
+            files: Vec::new(alloc),
+            slots: Vec::new(alloc),
+            streams: Vec::new(alloc),
+        }
+    }
+
+    /// Whether names, numbers, lengths, counts and descriptors are those of files.
+    pub(crate) fn is_in_range(&self) -> bool
+        ensures { IsTrue result ↔ AreInRange self.now }
+    {
+        are_in_range(&self.files, &self.slots, &self.streams)
+    }
+
+    /// Whether each descriptor's file is there, and each file has a name or a descriptor.
+    pub(crate) fn is_joined(&self) -> bool
+        ensures { IsTrue result ↔ AreJoined self.now }
+    {
+        are_joined(&self.files, &self.slots)
+    }
+
+    /// The files, where the parts keep the rules.
+    pub(crate) fn files(&self, alloc: Global) -> Result<Files, OutOfMemory>
+        requires streams { length self.now.streams ≡ 2 }
+        requires within { AreInRange self.now }
+        requires joined { AreJoined self.now }
+        ensures { IfOk result (λ made. made ≡ world_of self.now) }
+    {
+        Files::from_lists(
+            alloc,
+            &self.files,
+            &self.slots,
+            self.streams[0],
+            self.streams[1],
+        )
+    }
+
+    /// Adds a file, whose number is above all earlier ones.
+    pub fn push_file(
+        &mut self,
+        number: u32,
+        name: Option<&'a [u8]>,
+        content: &'a [u8],
+    ) -> Result<(), OutOfMemory>
+        requires { All (λ file. file.number < number) self.old.files }
+        ensures ok { OnOk result (self.new ≡ record self.old { files = self.old.files ++ record { number = number; name = option_copied name.entry; content = content.now } ∷ [] }) }
+        ensures err { OnErr result (self.new ≡ self.old) }
+    {
+        told_name(name);
+        self.files.push(FileView {
+            number,
+            name,
+            content,
+        })?;
+        Ok(())
+    }
+
+    /// Adds a descriptor, which is above all earlier ones, with what it stands for.
+    pub fn push_slot(&mut self, fd: u32, slot: Slot) -> Result<(), OutOfMemory>
+        requires { All (λ held. held.0 < fd) self.old.slots }
+        ensures ok { OnOk result (self.new ≡ record self.old { slots = self.old.slots ++ (fd, slot) ∷ [] }) }
+        ensures err { OnErr result (self.new ≡ self.old) }
+    {
+        self.slots.push((fd, slot))?;
+        Ok(())
+    }
+
+    /// Adds the content of a stream, where there are fewer than two.
+    pub fn push_stream(&mut self, content: &'a [u8]) -> Result<(), OutOfMemory>
+        requires { length self.old.streams < 2 }
+        ensures ok { OnOk result (self.new ≡ record self.old { streams = self.old.streams ++ content.now ∷ [] }) }
+        ensures err { OnErr result (self.new ≡ self.old) }
+    {
+        self.streams.push(content)?;
+        Ok(())
+    }
+}
+
+/// What the type of a name tells.
+fn told_name(name: Option<&[u8]>)
+    ensures { IfSome (option_copied name.entry) AreBytes }
+{
+    if let Some(name) = name {
+        told(name);
+    }
+}
+
+/// What the type of bytes tells.
+fn told(bytes: &[u8])
+    ensures { AreBytes bytes.now }
+{}

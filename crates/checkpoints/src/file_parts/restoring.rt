@@ -1,0 +1,38 @@
+//! Files made of parts.
+
+ghost use Rattle.std.specs.Prelude.{◌≡◌, ◌↔◌, IfOk, IsTrue, length};
+ghost use Rattle.mem_files.specs.Lists.{AreInRange, AreJoined, world_of};
+ghost use Rattle.checkpoints.specs.FileParts.Restored.{Restores};
+
+use crate::file_parts::parts::FileParts;
+use ddc_base::OutOfMemory;
+use mem_files::Files;
+use std::alloc::Global;
+
+/// Why parts are no files.
+#[derive(Clone, Copy, Debug, PartialEq, Eq)]
+pub enum RestoreRefusal {
+    /// A name, a number, a length, a count or a descriptor that no files have.
+    Range,
+    /// A descriptor whose file is not there, or a file with neither a name nor a descriptor.
+    FileRef,
+    /// Want of memory of this process.
+    OutOfMemory,
+}
+
+/// The files of these parts.
+pub fn restore(alloc: Global, parts: &FileParts<'_>) -> Result<Files, RestoreRefusal>
+    requires { length parts.now.streams ≡ 2 }
+    ensures { Restores parts.now result }
+{
+    if !parts.is_in_range() {
+        return Err(RestoreRefusal::Range);
+    }
+    if !parts.is_joined() {
+        return Err(RestoreRefusal::FileRef);
+    }
+    match parts.files(alloc) {
+        Ok(files) => Ok(files),
+        Err(OutOfMemory) => Err(RestoreRefusal::OutOfMemory),
+    }
+}

@@ -1,0 +1,15 @@
+//! Laws of the definitions.
+
+ghost use Rattle.std.specs.Prelude.{◌≡◌, ℕ, List, Some};
+ghost use Rattle.ddc_base.specs.Languages.Words.{language_named, language_word};
+ghost use Rattle.ddc_base.specs.declared.languages.Language.{Language};
+
+/// A language's word names it.
+pub fn a_word_names_its_language()
+    ensures { (language : Language) → language_named (language_word language) ≡ Some language }
+{}
+
+/// A word that names a language is that language's word.
+pub fn one_word_a_language()
+    ensures { (word : List ℕ) (language : Language) → language_named word ≡ Some language → word ≡ language_word language }
+{}

@@ -1,5 +1,0 @@
-use Rattle.mem_files.proofs.ListRules.{lists-sound}
-use Rattle.file_parts.proofs.laws.good_lists_make_sound_files.Goals as goal
-
-pub returns : goal.returns
-returns c = lists-sound

@@ -1,7 +1,0 @@
-use Rattle.std.proofs.Common.{arith, ap, length}
-use Rattle.hex_items.proofs.Packing.{length-packed}
-use Rattle.hex_items.proofs.items.Items.len.Goals as goal
-
-pub returns-clause-value : goal.returns-clause-value
-returns-clause-value c =
-    omega (arith, length-packed c.self.inside.codes.items c.self.inside.others.items, ap length c.self.view_is, c.len.ensures)

@@ -1,7 +1,0 @@
-use Rattle.std.proofs.Common.{arith, ap, length}
-use Rattle.hex_items.proofs.Packing.{length-packed}
-use Rattle.hex_items.proofs.items.Items.push.Goals as goal
-
-pub add_item-requires-clause-room : goal.add_item-requires-clause-room
-add_item-requires-clause-room c =
-    omega (arith, length-packed c.self.inside.codes.items c.self.inside.others.items, ap length c.self.view_is, c.requires)

@@ -1,0 +1,109 @@
+-- A list of items in codes, one item longer.
+use Rattle.std.proofs.Common.{◌≡◌, ℕ, suc, ◌+◌, ◌-◌, ◌<◌, ◌≤◌, Bool, true, false, cond, List, [], ◌∷◌, ◌++◌, length, map, get_or, refl, sym, ap, subst, ◌∙◌, arith, length-append, take}
+use Rattle.std.proofs.lemmas.Bool.{cond-true, cond-false, cases_lt}
+use Rattle.std.proofs.lemmas.Bool.Decides.{nat_tests}
+use Rattle.std.proofs.Math.ListN.{get_or-append}
+use Rattle.std.proofs.Math.Seq.{get_or-append_seam}
+use Rattle.std.proofs.Common.{◌⊎◌, inl, inr, nat_lt}
+use Rattle.std.proofs.Common.{Option, Some, None, option_map}
+use Rattle.std.specs.List.{AllByRecursion, slice_get}
+use Rattle.std.proofs.lemmas.Option.{get_or_from_slice_get, slice_get-get_or, slice_get-map, slice_get_past}
+use Rattle.hex_langs.specs.declared.items.item.Item.{Item}
+use Rattle.hex_langs.specs.declared.items.item.Item.TheVariants.{Byte, Pad}
+use Rattle.hex_langs.specs.Items.Representation.Packed.{ArePacked, item_of, items_of}
+
+item_of-byte : (others : List Item) (code : ℕ) → code < 256 → item_of others code ≡ Byte code
+item_of-byte others code small = let test : nat_lt code 256 ≡ true = grind (arith, nat_tests) in cond-true _ _ _ test
+
+item_of-other : (others : List Item) (code : ℕ) → 256 ≤ code → item_of others code ≡ get_or others (code - 256) Pad
+item_of-other others code high = let test : nat_lt code 256 ≡ false = grind (arith, nat_tests) in cond-false _ _ _ test
+
+-- a code that is known stands for the same item behind one more
+item_of-more : (others : List Item) (it : Item) (code : ℕ) → code < 256 + length others → item_of (others ++ it ∷ []) code ≡ item_of others code
+item_of-more others it code known = by (cases_lt code 256)
+  where
+    by : (code < 256) ⊎ (256 ≤ code) → item_of (others ++ it ∷ []) code ≡ item_of others code
+    by (inl small) = item_of-byte (others ++ it ∷ []) code small ∙ sym (item_of-byte others code small)
+    by (inr high) =
+        let within : code - 256 < length others = omega arith in
+        item_of-other (others ++ it ∷ []) code high ∙ get_or-append others (it ∷ []) Pad (code - 256) within ∙ sym (item_of-other others code high)
+
+items-more : (codes : List ℕ) (others : List Item) (it : Item) → AllByRecursion (λ code. code < 256 + length others) codes
+    → items_of codes (others ++ it ∷ []) ≡ items_of codes others
+unfolding items_of
+items-more [] others it known = refl
+items-more (code ∷ codes) others it known =
+    ap (λ (i : Item). i ∷ map (item_of (others ++ it ∷ [])) codes) (item_of-more others it code known.0)
+    ∙ ap (λ (l : List Item). item_of others code ∷ l) (items-more codes others it known.1)
+
+items-append : (codes : List ℕ) (code : ℕ) (others : List Item) → items_of (codes ++ code ∷ []) others ≡ items_of codes others ++ item_of others code ∷ []
+unfolding items_of
+items-append [] code others = refl
+items-append (first ∷ codes) code others = ap (λ (l : List Item). item_of others first ∷ l) (items-append codes code others)
+
+known-append : (bound more : ℕ) (codes : List ℕ) (code : ℕ) → bound ≤ more → code < more → AllByRecursion (λ c. c < bound) codes
+    → AllByRecursion (λ c. c < more) (codes ++ code ∷ [])
+known-append bound more [] code wider new known = (new, tt)
+known-append bound more (first ∷ codes) code wider new known = (omega (arith, known.0), known-append bound more codes code wider new known.1)
+
+-- one byte more
+pub pushed-byte : (codes : List ℕ) (others : List Item) (byte : ℕ) → byte < 256 → items_of (codes ++ byte ∷ []) others ≡ items_of codes others ++ Byte byte ∷ []
+pushed-byte codes others byte small =
+    items-append codes byte others ∙ ap (λ (i : Item). items_of codes others ++ i ∷ []) (item_of-byte others byte small)
+
+pub packed-byte : (codes : List ℕ) (others : List Item) (byte : ℕ) → byte < 256 → length codes < 33554432 → ArePacked codes others → ArePacked (codes ++ byte ∷ []) others
+packed-byte codes others byte small room packed = record {
+  few = omega (arith, length-append codes (byte ∷ []));
+  fewer = omega (arith, packed.fewer, length-append codes (byte ∷ []));
+  known = known-append (256 + length others) (256 + length others) codes byte (omega arith) (omega arith) packed.known;
+}
+
+-- one other item more
+pub pushed-other : (codes : List ℕ) (others : List Item) (it : Item) → ArePacked codes others
+    → items_of (codes ++ (256 + length others) ∷ []) (others ++ it ∷ []) ≡ items_of codes others ++ it ∷ []
+pushed-other codes others it packed =
+    let place : 256 + length others - 256 ≡ length others = omega arith in
+    items-append codes (256 + length others) (others ++ it ∷ [])
+    ∙ ap (λ (l : List Item). l ++ item_of (others ++ it ∷ []) (256 + length others) ∷ []) (items-more codes others it packed.known)
+    ∙ ap (λ (i : Item). items_of codes others ++ i ∷ [])
+    (item_of-other (others ++ it ∷ []) (256 + length others) (omega arith) ∙ ap (λ (n : ℕ). get_or (others ++ it ∷ []) n Pad) place ∙ get_or-append_seam others it [] Pad)
+
+pub packed-other : (codes : List ℕ) (others : List Item) (it : Item) → length codes < 33554432 → ArePacked codes others
+    → ArePacked (codes ++ (256 + length others) ∷ []) (others ++ it ∷ [])
+packed-other codes others it room packed = record {
+  few = omega (arith, length-append codes ((256 + length others) ∷ []));
+  fewer = omega (arith, packed.fewer, length-append codes ((256 + length others) ∷ []), length-append others (it ∷ []));
+  known = known-append (256 + length others) (256 + length (others ++ it ∷ [])) codes (256 + length others)
+      (omega (arith, length-append others (it ∷ []))) (omega (arith, length-append others (it ∷ []))) packed.known;
+}
+
+length-items : (codes : List ℕ) (others : List Item) → length (items_of codes others) ≡ length codes
+unfolding items_of
+length-items [] others = refl
+length-items (code ∷ codes) others = ap suc (length-items codes others)
+
+pub length-packed : (codes : List ℕ) (others : List Item) → length (items_of codes others) ≡ length codes
+length-packed codes others = length-items codes others
+
+-- ---- one item
+
+slice_get-packed : (codes : List ℕ) (others : List Item) (index : ℕ) → slice_get (items_of codes others) index ≡ option_map (item_of others) (slice_get codes index)
+unfolding items_of
+slice_get-packed codes others index = slice_get-map (item_of others) codes index
+
+pub item-past : (codes : List ℕ) (others : List Item) (index : ℕ) → length codes ≤ index → None ≡ slice_get (items_of codes others) index
+item-past codes others index past = sym (slice_get-packed codes others index ∙ ap (option_map (item_of others)) (slice_get_past codes index past))
+
+item-here : (codes : List ℕ) (others : List Item) (index : ℕ) → index < length codes
+    → slice_get (items_of codes others) index ≡ Some (item_of others (get_or codes index 0))
+item-here codes others index within = slice_get-packed codes others index ∙ ap (option_map (item_of others)) (slice_get-get_or codes index 0 within)
+
+pub item-byte : (codes : List ℕ) (others : List Item) (index : ℕ) → index < length codes → get_or codes index 0 < 256
+    → Some (Byte (get_or codes index 0)) ≡ slice_get (items_of codes others) index
+item-byte codes others index within small = sym (item-here codes others index within ∙ ap Some (item_of-byte others (get_or codes index 0) small))
+
+pub item-other : (codes : List ℕ) (others : List Item) (index : ℕ) (it : Item) → index < length codes → 256 ≤ get_or codes index 0
+    → Some it ≡ slice_get others (get_or codes index 0 - 256) → Some it ≡ slice_get (items_of codes others) index
+item-other codes others index it within high found =
+    ap Some (sym (get_or_from_slice_get others (get_or codes index 0 - 256) it Pad (sym found)))
+    ∙ sym (item-here codes others index within ∙ ap Some (item_of-other others (get_or codes index 0) high))

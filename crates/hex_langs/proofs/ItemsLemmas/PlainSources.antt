@@ -1,0 +1,312 @@
+-- A source of digits, blanks and comments gives in hex1 and hex2 the bytes that it gives in hex0.
+use Rattle.std.proofs.Common.{◌≡◌, ◌≢◌, ℕ, suc, ◌+◌, ◌*◌, ◌-◌, ◌%◌, ◌<◌, ◌≤◌, ◌==◌, Bool, true, false, not, cond, ◌&&◌, ◌||◌, List, [], ◌∷◌, ◌++◌, length, drop, map, Option, Some, None, is_some, Result, Ok, Err, IsTrue, refl, sym, ap, subst, ◌∙◌, arith}
+use Rattle.std.specs.List.{before_first, cons_option, list_all, onto_first}
+use Rattle.std.proofs.lemmas.Bool.Decides.{nat_tests}
+use Rattle.std.proofs.lemmas.List.{append-nil}
+use Rattle.std.proofs.lemmas.List.Splits.{slice_split-cons_no}
+use Rattle.hex.specs.Hex.{hex_digit_value, is_hex_digit}
+use Rattle.hex_langs.specs.declared.items.item.Item.{Item}
+use Rattle.hex_langs.specs.declared.items.item.Item.TheVariants as item
+use Rattle.hex_langs.specs.declared.items.reader.HexRefusal.{HexRefusal}
+use Rattle.hex_langs.specs.declared.items.token.Dialect.{Dialect}
+use Rattle.hex_langs.specs.declared.items.token.Fault.{Fault}
+use Rattle.hex_langs.specs.declared.items.token.Token.{Token}
+use Rattle.hex_langs.specs.declared.items.token.Token.TheVariants.{Byte}
+use Rattle.hex_langs.specs.Hex0.{begins_comment, digits_of, HasEvenDigits, hex0_of, line_feed, lines_of, pairs}
+use Rattle.hex_langs.specs.Items.Plain.{is_plain, is_plain_line}
+use Rattle.hex_langs.specs.Items.Reading.{answer, Formed, formed, items_of, judged, reading, Then, Whole, with_front}
+use Rattle.hex_langs.specs.Items.Tokens.{byte_of, gap_from, gap_length, is_blank, low_digit, opens_gap, pair_at, pair_with, token_at}
+use Rattle.hex_langs.proofs.ItemsLemmas.Gaps.{gap_from-blank, gap_from-comment, gap_from-other, gap_from-sign}
+use Rattle.hex_langs.proofs.Hex0Lemmas.{ahead, ahead-code, ahead-comment, ahead-in_comment, ahead-line_feed, before_first-no, before_first-yes, digit-is_code, drop_onto}
+use Rattle.hex_langs.proofs.ItemsLemmas.Readings.{gap_length-some, items_of-judged, judged-end, reading-end, reading-gap, reading-inside, reading-token}
+
+-- ---- which sources are plain, a byte on
+
+-- what is left is plain ahead of a reader that stands in a line's code, or in its comment
+abbrev plain_ahead : Bool → List ℕ → Bool
+plain_ahead false left = list_all is_plain_line (lines_of left)
+plain_ahead true left = list_all is_plain_line (drop 1 (lines_of left))
+
+plain-line_feed : (in_comment : Bool) (left : List ℕ) → plain_ahead in_comment (line_feed ∷ left) ≡ plain_ahead false left
+plain-line_feed false left = refl
+plain-line_feed true left = refl
+
+plain-in_comment : (byte : ℕ) (left : List ℕ) → (byte == line_feed) ≡ false → plain_ahead true (byte ∷ left) ≡ plain_ahead true left
+plain-in_comment byte left other =
+    ap (λ (lines : List (List ℕ)). list_all is_plain_line (drop 1 lines)) (slice_split-cons_no (λ b. b == line_feed) byte left other)
+    ∙ ap (list_all is_plain_line) (drop_onto byte (lines_of left))
+
+onto-comment : (byte : ℕ) (lines : List (List ℕ)) → begins_comment byte ≡ true
+    → list_all is_plain_line (onto_first byte lines) ≡ list_all is_plain_line (drop 1 lines)
+onto-comment byte [] is = ap (λ (l : List ℕ). list_all (λ b. is_hex_digit b || is_blank b) l && true) (before_first-yes begins_comment byte [] is)
+onto-comment byte (line ∷ lines) is =
+    ap (λ (l : List ℕ). list_all (λ b. is_hex_digit b || is_blank b) l && list_all is_plain_line lines) (before_first-yes begins_comment byte line is)
+
+plain-comment : (byte : ℕ) (left : List ℕ) → (byte == line_feed) ≡ false → begins_comment byte ≡ true
+    → plain_ahead false (byte ∷ left) ≡ plain_ahead true left
+plain-comment byte left other is =
+    ap (list_all is_plain_line) (slice_split-cons_no (λ b. b == line_feed) byte left other) ∙ onto-comment byte (lines_of left) is
+
+and-both : (a b c : Bool) → (a && b) && c ≡ a && (b && c)
+and-both true b c = refl
+and-both false b c = refl
+
+onto-code : (byte : ℕ) (lines : List (List ℕ)) → begins_comment byte ≡ false
+    → list_all is_plain_line (onto_first byte lines) ≡ (is_hex_digit byte || is_blank byte) && list_all is_plain_line lines
+onto-code byte [] code =
+    ap (λ (l : List ℕ). list_all (λ b. is_hex_digit b || is_blank b) l && true) (before_first-no begins_comment byte [] code)
+    ∙ and-both (is_hex_digit byte || is_blank byte) true true
+onto-code byte (line ∷ lines) code =
+    ap (λ (l : List ℕ). list_all (λ b. is_hex_digit b || is_blank b) l && list_all is_plain_line lines) (before_first-no begins_comment byte line code)
+    ∙ and-both (is_hex_digit byte || is_blank byte) (is_plain_line line) (list_all is_plain_line lines)
+
+plain-code : (byte : ℕ) (left : List ℕ) → (byte == line_feed) ≡ false → begins_comment byte ≡ false
+    → plain_ahead false (byte ∷ left) ≡ (is_hex_digit byte || is_blank byte) && plain_ahead false left
+plain-code byte left other code =
+    ap (list_all is_plain_line) (slice_split-cons_no (λ b. b == line_feed) byte left other) ∙ onto-code byte (lines_of left) code
+
+-- ---- the gap at the front of what is left
+
+gap_none : (byte : ℕ) (left : List ℕ) → begins_comment byte ≡ false → is_blank byte ≡ false → gap_length (byte ∷ left) ≡ 0
+unfolding gap_length
+gap_none byte left comment blank = gap_from-other byte left comment blank
+
+gap-end : gap_length [] ≡ 0
+unfolding gap_length
+gap-end = refl
+
+-- a gap may be passed over first
+behind-gap : (dialect : Dialect) (at : ℕ) (left : List ℕ)
+    → reading dialect at 0 left ≡ reading dialect (at + gap_length left) 0 (drop (gap_length left) left)
+behind-gap dialect at [] = reading-end dialect at ∙ sym (ap (λ (n : ℕ). reading dialect (at + n) 0 (drop n [])) gap-end ∙ reading-end dialect (at + 0))
+behind-gap dialect at (byte ∷ left) = by (opens_gap byte) refl
+  where
+    by : (opens : Bool) → opens_gap byte ≡ opens
+        → reading dialect at 0 (byte ∷ left) ≡ reading dialect (at + gap_length (byte ∷ left)) 0 (drop (gap_length (byte ∷ left)) (byte ∷ left))
+    by true opens =
+        let some = gap_length-some byte left opens in
+        let more : some.0 + 1 ≡ suc some.0 = omega arith in
+        let next : at + (some.0 + 1) ≡ at + 1 + some.0 = omega arith in
+        reading-gap dialect at some.0 (at + (some.0 + 1)) byte left opens some.1 next
+        ∙ ap (λ (n : ℕ). reading dialect (at + (some.0 + 1)) 0 (drop n (byte ∷ left))) (sym more)
+        ∙ ap (λ (n : ℕ). reading dialect (at + n) 0 (drop n (byte ∷ left))) (sym some.1)
+    by false none =
+        let comment : begins_comment byte ≡ false = grind (arith, nat_tests, none) in
+        let blank : is_blank byte ≡ false = grind (arith, nat_tests, none) in
+        let nothing : gap_length (byte ∷ left) ≡ 0 = gap_none byte left comment blank in
+        let same : at ≡ at + 0 = omega arith in
+        ap (λ (n : ℕ). reading dialect n 0 (byte ∷ left)) same
+        ∙ ap (λ (n : ℕ). reading dialect (at + n) 0 (drop n (byte ∷ left))) (sym nothing)
+
+-- ---- what is read and what hex0 gives, together
+
+-- nothing but these bytes
+abbrev bytes_alone : List ℕ → Formed Fault
+bytes_alone bytes = record { items = map item.Byte bytes; end = Whole }
+
+-- with an even number of digits left the rest gives their pairs
+abbrev Even : Dialect → Bool → List ℕ → Type 0
+Even dialect in_comment left =
+    IsTrue (plain_ahead in_comment left) → length (ahead in_comment left) % 2 ≡ 0 → (at : ℕ)
+    → formed None (reading dialect at 0 (drop (gap_from in_comment left) left)) ≡ bytes_alone (pairs (ahead in_comment left))
+
+-- with an odd number one digit stands behind the gap, and the pairs of the others follow
+record Odd (dialect : Dialect) (in_comment : Bool) (left : List ℕ) : Type 0 where
+  low : ℕ
+  rest : List ℕ
+  digits : ahead in_comment left ≡ low ∷ rest
+  here : low_digit (drop (gap_from in_comment left) left) ≡ Some low
+  later : (at : ℕ) → formed None (reading dialect at 0 (drop (gap_from in_comment left + 1) left)) ≡ bytes_alone (pairs rest)
+
+abbrev Both : Dialect → Bool → List ℕ → Type 0
+Both dialect in_comment left =
+    Even dialect in_comment left × (IsTrue (plain_ahead in_comment left) → length (ahead in_comment left) % 2 ≡ 1 → Odd dialect in_comment left)
+
+-- a byte of a gap takes nothing away
+both-skip : (dialect : Dialect) (now next : Bool) (byte : ℕ) (left : List ℕ) → gap_from now (byte ∷ left) ≡ 1 + gap_from next left
+    → ahead now (byte ∷ left) ≡ ahead next left → plain_ahead now (byte ∷ left) ≡ plain_ahead next left
+    → Both dialect next left → Both dialect now (byte ∷ left)
+both-skip dialect now next byte left gap digits plain both =
+    let more : 1 + gap_from next left ≡ suc (gap_from next left) = omega arith in
+    let size = gap ∙ more in
+    let size_on : gap_from now (byte ∷ left) + 1 ≡ suc (gap_from next left + 1) = omega (arith, gap) in (
+      λ is even at. ap (λ (n : ℕ). formed None (reading dialect at 0 (drop n (byte ∷ left)))) size
+          ∙ both.0 (subst IsTrue plain is) (sym (ap (λ (l : List ℕ). length l % 2) digits) ∙ even) at
+          ∙ sym (ap (λ (l : List ℕ). bytes_alone (pairs l)) digits),
+      λ is odd.
+          let found = both.1 (subst IsTrue plain is) (sym (ap (λ (l : List ℕ). length l % 2) digits) ∙ odd) in
+          record {
+            low = found.low;
+            rest = found.rest;
+            digits = digits ∙ found.digits;
+            here = ap (λ (n : ℕ). low_digit (drop n (byte ∷ left))) size ∙ found.here;
+            later = λ at. ap (λ (n : ℕ). formed None (reading dialect at 0 (drop n (byte ∷ left)))) size_on ∙ found.later at;
+          },
+    )
+
+-- the pair of a digit and of the one behind the gap
+token-pair : (dialect : Dialect) (byte value : ℕ) (left : List ℕ) (low : ℕ) → hex_digit_value byte ≡ Some value
+    → low_digit (drop (gap_length left) left) ≡ Some low
+    → token_at dialect byte left ≡ Ok (Byte (16 * value + low), gap_length left + 1)
+unfolding token_at pair_at
+token-pair dialect byte value left low digit here = rw digit (rw here refl)
+
+odd-after : (n : ℕ) → suc n % 2 ≡ 0 → n % 2 ≡ 1
+odd-after n even = omega (arith, even)
+
+even-after : (n : ℕ) → suc n % 2 ≡ 1 → n % 2 ≡ 0
+even-after n odd = omega (arith, odd)
+
+-- a gap in code is the gap at the front
+here-by : (left : List ℕ) (low : ℕ) → low_digit (drop (gap_from false left) left) ≡ Some low → low_digit (drop (gap_length left) left) ≡ Some low
+unfolding gap_length
+here-by left low here = here
+
+later-by : (dialect : Dialect) (left rest : List ℕ)
+    → ((at : ℕ) → formed None (reading dialect at 0 (drop (gap_from false left + 1) left)) ≡ bytes_alone (pairs rest))
+    → (at : ℕ) → formed None (reading dialect at 0 (drop (gap_length left + 1) left)) ≡ bytes_alone (pairs rest)
+unfolding gap_length
+later-by dialect left rest later = later
+
+even-by : (dialect : Dialect) (left : List ℕ)
+    → ((at : ℕ) → formed None (reading dialect at 0 (drop (gap_from false left) left)) ≡ bytes_alone (pairs (ahead false left)))
+    → (at : ℕ) → formed None (reading dialect at 0 (drop (gap_length left) left)) ≡ bytes_alone (pairs (ahead false left))
+unfolding gap_length
+even-by dialect left even = even
+
+-- at a digit
+both-digit : (dialect : Dialect) (byte value : ℕ) (left : List ℕ) → hex_digit_value byte ≡ Some value
+    → Both dialect false left → Both dialect false (byte ∷ left)
+both-digit dialect byte value left digit both =
+    let code = digit-is_code byte value digit in
+    let blank : is_blank byte ≡ false = grind (arith, nat_tests, digit) in
+    let opens : opens_gap byte ≡ false = rw blank (rw code.1 refl) in
+    let size = gap_from-other byte left code.1 blank in
+    let digits : ahead false (byte ∷ left) ≡ value ∷ ahead false left = ahead-code byte left code.0 code.1 ∙ ap (λ (o : Option ℕ). cons_option o (ahead false left)) digit in
+    let test : is_hex_digit byte ≡ true = ap is_some digit in
+    let plain : plain_ahead false (byte ∷ left) ≡ plain_ahead false left = plain-code byte left code.0 code.1 ∙ ap (λ (t : Bool). (t || is_blank byte) && plain_ahead false left) test in (
+      λ is even at.
+          let found = both.1 (subst IsTrue plain is) (odd-after _ (sym (ap (λ (l : List ℕ). length l % 2) digits) ∙ even)) in
+          let read = reading-token dialect at byte left (Byte (16 * value + found.low)) (gap_length left + 1) opens (token-pair dialect byte value left found.low digit (here-by left found.low found.here)) in
+          ap (λ (n : ℕ). formed None (reading dialect at 0 (drop n (byte ∷ left)))) size
+          ∙ ap (formed None) read
+          ∙ ap (with_front (item.Byte (16 * value + found.low) ∷ [])) (later-by dialect left found.rest found.later (at + 1 + (gap_length left + 1)))
+          ∙ sym (ap (λ (l : List ℕ). bytes_alone (pairs l)) (digits ∙ ap (λ (l : List ℕ). value ∷ l) found.digits)),
+      λ is odd. record {
+        low = value;
+        rest = ahead false left;
+        digits = digits;
+        here = ap (λ (n : ℕ). low_digit (drop n (byte ∷ left))) size ∙ digit;
+        later = λ at.
+            ap (λ (n : ℕ). formed None (reading dialect at 0 (drop (n + 1) (byte ∷ left)))) size
+            ∙ ap (formed None) (behind-gap dialect at left)
+            ∙ even-by dialect left (both.0 (subst IsTrue plain is) (even-after _ (sym (ap (λ (l : List ℕ). length l % 2) digits) ∙ odd))) (at + gap_length left);
+      },
+    )
+
+not-plain : {test : Bool} → test ≡ false → IsTrue test → ⊥
+not-plain is plain = absurd (cc)
+
+-- at another byte of code, which is a blank
+both-blank : (dialect : Dialect) (byte : ℕ) (left : List ℕ) → (byte == line_feed) ≡ false → begins_comment byte ≡ false → hex_digit_value byte ≡ None
+    → Both dialect false left → Both dialect false (byte ∷ left)
+both-blank dialect byte left other code none both = by (is_blank byte) refl
+  where
+    plain_is : plain_ahead false (byte ∷ left) ≡ is_blank byte && plain_ahead false left
+    plain_is = plain-code byte left other code ∙ ap (λ (o : Option ℕ). (is_some o || is_blank byte) && plain_ahead false left) none
+
+    by : (blank : Bool) → is_blank byte ≡ blank → Both dialect false (byte ∷ left)
+    by true is =
+        both-skip dialect false false byte left (gap_from-blank byte left code is)
+        (ahead-code byte left other code ∙ ap (λ (o : Option ℕ). cons_option o (ahead false left)) none)
+        (plain_is ∙ ap (λ (t : Bool). t && plain_ahead false left) is) both
+    by false is =
+        let never : plain_ahead false (byte ∷ left) ≡ false = plain_is ∙ ap (λ (t : Bool). t && plain_ahead false left) is in
+        (λ plain even at. absurd (not-plain never plain), λ plain odd. absurd (not-plain never plain))
+
+both-code : (dialect : Dialect) (byte : ℕ) (left : List ℕ) → (byte == line_feed) ≡ false → begins_comment byte ≡ false → (value : Option ℕ)
+    → hex_digit_value byte ≡ value → Both dialect false left → Both dialect false (byte ∷ left)
+both-code dialect byte left other code (Some value) is both = both-digit dialect byte value left is both
+both-code dialect byte left other code None is both = both-blank dialect byte left other code is both
+
+line_feed-is : (byte : ℕ) → (byte == line_feed) ≡ true → byte ≡ line_feed
+line_feed-is byte is = grind (arith, nat_tests, is)
+
+line_feed-gap : (now : Bool) (left : List ℕ) → gap_from now (line_feed ∷ left) ≡ 1 + gap_from false left
+line_feed-gap true left = gap_from-comment line_feed left
+line_feed-gap false left = gap_from-blank line_feed left refl refl
+
+both : (dialect : Dialect) (in_comment : Bool) (left : List ℕ) → Both dialect in_comment left
+both dialect false [] = (λ plain even at. ap (formed None) (reading-end dialect at), λ plain odd. absurd (omega (arith, odd)))
+both dialect true [] = (λ plain even at. ap (formed None) (reading-end dialect at), λ plain odd. absurd (omega (arith, odd)))
+both dialect in_comment (byte ∷ left) = ends (byte == line_feed) refl (both dialect false left) (both dialect true left) in_comment
+  where
+    code_or_comment : (comment : Bool) → begins_comment byte ≡ comment → (byte == line_feed) ≡ false → Both dialect false left → Both dialect true left
+        → Both dialect false (byte ∷ left)
+    code_or_comment true is other in_code in_comment =
+        both-skip dialect false true byte left (gap_from-sign byte left is) (ahead-comment byte left other is) (plain-comment byte left other is) in_comment
+    code_or_comment false is other in_code in_comment = both-code dialect byte left other is (hex_digit_value byte) refl in_code
+
+    ends : (end : Bool) → (byte == line_feed) ≡ end → Both dialect false left → Both dialect true left → (in_comment : Bool)
+        → Both dialect in_comment (byte ∷ left)
+    ends true is in_code in_comment now =
+        let is_end = line_feed-is byte is in
+        subst (λ (b : ℕ). Both dialect now (b ∷ left)) (sym is_end)
+        (both-skip dialect now false line_feed left (line_feed-gap now left) (ahead-line_feed now left) (plain-line_feed now left) in_code)
+    ends false is in_code in_comment false = code_or_comment (begins_comment byte) refl is in_code in_comment
+    ends false is in_code in_comment true =
+        both-skip dialect true true byte left (gap_from-comment byte left ∙ ap (λ (t : Bool). 1 + gap_from (not t) left) is) (ahead-in_comment byte left is)
+        (plain-in_comment byte left is) in_comment
+
+-- ---- the whole
+
+pairs-few : (digits : List ℕ) → 2 * length (pairs digits) ≤ length digits
+pairs-few [] = omega arith
+pairs-few (one ∷ []) = omega arith
+pairs-few (high ∷ low ∷ rest) = omega (arith, pairs-few rest)
+
+cons_option-few : (o : Option ℕ) (l : List ℕ) → length (cons_option o l) ≤ 1 + length l
+cons_option-few None l = omega arith
+cons_option-few (Some x) l = omega arith
+
+-- a digit is a byte
+ahead-few : (in_comment : Bool) (left : List ℕ) → length (ahead in_comment left) ≤ length left
+ahead-few false [] = omega arith
+ahead-few true [] = omega arith
+ahead-few in_comment (byte ∷ left) = by (byte == line_feed) refl (ahead-few false left) (ahead-few true left) in_comment
+  where
+    code_or_comment : (comment : Bool) → begins_comment byte ≡ comment → (byte == line_feed) ≡ false → length (ahead false left) ≤ length left
+        → length (ahead true left) ≤ length left → length (ahead false (byte ∷ left)) ≤ length (byte ∷ left)
+    code_or_comment true is other in_code in_comment = omega (arith, in_comment, ap length (ahead-comment byte left other is))
+    code_or_comment false is other in_code in_comment =
+        omega (arith, in_code, ap length (ahead-code byte left other is), cons_option-few (hex_digit_value byte) (ahead false left))
+
+    by : (end : Bool) → (byte == line_feed) ≡ end → length (ahead false left) ≤ length left → length (ahead true left) ≤ length left → (in_comment : Bool)
+        → length (ahead in_comment (byte ∷ left)) ≤ length (byte ∷ left)
+    by true is in_code in_comment now =
+        let is_end = line_feed-is byte is in
+        omega (arith, in_code, ap (λ (b : ℕ). length (ahead now (b ∷ left))) is_end, ap length (ahead-line_feed now left))
+    by false is in_code in_comment false = code_or_comment (begins_comment byte) refl is in_code in_comment
+    by false is in_code in_comment true = omega (arith, in_comment, ap length (ahead-in_comment byte left is))
+
+length-bytes : (bytes : List ℕ) → length (map item.Byte bytes) ≡ length bytes
+length-bytes [] = refl
+length-bytes (byte ∷ bytes) = ap suc (length-bytes bytes)
+
+whole-source : (dialect : Dialect) (source : List ℕ) → IsTrue (is_plain source) → HasEvenDigits source
+    → formed None (reading dialect 0 0 source) ≡ bytes_alone (hex0_of source)
+unfolding hex0_of
+whole-source dialect source plain even =
+    ap (formed None) (behind-gap dialect 0 source) ∙ even-by dialect source ((both dialect false source).0 plain even) (0 + gap_length source)
+
+value-few : (source : List ℕ) → length source ≤ 67108864 → length (hex0_of source) ≤ 33554432
+unfolding hex0_of
+value-few source short = omega (arith, pairs-few (digits_of source), ahead-few false source)
+
+pub plain-items : (dialect : Dialect) (source : List ℕ) → length source ≤ 67108864 → IsTrue (is_plain source) → HasEvenDigits source
+    → items_of dialect source ≡ Ok (map item.Byte (hex0_of source))
+plain-items dialect source short plain even =
+    items_of-judged dialect source short
+    ∙ judged-end (formed None (reading dialect 0 0 source)) (map item.Byte (hex0_of source)) Whole
+    (whole-source dialect source plain even ∙ sym (ap (λ (l : List Item). record { items = l; end = Whole }) (append-nil (map item.Byte (hex0_of source)))))
+    (omega (arith, length-bytes (hex0_of source), value-few source short))

@@ -1,0 +1,95 @@
+-- What putting one item's bytes does to what is left.
+use Rattle.std.proofs.Common.{◌≡◌, ℕ, ◌+◌, ◌≤◌, List, [], ◌∷◌, ◌++◌, length, append_assoc, length-append, Option, Result, Ok, Err, refl, sym, ap, subst, ◌∙◌, arith}
+use Rattle.std.proofs.lemmas.List.{length-replicate}
+use Rattle.std.specs.Prelude.{replicate}
+use Rattle.std.specs.Int.{w32, to_le_bytes}
+use Rattle.hex_langs.specs.declared.items.item.Item.{Item}
+use Rattle.hex_langs.specs.declared.items.item.Item.TheVariants.{Byte, Label, Word, Rel, Gap, Abs, Pad}
+use Rattle.hex_langs.specs.declared.items.reader.HexRefusal.{HexRefusal}
+use Rattle.hex_langs.specs.declared.items.reader.HexRefusal.TheVariants as refusal
+use Rattle.hex_langs.specs.declared.link.number.Miss.{Miss}
+use Rattle.indexmap.specs.IndexMap.{get, IndexMap}
+use Rattle.hex_langs.specs.Link.Link.{address_of, behind, item_bytes, four, bytes_from, Labels, link_of, Links, onto, pad_size, refused, same_name, size_at, unless_repeat}
+use Rattle.hex_langs.specs.Link.Representation.Tables.{Puts, Tables}
+
+pub puts-ok : (meant : Result (List ℕ) Miss) (old new : List ℕ) → Puts (Ok tt) meant old new
+    → (bytes : List ℕ) × (meant ≡ Ok bytes) × (new ≡ old ++ bytes)
+puts-ok (Ok bytes) old new puts = (bytes, refl, puts)
+puts-ok (Err miss) old new puts = absurd puts
+
+four-size : (in_reach : Result ℕ Miss) (bytes : List ℕ) → four in_reach ≡ Ok bytes → length bytes ≡ 4
+four-size (Ok n) bytes is = let same : to_le_bytes w32 n ≡ bytes = cc in sym (ap length same)
+four-size (Err miss) bytes is = absurd (cc)
+
+pub bytes-size : (labels : Labels) (place : ℕ) (it : Item) (bytes : List ℕ) → item_bytes labels place it ≡ Ok bytes → length bytes ≡ size_at place it
+bytes-size labels place (Byte byte) bytes is = let same : byte ∷ [] ≡ bytes = cc in sym (ap length same)
+bytes-size labels place (Label name) bytes is = let same : [] ≡ bytes = cc in sym (ap length same)
+bytes-size labels place Pad bytes is = let same : replicate (pad_size place) 0 ≡ bytes = cc in sym (ap length same) ∙ length-replicate {A = ℕ} (pad_size place) 0
+bytes-size labels place (Word value kind name) bytes is = four-size _ bytes is
+bytes-size labels place (Rel name) bytes is = four-size _ bytes is
+bytes-size labels place (Gap name other) bytes is = four-size _ bytes is
+bytes-size labels place (Abs name) bytes is = four-size _ bytes is
+
+onto-twice : (front more : List ℕ) (later : Result (List ℕ) HexRefusal) → onto front (onto more later) ≡ onto (front ++ more) later
+onto-twice front more (Ok bytes) = ap Ok (sym (append_assoc front more bytes))
+onto-twice front more (Err why) = refl
+
+size-small : (place : ℕ) (it : Item) → size_at place it ≤ 4
+size-small place (Byte byte) = omega arith
+size-small place (Label name) = omega arith
+size-small place Pad = omega arith
+size-small place (Word value kind name) = omega arith
+size-small place (Rel name) = omega arith
+size-small place (Gap name other) = omega arith
+size-small place (Abs name) = omega arith
+
+-- the whole, one item on
+pub joined-more : (labels : Labels) (base index : ℕ) (it : Item) (left : List Item) (old new : List ℕ) (whole : Result (List ℕ) HexRefusal)
+    → whole ≡ onto old (bytes_from labels (base + length old) index (it ∷ left))
+    → Puts (Ok tt) (item_bytes labels (base + length old) it) old new
+    → (whole ≡ onto new (bytes_from labels (base + length new) (index + 1) left)) × (length new ≤ length old + 4)
+joined-more labels base index it left old new whole is puts =
+    let put = puts-ok (item_bytes labels (base + length old) it) old new puts in
+    let size = bytes-size labels (base + length old) it put.0 put.1 in
+    let length_is : length new ≡ length old + length put.0 = ap length put.2 ∙ length-append old put.0 in
+    let next_is : base + length old + size_at (base + length old) it ≡ base + length new = omega (arith, size, length_is) in
+    let rest = bytes_from labels (base + length old + size_at (base + length old) it) (index + 1) left in (
+      is ∙ ap (λ (b : Result (List ℕ) Miss). onto old (behind b index rest)) put.1
+          ∙ onto-twice old put.0 rest
+          ∙ ap (λ (bytes : List ℕ). onto bytes rest) (sym put.2)
+          ∙ ap (λ (n : ℕ). onto new (bytes_from labels n (index + 1) left)) next_is,
+      omega (arith, size, length_is, size-small (base + length old) it),
+    )
+
+-- at an item that has no bytes
+pub joined-refused : (labels : Labels) (base index : ℕ) (it : Item) (left : List Item) (old : List ℕ) (miss : Miss) (whole : Result (List ℕ) HexRefusal)
+    → whole ≡ onto old (bytes_from labels (base + length old) index (it ∷ left))
+    → item_bytes labels (base + length old) it ≡ Err miss → whole ≡ Err (refused miss index)
+joined-refused labels base index it left old miss whole is none =
+    is ∙ ap (λ (b : Result (List ℕ) Miss). onto old (behind b index (bytes_from labels (base + length old + size_at (base + length old) it) (index + 1) left))) none
+
+-- ---- the whole
+
+-- where the labels fail, linking does
+pub links-refused : (S : Type 0) (why : HexRefusal) (items : List Item) (base : ℕ) → Tables {S = S} (Err why) items base → Links (Err why) (link_of items base)
+unfolding link_of
+links-refused S refusal.OutOfMemory items base tables = tt
+links-refused S (refusal.DoubleLabel index) items base tables = sym (ap (λ (o : Option ℕ). unless_repeat o (bytes_from (address_of base items) base 0 items)) tables)
+links-refused S (refusal.OddDigits at) items base tables = absurd tables
+links-refused S (refusal.BadField at) items base tables = absurd tables
+links-refused S (refusal.Dangling at) items base tables = absurd tables
+links-refused S (refusal.NoLabel at) items base tables = absurd tables
+links-refused S (refusal.OutOfReach at) items base tables = absurd tables
+links-refused S refusal.TooLong items base tables = absurd tables
+
+-- by the labels of the table as by those of the items
+pub links-joined : {S : Type 0} (table : IndexMap (List ℕ) ℕ S) (items : List Item) (base : ℕ) → Tables (Ok table) items base
+    → bytes_from (λ name. get same_name table name) base 0 items ≡ link_of items base
+unfolding link_of
+links-joined table items base tables =
+    let labels : (λ (name : List ℕ). get same_name table name) ≡ address_of base items = λ i name. tables.1 name i in
+    ap (λ (l : Labels). bytes_from l base 0 items) labels
+    ∙ sym (ap (λ (o : Option ℕ). unless_repeat o (bytes_from (address_of base items) base 0 items)) tables.0)
+
+pub links-by : (result meant same : Result (List ℕ) HexRefusal) → Links result meant → meant ≡ same → Links result same
+links-by result meant same links is = subst (λ (m : Result (List ℕ) HexRefusal). Links result m) is links

@@ -1,0 +1,23 @@
+use Rattle.std.proofs.Common.{arith, ap, sym, subst, ◌∙◌, ◌≡◌, ◌++◌, ◌∷◌, [], List, ℕ, ◌+◌, length}
+use Rattle.hex_langs.specs.declared.items.item.Item.{Item}
+use Rattle.hex_langs.specs.Items.Representation.Packed.{ArePacked, items_of}
+use Rattle.hex_langs.proofs.ItemsLemmas.Packing.{packed-other, pushed-byte, pushed-other}
+use Rattle.hex_langs.proofs.items.items.add_item.Goals as goal
+
+pub returns-in_ok-add_byte-in-Byte-clause-ok : goal.returns-in_ok-add_byte-in-Byte-clause-ok
+returns-in_ok-add_byte-in-Byte-clause-ok c =
+    let codes = c.args.codes.now.items in
+    let others = c.args.others.now.items in
+    ap (λ (l : List ℕ). items_of l others) c.in_ok-add_byte-in-Byte.ensures.ok
+    ∙ pushed-byte codes others c.in-Byte.byte c.add_byte.ensures.byte
+    ∙ ap (λ (i : Item). items_of codes others ++ i ∷ []) (sym c.in-Byte.is)
+
+pub returns-in_ok-add_other-in_default : goal.returns-in_ok-add_other-in_default
+returns-in_ok-add_other-in_default c =
+    let codes = c.args.codes.now.items in
+    let others = c.args.others.now.items in
+    record {
+      packed = rw (c.in_ok-add_other-in_default.ensures.ok_codes, c.in_ok-add_other-in_default.ensures.ok_others) (packed-other codes others c.args.item c.requires.room c.requires.packed);
+      ok = rw (c.in_ok-add_other-in_default.ensures.ok_codes, c.in_ok-add_other-in_default.ensures.ok_others) (pushed-other codes others c.args.item c.requires.packed);
+      err = tt;
+    }

@@ -1,0 +1,93 @@
+-- A source of hex1 or hex2 read from left to right: its tokens, their items, and the first refusal. docs/reference/hex1.md and hex2.md
+-- say the same for people.
+use Rattle.std.specs.Prelude.{◌≡◌, ℕ, zero, suc, ◌+◌, ◌-◌, ◌<◌, nat_lt, if◌then◌else◌, List, [], ◌∷◌, ◌++◌, length, Option, Some, None, Result, Ok, Err}
+use Rattle.hex_langs.specs.declared.items.item.Item.{Item}
+use Rattle.hex_langs.specs.declared.items.token.Dialect.{Dialect}
+use Rattle.hex_langs.specs.declared.items.token.Fault.{Fault}
+use Rattle.hex_langs.specs.declared.items.token.Fault.TheVariants as fault
+use Rattle.hex_langs.specs.declared.items.token.Token.{Token}
+use Rattle.hex_langs.specs.declared.items.words.Open.{Open}
+use Rattle.hex_langs.specs.declared.items.words.Halt.{Halt}
+use Rattle.hex_langs.specs.declared.items.words.Halt.TheVariants as halt
+use Rattle.hex_langs.specs.declared.items.reader.HexRefusal.{HexRefusal}
+use Rattle.hex_langs.specs.declared.items.reader.HexRefusal.TheVariants.{OddDigits, BadField, Dangling, TooLong, OutOfMemory}
+use Rattle.hex_langs.specs.Items.Tokens.{opens_gap, gap_length, token_at}
+use Rattle.hex_langs.specs.Items.Words.{taken, Step}
+
+-- the tokens of a source with their offsets, up to its end or to the first place that has no token
+pub data Reading (F : Type 0) : Type 0 where
+  Ends : Reading F
+  Faulty : (why : F) (at : ℕ) → Reading F
+  Then : (at : ℕ) (token : Token) (later : Reading F) → Reading F
+
+-- what stands from an offset on, of which the first bytes belong to a token or gap that is already read
+unfoldable pub reading : Dialect → ℕ → ℕ → List ℕ → Reading Fault
+reading dialect at inside [] = Ends
+reading dialect at (suc inside) (byte ∷ left) = reading dialect (at + 1) inside left
+reading dialect at zero (byte ∷ left) =
+    if opens_gap byte then reading dialect (at + 1) (gap_length (byte ∷ left) - 1) left
+    else elim (token_at dialect byte left) [
+      | Ok found ↦ Then at found.0 (reading dialect (at + 1) found.1 left)
+      | Err why ↦ Faulty why at
+    ]
+
+-- how it ends
+pub data Ending (F : Type 0) : Type 0 where
+  Whole : Ending F
+  Halted : Halt → Ending F
+  Faulted : F → ℕ → Ending F
+
+-- the items up to the end or the first refusal
+pub record Formed (F : Type 0) : Type 0 where
+  pub items : List Item
+  pub end : Ending F
+
+abbrev pub with_front : {F : Type 0} → List Item → Formed F → Formed F
+with_front front formed = record { items = front ++ formed.items; end = formed.end }
+
+-- a word that is open at the end isn't whole
+abbrev pub word_end : {F : Type 0} → Option Open → Ending F
+word_end None = Whole
+word_end (Some word) = Halted (halt.Dangling word.first)
+
+-- behind one step: the items that it forms and what the rest gives, or no more
+abbrev pub behind_step : {F : Type 0} → Step → (Option Open → Formed F) → Formed F
+behind_step (Ok step) rest = with_front step.0 (rest step.1)
+behind_step (Err why) rest = record { items = []; end = Halted why }
+
+-- the items of tokens, behind an open word or none
+abbrev pub formed : {F : Type 0} → Option Open → Reading F → Formed F
+formed word Ends = record { items = []; end = word_end word }
+formed word (Faulty why at) = record { items = []; end = Faulted why at }
+formed word (Then at token later) = behind_step (taken word at token) (λ next. formed next later)
+
+-- the refusal of a token without a place, and of a place without a token
+abbrev pub halted : Halt → HexRefusal
+halted (halt.Dangling first) = Dangling first
+halted (halt.Second at) = BadField at
+halted halt.TooLong = TooLong
+halted halt.OutOfMemory = OutOfMemory
+
+abbrev pub fault_at : Fault → ℕ → HexRefusal
+fault_at fault.OddDigits at = OddDigits at
+fault_at fault.BadField at = BadField at
+
+abbrev pub answer : List Item → Ending Fault → Result (List Item) HexRefusal
+answer items Whole = Ok items
+answer items (Halted why) = Err (halted why)
+answer items (Faulted why at) = Err (fault_at why at)
+
+-- more items than a list may have are refused where the first one too many would be formed
+abbrev pub judged : Formed Fault → Result (List Item) HexRefusal
+judged formed = if nat_lt 33554432 (length formed.items) then Err TooLong else answer formed.items formed.end
+
+-- the items of a source, or its first refusal
+unfoldable pub items_of : Dialect → List ℕ → Result (List Item) HexRefusal
+items_of dialect source =
+    if nat_lt 67108864 (length source) then Err TooLong
+    else judged (formed None (reading dialect 0 0 source))
+
+-- what a reader answers: this, or want of memory
+abbrev pub Reads : Result (List Item) HexRefusal → Result (List Item) HexRefusal → Type 0
+Reads meant (Err OutOfMemory) = Unit {0}
+Reads meant result = meant ≡ result

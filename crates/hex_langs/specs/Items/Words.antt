@@ -1,0 +1,73 @@
+-- Words: one or more fields and references, of which at most one is a reference, and then exactly four bytes. docs/reference/hex2.md
+-- says the same for people.
+use Rattle.std.specs.Prelude.{◌≡◌, ℕ, ◌+◌, ◌<◌, List, [], ◌∷◌, ◌++◌, length, map, Option, Some, None, Result, Ok, Err, bit_xor}
+use Rattle.std.specs.Int.{w32, from_le_bytes, to_le_bytes}
+use Rattle.hex_langs.specs.declared.items.item.Kind.{Kind}
+use Rattle.hex_langs.specs.declared.items.item.Item.{Item}
+use Rattle.hex_langs.specs.declared.items.item.Item.TheVariants as item
+use Rattle.hex_langs.specs.declared.items.token.Token.{Token}
+use Rattle.hex_langs.specs.declared.items.token.Token.TheVariants.{Byte, Field, Reference, Alone}
+use Rattle.hex_langs.specs.declared.items.words.Open.{Open}
+use Rattle.hex_langs.specs.declared.items.words.Begun.{Begun}
+use Rattle.hex_langs.specs.declared.items.words.Begun.TheVariants.{Nothing, One, Two, Three}
+use Rattle.hex_langs.specs.declared.items.words.Halt.{Halt}
+use Rattle.hex_langs.specs.declared.items.words.Halt.TheVariants.{Dangling, Second, TooLong, OutOfMemory}
+
+-- what a token does: the items that it forms and the word that is open behind it, or why it has no place
+abbrev pub Step : Type 0
+Step = Result (List Item × Option Open) Halt
+
+abbrev pub still_open : Open → Step
+still_open word = Ok ([], Some word)
+
+-- the items of a whole word, whose four bytes were XORed with its fields
+abbrev pub word_items : Option (Kind × List ℕ) → ℕ → List Item
+word_items None value = map item.Byte (to_le_bytes w32 value)
+word_items (Some reference) value = item.Word value reference.0 reference.1 ∷ []
+
+-- a byte behind the bytes that an open word has
+abbrev pub byte_in : Open → Begun → ℕ → Step
+byte_in word Nothing byte = still_open (record word { begun = One byte })
+byte_in word (One a) byte = still_open (record word { begun = Two a byte })
+byte_in word (Two a b) byte = still_open (record word { begun = Three a b byte })
+byte_in word (Three a b c) byte = Ok (word_items word.reference (bit_xor word.mask (from_le_bytes w32 (a ∷ b ∷ c ∷ byte ∷ []))), None)
+
+abbrev pub byte_taken : Open → ℕ → Step
+byte_taken word byte = byte_in word word.begun byte
+
+-- a field has its place before the bytes of the word
+abbrev pub field_in : Open → Begun → ℕ → Step
+field_in word Nothing mask = still_open (record word { mask = bit_xor word.mask mask })
+field_in word _ mask = Err (Dangling word.first)
+
+-- so has a reference, and there is only one
+abbrev pub reference_in : Open → Option (Kind × List ℕ) → Begun → ℕ → Kind → List ℕ → Step
+reference_in word (Some other) begun at kind name = Err (Second at)
+reference_in word None Nothing at kind name = still_open (record word { reference = Some (kind, name) })
+reference_in word None _ at kind name = Err (Dangling word.first)
+
+-- a token at an offset, behind no open word or behind one
+abbrev pub taken : Option Open → ℕ → Token → Step
+taken None at (Byte byte) = Ok (item.Byte byte ∷ [], None)
+taken None at (Alone it) = Ok (it ∷ [], None)
+taken None at (Field mask) = still_open (record { first = at; mask = mask; reference = None; begun = Nothing })
+taken None at (Reference kind name) = still_open (record { first = at; mask = 0; reference = Some (kind, name); begun = Nothing })
+taken (Some word) at (Byte byte) = byte_taken word byte
+taken (Some word) at (Alone it) = Err (Dangling word.first)
+taken (Some word) at (Field mask) = field_in word word.begun mask
+taken (Some word) at (Reference kind name) = reference_in word word.reference word.begun at kind name
+
+-- the items grow by some, unless they are too many or memory runs out
+abbrev pub Adds : List Item → Result (Unit {0}) Halt → List Item → List Item → Type 0
+Adds more (Ok done) old new = new ≡ old ++ more
+Adds more (Err TooLong) old new = 33554432 < length old + length more
+Adds more (Err OutOfMemory) old new = Unit {0}
+Adds more (Err other) old new = ⊥
+
+-- what taking a token answers and does to the items
+abbrev pub Takes : Result (Option Open) Halt → Step → List Item → List Item → Type 0
+Takes (Err OutOfMemory) meant old new = Unit {0}
+Takes (Err TooLong) (Ok step) old new = 33554432 < length old + length step.0
+Takes (Err why) meant old new = meant ≡ Err why
+Takes (Ok word) (Ok step) old new = (new ≡ old ++ step.0) × (word ≡ step.1)
+Takes (Ok word) (Err why) old new = ⊥

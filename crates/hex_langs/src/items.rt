@@ -1,0 +1,16 @@
+//! hex1 and hex2: what items a source stands for, before they are linked.
+//!
+//! The rules, with their public sources, are in docs/reference/hex1.md and hex2.md.
+
+mod item;
+mod items;
+pub mod laws;
+mod reader;
+mod token;
+mod words;
+
+pub use item::{Item, Kind, Name};
+pub use items::{Items, MOST_ITEMS};
+pub use reader::{HexRefusal, LONGEST_SOURCE, items1, items2};
+pub use token::{Dialect, Fault, Token, byte_of, gap_length, is_blank, token_at};
+pub use words::{Begun, Halt, Open, take, take_byte, take_four};

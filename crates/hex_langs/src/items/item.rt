@@ -1,0 +1,99 @@
+//! Items: what a source of hex1, hex2 or M1 says, before it is linked.
+
+ghost use Rattle.std.specs.Prelude.{◌≡◌, ◌<◌, ◌≤◌, ℕ, List, [], ◌∷◌, ◌++◌, length, slice_get, OnOk, OnErr};
+ghost use Rattle.std.specs.Option.{option_copied};
+ghost use Rattle.std.specs.Prelude.{nat_eq};
+ghost use Rattle.std.specs.Cmp.{on_equiv, on_per, partial_equiv_from_equiv};
+ghost use Rattle.std.specs.Cmp.Lexicographic.{pointwise, nat_list_eq_equiv};
+ghost use Rattle.std.specs.Cmp.Rules.{hashing};
+ghost use Rattle.std.specs.Hash as fed;
+ghost use Rattle.std.proofs.Common.{rules};
+ghost use Rattle.std.specs.Prelude.{◌+◌};
+
+use std::hash::{Hash, Hasher};
+use std::marker::Model;
+
+/// The kind of a reference inside a word: the immediate of the instruction format of this name that the label's distance goes to
+/// (RISC-V Unprivileged ISA, "Base Instruction Formats" and "Immediate Encoding Variants").
+#[derive(Clone, Copy, Debug, PartialEq, Eq)]
+pub enum Kind {
+    /// `!name`: 12 bits, behind a `U` of the word before.
+    I,
+    /// `@name`: a branch.
+    B,
+    /// `$name`: a jump.
+    J,
+    /// `~name`: the upper 20 bits.
+    U,
+}
+
+/// A name, which lies in the source. Contracts see its bytes.
+#[derive(Debug, Drop)]
+pub struct Name<'s> {
+    bytes: &'s [u8],
+}
+
+impl<'s> Model for Name<'s> {
+    ghost Value = { List ℕ };
+
+    ghost view = { λ n. n.bytes.now };
+}
+
+impl<'s> Name<'s> {
+    /// The name of these bytes.
+    pub fn new(bytes: &'s [u8]) -> Name<'s>
+        ensures { result ≡ bytes.now }
+    {
+        Name { bytes }
+    }
+
+    /// Its bytes.
+    pub fn bytes(&self) -> &'s [u8]
+        ensures { result.now ≡ self.now }
+    {
+        self.bytes
+    }
+}
+
+impl<'s> PartialEq for Name<'s> {
+    ghost eq = { λ a b. pointwise nat_eq a b };
+
+    ghost laws = { on_per (λ n. n) (partial_equiv_from_equiv nat_list_eq_equiv) };
+
+    fn eq(&self, other: &Self) -> bool {
+        self.bytes == other.bytes
+    }
+}
+
+impl<'s> Eq for Name<'s> {
+    ghost laws = { on_equiv (λ n. n) nat_list_eq_equiv };
+}
+
+impl<'s> Hash for Name<'s> {
+    ghost hash_input = { λ n. fed.str n };
+
+    ghost respects_eq = { Prim.search (hashing, rules) };
+
+    fn hash<H: Hasher>(&self, state: &mut H) {
+        state.write(self.bytes);
+        state.write_u8(0xff);
+    }
+}
+
+/// One item of a source. Names lie in the source.
+#[derive(Debug, Drop)]
+pub enum Item<'s> {
+    Byte(u8),
+    /// Defines the label at the item's address.
+    Label(Name<'s>),
+    /// Four bytes of an instruction, whose value gets the distance of the label by its kind.
+    Word(u32, Kind, Name<'s>),
+    /// Four bytes: how far the label is from the end of them.
+    Rel(Name<'s>),
+    /// Four bytes: how far the first label is from the second.
+    Gap(Name<'s>, Name<'s>),
+    /// Four bytes: the address of the label.
+    Abs(Name<'s>),
+    /// Zero bytes up to the next address that is a multiple of 4.
+    Pad,
+}

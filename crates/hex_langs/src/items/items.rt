@@ -1,0 +1,162 @@
+//! Items in little memory.
+
+ghost use Rattle.std.specs.Prelude.{◌≡◌, ◌<◌, ◌≤◌, ◌+◌, ℕ, List, [], ◌∷◌, ◌++◌, length, slice_get, OnOk, OnErr};
+ghost use Rattle.std.specs.Option.{option_copied};
+ghost use Rattle.hex_langs.specs.Items.Representation.Packed.{items_of, ArePacked};
+ghost use Rattle.hex_langs.specs.declared.items.item.Item.TheVariants.{Byte};
+
+use crate::items::item::{Item, Name};
+use ddc_base::OutOfMemory;
+use std::alloc::Global;
+use std::marker::Model;
+
+/// At most so many items stand in a list.
+pub const MOST_ITEMS: usize = 33_554_432;
+
+/// Items in a row. A byte takes four bytes of memory, and every other item its own size besides.
+#[derive(Drop)]
+pub struct Items<'s> {
+    codes: Vec<u32>,
+    others: Vec<Item<'s>>,
+}
+
+impl<'s> Model for Items<'s> {
+    ghost use Rattle.std.specs.Prelude.{List};
+    ghost use Rattle.hex_langs.specs.declared.items.item.Item.{Item};
+    ghost use Rattle.hex_langs.specs.Items.Representation.Packed.{items_of, ArePacked};
+
+    ghost Value = { List Item };
+
+    ghost view = { λ i. items_of i.codes.items i.others.items };
+
+    ghost invariant = { λ i. ArePacked i.codes.items i.others.items };
+}
+
+/// Adds a byte.
+fn add_byte(codes: &mut Vec<u32>, byte: u8) -> Result<(), OutOfMemory>
+    ensures ok { OnOk result (codes.new.items ≡ codes.old.items ++ byte ∷ []) }
+    ensures err { OnErr result (codes.new.items ≡ codes.old.items) }
+    ensures byte { byte < 256 }
+{
+    codes.push(u32::from(byte))?;
+    Ok(())
+}
+
+/// Adds another item.
+fn add_other<'s>(
+    codes: &mut Vec<u32>,
+    others: &mut Vec<Item<'s>>,
+    item: Item<'s>,
+) -> Result<(), OutOfMemory>
+    requires { length others.old.items ≤ 33554432 }
+    ensures ok_codes { OnOk result (codes.new.items ≡ codes.old.items ++ (256 + length others.old.items) ∷ []) }
+    ensures ok_others { OnOk result (others.new.items ≡ others.old.items ++ item.entry ∷ []) }
+    ensures err_codes { OnErr result (codes.new.items ≡ codes.old.items) }
+    ensures err_others { OnErr result (others.new.items ≡ others.old.items) }
+{
+    let code = 256 + others.len() as u32;
+    codes.push(code)?;
+    match others.push(item) {
+        Ok(()) => Ok(()),
+        Err(_) => {
+            codes.pop();
+            Err(OutOfMemory)
+        }
+    }
+}
+
+/// Adds an item.
+fn add_item<'s>(
+    codes: &mut Vec<u32>,
+    others: &mut Vec<Item<'s>>,
+    item: Item<'s>,
+) -> Result<(), OutOfMemory>
+    requires packed { ArePacked codes.old.items others.old.items }
+    requires room { length codes.old.items < 33554432 }
+    ensures packed { ArePacked codes.new.items others.new.items }
+    ensures ok { OnOk result (items_of codes.new.items others.new.items ≡ items_of codes.old.items others.old.items ++ item.entry ∷ []) }
+    ensures err { OnErr result (items_of codes.new.items others.new.items ≡ items_of codes.old.items others.old.items) }
+{
+    match item {
+        Item::Byte(byte) => add_byte(codes, byte)?,
+        item => add_other(codes, others, item)?,
+    }
+    Ok(())
+}
+
+impl<'s> Items<'s> {
+    /// Adds one item at the end; want of memory leaves the items as they were.
+    pub fn push(&mut self, item: Item<'s>) -> Result<(), OutOfMemory>
+        requires { length self.old < 33554432 }
+        ensures ok { OnOk result (self.new ≡ self.old ++ item.entry ∷ []) }
+        ensures err { OnErr result (self.new ≡ self.old) }
+    {
+        add_item(&mut self.codes, &mut self.others, item)
+    }
+}
+
+impl<'s> Items<'s> {
+    /// No items. It takes no memory.
+    #[tactic(auto, unfolding(crate::specs::Items::Representation::Packed::items_of))]
+    pub fn new(alloc: Global) -> Items<'s>
+        ensures { result ≡ [] }
+    {
+        Items {
+            codes: Vec::new(alloc),
+            others: Vec::new(alloc),
+        }
+    }
+
+    /// How many items there are.
+    pub fn len(&self) -> usize
+        ensures value { result ≡ length self.now }
+        ensures few { result ≤ 33554432 }
+    {
+        self.codes.len()
+    }
+
+    /// The item at an index from 0, or `None` past the end.
+    pub fn get(&self, index: usize) -> Option<Item<'s>>
+        ensures { result ≡ slice_get self.now index }
+    {
+        item_at(self.codes.as_slice(), self.others.as_slice(), index)
+    }
+}
+
+/// The same item.
+fn copied<'s>(item: &Item<'s>) -> Item<'s>
+    ensures { result ≡ item.now }
+{
+    match item {
+        Item::Byte(byte) => Item::Byte(*byte),
+        Item::Label(name) => Item::Label(Name::new(name.bytes())),
+        Item::Word(value, kind, name) => Item::Word(*value, *kind, Name::new(name.bytes())),
+        Item::Rel(name) => Item::Rel(Name::new(name.bytes())),
+        Item::Gap(name, other) => Item::Gap(Name::new(name.bytes()), Name::new(other.bytes())),
+        Item::Abs(name) => Item::Abs(Name::new(name.bytes())),
+        Item::Pad => Item::Pad,
+    }
+}
+
+fn other_at<'t, 's>(others: &'t [Item<'s>], place: usize) -> Option<&'t Item<'s>>
+    ensures { option_copied result ≡ slice_get others.now place }
+{
+    others.get(place)
+}
+
+fn item_at<'s>(codes: &[u32], others: &[Item<'s>], index: usize) -> Option<Item<'s>>
+    requires { ArePacked codes.now others.now }
+    ensures { result ≡ slice_get (items_of codes.now others.now) index }
+{
+    if index >= codes.len() {
+        return None;
+    }
+    let code = codes[index] as usize;
+    if code < 256 {
+        return Some(Item::Byte(code as u8));
+    }
+    match other_at(others, code - 256) {
+        Some(item) => Some(copied(item)),
+        None => Some(Item::Pad),
+    }
+}

@@ -1,0 +1,293 @@
+//! Tokens of hex1 and hex2.
+
+ghost use Rattle.hex.specs.Hex.{hex_digit_value, is_hex_digit};
+ghost use Rattle.hex_langs.specs.Items.Tokens.{is_blank, gap_length, name_length, pair_at, field_at, named_by, sign_token, rel_at, token_at, ends_name, opens_gap, byte_of, byte_at, second_name, pad_at, one_byte, IsPair};
+ghost use Rattle.hex_langs.specs.Hex0.{begins_comment};
+ghost use Rattle.std.specs.List.{position_or_len};
+ghost use Rattle.hex_langs.specs.declared.items.token.Dialect.TheVariants.{Hex2};
+ghost use Rattle.std.specs.Prelude.{◌≡◌, ℕ, List, ◌<◌, ◌≤◌, ◌+◌, ◌-◌, length, IfOk, IfSome, Some, None, drop, true, slice_index};
+
+use crate::items::item::{Item, Kind, Name};
+
+/// The two languages.
+#[derive(Clone, Copy, Debug)]
+pub enum Dialect {
+    Hex1,
+    Hex2,
+}
+
+/// Why there is no token.
+#[derive(Clone, Copy, Debug)]
+pub enum Fault {
+    OddDigits,
+    BadField,
+}
+
+/// A token.
+#[derive(Debug, Drop)]
+pub enum Token<'s> {
+    Byte(u8),
+    Field(u32),
+    Reference(Kind, Name<'s>),
+    Alone(Item<'s>),
+}
+
+pub fn opens_gap(byte: u8) -> bool
+    ensures { result ≡ opens_gap byte }
+{
+    matches!(byte, b' ' | b'\t' | b'\n' | b'\r' | b'#' | b';')
+}
+
+pub fn is_blank(byte: u8) -> bool
+    ensures { result ≡ is_blank byte }
+{
+    matches!(byte, b' ' | b'\t' | b'\n' | b'\r')
+}
+
+fn begins_comment(byte: u8) -> bool
+    ensures { result ≡ begins_comment byte }
+{
+    matches!(byte, b'#' | b';')
+}
+
+/// How many bytes the blanks and comments at the front take.
+pub fn gap_length(source: &[u8]) -> usize
+    ensures value { result ≡ gap_length source.now }
+    ensures within { result ≤ length source.now }
+{
+    let mut in_comment = false;
+    for (index, byte) in source.iter().enumerate() {
+        if in_comment {
+            in_comment = *byte != b'\n';
+        } else if begins_comment(*byte) {
+            in_comment = true;
+        } else if !is_blank(*byte) {
+            return index;
+        }
+    }
+    source.len()
+}
+
+fn ends_name(byte: u8) -> bool
+    ensures { result ≡ ends_name byte }
+{
+    matches!(byte, b' ' | b'\t' | b'\n' | b'\r' | b'>')
+}
+
+/// How many bytes the name at the front has; 0 where there is none.
+#[tactic(auto, unfolding(crate::specs::Items::Tokens::name_length))]
+fn name_length(dialect: Dialect, rest: &[u8]) -> usize
+    ensures value { result ≡ name_length dialect rest.now }
+    ensures within { result ≤ length rest.now }
+{
+    match dialect {
+        Dialect::Hex1 => one_byte(rest),
+        Dialect::Hex2 => until_end(rest),
+    }
+}
+
+fn one_byte(rest: &[u8]) -> usize
+    ensures value { result ≡ one_byte rest.now }
+    ensures within { result ≤ length rest.now }
+{
+    match rest {
+        [] => 0,
+        [byte, ..] => usize::from(!is_blank(*byte)),
+    }
+}
+
+fn until_end(rest: &[u8]) -> usize
+    ensures value { result ≡ position_or_len ends_name rest.now }
+    ensures within { result ≤ length rest.now }
+{
+    for (index, byte) in rest.iter().enumerate() {
+        if ends_name(*byte) {
+            return index;
+        }
+    }
+    rest.len()
+}
+
+/// The value of a hexadecimal digit of either case; `None` for every other byte.
+fn digit_value(byte: u8) -> Option<u8>
+    ensures value { result ≡ hex_digit_value byte }
+    ensures small { IfSome result (λ value. value < 16) }
+{
+    match byte {
+        b'0'..=b'9' => Some(byte - b'0'),
+        b'a'..=b'f' => Some(byte - b'a' + 10),
+        b'A'..=b'F' => Some(byte - b'A' + 10),
+        _ => None,
+    }
+}
+
+/// The byte of two digits.
+pub fn byte_of(high: u8, low: u8) -> Option<u8>
+    ensures { result ≡ byte_of (hex_digit_value high) (hex_digit_value low) }
+{
+    match (digit_value(high), digit_value(low)) {
+        (Some(high), Some(low)) => Some(16 * high + low),
+        _ => None,
+    }
+}
+
+/// The byte of a digit and of the next one past blanks and comments, and how many bytes behind the first digit it takes.
+#[tactic(auto, unfolding(crate::specs::Items::Tokens::pair_at))]
+pub(crate) fn pair_at(digit: u8, rest: &[u8]) -> Result<(u8, usize), Fault>
+    ensures value { IsPair result (pair_at digit rest.now) }
+    ensures within { IfOk result (λ found. found.1 ≤ length rest.now) }
+{
+    let gap = gap_length(rest);
+    match rest[gap..].first() {
+        None => Err(Fault::OddDigits),
+        Some(low) => match byte_of(digit, *low) {
+            None => Err(Fault::OddDigits),
+            Some(value) => Ok((value, gap + 1)),
+        },
+    }
+}
+
+/// The token of such a byte.
+fn byte_token<'s>(pair: Result<(u8, usize), Fault>) -> Result<(Token<'s>, usize), Fault>
+    ensures { IsPair pair result }
+{
+    match pair {
+        Ok((value, more)) => Ok((Token::Byte(value), more)),
+        Err(fault) => Err(fault),
+    }
+}
+
+/// The byte of the digits at a place and after it.
+fn byte_at(rest: &[u8], place: usize) -> Option<u8>
+    requires { place + 1 < length rest.now }
+    ensures { result ≡ byte_at rest.now place }
+{
+    byte_of(rest[place], rest[place + 1])
+}
+
+/// Behind `.` at once 8 digits.
+#[tactic(auto, unfolding(crate::specs::Items::Tokens::field_at))]
+fn field_at<'s>(rest: &'s [u8]) -> Result<(Token<'s>, usize), Fault>
+    ensures value { result ≡ field_at rest.now }
+    ensures within { IfOk result (λ found. found.1 ≤ length rest.now) }
+{
+    if rest.len() < 8 {
+        return Err(Fault::BadField);
+    }
+    match (
+        byte_at(rest, 0),
+        byte_at(rest, 2),
+        byte_at(rest, 4),
+        byte_at(rest, 6),
+    ) {
+        (Some(a), Some(b), Some(c), Some(d)) => {
+            Ok((Token::Field(u32::from_le_bytes([a, b, c, d])), 8))
+        }
+        _ => Err(Fault::BadField),
+    }
+}
+
+/// What a sign makes of the name behind it.
+#[derive(Clone, Copy, Debug)]
+enum Sign {
+    Label,
+    Absolute,
+    Reference(Kind),
+}
+
+/// The token of a sign and a name.
+fn signed<'s>(sign: Sign, name: Name<'s>) -> Token<'s>
+    ensures { result ≡ sign_token sign name.entry }
+{
+    match sign {
+        Sign::Label => Token::Alone(Item::Label(name)),
+        Sign::Absolute => Token::Alone(Item::Abs(name)),
+        Sign::Reference(kind) => Token::Reference(kind, name),
+    }
+}
+
+/// Behind a sign at once a name.
+fn named<'s>(dialect: Dialect, sign: Sign, rest: &'s [u8]) -> Result<(Token<'s>, usize), Fault>
+    ensures value { result ≡ named_by (sign_token sign) (name_length dialect rest.now) rest.now }
+    ensures within { IfOk result (λ found. found.1 ≤ length rest.now) }
+{
+    let size = name_length(dialect, rest);
+    if size == 0 {
+        return Err(Fault::BadField);
+    }
+    Ok((signed(sign, Name::new(&rest[..size])), size))
+}
+
+/// Behind `%` a name, and in hex2 perhaps `>` and a second one.
+fn relative<'s>(dialect: Dialect, rest: &'s [u8]) -> Result<(Token<'s>, usize), Fault>
+    ensures value { result ≡ rel_at dialect rest.now }
+    ensures within { IfOk result (λ found. found.1 ≤ length rest.now) }
+{
+    let size = name_length(dialect, rest);
+    if size == 0 {
+        return Err(Fault::BadField);
+    }
+    match dialect {
+        Dialect::Hex1 => Ok((Token::Alone(Item::Rel(Name::new(&rest[..size]))), size)),
+        Dialect::Hex2 => {
+            if size < rest.len() && rest[size] == b'>' {
+                gap_behind(size, rest)
+            } else {
+                Ok((Token::Alone(Item::Rel(Name::new(&rest[..size]))), size))
+            }
+        }
+    }
+}
+
+/// The second name behind the first one's `>`.
+fn gap_behind<'s>(size: usize, rest: &'s [u8]) -> Result<(Token<'s>, usize), Fault>
+    requires { size < length rest.now }
+    ensures value { result ≡ second_name size (name_length Hex2 (drop (size + 1) rest.now)) rest.now }
+    ensures within { IfOk result (λ found. found.1 ≤ length rest.now) }
+{
+    let second = &rest[size + 1..];
+    let more = name_length(Dialect::Hex2, second);
+    if more == 0 {
+        return Err(Fault::BadField);
+    }
+    let gap = Item::Gap(Name::new(&rest[..size]), Name::new(&second[..more]));
+    Ok((Token::Alone(gap), size + 1 + more))
+}
+
+/// The token that begins with a byte, by what stands after it, and how many of those bytes it takes.
+#[tactic(auto, unfolding(crate::specs::Items::Tokens::token_at))]
+pub fn token_at<'s>(dialect: Dialect, byte: u8, rest: &'s [u8]) -> Result<(Token<'s>, usize), Fault>
+    ensures value { result ≡ token_at dialect byte rest.now }
+    ensures within { IfOk result (λ found. found.1 ≤ length rest.now) }
+{
+    match byte {
+        b'0'..=b'9' | b'a'..=b'f' | b'A'..=b'F' => byte_token(pair_at(byte, rest)),
+        b'.' => field_at(rest),
+        b':' => named(dialect, Sign::Label, rest),
+        b'!' => named(dialect, Sign::Reference(Kind::I), rest),
+        b'@' => named(dialect, Sign::Reference(Kind::B), rest),
+        b'$' => named(dialect, Sign::Reference(Kind::J), rest),
+        b'~' => named(dialect, Sign::Reference(Kind::U), rest),
+        b'&' => named(dialect, Sign::Absolute, rest),
+        b'%' => relative(dialect, rest),
+        _ => pad_at(dialect, byte),
+    }
+}
+
+/// `<`, which hex1 lacks.
+fn pad_at<'s>(dialect: Dialect, byte: u8) -> Result<(Token<'s>, usize), Fault>
+    ensures value { (rest : List ℕ) → result ≡ pad_at dialect byte rest }
+    ensures within { IfOk result (λ found. found.1 ≡ 0) }
+{
+    match (dialect, byte) {
+        (Dialect::Hex2, b'<') => Ok((Token::Alone(Item::Pad), 0)),
+        _ => Err(Fault::BadField),
+    }
+}
+
+/// Whether a byte is a hexadecimal digit.
+pub(crate) fn is_digit(byte: u8) -> bool
+    ensures { result ≡ is_hex_digit byte }
+{
+    digit_value(byte).is_some()
+}

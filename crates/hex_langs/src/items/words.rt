@@ -1,0 +1,200 @@
+//! Words: fields and at most one reference, and then exactly four bytes.
+
+ghost use Rattle.hex_langs.specs.Items.Words.{taken, byte_taken, word_items, Takes, Adds};
+ghost use Rattle.hex_langs.specs.declared.items.item.Item.TheVariants.{Byte};
+ghost use Rattle.hex_langs.specs.declared.items.token.Token.TheVariants as token;
+ghost use Rattle.std.specs.Prelude.{ℕ, bit_xor};
+ghost use Rattle.std.specs.Int.{w32, from_le_bytes, to_le_bytes};
+ghost use Rattle.std.specs.Prelude.{◌≡◌, [], ◌∷◌, ◌++◌, ◌≤◌, ◌<◌, length, map};
+
+use crate::items::item::{Item, Kind, Name};
+use crate::items::items::{Items, MOST_ITEMS};
+use crate::items::token::Token;
+use ddc_base::OutOfMemory;
+
+/// The bytes of an open word so far.
+#[derive(Clone, Copy, Debug)]
+pub enum Begun {
+    Nothing,
+    One(u8),
+    Two(u8, u8),
+    Three(u8, u8, u8),
+}
+
+/// A word whose four bytes aren't there yet.
+#[derive(Debug, Drop)]
+pub struct Open<'s> {
+    /// The offset of its first field or reference.
+    pub first: usize,
+    /// Its fields, XORed.
+    pub mask: u32,
+    pub reference: Option<(Kind, Name<'s>)>,
+    pub begun: Begun,
+}
+
+/// Why a token has no place.
+#[derive(Clone, Copy, Debug)]
+pub enum Halt {
+    /// The word whose first field stands at this offset is not whole.
+    Dangling(usize),
+    /// The reference at this offset is the second one of its word.
+    Second(usize),
+    /// One more item than a list may have would be formed.
+    TooLong,
+    OutOfMemory,
+}
+
+impl From<OutOfMemory> for Halt {
+    ghost use Rattle.hex_langs.specs.declared.items.words.Halt.TheVariants.{OutOfMemory};
+
+    ghost from_gives = { λ _ e. e ≡ OutOfMemory };
+
+    fn from(_error: OutOfMemory) -> Halt {
+        Halt::OutOfMemory
+    }
+}
+
+/// Takes one token behind an open word, or behind none.
+pub fn take<'s>(
+    items: &mut Items<'s>,
+    word: Option<Open<'s>>,
+    at: usize,
+    token: Token<'s>,
+) -> Result<Option<Open<'s>>, Halt>
+    requires { length items.old ≤ 33554432 }
+    ensures takes { Takes result (taken word.entry at token.entry) items.old items.new }
+    ensures few { length items.new ≤ 33554432 }
+{
+    match (word, token) {
+        (None, Token::Byte(byte)) => {
+            add(items, Item::Byte(byte))?;
+            Ok(None)
+        }
+        (None, Token::Alone(item)) => {
+            add(items, item)?;
+            Ok(None)
+        }
+        (None, Token::Field(mask)) => Ok(Some(Open {
+            first: at,
+            mask,
+            reference: None,
+            begun: Begun::Nothing,
+        })),
+        (None, Token::Reference(kind, name)) => Ok(Some(Open {
+            first: at,
+            mask: 0,
+            reference: Some((kind, name)),
+            begun: Begun::Nothing,
+        })),
+        (Some(word), Token::Byte(byte)) => byte_of_word(items, word, byte),
+        (Some(word), Token::Field(mask)) => match word.begun {
+            Begun::Nothing => Ok(Some(Open {
+                first: word.first,
+                mask: word.mask ^ mask,
+                reference: word.reference,
+                begun: Begun::Nothing,
+            })),
+            _ => Err(Halt::Dangling(word.first)),
+        },
+        (Some(word), Token::Reference(kind, name)) => match (word.reference, word.begun) {
+            (Some(_), _) => Err(Halt::Second(at)),
+            (None, Begun::Nothing) => Ok(Some(Open {
+                first: word.first,
+                mask: word.mask,
+                reference: Some((kind, name)),
+                begun: Begun::Nothing,
+            })),
+            (None, _) => Err(Halt::Dangling(word.first)),
+        },
+        (Some(word), Token::Alone(_)) => Err(Halt::Dangling(word.first)),
+    }
+}
+
+/// Takes a byte behind an open word, or behind none.
+pub fn take_byte<'s>(
+    items: &mut Items<'s>,
+    word: Option<Open<'s>>,
+    byte: u8,
+) -> Result<Option<Open<'s>>, Halt>
+    requires { length items.old ≤ 33554432 }
+    ensures takes { (at : ℕ) → Takes result (taken word.entry at (token.Byte byte)) items.old items.new }
+    ensures few { length items.new ≤ 33554432 }
+{
+    match word {
+        None => {
+            add(items, Item::Byte(byte))?;
+            Ok(None)
+        }
+        Some(word) => byte_of_word(items, word, byte),
+    }
+}
+
+/// Takes a byte of an open word.
+fn byte_of_word<'s>(
+    items: &mut Items<'s>,
+    word: Open<'s>,
+    byte: u8,
+) -> Result<Option<Open<'s>>, Halt>
+    requires { length items.old ≤ 33554432 }
+    ensures takes { Takes result (byte_taken word.entry byte) items.old items.new }
+    ensures few { length items.new ≤ 33554432 }
+{
+    let begun = match word.begun {
+        Begun::Nothing => Begun::One(byte),
+        Begun::One(a) => Begun::Two(a, byte),
+        Begun::Two(a, b) => Begun::Three(a, b, byte),
+        Begun::Three(a, b, c) => {
+            take_four(items, word, [a, b, c, byte])?;
+            return Ok(None);
+        }
+    };
+    Ok(Some(Open {
+        first: word.first,
+        mask: word.mask,
+        reference: word.reference,
+        begun,
+    }))
+}
+
+/// Takes all four bytes of an open word at once.
+pub fn take_four<'s>(items: &mut Items<'s>, word: Open<'s>, bytes: [u8; 4]) -> Result<(), Halt>
+    requires { length items.old ≤ 33554432 }
+    ensures adds { Adds (word_items word.entry.reference (bit_xor word.entry.mask (from_le_bytes w32 bytes))) result items.old items.new }
+    ensures few { length items.new ≤ 33554432 }
+{
+    let value = word.mask ^ u32::from_le_bytes(bytes);
+    match word.reference {
+        None => add_bytes(items, value),
+        Some((kind, name)) => add(items, Item::Word(value, kind, name)),
+    }
+}
+
+/// Adds an item, unless too many are there.
+fn add<'s>(items: &mut Items<'s>, item: Item<'s>) -> Result<(), Halt>
+    requires { length items.old ≤ 33554432 }
+    ensures adds { Adds (item.entry ∷ []) result items.old items.new }
+    ensures few { length items.new ≤ 33554432 }
+{
+    if items.len() == MOST_ITEMS {
+        return Err(Halt::TooLong);
+    }
+    items.push(item)?;
+    Ok(())
+}
+
+/// Adds the four bytes of a word without a reference.
+fn add_bytes<'s>(items: &mut Items<'s>, value: u32) -> Result<(), Halt>
+    requires { length items.old ≤ 33554432 }
+    ensures adds { Adds (map Byte (to_le_bytes w32 value)) result items.old items.new }
+    ensures few { length items.new ≤ 33554432 }
+{
+    if items.len() > MOST_ITEMS - 4 {
+        return Err(Halt::TooLong);
+    }
+    let [a, b, c, d] = value.to_le_bytes();
+    items.push(Item::Byte(a))?;
+    items.push(Item::Byte(b))?;
+    items.push(Item::Byte(c))?;
+    items.push(Item::Byte(d))?;
+    Ok(())
+}

@@ -1,9 +1,0 @@
-use Rattle.std.proofs.Common.{BuildHasherDefault, FoldHasher}
-use Rattle.hex_link.proofs.Joins.{links-by, links-joined, links-refused}
-use Rattle.hex_link.proofs.joining.link.Goals as goal
-
-pub returns-in-Err : goal.returns-in-Err
-returns-in-Err c = links-refused (BuildHasherDefault FoldHasher) c.in-Err.refusal c.args.items.now c.args.base c.in-Err.ensures
-
-pub returns-in-Ok : goal.returns-in-Ok
-returns-in-Ok c = links-by c.joined.result _ _ c.joined.ensures (links-joined c.in-Ok.table c.args.items.now c.args.base c.in-Ok.ensures)

@@ -1,6 +1,0 @@
-use Rattle.std.proofs.Common.{◌≡◌, take}
-use Rattle.hex_writer.specs.Writing.{items_text}
-use Rattle.hex_writer.proofs.writing.write_items.Given as goal
-
-abbrev pub invariant-loop-index : goal.invariant-loop-index
-invariant-loop-index l = l.text ≡ items_text (take l.index l.items)

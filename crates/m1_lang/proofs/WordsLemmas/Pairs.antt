@@ -1,0 +1,56 @@
+-- Digits two by two, a pair on.
+use Rattle.std.proofs.Common.{◌≡◌, ℕ, ◌<◌, true, false, List, [], ◌∷◌, length, map, Option, Some, None, is_some, unwrap_or, refl, sym, ap, ◌∙◌, arith}
+use Rattle.hex.specs.Hex.{hex_digit_value}
+use Rattle.hex_langs.specs.Items.Tokens.{byte_of}
+use Rattle.hex_langs.specs.declared.items.token.Token.TheVariants.{Byte}
+use Rattle.m1_lang.specs.Words.Forms.{byte_tokens}
+use Rattle.m1_lang.specs.Words.Representation.Meanings.{before_bytes, front_bytes}
+use Rattle.m1_lang.specs.Words.Digits.{cons_byte, digit_bytes}
+
+pub pairs-more : (a b : ℕ) (left : List ℕ) (value : ℕ) → Some value ≡ byte_of (hex_digit_value a) (hex_digit_value b)
+    → is_some (digit_bytes (a ∷ b ∷ left)) ≡ is_some (digit_bytes left)
+pairs-more a b left value is = ap (λ (o : Option ℕ). is_some (cons_byte o (digit_bytes left))) (sym is) ∙ kept (digit_bytes left)
+  where
+    kept : (o : Option (List ℕ)) → is_some (cons_byte (Some value) o) ≡ is_some o
+    kept None = refl
+    kept (Some bytes) = refl
+
+some-is : (a b : List ℕ) → Some a ≡ Some b → a ≡ b
+some-is a b is = ap (λ (o : Option (List ℕ)). unwrap_or o []) is
+
+pub bytes-front : (text bytes : List ℕ) → digit_bytes text ≡ Some bytes → front_bytes text ≡ bytes
+bytes-front [] bytes is = some-is [] bytes is
+bytes-front (alone ∷ []) bytes is = absurd (cc)
+bytes-front (high ∷ low ∷ rest) bytes is = by (byte_of (hex_digit_value high) (hex_digit_value low)) (digit_bytes rest) (bytes-front rest) is
+  where
+    by : (byte : Option ℕ) (left : Option (List ℕ)) → ((more : List ℕ) → left ≡ Some more → front_bytes rest ≡ more) → cons_byte byte left ≡ Some bytes
+        → before_bytes byte (front_bytes rest) ≡ bytes
+    by None left later same = absurd (cc)
+    by (Some byte) None later same = absurd (cc)
+    by (Some byte) (Some more) later same = ap (λ (l : List ℕ). byte ∷ l) (later more refl) ∙ some-is (byte ∷ more) bytes same
+
+pub tokens-some : (text : List ℕ) → 0 < length text → is_some (digit_bytes text) ≡ true → byte_tokens (digit_bytes text) ≡ Some (map Byte (front_bytes text))
+tokens-some text some pairs = by (digit_bytes text) (bytes-front text) pairs (long text some)
+  where
+    long : (left : List ℕ) → 0 < length left → digit_bytes left ≡ Some [] → ⊥
+    long [] none is = absurd (omega (arith, none))
+    long (alone ∷ []) few is = absurd (cc)
+    long (high ∷ low ∷ rest) many is = both (byte_of (hex_digit_value high) (hex_digit_value low)) (digit_bytes rest) is
+      where
+        both : (byte : Option ℕ) (bytes : Option (List ℕ)) → cons_byte byte bytes ≡ Some [] → ⊥
+        both None bytes same = absurd (cc)
+        both (Some byte) None same = absurd (cc)
+        both (Some byte) (Some bytes) same = absurd (cc)
+
+    by : (bytes : Option (List ℕ)) → ((more : List ℕ) → bytes ≡ Some more → front_bytes text ≡ more) → is_some bytes ≡ true → (bytes ≡ Some [] → ⊥)
+        → byte_tokens bytes ≡ Some (map Byte (front_bytes text))
+    by None front is some = absurd (cc)
+    by (Some []) front is some = absurd (some refl)
+    by (Some (byte ∷ more)) front is some = ap (λ (l : List ℕ). Some (map Byte l)) (sym (front (byte ∷ more) refl))
+
+pub tokens-none : (text : List ℕ) → is_some (digit_bytes text) ≡ false → byte_tokens (digit_bytes text) ≡ None
+tokens-none text none = by (digit_bytes text) none
+  where
+    by : (bytes : Option (List ℕ)) → is_some bytes ≡ false → byte_tokens bytes ≡ None
+    by None is = refl
+    by (Some bytes) is = absurd (cc)

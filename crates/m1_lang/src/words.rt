@@ -1,0 +1,12 @@
+//! The words of an M1 source, and what each of them gives.
+//!
+//! The rules, with their public source, are in docs/reference/m1.md.
+
+mod meaning;
+mod numbers;
+mod splitting;
+mod value;
+
+pub use meaning::{Meaning, WordFault, meaning_of};
+pub use splitting::{Ahead, next_word};
+pub use value::Value;

@@ -1,7 +1,0 @@
-use Rattle.std.proofs.Common.{◌≡◌, ◌+◌, drop}
-use Rattle.std.specs.List.{position_or_len}
-use Rattle.hex_items.specs.Tokens.{is_blank}
-use Rattle.m1_words.proofs.splitting.until_blank.Given as goal
-
-abbrev pub invariant-loop-index : goal.invariant-loop-index
-invariant-loop-index l = position_or_len is_blank l.rest ≡ l.index + position_or_len is_blank (drop l.index l.rest)

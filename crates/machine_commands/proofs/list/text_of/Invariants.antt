@@ -1,6 +1,0 @@
-use Rattle.std.proofs.Common.{◌≡◌, ◌*◌, ◌++◌, drop}
-use Rattle.machine_commands.specs.List.{listing}
-use Rattle.machine_commands.proofs.list.text_of.Given as goal
-
-abbrev pub invariant-loop-index : goal.invariant-loop-index
-invariant-loop-index l = l.text ++ listing (4 * l.index) (drop (4 * l.index) l.bytes) ≡ listing 0 l.bytes

@@ -1,5 +1,0 @@
-use Rattle.memory_parts.proofs.Filling.{any_order}
-use Rattle.memory_parts.proofs.laws.order_of_pages_is_free.Goals as goal
-
-pub returns : goal.returns
-returns c = λ m pages shown. any_order m pages 0 shown

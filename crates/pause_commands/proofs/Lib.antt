@@ -1,4 +1,0 @@
-mod Written
-pub mod Coming
-pub mod Reading
-pub mod Apart

@@ -1,0 +1,44 @@
+-- The refusals of a recipe, numbered from 1, and where each one stands (docs/reference/recipe.md, "Refusals").
+use Rattle.std.specs.Prelude.{ℕ, Option, Some, None}
+use Rattle.recipe.specs.declared.text.keys.Key.{Key}
+use Rattle.recipe.specs.declared.text.keys.Place.{Place}
+use Rattle.recipe.specs.declared.text.refusal.RecipeRefusal.{RecipeRefusal}
+use Rattle.recipe.specs.declared.text.refusal.RecipeRefusal.TheVariants.{NotToml, Missing, Unknown, BadName, DoubleName, NotMadeYet, BadPath, BadNumber, TooMany, OutOfMemory}
+
+abbrev pub refusal_number : RecipeRefusal → ℕ
+refusal_number NotToml = 1
+refusal_number (Missing place key) = 2
+refusal_number (Unknown place) = 3
+refusal_number (BadName place key) = 4
+refusal_number (DoubleName place key) = 5
+refusal_number (NotMadeYet place key) = 6
+refusal_number (BadPath place key) = 7
+refusal_number (BadNumber place key) = 8
+refusal_number (TooMany place key) = 9
+refusal_number OutOfMemory = 10
+
+-- the table that is refused
+abbrev pub refusal_place : RecipeRefusal → Option Place
+refusal_place NotToml = None
+refusal_place (Missing place key) = Some place
+refusal_place (Unknown place) = Some place
+refusal_place (BadName place key) = Some place
+refusal_place (DoubleName place key) = Some place
+refusal_place (NotMadeYet place key) = Some place
+refusal_place (BadPath place key) = Some place
+refusal_place (BadNumber place key) = Some place
+refusal_place (TooMany place key) = Some place
+refusal_place OutOfMemory = None
+
+-- the key that is refused
+abbrev pub refusal_key : RecipeRefusal → Option Key
+refusal_key NotToml = None
+refusal_key (Missing place key) = Some key
+refusal_key (Unknown place) = None
+refusal_key (BadName place key) = Some key
+refusal_key (DoubleName place key) = Some key
+refusal_key (NotMadeYet place key) = Some key
+refusal_key (BadPath place key) = Some key
+refusal_key (BadNumber place key) = Some key
+refusal_key (TooMany place key) = Some key
+refusal_key OutOfMemory = None

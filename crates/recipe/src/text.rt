@@ -1,0 +1,21 @@
+//! What stands at a key of a recipe's tables: its value, or the refusal.
+//!
+//! Its rules for people: docs/reference/recipe.md.
+
+mod documents;
+mod fields;
+mod keys;
+mod lists;
+mod paths;
+mod refusal;
+mod values;
+
+pub use documents::document;
+pub use fields::{
+    find, no_other_key, optional_name, optional_number, required, required_name, required_number,
+};
+pub use keys::{Key, Place, Table};
+pub use lists::{array, names, tables, words};
+pub use paths::{Path, is_path};
+pub use refusal::RecipeRefusal;
+pub use values::{name, number, path, table, text, word};

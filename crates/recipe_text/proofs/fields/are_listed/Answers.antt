@@ -1,6 +1,0 @@
-use Rattle.std.proofs.Common.{◌∙◌}
-use Rattle.recipe_text.proofs.Members.{listed_members}
-use Rattle.recipe_text.proofs.fields.are_listed.Goals as goal
-
-pub returns : goal.returns
-returns c = c.are_keys_listed.ensures ∙ listed_members c.args.keys.now c.args.table.now.entries

@@ -1,7 +1,0 @@
-use Rattle.toml.specs.View.{view}
-use Rattle.recipe_text.specs.Reading.{a_name}
-use Rattle.recipe_text.proofs.Walks.{Gathers}
-use Rattle.recipe_text.proofs.lists.names_of.Given as goal
-
-abbrev pub invariant-loop-value : goal.invariant-loop-value
-invariant-loop-value l = Gathers view (λ _ element. a_name l.place l.key element) l.values l.value-index l.names

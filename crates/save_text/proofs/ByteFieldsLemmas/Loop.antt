@@ -1,0 +1,39 @@
+-- Reading items one after the other, as a loop does.
+use Rattle.std.proofs.Common.{◌≡◌, ℕ, suc, ◌-◌, ◌+◌, ◌≤◌, ◌<◌, List, [], ◌∷◌, ◌++◌, Ok, Err, refl, sym, ap, ◌∙◌, append_assoc, arith}
+use Rattle.std.proofs.lemmas.List.{append-nil}
+use Rattle.save_text.specs.declared.byte_fields.cursor.Stop.{Stop}
+use Rattle.save_text.specs.declared.byte_fields.cursor.Stop.TheVariants as stop
+use Rattle.save_text.specs.ByteFields.Reader.{Read, Reader, onward, done, several, Fails}
+
+-- what was read before, and what is still read
+abbrev pub with_front : {A : Type 0} → List A → Read (List A) → Read (List A)
+with_front front read = onward read (λ xs. done (front ++ xs))
+
+regroup : {A : Type 0} (front : List A) (x : A) (read : Read (List A)) → with_front front (onward read (λ xs. done (x ∷ xs))) ≡ with_front (front ++ x ∷ []) read
+regroup front x (Ok r) = ap (λ xs. Ok (xs, r.1)) (simp append_assoc)
+regroup front x (Err at) = refl
+
+pub goes_on : {A S : Type 0} (item : S → Reader A) (next : A → S) (s after_x : S) (front : List A) (count i : ℕ) (left : List ℕ) (x : A) (after : List ℕ) (total : Read (List A)) → i < count → item s left ≡ Ok (x, after) → next x ≡ after_x
+    → with_front front (several item next s (count - i) left) ≡ total → with_front (front ++ x ∷ []) (several item next after_x (count - (i + 1)) after) ≡ total
+unfolding several
+goes_on {A} {S} item next s after_x front count i left x after total lt h is so_far =
+    let k : count - i ≡ suc (count - (i + 1)) = omega arith in
+    let one : with_front front (several item next s (count - i) left) ≡ with_front (front ++ x ∷ []) (several item next (next x) (count - (i + 1)) after) = rw (k, h) (regroup front x (several item next (next x) (count - (i + 1)) after)) in
+    ap (λ (t : S). with_front (front ++ x ∷ []) (several item next t (count - (i + 1)) after)) (sym is) ∙ sym one ∙ so_far
+
+-- an item that fails ends it
+pub fails : {A S : Type 0} (item : S → Reader A) (next : A → S) (s : S) (e : Stop) (front : List A) (count i : ℕ) (left : List ℕ) (total : Read (List A)) → i < count → Fails e (item s left)
+    → with_front front (several item next s (count - i) left) ≡ total → Fails e total
+unfolding several
+fails item next s stop.OutOfMemory front count i left total lt h so_far = tt
+fails item next s (stop.Wrong at) front count i left total lt h so_far =
+    let k : count - i ≡ suc (count - (i + 1)) = omega arith in
+    let one : with_front front (several item next s (count - i) left) ≡ Err at = rw (k, h) refl in
+    sym so_far ∙ one
+
+pub is_done : {A S : Type 0} (item : S → Reader A) (next : A → S) (s : S) (front : List A) (count i : ℕ) (left : List ℕ) (total : Read (List A)) → count ≤ i → with_front front (several item next s (count - i) left) ≡ total → total ≡ Ok (front, left)
+unfolding several
+is_done item next s front count i left total le so_far =
+    let k : count - i ≡ 0 = omega arith in
+    let one : with_front front (several item next s (count - i) left) ≡ Ok (front, left) = rw k (ap (λ xs. Ok (xs, left)) (append-nil front)) in
+    sym so_far ∙ one

@@ -1,0 +1,294 @@
+-- The fields of a state's text, one by one: how each is read and how it is spelled fit each other.
+use Rattle.std.proofs.Common.{◌≡◌, ℕ, zero, suc, ◌^◌, ◌<◌, ◌≤◌, Bool, true, false, nat_le, Option, None, Some, List, [], ◌∷◌, ◌++◌, length, Result, Ok, Err, refl, sym, ap, subst, ◌∙◌, arith, ltb, inl, inr}
+use Rattle.std.specs.Int.{w16, w32, w64}
+use Rattle.std.proofs.lemmas.Bool.{leb-true, le-ltb, cases_lt}
+use Rattle.std.proofs.lemmas.List.{append-nil}
+use Rattle.save_text.specs.ByteFields.Reader.{alike, blob, byte, bytes, done, u64}
+use Rattle.save_text.specs.ByteFields.Spelling.{Alike, IsBlob, blob_text, number_text}
+use Rattle.save_text.proofs.ByteFieldsLemmas.Spells.{AreBytes, whole_again, whole_takes, Nothing, Spells, all_read, spells, spells_alike, spells_blob16, spells_blob32, spells_byte, spells_begun, spells_bytes, spells_counted, spells_from, spells_that, spells_u32, spells_u64, then}
+use Rattle.mem_files.specs.declared.slot.Access.{Access}
+use Rattle.mem_files.specs.declared.slot.Mode.{Mode}
+use Rattle.mem_files.specs.declared.slot.Mode.TheVariants as mode
+use Rattle.mem_files.specs.declared.slot.Slot.{Slot}
+use Rattle.mem_files.specs.declared.slot.Slot.TheVariants.{Input, Stream1, Stream2, File}
+use Rattle.std.specs.Prelude.{IfOk}
+use Rattle.save_text.specs.declared.state_text.parts.Parts.{Parts}
+use Rattle.save_text.specs.declared.state_text.reading.TextRefusal.{TextRefusal}
+use Rattle.save_text.specs.StateText.Seen.{Reads, view}
+use Rattle.save_text.specs.StateText.StateText.{StateText, formed, access_at, access_of, after_descriptor, after_file, after_page, after_run, are_flags, body_at, descriptor_at, file_at, heap_at, is_page, magic, name_of, page_at, run_at, slot_at, state_at}
+use Rattle.save_text.specs.StateText.Spelled.{IsDescriptor, IsFile, IsHeap, IsName, IsPage, IsRun, IsSlot, IsText, body_text, descriptor_text, file_text, flags_of, heap_text, kind_of, name_bytes, page_text, run_text, slot_text, text_of, u64s}
+
+pub spells_heap : Spells heap_at heap_text IsHeap
+unfolding heap_at
+spells_heap =
+    spells (
+    then {K = Nothing} (λ h. h.first) spells_u64 (λ first f.
+    then (λ h. h.now) spells_u64 (λ now g.
+    then (λ h. h.limit) spells_u64 (λ limit k.
+    all_read (record { first = first; now = now; limit = limit }) (λ h k. λ i. record { first = k.0.0.1 i; now = k.0.1 i; limit = k.1 i }) (((tt, refl), refl), refl)))))
+    (λ h f. ap (λ (v : List ℕ). number_text w64 h.first ++ (number_text w64 h.now ++ v)) (append-nil (number_text w64 h.limit)))
+    (λ h f. record { first = f.1.0; now = f.1.1.0; limit = f.1.1.1.0 })
+    (λ h f. (tt, (f.first, (f.now, (f.limit, tt)))))
+
+pub spells_run : (least : ℕ) → Spells (run_at least) run_text (IsRun least)
+unfolding run_at
+spells_run least =
+    spells (
+    then {K = Nothing} (λ r. r.first) (spells_from least) (λ first f.
+    then (λ r. r.pages) (spells_from 1) (λ pages g.
+    all_read (record { first = first; pages = pages }) (λ r k. λ i. record { first = k.0.1 i; pages = k.1 i }) ((tt, refl), refl))))
+    (λ r f. ap (λ (v : List ℕ). number_text w32 r.first ++ v) (append-nil (number_text w32 r.pages)))
+    (λ r f. record { from = f.1.0.from; first = f.1.0.below; some = f.1.1.0.from; pages = f.1.1.0.below })
+    (λ r f. (tt, (record { from = f.from; below = f.first }, (record { from = f.some; below = f.pages }, tt))))
+
+pub spells_page : (least : ℕ) → Spells (page_at least) page_text (IsPage least)
+unfolding page_at
+spells_page least =
+    spells (
+    then {K = Nothing} (λ p. p.number) (spells_from least) (λ number f.
+    then (λ p. p.bytes) (spells_that is_page (spells_bytes 4096)) (λ bytes g.
+    all_read (record { number = number; bytes = bytes }) (λ p k. λ i. record { number = k.0.1 i; bytes = k.1 i }) ((tt, refl), refl))))
+    (λ p f. ap (λ (v : List ℕ). number_text w32 p.number ++ v) (append-nil p.bytes))
+    (λ p f. record { from = f.1.0.from; number = f.1.0.below; full = f.1.1.0.0.long; some = f.1.1.0.1 })
+    (λ p f. (tt, (record { from = f.from; below = f.number }, ((record { long = f.full }, f.some), tt))))
+
+-- ---- a file
+
+again_named : (name : Option (List ℕ)) (bytes : List ℕ) → IsName name → bytes ≡ name_bytes name → name_of bytes ≡ name
+again_named None bytes f e = ap name_of e
+again_named (Some []) bytes f e = absurd (omega (arith, f.0))
+again_named (Some (byte ∷ more)) bytes f e = ap name_of e
+
+named_bytes : (bytes : List ℕ) → name_bytes (name_of bytes) ≡ bytes
+named_bytes [] = refl
+named_bytes (byte ∷ more) = refl
+
+is_named : (bytes : List ℕ) → IsBlob (2 ^ 16) bytes → IsName (name_of bytes)
+is_named [] f = tt
+is_named (byte ∷ more) f = (omega arith, f.short)
+
+short_name : (name : Option (List ℕ)) → IsName name → IsBlob (2 ^ 16) (name_bytes name)
+short_name None f = record { short = omega arith }
+short_name (Some name) f = record { short = f.1 }
+
+-- a name is read of its bytes
+spells_name : Spells (blob w16) (blob_text w16) (IsBlob (2 ^ 16))
+spells_name = spells_blob16
+
+pub spells_file : (least : ℕ) → Spells (file_at least) file_text (IsFile least)
+unfolding file_at
+spells_file least =
+    spells (
+    then {K = Nothing} (λ p. p.number) (spells_from least) (λ number f.
+    then {G = λ p. IsName p.name × (IsBlob (2 ^ 32) p.content × Unit {0})} (λ p. name_bytes p.name) spells_blob16 (λ name g.
+    spells (then {K = λ p. ((Unit {0} × (number ≡ p.number)) × (name ≡ name_bytes p.name)) × IsName p.name} (λ p. p.content) spells_blob32 (λ content h.
+    all_read (record { number = number; name = name_of name; content = content })
+    (λ p k. λ i. record { number = k.0.0.0.1 i; name = again_named p.name name k.0.1 k.0.0.1 i; content = k.1 i })
+    ((((tt, refl), sym (named_bytes name)), is_named name g), refl)))
+    (λ p f. refl) (λ p f. (f.0.0, (f.0.1, f.1))) (λ p f. ((f.0, f.1.0), f.1.1)))))
+    (λ p f. ap (λ (v : List ℕ). number_text w32 p.number ++ (blob_text w16 (name_bytes p.name) ++ v)) (append-nil (blob_text w32 p.content)))
+    (λ p f. record { from = f.1.0.from; number = f.1.0.below; name = f.1.1.1.0; content = f.1.1.1.1.0 })
+    (λ p f. (tt, (record { from = f.from; below = f.number }, (short_name p.name f.name, (f.name, (f.content, tt))))))
+
+-- ---- a descriptor
+
+small : (n : ℕ) → are_flags n ≡ true → n < 8
+small n e = elim (cases_lt n 8) [ inl lt ↦ lt | inr le ↦ (let big : ltb n 8 ≡ false = le-ltb _ _ le in let no : are_flags n ≡ false = rw big refl in absurd cc) ]
+
+-- flags are those of what they mean
+flags_again : (n : ℕ) → are_flags n ≡ true → flags_of (access_of n) ≡ n
+flags_again zero e = absurd cc
+flags_again (suc zero) e = refl
+flags_again (suc (suc zero)) e = refl
+flags_again (suc (suc (suc zero))) e = refl
+flags_again (suc (suc (suc (suc zero)))) e = absurd cc
+flags_again (suc (suc (suc (suc (suc zero))))) e = refl
+flags_again (suc (suc (suc (suc (suc (suc zero)))))) e = refl
+flags_again (suc (suc (suc (suc (suc (suc (suc zero))))))) e = refl
+flags_again (suc (suc (suc (suc (suc (suc (suc (suc n)))))))) e = let lt = small (suc (suc (suc (suc (suc (suc (suc (suc n)))))))) e in absurd (omega arith)
+
+abbrev made : Mode → Bool → Access
+made m b = record { mode = m; appends = b }
+
+meant : (access : Access) → (access_of (flags_of access) ≡ access) × ((flags_of access < 256) × (are_flags (flags_of access) ≡ true))
+meant access = by access.mode access.appends
+  where
+    by : (m : Mode) (b : Bool) → (access_of (flags_of (made m b)) ≡ made m b) × ((flags_of (made m b) < 256) × (are_flags (flags_of (made m b)) ≡ true))
+    by mode.Read true = (refl, (omega arith, refl))
+    by mode.Read false = (refl, (omega arith, refl))
+    by mode.Write true = (refl, (omega arith, refl))
+    by mode.Write false = (refl, (omega arith, refl))
+    by mode.ReadWrite true = (refl, (omega arith, refl))
+    by mode.ReadWrite false = (refl, (omega arith, refl))
+
+abbrev flag_text : Access → List ℕ
+flag_text access = flags_of access ∷ []
+
+spells_access : Spells access_at flag_text Nothing
+unfolding access_at
+spells_access =
+    spells (
+    then {K = Nothing} flags_of (spells_that are_flags spells_byte) (λ flags f.
+    all_read (access_of flags) (λ access k. ap access_of k.1 ∙ (meant access).0) (tt, sym (flags_again flags f.1))))
+    (λ access f. refl)
+    (λ access f. tt)
+    (λ access f. (tt, ((meant access).1, tt)))
+
+abbrev number_in : Slot → ℕ
+number_in (File number cursor access) = number
+number_in Input = 0
+number_in Stream1 = 0
+number_in Stream2 = 0
+
+abbrev cursor_in : Slot → ℕ
+cursor_in (File number cursor access) = cursor
+cursor_in Input = 0
+cursor_in Stream1 = 0
+cursor_in Stream2 = 0
+
+abbrev access_in : Slot → Access
+access_in (File number cursor access) = access
+access_in Input = access_of 1
+access_in Stream1 = access_of 1
+access_in Stream2 = access_of 1
+
+abbrev IsSlotOf : ℕ → Slot → Type 0
+IsSlotOf kind slot = IsSlot slot × (kind ≡ kind_of slot)
+
+input_only : (slot : Slot) → IsSlotOf 0 slot → (Input ≡ slot) × Unit {0}
+input_only Input f = (refl, tt)
+input_only Stream1 f = absurd cc
+input_only Stream2 f = absurd cc
+input_only (File number cursor access) f = absurd cc
+
+stream1_only : (slot : Slot) → IsSlotOf 1 slot → (Stream1 ≡ slot) × Unit {0}
+stream1_only Input f = absurd cc
+stream1_only Stream1 f = (refl, tt)
+stream1_only Stream2 f = absurd cc
+stream1_only (File number cursor access) f = absurd cc
+
+stream2_only : (slot : Slot) → IsSlotOf 2 slot → (Stream2 ≡ slot) × Unit {0}
+stream2_only Input f = absurd cc
+stream2_only Stream1 f = absurd cc
+stream2_only Stream2 f = (refl, tt)
+stream2_only (File number cursor access) f = absurd cc
+
+-- a kind that says all
+spells_only : (kind : ℕ) (r : Slot) → slot_text r ≡ [] → IsSlotOf kind r → ((slot : Slot) → IsSlotOf kind slot → (r ≡ slot) × Unit {0}) → Spells (done r) slot_text (IsSlotOf kind)
+spells_only kind r none is only =
+    spells (all_read {K = λ slot. r ≡ slot} r (λ slot k. k) refl)
+    (λ slot f. sym none ∙ ap slot_text f.0)
+    (λ slot f. subst (IsSlotOf kind) f.0 is)
+    only
+
+abbrev IsOpen : Slot → Type 0
+IsOpen slot = 3 ≡ kind_of slot
+
+abbrev FileParts : Slot → Type 0
+FileParts slot = IsOpen slot × ((number_in slot < 2 ^ 32) × ((cursor_in slot < 2 ^ 64) × (Unit {0} × Unit {0})))
+
+file_is : (number cursor : ℕ) (access : Access) (slot : Slot) → ((IsOpen slot × (number ≡ number_in slot)) × (cursor ≡ cursor_in slot)) × (access ≡ access_in slot) → File number cursor access ≡ slot
+file_is number cursor access (File n c f) k = λ i. File (k.0.0.1 i) (k.0.1 i) (k.1 i)
+file_is number cursor access Input k = absurd (cc (k.0.0.0))
+file_is number cursor access Stream1 k = absurd (cc (k.0.0.0))
+file_is number cursor access Stream2 k = absurd (cc (k.0.0.0))
+
+file_text_is : (slot : Slot) → FileParts slot → number_text w32 (number_in slot) ++ (number_text w64 (cursor_in slot) ++ (flag_text (access_in slot) ++ [])) ≡ slot_text slot
+file_text_is (File n c f) k = refl
+file_text_is Input k = absurd (cc (k.0))
+file_text_is Stream1 k = absurd (cc (k.0))
+file_text_is Stream2 k = absurd (cc (k.0))
+
+file_fits : (slot : Slot) → FileParts slot → IsSlotOf 3 slot
+file_fits (File n c f) k = ((k.1.0, k.1.1.0), refl)
+file_fits Input k = absurd (cc (k.0))
+file_fits Stream1 k = absurd (cc (k.0))
+file_fits Stream2 k = absurd (cc (k.0))
+
+file_back : (slot : Slot) → IsSlotOf 3 slot → FileParts slot
+file_back (File n c f) k = (refl, (k.0.0, (k.0.1, (tt, tt))))
+file_back Input k = absurd (cc (k.1))
+file_back Stream1 k = absurd (cc (k.1))
+file_back Stream2 k = absurd (cc (k.1))
+
+spells_open : Spells (slot_at 3) slot_text (IsSlotOf 3)
+unfolding slot_at
+spells_open =
+    spells (
+    then {K = IsOpen} number_in spells_u32 (λ number f.
+    then cursor_in spells_u64 (λ cursor g.
+    then access_in spells_access (λ access h.
+    all_read (File number cursor access) (file_is number cursor access) (((refl, refl), refl), refl)))))
+    file_text_is file_fits file_back
+
+spells_slot : (kind : ℕ) → kind ≤ 3 → Spells (slot_at kind) slot_text (IsSlotOf kind)
+unfolding slot_at
+spells_slot zero le = spells_only 0 Input refl (tt, refl) input_only
+spells_slot (suc zero) le = spells_only 1 Stream1 refl (tt, refl) stream1_only
+spells_slot (suc (suc zero)) le = spells_only 2 Stream2 refl (tt, refl) stream2_only
+spells_slot (suc (suc (suc zero))) le = spells_open
+spells_slot (suc (suc (suc (suc more)))) le = absurd (omega arith)
+
+kind_below : (slot : Slot) → (kind_of slot < 256) × (nat_le (kind_of slot) 3 ≡ true)
+kind_below Input = (omega arith, refl)
+kind_below Stream1 = (omega arith, refl)
+kind_below Stream2 = (omega arith, refl)
+kind_below (File number cursor access) = (omega arith, refl)
+
+pub spells_descriptor : (least : ℕ) → Spells (descriptor_at least) descriptor_text (IsDescriptor least)
+unfolding descriptor_at
+spells_descriptor least =
+    spells (
+    then {K = Nothing} (λ d. d.0) (spells_from least) (λ fd f.
+    then {G = λ d. IsSlot d.1 × Unit {0}} (λ d. kind_of d.1) (spells_that (λ kind. nat_le kind 3) spells_byte) (λ kind g.
+    spells (then (λ d. d.1) (spells_slot kind (leb-true _ _ g.1)) (λ slot h.
+    all_read (fd, slot) (λ d k. λ i. (k.0.0.1 i, k.1 i)) (((tt, refl), h.1), refl)))
+    (λ d f. refl) (λ d f. (f.0, (f.1.0.0, tt))) (λ d f. (f.0, ((f.1.0, f.0.1), tt))))))
+    (λ d f. ap (λ (v : List ℕ). number_text w32 d.0 ++ (kind_of d.1 ∷ v)) (append-nil (slot_text d.1)))
+    (λ d f. record { from = f.1.0.from; fd = f.1.0.below; slot = f.1.1.1.0 })
+    (λ d f. (tt, (record { from = f.from; below = f.fd }, (kind_below d.1, (f.slot, tt)))))
+
+-- ---- the whole
+
+spells_registers : Spells (alike u64 31) u64s (λ ns. (length ns ≡ 31) × Alike (λ n. n < 2 ^ 64) ns)
+spells_registers = spells_alike spells_u64 31
+
+pub spells_body : Spells body_at body_text IsText
+unfolding body_at body_text
+spells_body =
+    spells (
+    then {K = Nothing} (λ s. s.steps) spells_u64 (λ steps f1.
+    then (λ s. s.pc) spells_u64 (λ pc f2.
+    then (λ s. s.registers) spells_registers (λ registers f3.
+    then (λ s. s.heap) spells_heap (λ heap f0.
+    then (λ s. s.runs) (spells_counted after_run spells_run 0) (λ runs f4.
+    then (λ s. s.pages) (spells_counted after_page spells_page 0) (λ pages f5.
+    then (λ s. s.files) (spells_counted after_file spells_file 0) (λ files f6.
+    then (λ s. s.descriptors) (spells_counted after_descriptor spells_descriptor 0) (λ descriptors f7.
+    then (λ s. s.stream1) spells_blob32 (λ stream1 f8.
+    then (λ s. s.stream2) spells_blob32 (λ stream2 f9.
+    all_read (record { steps = steps; pc = pc; registers = registers; heap = heap; runs = runs; pages = pages; files = files; descriptors = descriptors; stream1 = stream1; stream2 = stream2 })
+    (λ s k. λ i. record { steps = k.0.0.0.0.0.0.0.0.0.1 i; pc = k.0.0.0.0.0.0.0.0.1 i; registers = k.0.0.0.0.0.0.0.1 i; heap = k.0.0.0.0.0.0.1 i; runs = k.0.0.0.0.0.1 i; pages = k.0.0.0.0.1 i; files = k.0.0.0.1 i; descriptors = k.0.0.1 i; stream1 = k.0.1 i; stream2 = k.1 i })
+    ((((((((((tt, refl), refl), refl), refl), refl), refl), refl), refl), refl), refl))))))))))))
+    (λ s f. grind (arith, append-nil))
+    (λ s f. let g = f.1 in record { steps = g.0; pc = g.1.0; registers = g.1.1.0.0; register = g.1.1.0.1; heap = g.1.1.1.0; runs = g.1.1.1.1.0; pages = g.1.1.1.1.1.0; files = g.1.1.1.1.1.1.0; descriptors = g.1.1.1.1.1.1.1.0; stream1 = g.1.1.1.1.1.1.1.1.0; stream2 = g.1.1.1.1.1.1.1.1.1.0 })
+    (λ s f. (tt, (f.steps, (f.pc, ((f.registers, f.register), (f.heap, (f.runs, (f.pages, (f.files, (f.descriptors, (f.stream1, (f.stream2, tt))))))))))))
+
+pub spells_state : Spells state_at text_of IsText
+unfolding state_at
+spells_state =
+    spells (
+    then {K = Nothing} (λ s. tt) (spells_begun magic refl) (λ begun f.
+    spells spells_body (λ s g. refl) (λ s g. ((tt, refl), g)) (λ s g. g.1)))
+    (λ s f. refl) (λ s f. f.1.1) (λ s f. (tt, (tt, f)))
+
+-- ---- with nothing behind it
+
+pub formed_again : (s : StateText) → IsText s → formed (text_of s) ≡ Ok s
+unfolding formed
+formed_again s fits = whole_again spells_state s fits
+
+pub is_found : (text : List ℕ) (r : Result Parts TextRefusal) → AreBytes text → Reads r (formed text) → IfOk r (λ p. IsText (view p) × (text ≡ text_of (view p)))
+unfolding formed
+is_found text (Ok p) fits given = whole_takes spells_state text (view p) fits given
+is_found text (Err e) fits given = tt

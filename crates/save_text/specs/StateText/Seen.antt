@@ -1,0 +1,41 @@
+-- What the code has, as the definitions see it.
+use Rattle.std.specs.Prelude.{◌≡◌, ℕ, map, Result, Ok, Err}
+use Rattle.std.specs.Option.{option_copied}
+use Rattle.mem_files.specs.Lists.{ListedFile}
+use Rattle.mem_files.specs.declared.slot.Slot.{Slot}
+use Rattle.save_text.specs.declared.state_text.parts.Page as page
+use Rattle.save_text.specs.declared.state_text.parts.File as file
+use Rattle.save_text.specs.declared.state_text.parts.Descriptor.{Descriptor}
+use Rattle.save_text.specs.declared.state_text.parts.Parts.{Parts}
+use Rattle.save_text.specs.declared.state_text.reading.TextRefusal.{TextRefusal}
+use Rattle.save_text.specs.declared.state_text.reading.TextRefusal.TheVariants.{Form, OutOfMemory}
+use Rattle.save_text.specs.StateText.StateText.{PageText, StateText}
+
+abbrev pub page_view : page.Page → PageText
+page_view p = record { number = p.number; bytes = p.bytes.now }
+
+abbrev pub file_view : file.File → ListedFile
+file_view f = record { number = f.number; name = option_copied f.name; content = f.content.now }
+
+abbrev pub descriptor_view : Descriptor → ℕ × Slot
+descriptor_view d = (d.fd, d.slot)
+
+abbrev pub view : Parts → StateText
+view p = record {
+  steps = p.steps;
+  pc = p.pc;
+  registers = p.registers;
+  heap = p.heap;
+  runs = p.runs.items;
+  pages = map page_view p.pages.items;
+  files = map file_view p.files.items;
+  descriptors = map descriptor_view p.descriptors.items;
+  stream1 = p.stream1.now;
+  stream2 = p.stream2.now;
+}
+
+-- what was read is what the text says; want of memory says nothing of it
+abbrev pub Reads : Result Parts TextRefusal → Result StateText ℕ → Type 0
+Reads (Ok p) read = read ≡ Ok (view p)
+Reads (Err (Form offset)) read = read ≡ Err offset
+Reads (Err OutOfMemory) read = Unit {0}

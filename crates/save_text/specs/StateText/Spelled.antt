@@ -1,0 +1,125 @@
+-- How a state is spelled, and which have a text.
+use Rattle.std.specs.Prelude.{◌≡◌, ℕ, ◌+◌, ◌^◌, ◌<◌, ◌≤◌, if◌then◌else◌, IsTrue, Option, None, Some, List, [], ◌∷◌, ◌++◌, length}
+use Rattle.std.specs.List.{flat_map}
+use Rattle.std.specs.Int.{w16, w32, w64}
+use Rattle.save_text.specs.ByteFields.Spelling.{Alike, Counted, IsBlob, blob_text, list_text, number_text}
+use Rattle.mem_files.specs.Lists.{ListedFile}
+use Rattle.mem_files.specs.declared.slot.Slot.{Slot}
+use Rattle.mem_files.specs.declared.slot.Slot.TheVariants as slot
+use Rattle.mem_files.specs.declared.slot.Mode.{Mode}
+use Rattle.mem_files.specs.declared.slot.Mode.TheVariants as mode
+use Rattle.mem_files.specs.declared.slot.Access.{Access}
+use Rattle.linux_calls.specs.declared.Heap.{Heap}
+use Rattle.save_text.specs.declared.state_text.parts.Run.{Run}
+use Rattle.save_text.specs.StateText.StateText.{PageText, StateText, after_descriptor, after_file, after_page, after_run, is_page, magic}
+
+-- ---- how it is spelled
+
+abbrev pub u64s : List ℕ → List ℕ
+u64s numbers = flat_map (number_text w64) numbers
+
+abbrev pub heap_text : Heap → List ℕ
+heap_text heap = number_text w64 heap.first ++ (number_text w64 heap.now ++ number_text w64 heap.limit)
+
+abbrev pub run_text : Run → List ℕ
+run_text run = number_text w32 run.first ++ number_text w32 run.pages
+
+abbrev pub page_text : PageText → List ℕ
+page_text page = number_text w32 page.number ++ page.bytes
+
+abbrev pub name_bytes : Option (List ℕ) → List ℕ
+name_bytes None = []
+name_bytes (Some name) = name
+
+abbrev pub file_text : ListedFile → List ℕ
+file_text file = number_text w32 file.number ++ (blob_text w16 (name_bytes file.name) ++ blob_text w32 file.content)
+
+-- its name and its content have few enough bytes
+abbrev pub IsShort : ListedFile → Type 0
+IsShort file = (length (name_bytes file.name) < 2 ^ 16) × (length file.content < 2 ^ 32)
+
+abbrev pub mode_bits : Mode → ℕ
+mode_bits mode.Read = 1
+mode_bits mode.Write = 2
+mode_bits mode.ReadWrite = 3
+
+abbrev pub flags_of : Access → ℕ
+flags_of access = mode_bits access.mode + (if access.appends then 4 else 0)
+
+abbrev pub kind_of : Slot → ℕ
+kind_of slot.Input = 0
+kind_of slot.Stream1 = 1
+kind_of slot.Stream2 = 2
+kind_of (slot.File number cursor access) = 3
+
+abbrev pub slot_text : Slot → List ℕ
+slot_text slot.Input = []
+slot_text slot.Stream1 = []
+slot_text slot.Stream2 = []
+slot_text (slot.File number cursor access) = number_text w32 number ++ (number_text w64 cursor ++ flags_of access ∷ [])
+
+abbrev pub descriptor_text : ℕ × Slot → List ℕ
+descriptor_text d = number_text w32 d.0 ++ (kind_of d.1 ∷ slot_text d.1)
+
+unfoldable pub body_text : StateText → List ℕ
+body_text s =
+    number_text w64 s.steps ++ (number_text w64 s.pc ++ (u64s s.registers ++ (heap_text s.heap
+    ++ (list_text run_text s.runs ++ (list_text page_text s.pages ++ (list_text file_text s.files ++ (list_text descriptor_text s.descriptors
+    ++ (blob_text w32 s.stream1 ++ blob_text w32 s.stream2))))))))
+
+abbrev pub text_of : StateText → List ℕ
+text_of s = magic ++ body_text s
+
+-- ---- which have a text
+
+pub record IsHeap (heap : Heap) : Type 0 where
+  pub first : heap.first < 2 ^ 64
+  pub now : heap.now < 2 ^ 64
+  pub limit : heap.limit < 2 ^ 64
+
+pub record IsRun (least : ℕ) (run : Run) : Type 0 where
+  pub from : least ≤ run.first
+  pub first : run.first < 2 ^ 32
+  pub some : 1 ≤ run.pages
+  pub pages : run.pages < 2 ^ 32
+
+pub record IsPage (least : ℕ) (page : PageText) : Type 0 where
+  pub from : least ≤ page.number
+  pub number : page.number < 2 ^ 32
+  pub full : length page.bytes ≡ 4096
+  pub some : IsTrue (is_page page.bytes)
+
+-- a name has a byte
+abbrev pub IsName : Option (List ℕ) → Type 0
+IsName None = Unit {0}
+IsName (Some name) = (1 ≤ length name) × (length name < 2 ^ 16)
+
+pub record IsFile (least : ℕ) (file : ListedFile) : Type 0 where
+  pub from : least ≤ file.number
+  pub number : file.number < 2 ^ 32
+  pub name : IsName file.name
+  pub content : IsBlob (2 ^ 32) file.content
+
+abbrev pub IsSlot : Slot → Type 0
+IsSlot slot.Input = Unit {0}
+IsSlot slot.Stream1 = Unit {0}
+IsSlot slot.Stream2 = Unit {0}
+IsSlot (slot.File number cursor access) = (number < 2 ^ 32) × (cursor < 2 ^ 64)
+
+pub record IsDescriptor (least : ℕ) (d : ℕ × Slot) : Type 0 where
+  pub from : least ≤ d.0
+  pub fd : d.0 < 2 ^ 32
+  pub slot : IsSlot d.1
+
+pub record IsText (s : StateText) : Type 0 where
+  pub steps : s.steps < 2 ^ 64
+  pub pc : s.pc < 2 ^ 64
+  pub registers : length s.registers ≡ 31
+  pub register : Alike (λ n. n < 2 ^ 64) s.registers
+  pub heap : IsHeap s.heap
+  pub runs : Counted IsRun after_run 0 s.runs
+  pub pages : Counted IsPage after_page 0 s.pages
+  pub files : Counted IsFile after_file 0 s.files
+  pub descriptors : Counted IsDescriptor after_descriptor 0 s.descriptors
+  pub stream1 : IsBlob (2 ^ 32) s.stream1
+  pub stream2 : IsBlob (2 ^ 32) s.stream2

@@ -1,0 +1,146 @@
+-- What the text of a state says, and how it is read, field by field. docs/reference/save.md says the same for people.
+use Rattle.std.specs.Prelude.{ℕ, zero, suc, ◌+◌, ◌%◌, Bool, ◌&&◌, not, ◌==◌, nat_le, nat_lt, Option, None, Some, List, [], ◌∷◌, Result}
+use Rattle.std.specs.List.{list_all}
+use Rattle.std.specs.Int.{w16, w32}
+use Rattle.save_text.specs.ByteFields.Reader.{Reader, ◌>>=◌, alike, begun, blob, byte, bytes, counted, done, that, u32, u32_from, u64, whole}
+use Rattle.mem_files.specs.Lists.{ListedFile}
+use Rattle.mem_files.specs.declared.slot.Slot.{Slot}
+use Rattle.mem_files.specs.declared.slot.Slot.TheVariants as slot
+use Rattle.mem_files.specs.declared.slot.Mode.{Mode}
+use Rattle.mem_files.specs.declared.slot.Mode.TheVariants as mode
+use Rattle.mem_files.specs.declared.slot.Access.{Access}
+use Rattle.linux_calls.specs.declared.Heap.{Heap}
+use Rattle.save_text.specs.declared.state_text.parts.Run.{Run}
+
+-- ---- what a text says
+
+pub record PageText : Type 0 where
+  pub number : ℕ
+  pub bytes : List ℕ
+
+-- the registers are x1 to x31
+pub record StateText : Type 0 where
+  pub steps : ℕ
+  pub pc : ℕ
+  pub registers : List ℕ
+  pub heap : Heap
+  pub runs : List Run
+  pub pages : List PageText
+  pub files : List ListedFile
+  pub descriptors : List (ℕ × Slot)
+  pub stream1 : List ℕ
+  pub stream2 : List ℕ
+
+-- ---- how it is read
+
+-- the eight bytes that begin each text: `ddcstat1`
+abbrev pub magic : List ℕ
+magic = 100 ∷ 100 ∷ 99 ∷ 115 ∷ 116 ∷ 97 ∷ 116 ∷ 49 ∷ []
+
+unfoldable pub heap_at : Reader Heap
+heap_at = do
+  first ← u64
+  now ← u64
+  limit ← u64
+  done (record { first = first; now = now; limit = limit })
+
+-- a run begins at a page from `least` on, and has at least one
+unfoldable pub run_at : ℕ → Reader Run
+run_at least = do
+  first ← u32_from least
+  pages ← u32_from 1
+  done (record { first = first; pages = pages })
+
+-- at least one page lies between two runs
+abbrev pub after_run : Run → ℕ
+after_run run = run.first + run.pages + 1
+
+-- a page is not all zero
+abbrev pub is_page : List ℕ → Bool
+is_page bytes = not (list_all (λ b. b == 0) bytes)
+
+unfoldable pub page_at : ℕ → Reader PageText
+page_at least = do
+  number ← u32_from least
+  bytes ← that is_page (bytes 4096)
+  done (record { number = number; bytes = bytes })
+
+abbrev pub after_page : PageText → ℕ
+after_page page = page.number + 1
+
+-- no bytes: the file has no name
+abbrev pub name_of : List ℕ → Option (List ℕ)
+name_of [] = None
+name_of (byte ∷ more) = Some (byte ∷ more)
+
+unfoldable pub file_at : ℕ → Reader ListedFile
+file_at least = do
+  number ← u32_from least
+  name ← blob w16
+  content ← blob w32
+  done (record { number = number; name = name_of name; content = content })
+
+abbrev pub after_file : ListedFile → ℕ
+after_file file = file.number + 1
+
+-- bit 0: the file may be read, bit 1: it may be written, bit 2: each write goes to its end; one of the first two is set
+abbrev pub are_flags : ℕ → Bool
+are_flags flags = nat_lt flags 8 && not (flags % 4 == 0)
+
+abbrev pub mode_of : ℕ → Mode
+mode_of (suc zero) = mode.Read
+mode_of (suc (suc zero)) = mode.Write
+mode_of _ = mode.ReadWrite
+
+abbrev pub access_of : ℕ → Access
+access_of flags = record { mode = mode_of (flags % 4); appends = nat_le 4 flags }
+
+unfoldable pub access_at : Reader Access
+access_at = do
+  flags ← that are_flags byte
+  done (access_of flags)
+
+-- what a descriptor stands for, by its kind
+unfoldable pub slot_at : ℕ → Reader Slot
+slot_at zero = done slot.Input
+slot_at (suc zero) = done slot.Stream1
+slot_at (suc (suc zero)) = done slot.Stream2
+slot_at (suc (suc (suc more))) = do
+  number ← u32
+  cursor ← u64
+  access ← access_at
+  done (slot.File number cursor access)
+
+unfoldable pub descriptor_at : ℕ → Reader (ℕ × Slot)
+descriptor_at least = do
+  fd ← u32_from least
+  kind ← that (λ kind. nat_le kind 3) byte
+  slot ← slot_at kind
+  done (fd, slot)
+
+abbrev pub after_descriptor : ℕ × Slot → ℕ
+after_descriptor descriptor = descriptor.0 + 1
+
+-- what stands behind the magic
+unfoldable pub body_at : Reader StateText
+body_at = do
+  steps ← u64
+  pc ← u64
+  registers ← alike u64 31
+  heap ← heap_at
+  runs ← counted run_at after_run 0
+  pages ← counted page_at after_page 0
+  files ← counted file_at after_file 0
+  descriptors ← counted descriptor_at after_descriptor 0
+  stream1 ← blob w32
+  stream2 ← blob w32
+  done (record { steps = steps; pc = pc; registers = registers; heap = heap; runs = runs; pages = pages; files = files; descriptors = descriptors; stream1 = stream1; stream2 = stream2 })
+
+unfoldable pub state_at : Reader StateText
+state_at = do
+  start ← begun magic
+  body_at
+
+-- what a text says, or the offset of its first wrong field: nothing follows the state
+unfoldable pub formed : List ℕ → Result StateText ℕ
+formed text = whole state_at text

@@ -1,0 +1,11 @@
+//! Fields of a text of bytes: read from left to right, with how many bytes were left at the first wrong one, and spelled.
+//!
+//! A field is a little-endian number, a byte, so many bytes, a length with so many bytes, or a list of items.
+
+mod cursor;
+mod item;
+mod spelling;
+
+pub use cursor::{Cursor, Stop};
+pub use item::{Item, counted, items, put_counted};
+pub use spelling::{put_blob16, put_blob32, put_u16, put_u32, put_u64};

@@ -1,0 +1,179 @@
+ghost use Rattle.std.specs.Prelude.{◌≡◌, ℕ, List, length, nat_le, ◌≤◌, IfOk};
+ghost use Rattle.std.specs.Int.{w16, w32, w64};
+ghost use Rattle.save_text.specs.declared.byte_fields.cursor.Stop.TheVariants.{OutOfMemory};
+ghost use Rattle.save_text.specs.ByteFields.Reader.{Gives, begun, byte, bytes, blob, number, u16, u32, u32_from, u64};
+
+use std::alloc::{AllocError, AllocFailed};
+use std::marker::Model;
+
+/// Why a reader stops.
+#[derive(Clone, Copy, Debug)]
+pub enum Stop {
+    /// A wrong field, with how many bytes were left at its first byte.
+    Wrong(usize),
+    OutOfMemory,
+}
+
+impl From<AllocError> for Stop {
+    ghost from_gives = { λ _ e. e ≡ OutOfMemory };
+
+    fn from(_e: AllocError) -> Stop {
+        Stop::OutOfMemory
+    }
+}
+
+impl From<ddc_base::OutOfMemory> for Stop {
+    ghost from_gives = { λ _ e. e ≡ OutOfMemory };
+
+    fn from(_e: ddc_base::OutOfMemory) -> Stop {
+        Stop::OutOfMemory
+    }
+}
+
+impl<T: Drop> From<AllocFailed<T>> for Stop {
+    ghost from_gives = { λ _ e. e ≡ OutOfMemory };
+
+    fn from(_e: AllocFailed<T>) -> Stop {
+        Stop::OutOfMemory
+    }
+}
+
+/// What is left of a text. Each reader takes a field from its front, or answers how many bytes were left at the field's first byte, and then
+/// what is left is any part of the text.
+#[derive(Drop)]
+pub struct Cursor<'a> {
+    left: &'a [u8],
+}
+
+impl<'a> Model for Cursor<'a> {
+    ghost Value = { List ℕ };
+
+    ghost view = { λ c. c.left.now };
+}
+
+impl<'a> Cursor<'a> {
+    /// The whole text is left.
+    pub fn new(left: &'a [u8]) -> Cursor<'a>
+        ensures { result ≡ left.now }
+    {
+        Cursor { left }
+    }
+
+    /// How many bytes are left.
+    pub fn len(&self) -> usize
+        ensures { result ≡ length self.now }
+    {
+        self.left.len()
+    }
+
+    /// The next byte.
+    #[tactic(auto, unfolding(crate::specs::ByteFields::Reader::byte))]
+    pub fn byte(&mut self) -> Result<u8, Stop>
+        ensures { Gives (λ x. x) result self.new (byte self.old) }
+    {
+        if self.left.len() < 1 {
+            return Err(Stop::Wrong(self.left.len()));
+        }
+        let value = self.left[0];
+        self.left = &self.left[1..];
+        Ok(value)
+    }
+
+    /// The next `count` bytes.
+    #[tactic(auto, unfolding(crate::specs::ByteFields::Reader::bytes))]
+    pub fn bytes(&mut self, count: usize) -> Result<&'a [u8], Stop>
+        ensures read { Gives (λ x. x.now) result self.new (bytes count self.old) }
+        ensures long { IfOk result (λ x. length x.now ≡ count) }
+    {
+        if self.left.len() < count {
+            return Err(Stop::Wrong(self.left.len()));
+        }
+        let (front, rest) = self.left.split_at(count);
+        self.left = rest;
+        Ok(front)
+    }
+
+    /// The eight bytes that begin each text of a form.
+    pub fn begins_with(&mut self, magic: &[u8; 8]) -> Result<(), Stop>
+        ensures { Gives (λ x. x) result self.new (begun magic.now self.old) }
+    {
+        let start = self.len();
+        let found = self.bytes(8)?;
+        if found != magic.as_slice() {
+            return Err(Stop::Wrong(start));
+        }
+        Ok(())
+    }
+
+    /// A number of 2 bytes.
+    #[tactic(auto, unfolding(crate::specs::ByteFields::Reader::number))]
+    pub fn u16(&mut self) -> Result<u16, Stop>
+        ensures { Gives (λ x. x) result self.new (u16 self.old) }
+    {
+        if self.left.len() < 2 {
+            return Err(Stop::Wrong(self.left.len()));
+        }
+        let (f, rest) = self.left.split_at(2);
+        let number = u16::from_le_bytes([f[0], f[1]]);
+        self.left = rest;
+        Ok(number)
+    }
+
+    /// A number of 4 bytes.
+    #[tactic(auto, unfolding(crate::specs::ByteFields::Reader::number))]
+    pub fn u32(&mut self) -> Result<u32, Stop>
+        ensures { Gives (λ x. x) result self.new (u32 self.old) }
+    {
+        if self.left.len() < 4 {
+            return Err(Stop::Wrong(self.left.len()));
+        }
+        let (f, rest) = self.left.split_at(4);
+        let number = u32::from_le_bytes([f[0], f[1], f[2], f[3]]);
+        self.left = rest;
+        Ok(number)
+    }
+
+    /// A number of 4 bytes that is at least `least`.
+    pub fn u32_from(&mut self, least: u64) -> Result<u32, Stop>
+        ensures { Gives (λ x. x) result self.new (u32_from least self.old) }
+    {
+        let at = self.len();
+        let number = self.u32()?;
+        if u64::from(number) < least {
+            return Err(Stop::Wrong(at));
+        }
+        Ok(number)
+    }
+
+    /// A number of 8 bytes.
+    #[tactic(auto, unfolding(crate::specs::ByteFields::Reader::number))]
+    pub fn u64(&mut self) -> Result<u64, Stop>
+        ensures { Gives (λ x. x) result self.new (u64 self.old) }
+    {
+        if self.left.len() < 8 {
+            return Err(Stop::Wrong(self.left.len()));
+        }
+        let (f, rest) = self.left.split_at(8);
+        let number = u64::from_le_bytes([f[0], f[1], f[2], f[3], f[4], f[5], f[6], f[7]]);
+        self.left = rest;
+        Ok(number)
+    }
+
+    /// A length of 2 bytes, and that many bytes.
+    #[tactic(auto, unfolding(crate::specs::ByteFields::Reader::blob))]
+    pub fn blob16(&mut self) -> Result<&'a [u8], Stop>
+        ensures { Gives (λ x. x.now) result self.new (blob w16 self.old) }
+    {
+        let count = self.u16()?;
+        self.bytes(count as usize)
+    }
+
+    /// A length of 4 bytes, and that many bytes.
+    #[tactic(auto, unfolding(crate::specs::ByteFields::Reader::blob))]
+    pub fn blob32(&mut self) -> Result<&'a [u8], Stop>
+        ensures { Gives (λ x. x.now) result self.new (blob w32 self.old) }
+    {
+        let count = self.u32()?;
+        self.bytes(count as usize)
+    }
+}

@@ -1,0 +1,79 @@
+ghost use Rattle.std.specs.Prelude.{◌≡◌, ◌<◌, ◌^◌, ℕ, List, ◌++◌, All, OnOk, length, map};
+ghost use Rattle.save_text.specs.ByteFields.Reader.{Reader, Gives, counted, several};
+ghost use Rattle.save_text.specs.ByteFields.Spelling.{list_text};
+
+use crate::byte_fields::cursor::{Cursor, Stop};
+use crate::byte_fields::spelling::put_u32;
+use ddc_base::{Bytes, OutOfMemory};
+use std::alloc::Global;
+
+/// An item of a list, which is read in the light of the one before it.
+pub trait Item<'a>: Sized + Drop {
+    // What contracts see of it.
+    ghost Seen: { Type 0 };
+
+    ghost seen: { Self → Seen };
+
+    // How it is read, where its first number must not be below the given one.
+    ghost read_from: { ℕ → Reader Seen };
+
+    // The least number of the item behind it.
+    ghost next_least: { Seen → ℕ };
+
+    // How it is spelled, and what can be.
+    ghost text: { Seen → List ℕ };
+
+    ghost IsShort: { Seen → Type 0 };
+
+    /// Reads it, where its first number must not be below `least`.
+    fn take(alloc: Global, cursor: &mut Cursor<'a>, least: u64) -> Result<Self, Stop>
+        ensures { Gives seen result cursor.new (read_from least cursor.old) };
+
+    /// The least number of the item behind it.
+    fn least_after(&self) -> u64
+        ensures { result ≡ next_least (seen self.now) };
+
+    /// Adds its text.
+    fn put(&self, out: &mut Bytes) -> Result<(), OutOfMemory>
+        requires { IsShort (seen self.now) }
+        ensures { OnOk result (out.new ≡ out.old ++ text (seen self.now)) };
+}
+
+/// So many items, each read in the light of the one before it. No memory is taken by the count alone.
+pub fn items<'a, T: Item<'a>>(
+    alloc: Global,
+    cursor: &mut Cursor<'a>,
+    count: u32,
+) -> Result<Vec<T>, Stop>
+    ensures { Gives (λ v. map T.seen v.items) result cursor.new (several T.read_from T.next_least 0 count cursor.old) }
+{
+    let mut items = Vec::new(alloc);
+    let mut least = 0;
+    for _ in 0..count {
+        let item = T::take(alloc, cursor, least)?;
+        least = item.least_after();
+        items.push(item)?;
+    }
+    Ok(items)
+}
+
+/// A count of 4 bytes, and that many items.
+pub fn counted<'a, T: Item<'a>>(alloc: Global, cursor: &mut Cursor<'a>) -> Result<Vec<T>, Stop>
+    ensures { Gives (λ v. map T.seen v.items) result cursor.new (counted T.read_from T.next_least 0 cursor.old) }
+{
+    let count = cursor.u32()?;
+    items(alloc, cursor, count)
+}
+
+/// Adds a count of 4 bytes, and the texts of these items.
+pub fn put_counted<'a, T: Item<'a>>(out: &mut Bytes, items: &[T]) -> Result<(), OutOfMemory>
+    requires few { length items.now < 2 ^ 32 }
+    requires short { All (λ item. T.IsShort (T.seen item)) items.now }
+    ensures { OnOk result (out.new ≡ out.old ++ list_text T.text (map T.seen items.now)) }
+{
+    put_u32(out, items.len() as u32)?;
+    for item in items {
+        item.put(out)?;
+    }
+    Ok(())
+}

@@ -1,0 +1,15 @@
+//! The text of a state: how a guest that stands between two steps is kept in a file.
+//!
+//! docs/reference/save.md has its fields for a reader, and specs/StateText/StateText.antt the same for the prover. What the fields say may still be
+//! no state of any guest: that is judged above.
+
+mod items;
+mod listing;
+mod parts;
+mod reading;
+mod writing;
+
+pub use listing::{descriptors_of, files_of};
+pub use parts::{Descriptor, File, Page, Parts, Run};
+pub use reading::{TextRefusal, parts_at, read};
+pub use writing::{put_parts, write};

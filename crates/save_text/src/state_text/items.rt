@@ -1,0 +1,289 @@
+//! How each item of a list is read and written.
+
+ghost use Rattle.std.specs.Prelude.{◌≡◌, ◌++◌, ◌∷◌, ◌==◌, OnOk, nat_le};
+ghost use Rattle.std.specs.List.{list_all};
+ghost use Rattle.save_text.specs.ByteFields.Reader.{Gives, byte, bytes, that};
+ghost use Rattle.save_text.specs.StateText.StateText.{access_at, access_of, are_flags, is_page, mode_of, slot_at};
+ghost use Rattle.save_text.specs.StateText.Spelled.{flags_of, kind_of, slot_text};
+
+use crate::byte_fields::{Cursor, Item, Stop, put_blob16, put_blob32, put_u32, put_u64};
+use crate::state_text::parts::{Descriptor, File, Page, Run};
+use ddc_base::{Bytes, OutOfMemory};
+use mem_files::{Access, Mode, Slot};
+use std::alloc::Global;
+
+impl<'a> Item<'a> for Run {
+    ghost use Rattle.save_text.specs.declared.state_text.parts.Run.{Run};
+    ghost use Rattle.save_text.specs.StateText.StateText.{after_run, run_at};
+    ghost use Rattle.save_text.specs.StateText.Spelled.{run_text};
+
+    ghost Seen = { Run };
+
+    ghost seen = { λ run. run };
+
+    ghost read_from = { run_at };
+
+    ghost next_least = { after_run };
+
+    ghost text = { run_text };
+
+    ghost IsShort = { λ _. Unit {0} };
+
+    #[tactic(auto, unfolding(crate::specs::StateText::StateText::run_at))]
+    fn take(_alloc: Global, cursor: &mut Cursor<'a>, least: u64) -> Result<Run, Stop> {
+        let first = cursor.u32_from(least)?;
+        let pages = cursor.u32_from(1)?;
+        Ok(Run { first, pages })
+    }
+
+    fn least_after(&self) -> u64 {
+        u64::from(self.first) + u64::from(self.pages) + 1
+    }
+
+    fn put(&self, out: &mut Bytes) -> Result<(), OutOfMemory> {
+        put_u32(out, self.first)?;
+        put_u32(out, self.pages)
+    }
+}
+
+impl<'a> Item<'a> for Page<'a> {
+    ghost use Rattle.save_text.specs.StateText.StateText.{PageText, after_page, page_at};
+    ghost use Rattle.save_text.specs.StateText.Spelled.{page_text};
+    ghost use Rattle.save_text.specs.StateText.Seen.{page_view};
+
+    ghost Seen = { PageText };
+
+    ghost seen = { page_view };
+
+    ghost read_from = { page_at };
+
+    ghost next_least = { after_page };
+
+    ghost text = { page_text };
+
+    ghost IsShort = { λ _. Unit {0} };
+
+    #[tactic(auto, unfolding(crate::specs::StateText::StateText::page_at))]
+    fn take(_alloc: Global, cursor: &mut Cursor<'a>, least: u64) -> Result<Page<'a>, Stop> {
+        let number = cursor.u32_from(least)?;
+        let bytes = page_bytes(cursor)?;
+        Ok(Page { number, bytes })
+    }
+
+    fn least_after(&self) -> u64 {
+        u64::from(self.number) + 1
+    }
+
+    fn put(&self, out: &mut Bytes) -> Result<(), OutOfMemory> {
+        put_u32(out, self.number)?;
+        out.extend(self.bytes)
+    }
+}
+
+fn is_zero(bytes: &[u8]) -> bool
+    ensures { result ≡ list_all (λ b. b == 0) bytes.now }
+{
+    bytes.iter().all(|byte| *byte == 0)
+}
+
+/// The bytes of a page.
+fn page_bytes<'a>(cursor: &mut Cursor<'a>) -> Result<&'a [u8], Stop>
+    ensures { Gives (λ x. x.now) result cursor.new (that is_page (bytes 4096) cursor.old) }
+{
+    let at = cursor.len();
+    let bytes = cursor.bytes(4096)?;
+    if is_zero(bytes) {
+        return Err(Stop::Wrong(at));
+    }
+    Ok(bytes)
+}
+
+impl<'a> Item<'a> for File<'a> {
+    ghost use Rattle.mem_files.specs.Lists.{ListedFile};
+    ghost use Rattle.save_text.specs.StateText.StateText.{after_file, file_at};
+    ghost use Rattle.save_text.specs.StateText.Spelled.{IsShort, file_text};
+    ghost use Rattle.save_text.specs.StateText.Seen.{file_view};
+
+    ghost Seen = { ListedFile };
+
+    ghost seen = { file_view };
+
+    ghost read_from = { file_at };
+
+    ghost next_least = { after_file };
+
+    ghost text = { file_text };
+
+    ghost IsShort = { IsShort };
+
+    #[tactic(auto, unfolding(crate::specs::StateText::StateText::file_at))]
+    fn take(_alloc: Global, cursor: &mut Cursor<'a>, least: u64) -> Result<File<'a>, Stop> {
+        let number = cursor.u32_from(least)?;
+        let name = cursor.blob16()?;
+        let content = cursor.blob32()?;
+        Ok(File {
+            number,
+            name: name_of(name),
+            content,
+        })
+    }
+
+    fn least_after(&self) -> u64 {
+        u64::from(self.number) + 1
+    }
+
+    fn put(&self, out: &mut Bytes) -> Result<(), OutOfMemory> {
+        put_u32(out, self.number)?;
+        put_blob16(out, self.name.unwrap_or(&[]))?;
+        put_blob32(out, self.content)
+    }
+}
+
+ghost use Rattle.std.specs.Option.{option_copied};
+ghost use Rattle.save_text.specs.StateText.StateText.{name_of};
+
+/// The name of a file: no bytes are none.
+fn name_of(bytes: &[u8]) -> Option<&[u8]>
+    ensures { option_copied result ≡ name_of bytes.now }
+{
+    match bytes {
+        [] => None,
+        [..] => Some(bytes),
+    }
+}
+
+impl<'a> Item<'a> for Descriptor {
+    ghost use Rattle.std.specs.Prelude.{ℕ};
+    ghost use Rattle.mem_files.specs.declared.slot.Slot.{Slot};
+    ghost use Rattle.save_text.specs.StateText.StateText.{after_descriptor, descriptor_at};
+    ghost use Rattle.save_text.specs.StateText.Spelled.{descriptor_text};
+    ghost use Rattle.save_text.specs.StateText.Seen.{descriptor_view};
+
+    ghost Seen = { ℕ × Slot };
+
+    ghost seen = { descriptor_view };
+
+    ghost read_from = { descriptor_at };
+
+    ghost next_least = { after_descriptor };
+
+    ghost text = { descriptor_text };
+
+    ghost IsShort = { λ _. Unit {0} };
+
+    #[tactic(auto, unfolding(crate::specs::StateText::StateText::descriptor_at))]
+    fn take(_alloc: Global, cursor: &mut Cursor<'a>, least: u64) -> Result<Descriptor, Stop> {
+        let fd = cursor.u32_from(least)?;
+        let kind = kind_of(cursor)?;
+        let slot = slot_of(cursor, kind)?;
+        Ok(Descriptor { fd, slot })
+    }
+
+    fn least_after(&self) -> u64 {
+        u64::from(self.fd) + 1
+    }
+
+    fn put(&self, out: &mut Bytes) -> Result<(), OutOfMemory> {
+        put_u32(out, self.fd)?;
+        put_slot(out, self.slot)
+    }
+}
+
+fn kind_of(cursor: &mut Cursor<'_>) -> Result<u8, Stop>
+    ensures { Gives (λ x. x) result cursor.new (that (λ kind. nat_le kind 3) byte cursor.old) }
+{
+    let at = cursor.len();
+    let kind = cursor.byte()?;
+    if kind > 3 {
+        return Err(Stop::Wrong(at));
+    }
+    Ok(kind)
+}
+
+/// What a descriptor of this kind stands for.
+#[tactic(auto, unfolding(crate::specs::StateText::StateText::slot_at))]
+fn slot_of(cursor: &mut Cursor<'_>, kind: u8) -> Result<Slot, Stop>
+    ensures { Gives (λ x. x) result cursor.new (slot_at kind cursor.old) }
+{
+    match kind {
+        0 => Ok(Slot::Input),
+        1 => Ok(Slot::Stream1),
+        2 => Ok(Slot::Stream2),
+        _ => {
+            let number = cursor.u32()?;
+            let place = cursor.u64()?;
+            let access = access_of(cursor)?;
+            Ok(Slot::File {
+                number,
+                cursor: place,
+                access,
+            })
+        }
+    }
+}
+
+fn flags_at(cursor: &mut Cursor<'_>) -> Result<u8, Stop>
+    ensures { Gives (λ x. x) result cursor.new (that are_flags byte cursor.old) }
+{
+    let at = cursor.len();
+    let flags = cursor.byte()?;
+    if flags < 8 && flags % 4 != 0 {
+        Ok(flags)
+    } else {
+        Err(Stop::Wrong(at))
+    }
+}
+
+/// How a file may be used.
+#[tactic(auto, unfolding(crate::specs::StateText::StateText::access_at))]
+fn access_of(cursor: &mut Cursor<'_>) -> Result<Access, Stop>
+    ensures { Gives (λ x. x) result cursor.new (access_at cursor.old) }
+{
+    let flags = flags_at(cursor)?;
+    let mode = mode_of(flags % 4);
+    Ok(Access {
+        mode,
+        appends: flags >= 4,
+    })
+}
+
+fn mode_of(bits: u8) -> Mode
+    ensures { result ≡ mode_of bits }
+{
+    match bits {
+        1 => Mode::Read,
+        2 => Mode::Write,
+        _ => Mode::ReadWrite,
+    }
+}
+
+fn flags_of(access: Access) -> u8
+    ensures { result ≡ flags_of access }
+{
+    let mode = match access.mode {
+        Mode::Read => 1,
+        Mode::Write => 2,
+        Mode::ReadWrite => 3,
+    };
+    if access.appends { mode + 4 } else { mode }
+}
+
+fn put_slot(out: &mut Bytes, slot: Slot) -> Result<(), OutOfMemory>
+    ensures { OnOk result (out.new ≡ out.old ++ kind_of slot ∷ slot_text slot) }
+{
+    match slot {
+        Slot::Input => out.push(0),
+        Slot::Stream1 => out.push(1),
+        Slot::Stream2 => out.push(2),
+        Slot::File {
+            number,
+            cursor,
+            access,
+        } => {
+            out.push(3)?;
+            put_u32(out, number)?;
+            put_u64(out, cursor)?;
+            out.push(flags_of(access))
+        }
+    }
+}

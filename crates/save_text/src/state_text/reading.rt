@@ -1,0 +1,107 @@
+ghost use Rattle.std.specs.Prelude.{◌≡◌, ◌≤◌, length, IfOk, Ok, Err};
+ghost use Rattle.save_text.specs.ByteFields.Reader.{Gives, alike, u64};
+ghost use Rattle.save_text.specs.StateText.StateText.{StateText, body_at, formed, heap_at, state_at};
+ghost use Rattle.save_text.specs.StateText.Spelled.{IsText, text_of};
+ghost use Rattle.save_text.specs.StateText.Seen.{Reads, view};
+
+use crate::byte_fields::{Cursor, Stop, counted};
+use crate::state_text::parts::Parts;
+use linux_calls::Heap;
+use std::alloc::Global;
+
+/// The eight bytes that begin the text of a state.
+pub const MAGIC: [u8; 8] = *b"ddcstat1";
+
+/// Why a text is refused.
+#[derive(Clone, Copy, Debug, PartialEq, Eq)]
+pub enum TextRefusal {
+    /// The field that begins at this offset is the first wrong one, or the first byte behind the last field.
+    Form(u64),
+    OutOfMemory,
+}
+
+fn registers_of(cursor: &mut Cursor<'_>) -> Result<[u64; 31], Stop>
+    ensures { Gives (λ x. x) result cursor.new (alike u64 31 cursor.old) }
+{
+    let mut registers = [0; 31];
+    for index in 0..31usize {
+        registers[index] = cursor.u64()?;
+    }
+    Ok(registers)
+}
+
+#[tactic(auto, unfolding(crate::specs::StateText::StateText::heap_at))]
+fn heap_of(cursor: &mut Cursor<'_>) -> Result<Heap, Stop>
+    ensures { Gives (λ x. x) result cursor.new (heap_at cursor.old) }
+{
+    let first = cursor.u64()?;
+    let now = cursor.u64()?;
+    let limit = cursor.u64()?;
+    Ok(Heap { first, now, limit })
+}
+
+/// What stands behind the magic.
+#[tactic(auto, unfolding(crate::specs::StateText::StateText::body_at))]
+fn body_of<'a>(alloc: Global, cursor: &mut Cursor<'a>) -> Result<Parts<'a>, Stop>
+    ensures { Gives view result cursor.new (body_at cursor.old) }
+{
+    let steps = cursor.u64()?;
+    let pc = cursor.u64()?;
+    let registers = registers_of(cursor)?;
+    let heap = heap_of(cursor)?;
+    let runs = counted(alloc, cursor)?;
+    let pages = counted(alloc, cursor)?;
+    let files = counted(alloc, cursor)?;
+    let descriptors = counted(alloc, cursor)?;
+    let stream1 = cursor.blob32()?;
+    let stream2 = cursor.blob32()?;
+    Ok(Parts {
+        steps,
+        pc,
+        registers,
+        heap,
+        runs,
+        pages,
+        files,
+        descriptors,
+        stream1,
+        stream2,
+    })
+}
+
+/// A state's text at the front of what is left.
+#[tactic(auto, unfolding(crate::specs::StateText::StateText::state_at))]
+pub fn parts_at<'a>(alloc: Global, cursor: &mut Cursor<'a>) -> Result<Parts<'a>, Stop>
+    ensures { Gives view result cursor.new (state_at cursor.old) }
+{
+    cursor.begins_with(&MAGIC)?;
+    body_of(alloc, cursor)
+}
+
+/// What the text of a state says. Each field is judged given those before it, so an offset is that of the first wrong one.
+pub fn read(alloc: Global, text: &[u8]) -> Result<Parts<'_>, TextRefusal>
+    // What is read is spelled so.
+    ensures found { IfOk result (λ p. IsText (view p) × (text.now ≡ text_of (view p))) }
+    // What is spelled so is read, unless memory runs out.
+    ensures only { (s : StateText) → IsText s → text.now ≡ text_of s → Reads result (Ok s) }
+    // Which field is the first wrong one.
+    ensures exact { Reads result (formed text.now) }
+{
+    all(alloc, text)
+}
+
+#[tactic(auto, unfolding(crate::specs::StateText::StateText::formed))]
+fn all(alloc: Global, text: &[u8]) -> Result<Parts<'_>, TextRefusal>
+    ensures { Reads result (formed text.now) }
+{
+    let mut cursor = Cursor::new(text);
+    let parts = match parts_at(alloc, &mut cursor) {
+        Ok(parts) => parts,
+        Err(Stop::Wrong(left)) => return Err(TextRefusal::Form((text.len() - left) as u64)),
+        Err(Stop::OutOfMemory) => return Err(TextRefusal::OutOfMemory),
+    };
+    match cursor.len() {
+        0 => Ok(parts),
+        left => Err(TextRefusal::Form((text.len() - left) as u64)),
+    }
+}

@@ -1,9 +1,0 @@
-//! Whether an artefact is what its source stands for, in the four languages that ddc defines: the definition, and why it is not.
-//!
-//! The crates that make a check have code of their own, which meets this definition.
-#![tactic(auto)]
-
-mod cause;
-pub mod laws;
-
-pub use cause::{CheckCause, HexCause, M1Cause};

@@ -1,0 +1,318 @@
+use crate::texts::pieces::Piece::*;
+use crate::texts::pieces::*;
+use crate::texts::states::STATE;
+use checkpoints::{StateRefusal, read_state, write_state};
+use guest_run::{Guest, RunRam};
+use std::alloc::{AllocError, Global};
+use std::process::Abort;
+use std::test::Fail;
+
+/// A guest's text behind x31, which is the 33rd of its pieces.
+static BEHIND: &[Piece] = &[
+    // The heap, from 34 on: of its two pages one is mapped, of which one byte is below the break.
+    N8(0x20000),
+    N8(0x20001),
+    N8(0x2000),
+    // Three runs, from 37 on: a page, the heap, and the stack up to the end of memory.
+    N4(3),
+    N4(16),
+    N4(1),
+    N4(32),
+    N4(1),
+    N4(67_106_816),
+    N4(2_048),
+    // A page, from 44 on.
+    N4(1),
+    N4(16),
+    Page(7),
+    // Two files, from 47 on; the second lost its name.
+    N4(2),
+    N4(0),
+    N2(2),
+    Text(b"in"),
+    N4(3),
+    Text(b"abc"),
+    N4(1),
+    N2(0),
+    N4(0),
+    // Four descriptors, from 56 on.
+    N4(4),
+    N4(0),
+    N1(0),
+    N4(1),
+    N1(1),
+    N4(2),
+    N1(2),
+    N4(3),
+    N1(3),
+    N4(1),
+    N8(0),
+    N1(3),
+    // Two streams, from 68 on.
+    N4(3),
+    Text(b"out"),
+    N4(0),
+];
+
+/// What reading gives: 0 is a guest, the others are the refusals' numbers.
+const READ: u8 = 0;
+
+const FORM: u8 = 1;
+
+const RANGE: u8 = 2;
+
+const FILE_REF: u8 = 3;
+
+const WANT: u8 = 4;
+
+/// A field by its place, what is put there, and what is read then.
+type Row = (usize, Piece, u8);
+
+/// Each rule of states, broken and kept at its edge.
+static ROWS: &[Row] = &[
+    // The pc is a multiple of 4, and registers are what they are.
+    (1, N8(0xffff_ffff_ffff_ffff), READ),
+    (2, N8(0x10001), RANGE),
+    (2, N8(0x10002), RANGE),
+    (2, N8(0x10003), RANGE),
+    (2, N8(0x10004), READ),
+    (2, N8(0xffff_ffff_ffff_fffc), READ),
+    (3, N8(0xffff_ffff_ffff_ffff), READ),
+    // The heap: where it begins, its break, its limit, and the pages that are mapped.
+    (34, N8(0x20001), RANGE),
+    (34, N8(0x20004), RANGE),
+    (34, N8(0x1f000), RANGE),
+    (35, N8(0x1ffff), RANGE),
+    (35, N8(0x20000), RANGE),
+    (35, N8(0x21000), READ),
+    (35, N8(0x21001), RANGE),
+    (35, N8(0x22001), RANGE),
+    (36, N8(0), RANGE),
+    (36, N8(1), READ),
+    (36, N8(0x4000_0000), READ),
+    (36, N8(0x4000_0001), RANGE),
+    (36, N8(0xffff_ffff_ffff_ffff), RANGE),
+    (41, N4(2), RANGE),
+    // Runs end in memory, and the stack is mapped.
+    (42, N4(67_106_817), RANGE),
+    (42, N4(67_106_815), RANGE),
+    (42, N4(0xffff_ffff), RANGE),
+    (43, N4(2_047), RANGE),
+    (43, N4(2_049), RANGE),
+    (43, N4(0xffff_ffff), RANGE),
+    (39, N4(2), READ),
+    (40, N4(33), RANGE),
+    (39, N4(0xffff_ffff), FORM),
+    // Each listed page is mapped.
+    (38, N4(17), RANGE),
+    (45, N4(15), RANGE),
+    (45, N4(17), RANGE),
+    (45, N4(32), READ),
+    (45, N4(0xffff_ffff), RANGE),
+    // Names and numbers of files.
+    (50, Text(b".."), READ),
+    (50, Text(b"./"), RANGE),
+    (50, Text(b"i\0"), RANGE),
+    (50, Text(b"\0n"), RANGE),
+    (50, Text(b"/n"), READ),
+    // The second file gets a name: another, and that of the first.
+    (54, Text(b"\x02\0on"), READ),
+    (54, Text(b"\x02\0in"), RANGE),
+    (53, N4(5_119), FILE_REF),
+    (53, N4(5_120), RANGE),
+    // Descriptors.
+    (58, N1(1), RANGE),
+    (58, N1(2), RANGE),
+    (60, N1(0), RANGE),
+    (60, N1(2), RANGE),
+    (62, N1(0), RANGE),
+    (62, N1(1), RANGE),
+    (63, N4(1_023), READ),
+    (63, N4(1_024), RANGE),
+    (66, N8(0x7fff_ffff_ffff_ffff), READ),
+    (66, N8(0x8000_0000_0000_0000), RANGE),
+    // A descriptor's file is listed, and each file has a name or a descriptor.
+    (65, N4(2), FILE_REF),
+    (65, N4(0), FILE_REF),
+];
+
+/// Several fields by their places, each with what is put there, and what is read then.
+type Several = (&'static [(usize, Piece)], u8);
+
+/// Rules that it takes several fields to break, or to keep.
+static SEVERAL: &[Several] = &[
+    // The break at its largest, and a byte above it; a heap of no bytes, and one of the most pages.
+    (&[(35, N8(0x22000)), (41, N4(2))], READ),
+    (&[(35, N8(0x22001)), (41, N4(3))], RANGE),
+    (&[(35, N8(0x20000)), (36, N8(0))], READ),
+    (
+        &[
+            (35, N8(0x4002_0000)),
+            (36, N8(0x4000_0000)),
+            (41, N4(262_144)),
+        ],
+        READ,
+    ),
+    // A page behind the largest end is mapped; a page that the largest end is in.
+    (&[(36, N8(0x1000)), (41, N4(2))], READ),
+    (&[(36, N8(0x1001)), (41, N4(2))], RANGE),
+    // The heap ends where the stack begins, and a byte above it, where the page of the break is mapped.
+    (
+        &[
+            (34, N8(0x3f_ff7f_f000)),
+            (35, N8(0x3f_ff80_0000)),
+            (36, N8(0x1000)),
+            (42, N4(67_106_815)),
+            (43, N4(2_049)),
+        ],
+        READ,
+    ),
+    (
+        &[
+            (34, N8(0x3f_ff7f_f000)),
+            (35, N8(0x3f_ff80_0001)),
+            (36, N8(0x1001)),
+            (42, N4(67_106_815)),
+            (43, N4(2_049)),
+        ],
+        RANGE,
+    ),
+    (
+        &[
+            (34, N8(0xffff_ffff_ffff_f000)),
+            (35, N8(0xffff_ffff_ffff_f000)),
+        ],
+        RANGE,
+    ),
+    // As many pages beside the heap as may be, and one more.
+    (&[(42, N4(67_041_281)), (43, N4(67_583))], READ),
+    (&[(42, N4(67_041_280)), (43, N4(67_584))], RANGE),
+    // Names of no bytes, of 255 and of 256, and `./` before a name.
+    (&[(49, N2(0)), (50, Text(b""))], FILE_REF),
+    (&[(49, N2(1)), (50, Text(b"."))], READ),
+    (&[(49, N2(255)), (50, Text(&[b'n'; 255]))], READ),
+    (&[(49, N2(256)), (50, Text(&[b'n'; 256]))], RANGE),
+    (&[(49, N2(4)), (50, Text(b"./in"))], RANGE),
+    (&[(49, N2(4)), (50, Text(b"i./n"))], READ),
+    // The largest number of a file.
+    (&[(53, N4(5_119)), (65, N4(5_119))], READ),
+    // Each file has a name, and the open one is not listed; then it is.
+    (&[(54, Text(b"\x02\0on")), (65, N4(2))], FILE_REF),
+    (&[(54, Text(b"\x02\0on")), (65, N4(0))], READ),
+    // A stream at the number 3, with no file behind it; a range that is wrong is said before a reference.
+    (
+        &[
+            (54, Text(b"\x02\0on")),
+            (64, N1(2)),
+            (65, Text(b"")),
+            (66, Text(b"")),
+            (67, Text(b"")),
+        ],
+        RANGE,
+    ),
+    (&[(2, N8(0x10002)), (65, N4(2))], RANGE),
+    (&[(35, N8(0x22001)), (65, N4(2))], RANGE),
+    (&[(65, N4(2)), (66, N8(0x8000_0000_0000_0000))], RANGE),
+    (&[(53, N4(5_120)), (65, N4(5_120))], RANGE),
+    // The form is said before both.
+    (&[(2, N8(0x10002)), (67, N1(0))], FORM),
+];
+
+fn pieces(alloc: Global) -> Result<Vec<Piece>, AllocError> {
+    let mut list = Vec::new(alloc);
+    for piece in STATE.iter().take(34) {
+        list.push(*piece)?;
+    }
+    list.extend_from_slice(BEHIND)?;
+    Ok(list)
+}
+
+/// What reading a text gives.
+fn answer(alloc: Global, text: &[u8]) -> u8 {
+    let read: Result<Guest<RunRam>, StateRefusal> = read_state(alloc, text);
+    match read {
+        Ok(_) => READ,
+        Err(StateRefusal::Form(_)) => FORM,
+        Err(StateRefusal::Range) => RANGE,
+        Err(StateRefusal::FileRef) => FILE_REF,
+        Err(StateRefusal::OutOfMemory) => WANT,
+    }
+}
+
+#[test]
+fn each_rule_has_its_refusal(rt: HostRuntime) -> Result<(), Fail> {
+    let whole = pieces(rt.alloc())?;
+    for (place, piece, want) in ROWS {
+        let changes = [(*place, *piece)];
+        assert_eq!(rt;
+            answer_to(rt.alloc(), &whole, &changes)?,
+            *want,
+            "{changes:?}"
+        );
+    }
+    Ok(())
+}
+
+/// What reading gives where several fields are changed.
+fn answer_to(alloc: Global, whole: &[Piece], changes: &[(usize, Piece)]) -> Result<u8, AllocError> {
+    let mut pieces = Vec::from_slice(alloc, whole)?;
+    for (place, piece) in changes {
+        pieces = changed(alloc, &pieces, (*place, *piece, None))?;
+    }
+    let text = text_of(alloc, &pieces)?;
+    Ok(answer(alloc, &text))
+}
+
+#[test]
+fn each_rule_of_several_fields_has_its_refusal(rt: HostRuntime) -> Result<(), Fail> {
+    let whole = pieces(rt.alloc())?;
+    for (changes, want) in SEVERAL {
+        assert_eq!(rt;
+            answer_to(rt.alloc(), &whole, changes)?,
+            *want,
+            "{changes:?}"
+        );
+    }
+    Ok(())
+}
+
+/// The guest's text with so many named files in place of the two that it has.
+fn crowded(alloc: Global, whole: &[Piece], count: u32) -> Result<Vec<u8>, AllocError> {
+    let mut text = text_of(alloc, whole.get(..47).unwrap_or(&[]))?;
+    text.extend_from_slice(&count.to_le_bytes())?;
+    for number in 0..count {
+        text.extend_from_slice(&number.to_le_bytes())?;
+        let name = [(number % 64) as u8 + 64, (number / 64 % 128) as u8 + 1];
+        text.extend_from_slice(&[2, 0])?;
+        text.extend_from_slice(&name)?;
+        text.extend_from_slice(&[0; 4])?;
+    }
+    text.extend_from_slice(&text_of(alloc, whole.get(56..).unwrap_or(&[]))?)?;
+    Ok(text)
+}
+
+#[test]
+fn names_are_counted(rt: HostRuntime) -> Result<(), Fail> {
+    let whole = pieces(rt.alloc())?;
+    let most = crowded(rt.alloc(), &whole, 4_096)?;
+    assert_eq!(rt; answer(rt.alloc(), &most), READ);
+    let more = crowded(rt.alloc(), &whole, 4_097)?;
+    assert_eq!(rt; answer(rt.alloc(), &more), RANGE);
+    Ok(())
+}
+
+#[test]
+fn a_guest_is_written_as_it_was_read(rt: HostRuntime) -> Result<(), Fail> {
+    let text = text_of(rt.alloc(), &pieces(rt.alloc())?)?;
+    let read: Result<Guest<RunRam>, StateRefusal> = read_state(rt.alloc(), &text);
+    let guest = read.ok().ok_or("read")?;
+    assert_eq!(rt; guest.steps(), 5);
+    assert_eq!(rt; guest.pc(), 0x10000);
+    assert_eq!(rt; guest.reg(31), 31);
+    let mut byte = [0];
+    assert!(rt; guest.peek(0x10fff, &mut byte));
+    assert_eq!(rt; byte, [7]);
+    let again = write_state(rt.alloc(), &guest).ok().ok_or("written")?;
+    assert_eq!(rt; again.as_slice(), text.as_slice());
+    Ok(())
+}

@@ -1,0 +1,130 @@
+//! The text of a program that took one step, as docs/reference/running.md and loader.md say its start.
+
+use crate::texts::pieces::Piece::*;
+use crate::texts::pieces::*;
+use checkpoints::{StateRefusal, read_state, write_state};
+use ddc_base::Bytes;
+use guest_run::{Guest, RunBox, RunEnd, RunRam};
+use std::alloc::Global;
+use std::process::Abort;
+use std::test::Fail;
+
+/// The program's text after one step, with the argument `x` and a heap of at most 4,096 bytes.
+static STEPPED: &[Piece] = &[
+    Text(b"ddcstat1"),
+    N8(1),
+    N8(0x1007c),
+    // Of x1 to x31 all but the stack pointer are 0.
+    N8(0),
+    N8(0x3f_ffff_ffc0),
+    Text(&[0; 232]),
+    // The heap.
+    N8(0x11000),
+    N8(0x11000),
+    N8(4_096),
+    // The segment's page and the stack.
+    N4(2),
+    N4(16),
+    N4(1),
+    N4(67_106_816),
+    N4(2_048),
+    N4(2),
+    N4(16),
+    // exit.elf: header, one program header, and three instructions that exit with status 0.
+    Text(&[
+        0x7f, 0x45, 0x4c, 0x46, 0x02, 0x01, 0x01, 0x00, 0x00, 0x00, 0x00, 0x00, 0x00, 0x00, 0x00,
+        0x00, 0x02, 0x00, 0xf3, 0x00, 0x01, 0x00, 0x00, 0x00, 0x78, 0x00, 0x01, 0x00, 0x00, 0x00,
+        0x00, 0x00, 0x40, 0x00, 0x00, 0x00, 0x00, 0x00, 0x00, 0x00, 0x00, 0x00, 0x00, 0x00, 0x00,
+        0x00, 0x00, 0x00, 0x00, 0x00, 0x00, 0x00, 0x40, 0x00, 0x38, 0x00, 0x01, 0x00, 0x00, 0x00,
+        0x00, 0x00, 0x00, 0x00, 0x01, 0x00, 0x00, 0x00, 0x07, 0x00, 0x00, 0x00, 0x00, 0x00, 0x00,
+        0x00, 0x00, 0x00, 0x00, 0x00, 0x00, 0x00, 0x01, 0x00, 0x00, 0x00, 0x00, 0x00, 0x00, 0x00,
+        0x01, 0x00, 0x00, 0x00, 0x00, 0x00, 0x84, 0x00, 0x00, 0x00, 0x00, 0x00, 0x00, 0x00, 0x84,
+        0x00, 0x00, 0x00, 0x00, 0x00, 0x00, 0x00, 0x00, 0x10, 0x00, 0x00, 0x00, 0x00, 0x00, 0x00,
+        0x13, 0x05, 0x00, 0x00, 0x93, 0x08, 0xd0, 0x05, 0x73, 0x00, 0x00, 0x00,
+    ]),
+    Text(&[0; 3964]),
+    // The last page has the count of arguments, the argument's address, four words of zeros, and the argument at its end.
+    N4(67_108_863),
+    Text(&[0; 4032]),
+    N8(1),
+    N8(0x3f_ffff_fffe),
+    Text(&[0; 46]),
+    Text(b"x\0"),
+    // No files, three descriptors, and two empty streams.
+    N4(0),
+    N4(3),
+    N4(0),
+    N1(0),
+    N4(1),
+    N1(1),
+    N4(2),
+    N1(2),
+    N4(0),
+    N4(0),
+];
+
+/// exit.elf, as it stands in its page.
+fn program() -> &'static [u8] {
+    match STEPPED.get(16) {
+        Some(Text(bytes)) => bytes,
+        _ => &[],
+    }
+}
+
+/// The text of the program after one step.
+fn stepped(alloc: Global) -> Result<Bytes, Fail> {
+    let mut setting = RunBox::new(alloc, 4_096);
+    setting.push_arg(b"x")?;
+    match Guest::<RunRam>::start(alloc, program(), &setting) {
+        Err(_) => Err("no start".into()),
+        Ok(mut guest) => match guest.run(1) {
+            RunEnd::Spent => Ok(write_state(alloc, &guest)?),
+            _ => Err("an end".into()),
+        },
+    }
+}
+
+#[test]
+fn a_step_has_this_text(rt: HostRuntime) -> Result<(), Fail> {
+    let text = stepped(rt.alloc())?;
+    let wanted = text_of(rt.alloc(), STEPPED)?;
+    assert_eq!(rt; text.as_slice(), wanted.as_slice());
+    Ok(())
+}
+
+/// Why a text is refused.
+fn refusal(alloc: Global, text: &[u8]) -> Option<StateRefusal> {
+    let read: Result<Guest<RunRam>, StateRefusal> = read_state(alloc, text);
+    read.err()
+}
+
+#[test]
+fn a_step_is_read_and_goes_on(rt: HostRuntime) -> Result<(), Fail> {
+    let text = text_of(rt.alloc(), STEPPED)?;
+    let read: Result<Guest<RunRam>, StateRefusal> = read_state(rt.alloc(), &text);
+    let mut guest = read.ok().ok_or("read")?;
+    let again = write_state(rt.alloc(), &guest)?;
+    assert_eq!(rt; again.as_slice(), text.as_slice());
+    assert_eq!(rt; guest.steps(), 1);
+    assert!(rt; guest.run(2) == RunEnd::Exited(0));
+    assert_eq!(rt; guest.steps(), 2);
+    Ok(())
+}
+
+#[test]
+fn a_step_with_another_byte_is_refused(rt: HostRuntime) -> Result<(), Fail> {
+    let mut text = text_of(rt.alloc(), STEPPED)?;
+    // The pc begins at the offset 16.
+    if let Some(byte) = text.get_mut(16) {
+        *byte = 0x7d;
+    }
+    assert_eq!(rt; refusal(rt.alloc(), &text), Some(StateRefusal::Range));
+    let mut text = text_of(rt.alloc(), STEPPED)?;
+    let last = text.len() as u64;
+    text.pop();
+    assert_eq!(rt;
+        refusal(rt.alloc(), &text),
+        Some(StateRefusal::Form(last.saturating_sub(4)))
+    );
+    Ok(())
+}

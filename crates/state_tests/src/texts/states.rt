@@ -1,0 +1,262 @@
+use crate::texts::pieces::Piece::*;
+use crate::texts::pieces::*;
+use mem_files::{Access, Mode, Slot};
+use save_text::state_text::{TextRefusal, read, write};
+use std::alloc::Global;
+use std::process::Abort;
+use std::test::Fail;
+
+/// A state's text by its fields.
+pub static STATE: &[Piece] = &[
+    Text(b"ddcstat1"),
+    N8(5),
+    N8(0x10000),
+    // x1 to x31, 3 to 33 of the pieces.
+    N8(1),
+    N8(2),
+    N8(3),
+    N8(4),
+    N8(5),
+    N8(6),
+    N8(7),
+    N8(8),
+    N8(9),
+    N8(10),
+    N8(11),
+    N8(12),
+    N8(13),
+    N8(14),
+    N8(15),
+    N8(16),
+    N8(17),
+    N8(18),
+    N8(19),
+    N8(20),
+    N8(21),
+    N8(22),
+    N8(23),
+    N8(24),
+    N8(25),
+    N8(26),
+    N8(27),
+    N8(28),
+    N8(29),
+    N8(30),
+    N8(31),
+    // The heap, from 34 on.
+    N8(0x20000),
+    N8(0x20010),
+    N8(0x1000),
+    // Two runs, from 37 on.
+    N4(2),
+    N4(16),
+    N4(1),
+    N4(18),
+    N4(3),
+    // Two pages, from 42 on.
+    N4(2),
+    N4(16),
+    Page(7),
+    N4(18),
+    Page(9),
+    // Two files, from 47 on; the second has neither name nor bytes.
+    N4(2),
+    N4(0),
+    N2(2),
+    Text(b"in"),
+    N4(3),
+    Text(b"abc"),
+    N4(3),
+    N2(0),
+    N4(0),
+    // Four descriptors, from 56 on.
+    N4(4),
+    N4(0),
+    N1(0),
+    N4(1),
+    N1(1),
+    N4(2),
+    N1(2),
+    N4(3),
+    N1(3),
+    N4(0),
+    N8(1),
+    N1(5),
+    // Two streams, from 68 on.
+    N4(3),
+    Text(b"out"),
+    N4(0),
+];
+
+/// Each rule of the form, broken and kept at its edge.
+static CHANGES: &[Change] = &[
+    (0, Text(b"ddcstat2"), Some(0)),
+    (0, Text(b"Ddcstat1"), Some(0)),
+    (0, Text(b"ddcsave1"), Some(0)),
+    (1, N8(0xffff_ffff_ffff_ffff), None),
+    (2, N8(0xffff_ffff_ffff_ffff), None),
+    (36, N8(0xffff_ffff_ffff_ffff), None),
+    // A third run would begin at the count of pages.
+    (37, N4(3), Some(42)),
+    (37, N4(0xffff_ffff), Some(42)),
+    (38, N4(0xffff_ffff), Some(40)),
+    // A run has a page.
+    (39, N4(0), Some(39)),
+    (41, N4(0), Some(41)),
+    (41, N4(0xffff_ffff), None),
+    // A page lies between two runs.
+    (39, N4(2), Some(40)),
+    (40, N4(0), Some(40)),
+    (40, N4(16), Some(40)),
+    (40, N4(17), Some(40)),
+    (40, N4(19), None),
+    // Pages ascend, and none is all zeros.
+    (43, N4(17), None),
+    (43, N4(18), Some(45)),
+    (43, N4(0xffff_ffff), Some(45)),
+    (44, Page(0), Some(44)),
+    (45, N4(16), Some(45)),
+    (45, N4(17), None),
+    (46, Page(0), Some(46)),
+    // Files ascend.
+    (48, N4(2), None),
+    (48, N4(3), Some(53)),
+    (53, N4(0), Some(53)),
+    (53, N4(0xffff_ffff), None),
+    (50, Text(b"\0/"), None),
+    // Descriptors ascend, and there are four kinds.
+    (58, N1(1), None),
+    (58, N1(2), None),
+    (58, N1(4), Some(58)),
+    (58, N1(255), Some(58)),
+    (59, N4(0), Some(59)),
+    (59, N4(2), Some(61)),
+    (63, N4(2), Some(63)),
+    (63, N4(0xffff_ffff), None),
+    (65, N4(0xffff_ffff), None),
+    (66, N8(0xffff_ffff_ffff_ffff), None),
+    // A file is read or written, or both.
+    (67, N1(0), Some(67)),
+    (67, N1(1), None),
+    (67, N1(2), None),
+    (67, N1(3), None),
+    (67, N1(4), Some(67)),
+    (67, N1(6), None),
+    (67, N1(7), None),
+    (67, N1(8), Some(67)),
+    (67, N1(9), Some(67)),
+    // A stream of one byte that is not there.
+    (70, N4(1), Some(71)),
+];
+
+/// Where the first wrong field begins; none where the text is right. Want of memory has a place that no field has.
+fn wrong(alloc: Global, text: &[u8]) -> Option<u64> {
+    match read(alloc, text) {
+        Ok(_) => None,
+        Err(TextRefusal::Form(offset)) => Some(offset),
+        Err(TextRefusal::OutOfMemory) => Some(u64::MAX),
+    }
+}
+
+#[test]
+fn a_changed_field_is_named(rt: HostRuntime) -> Result<(), Fail> {
+    for change in CHANGES {
+        let pieces = changed(rt.alloc(), STATE, *change)?;
+        let text = text_of(rt.alloc(), &pieces)?;
+        let want = change.2.map(|field| start(&pieces, field));
+        assert_eq!(rt; wrong(rt.alloc(), &text), want, "{change:?}");
+    }
+    Ok(())
+}
+
+#[test]
+fn a_cut_field_is_named(rt: HostRuntime) -> Result<(), Fail> {
+    let text = text_of(rt.alloc(), STATE)?;
+    for (byte, _) in text.iter().enumerate() {
+        let front = text.get(..byte).ok_or("cut")?;
+        assert_eq!(rt; wrong(rt.alloc(), front), Some(cut(STATE, byte)), "{byte}");
+    }
+    Ok(())
+}
+
+#[test]
+fn a_byte_behind_the_last_field_is_named(rt: HostRuntime) -> Result<(), Fail> {
+    let mut text = text_of(rt.alloc(), STATE)?;
+    let end = text.len() as u64;
+    assert_eq!(rt; wrong(rt.alloc(), &text), None);
+    text.push(0)?;
+    assert_eq!(rt; wrong(rt.alloc(), &text), Some(end));
+    text.push(1)?;
+    assert_eq!(rt; wrong(rt.alloc(), &text), Some(end));
+    Ok(())
+}
+
+#[test]
+fn numbers_are_read(rt: HostRuntime) -> Result<(), Fail> {
+    let text = text_of(rt.alloc(), STATE)?;
+    let parts = read(rt.alloc(), &text).ok().ok_or("form")?;
+    let x8 = parts.registers[7];
+    assert_eq!(rt; (parts.steps, parts.pc, x8), (5, 0x10000, 8));
+    // x8 stands at the offset 80.
+    assert_eq!(rt; text.get(80).copied(), Some(8));
+    let heap = (parts.heap.first, parts.heap.now, parts.heap.limit);
+    assert_eq!(rt; heap, (0x20000, 0x20010, 0x1000));
+    Ok(())
+}
+
+#[test]
+fn runs_and_pages_are_read(rt: HostRuntime) -> Result<(), Fail> {
+    let text = text_of(rt.alloc(), STATE)?;
+    let parts = read(rt.alloc(), &text).ok().ok_or("form")?;
+    let runs = parts.runs.get(1).ok_or("runs")?;
+    assert_eq!(rt; (runs.first, runs.pages), (18, 3));
+    let page = parts.pages.get(1).ok_or("pages")?;
+    assert_eq!(rt; page.number, 18);
+    assert_eq!(rt; page.bytes.get(4095).copied(), Some(9));
+    Ok(())
+}
+
+#[test]
+fn files_and_streams_are_read(rt: HostRuntime) -> Result<(), Fail> {
+    let text = text_of(rt.alloc(), STATE)?;
+    let parts = read(rt.alloc(), &text).ok().ok_or("form")?;
+    let first = parts.files.get(0).ok_or("files")?;
+    let name = first.name.ok_or("name")?;
+    assert_eq!(rt; name, b"in".as_slice());
+    assert_eq!(rt; first.content, b"abc".as_slice());
+    let second = parts.files.get(1).ok_or("files")?;
+    assert_eq!(rt; (second.number, second.name.is_none()), (3, true));
+    assert_eq!(rt; parts.stream1, b"out".as_slice());
+    Ok(())
+}
+
+#[test]
+fn descriptors_are_read(rt: HostRuntime) -> Result<(), Fail> {
+    let text = text_of(rt.alloc(), STATE)?;
+    let parts = read(rt.alloc(), &text).ok().ok_or("form")?;
+    let held = parts.descriptors.get(3).ok_or("descriptors")?;
+    let access = Access {
+        mode: Mode::Read,
+        appends: true,
+    };
+    let open = Slot::File {
+        number: 0,
+        cursor: 1,
+        access,
+    };
+    assert_eq!(rt; held.fd, 3);
+    assert_eq!(rt; held.slot, open);
+    Ok(())
+}
+
+#[test]
+fn a_text_is_written_again(rt: HostRuntime) -> Result<(), Fail> {
+    let text = text_of(rt.alloc(), STATE)?;
+    let again = match read(rt.alloc(), &text) {
+        Ok(parts) => write(rt.alloc(), &parts).ok(),
+        Err(_) => None,
+    };
+    let again = again.ok_or("written")?;
+    assert_eq!(rt; again.as_slice(), text.as_slice());
+    Ok(())
+}

@@ -1,0 +1,210 @@
+//! `asm LANG BASE SOURCE OUT`: what a source comes to is saved.
+
+ghost use Rattle.std.specs.Prelude.{◌≡◌, ◌≤◌, ◌^◌, IfOk, IfSome, map};
+ghost use Rattle.ddc_base.specs.Outside.{IsFileName};
+ghost use Rattle.command_plan.specs.declared.status.Status.TheVariants.{CheckFailed};
+ghost use Rattle.command_plan.specs.Performs.{Performs};
+ghost use Rattle.command_plan.specs.Plan.{answers};
+ghost use Rattle.command_plan.specs.Steps.{Says};
+ghost use Rattle.hex_langs.specs.Link.Values.{value_of};
+ghost use Rattle.hex_langs.specs.Writer.Writing.{items_text};
+ghost use Rattle.m1_lang.specs.Expansion.{expansion_of};
+ghost use Rattle.tool_commands.specs.Asm.{made_line, refused_line, as_base, made, saved, saved_items, assembled, asm_files, asm_plan};
+ghost use Rattle.tool_commands.specs.Inside.Refusing.{Refuses, RefusesM1};
+
+use command_plan::words::are_two_files;
+use command_plan::{Answer, Status, Stop, fetch_file, keep, usage};
+use ddc_base::languages::Language;
+use ddc_base::{Bytes, OutOfMemory, Shelf, read_decimal};
+use hex_langs::items::{HexRefusal, Items};
+use hex_langs::link::{HexLanguage, value};
+use m1_lang::{M1Refusal, expand, write_items};
+use std::alloc::Global;
+
+/// The greatest base: 2^37.
+const GREATEST_BASE: u64 = 137_438_953_472;
+
+/// Performs the command on the words after its name.
+pub fn perform<S: Shelf>(alloc: Global, words: &[&str], shelf: &mut S) -> Result<Answer, Stop>
+    ensures { Performs (asm_plan (map (λ w. w.now) words.now)) (S.state shelf.old) (S.state shelf.new) result }
+{
+    let [language, base, source, out] = words else {
+        return usage(alloc);
+    };
+    match (Language::named(language.as_bytes()), base_of(base)) {
+        (Some(language), Some(base)) => {
+            if are_two_files(source, out) {
+                assemble_file(alloc, language, base, source, out, shelf)
+            } else {
+                usage(alloc)
+            }
+        }
+        _ => usage(alloc),
+    }
+}
+
+/// A base, from 0 to 2^37.
+#[tactic(auto, unfolding(crate::specs::Asm::as_base))]
+fn base_of(word: &str) -> Option<u64>
+    ensures value { result ≡ as_base word.now }
+    ensures within { IfSome result (λ base. base ≤ 2 ^ 37) }
+{
+    let base = read_decimal(word.as_bytes())?;
+    if base <= GREATEST_BASE {
+        Some(base)
+    } else {
+        None
+    }
+}
+
+/// Fetches the source, and goes on with it.
+#[tactic(auto, using(command_plan::proofs::Performing::performing), unfolding(crate::specs::Asm::asm_files))]
+fn assemble_file<S: Shelf>(
+    alloc: Global,
+    language: Language,
+    base: u64,
+    source: &str,
+    out: &str,
+    shelf: &mut S,
+) -> Result<Answer, Stop>
+    requires base { base ≤ 2 ^ 37 }
+    requires source { IsFileName source.now }
+    requires out { IsFileName out.now }
+    ensures { Performs (asm_files language base source.now out.now) (S.state shelf.old) (S.state shelf.new) result }
+{
+    let text = fetch_file(alloc, shelf, source)?;
+    assemble(alloc, language, base, text.as_slice(), out, shelf)
+}
+
+/// Saves what a source comes to, or says why it comes to nothing.
+fn assemble<S: Shelf>(
+    alloc: Global,
+    language: Language,
+    base: u64,
+    source: &[u8],
+    out: &str,
+    shelf: &mut S,
+) -> Result<Answer, Stop>
+    requires base { base ≤ 2 ^ 37 }
+    requires out { IsFileName out.now }
+    ensures { Performs (assembled language base out.now source.now) (S.state shelf.old) (S.state shelf.new) result }
+{
+    match language {
+        Language::Hex0 => save_value(alloc, HexLanguage::Hex0, base, source, out, shelf),
+        Language::Hex1 => save_value(alloc, HexLanguage::Hex1, base, source, out, shelf),
+        Language::Hex2 => save_value(alloc, HexLanguage::Hex2, base, source, out, shelf),
+        Language::M1 => save_items(alloc, source, out, shelf),
+    }
+}
+
+/// Saves the value of a source, or says why it has none.
+#[tactic(auto, using(command_plan::proofs::Performing::performing))]
+fn save_value<S: Shelf>(
+    alloc: Global,
+    language: HexLanguage,
+    base: u64,
+    source: &[u8],
+    out: &str,
+    shelf: &mut S,
+) -> Result<Answer, Stop>
+    requires base { base ≤ 2 ^ 37 }
+    requires out { IsFileName out.now }
+    ensures { Performs (saved out.now (value_of language base source.now)) (S.state shelf.old) (S.state shelf.new) result }
+{
+    match value(alloc, language, base, source) {
+        Ok(bytes) => save(alloc, bytes.as_slice(), out, shelf),
+        Err(refusal) => refuse(alloc, refusal),
+    }
+}
+
+/// Saves the text of the items that an M1 source expands to, or says why it does not.
+#[tactic(auto, using(command_plan::proofs::Performing::performing))]
+fn save_items<S: Shelf>(
+    alloc: Global,
+    source: &[u8],
+    out: &str,
+    shelf: &mut S,
+) -> Result<Answer, Stop>
+    requires out { IsFileName out.now }
+    ensures { Performs (saved_items out.now (expansion_of source.now)) (S.state shelf.old) (S.state shelf.new) result }
+{
+    match expand(alloc, source) {
+        Ok(items) => save_text(alloc, &items, out, shelf),
+        Err(refusal) => refuse_m1(alloc, refusal),
+    }
+}
+
+/// Saves the text of items.
+#[tactic(auto, using(command_plan::proofs::Performing::performing))]
+fn save_text<S: Shelf>(
+    alloc: Global,
+    items: &Items<'_>,
+    out: &str,
+    shelf: &mut S,
+) -> Result<Answer, Stop>
+    requires out { IsFileName out.now }
+    ensures { Performs (made out.now (items_text items.now)) (S.state shelf.old) (S.state shelf.new) result }
+{
+    let text = write_items(alloc, items)?;
+    save(alloc, text.as_slice(), out, shelf)
+}
+
+/// Saves a content that was made.
+#[tactic(auto, using(command_plan::proofs::Performing::performing))]
+fn save<S: Shelf>(alloc: Global, content: &[u8], out: &str, shelf: &mut S) -> Result<Answer, Stop>
+    requires out { IsFileName out.now }
+    ensures { Performs (made out.now content.now) (S.state shelf.old) (S.state shelf.new) result }
+{
+    let text = made_text(alloc, content.len())?;
+    let answer = Answer {
+        status: Status::Yes,
+        text,
+    };
+    keep(alloc, shelf, out, content, answer)
+}
+
+/// The answer to a source that has no value, or want of memory.
+fn refuse(alloc: Global, refusal: HexRefusal) -> Result<Answer, Stop>
+    ensures { Refuses refusal result }
+{
+    match refusal {
+        HexRefusal::OutOfMemory => Err(Stop::OutOfMemory),
+        refusal => refused(alloc, refusal.number(), refusal.place()),
+    }
+}
+
+/// The answer to an M1 source that does not expand, or want of memory.
+fn refuse_m1(alloc: Global, refusal: M1Refusal) -> Result<Answer, Stop>
+    ensures { RefusesM1 refusal result }
+{
+    match refusal {
+        M1Refusal::OutOfMemory => Err(Stop::OutOfMemory),
+        refusal => refused(alloc, refusal.number(), refusal.place()),
+    }
+}
+
+/// The answer to a source that is refused, by the number of the refusal and its place.
+fn refused(alloc: Global, number: u8, place: u64) -> Result<Answer, Stop>
+    ensures { Says (answers CheckFailed (refused_line number place)) result }
+{
+    Ok(Answer {
+        status: Status::CheckFailed,
+        text: refused_text(alloc, number, place)?,
+    })
+}
+
+/// The line of a content that was made.
+#[tactic(auto, unfolding(crate::specs::Asm::made_line))]
+fn made_text(alloc: Global, size: usize) -> Result<Bytes, OutOfMemory>
+    ensures { IfOk result (λ text. text ≡ made_line size) }
+{
+    Ok(Bytes::from_vec(format!(in alloc; "made {size}\n")?.into_bytes()))
+}
+
+/// The line of a source that is refused.
+#[tactic(auto, unfolding(crate::specs::Asm::refused_line))]
+fn refused_text(alloc: Global, number: u8, place: u64) -> Result<Bytes, OutOfMemory>
+    ensures { IfOk result (λ text. text ≡ refused_line number place) }
+{
+    Ok(Bytes::from_vec(format!(in alloc; "refused {number} {place}\n")?.into_bytes()))
+}

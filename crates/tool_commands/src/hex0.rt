@@ -1,0 +1,74 @@
+//! `hex0 SOURCE BINARY`: whether the binary is the hex0 value of the source.
+
+ghost use Rattle.std.specs.Prelude.{map};
+ghost use Rattle.ddc_base.specs.Difference as difference;
+ghost use Rattle.ddc_base.specs.Outside.{IsFileName};
+ghost use Rattle.command_plan.specs.Performs.{Performs};
+ghost use Rattle.command_plan.specs.Steps.{Says};
+ghost use Rattle.hex_langs.specs.Hex0.{hex0_of};
+ghost use Rattle.tool_commands.specs.Hex0.{comparison, hex0_binary, hex0_files, hex0_plan};
+
+use command_plan::words::is_file_word;
+use command_plan::{Answer, Status, Stop, fetch_file, texts, usage};
+use ddc_base::{Shelf, first_difference};
+use std::alloc::Global;
+
+/// Performs the command on the words after its name.
+pub fn perform<S: Shelf>(alloc: Global, words: &[&str], shelf: &mut S) -> Result<Answer, Stop>
+    ensures { Performs (hex0_plan (map (λ w. w.now) words.now)) (S.state shelf.old) (S.state shelf.new) result }
+{
+    match words {
+        [source, binary] if is_file_word(source) && is_file_word(binary) => {
+            compare_files(alloc, source, binary, shelf)
+        }
+        _ => usage(alloc),
+    }
+}
+
+/// Fetches the source, and goes on with it.
+#[tactic(auto, using(command_plan::proofs::Performing::performing), unfolding(crate::specs::Hex0::hex0_files))]
+fn compare_files<S: Shelf>(
+    alloc: Global,
+    source: &str,
+    binary: &str,
+    shelf: &mut S,
+) -> Result<Answer, Stop>
+    requires source { IsFileName source.now }
+    requires binary { IsFileName binary.now }
+    ensures { Performs (hex0_files source.now binary.now) (S.state shelf.old) (S.state shelf.new) result }
+{
+    let text = fetch_file(alloc, shelf, source)?;
+    compare_with(alloc, text.as_slice(), binary, shelf)
+}
+
+/// Fetches the binary, and compares it with the source's value.
+#[tactic(auto, using(command_plan::proofs::Performing::performing), unfolding(crate::specs::Hex0::hex0_binary))]
+fn compare_with<S: Shelf>(
+    alloc: Global,
+    source: &[u8],
+    binary: &str,
+    shelf: &mut S,
+) -> Result<Answer, Stop>
+    requires { IsFileName binary.now }
+    ensures { Performs (hex0_binary source.now binary.now) (S.state shelf.old) (S.state shelf.new) result }
+{
+    let bytes = fetch_file(alloc, shelf, binary)?;
+    compare(alloc, source, bytes.as_slice())
+}
+
+/// Says where a source's value and a binary first differ, or how long they both are.
+fn compare(alloc: Global, source: &[u8], binary: &[u8]) -> Result<Answer, Stop>
+    ensures { Says (comparison (hex0_of source.now) binary.now (difference.first_difference (hex0_of source.now) binary.now)) result }
+{
+    let value = hex_langs::hex0(alloc, source)?;
+    match first_difference(value.as_slice(), binary) {
+        None => Ok(Answer {
+            status: Status::Yes,
+            text: texts::equal(alloc, value.len())?,
+        }),
+        Some(offset) => Ok(Answer {
+            status: Status::Differs,
+            text: texts::differs(alloc, offset, value.len(), binary.len())?,
+        }),
+    }
+}

@@ -1,0 +1,121 @@
+//! `list BINARY`: the file's words by offset, each with its value and its instruction.
+
+ghost use Rattle.std.specs.Prelude.{◌≡◌, ◌≤◌, ◌+◌, ◌*◌, ◌<◌, ◌^◌, ◌++◌, ◌∷◌, [], IfOk, OnOk, length, map, codes};
+ghost use Rattle.hex.specs.Hex.{encode_lower};
+ghost use Rattle.byteorder.specs.Endian.{little_number, big_bytes};
+ghost use Rattle.rv64_decode.specs.Decode.{decoded};
+ghost use Rattle.ddc_base.specs.Outside.{IsFileName};
+ghost use Rattle.command_plan.specs.declared.status.Status.TheVariants.{Yes};
+ghost use Rattle.command_plan.specs.Performs.{Performs};
+ghost use Rattle.command_plan.specs.Steps.{Says};
+ghost use Rattle.command_plan.specs.Plan.{answers};
+ghost use Rattle.command_plan.specs.Causes.Texts.{hex_word};
+ghost use Rattle.tool_commands.specs.List.{instruction_text, word_line, rest_line, listing, list_file, list_plan};
+
+use byteorder::{BigEndian, ByteOrder, LittleEndian};
+use command_plan::words::is_file_word;
+use command_plan::{Answer, Status, Stop, fetch, usage};
+use ddc_base::{Bytes, OutOfMemory, Shelf};
+use rv64_decode::{decode, print};
+use std::alloc::Global;
+
+/// The most bytes of a file that is listed.
+const LIST_LIMIT: u64 = 16_777_216;
+
+/// Performs the command on the words after its name.
+#[tactic(auto, using(command_plan::proofs::Performing::performing))]
+pub fn perform<S: Shelf>(alloc: Global, words: &[&str], shelf: &mut S) -> Result<Answer, Stop>
+    ensures { Performs (list_plan (map (λ w. w.now) words.now)) (S.state shelf.old) (S.state shelf.new) result }
+{
+    match words {
+        [binary] if is_file_word(binary) => list(alloc, binary, shelf),
+        _ => usage(alloc),
+    }
+}
+
+/// Fetches the file, and lists it.
+#[tactic(auto, using(command_plan::proofs::Performing::performing), unfolding(crate::specs::List::list_file))]
+fn list<S: Shelf>(alloc: Global, binary: &str, shelf: &mut S) -> Result<Answer, Stop>
+    requires { IsFileName binary.now }
+    ensures { Performs (list_file binary.now) (S.state shelf.old) (S.state shelf.new) result }
+{
+    let bytes = fetch(alloc, shelf, binary, LIST_LIMIT)?;
+    listed(alloc, bytes.as_slice())
+}
+
+/// The answer that lists these bytes.
+fn listed(alloc: Global, bytes: &[u8]) -> Result<Answer, Stop>
+    requires { length bytes.now < 2 ^ 32 }
+    ensures { Says (answers Yes (listing 0 bytes.now)) result }
+{
+    Ok(Answer {
+        status: Status::Yes,
+        text: text_of(alloc, bytes)?,
+    })
+}
+
+/// The lines of all words, and of the bytes that are left.
+#[tactic(auto, using(crate::proofs::Listing::listings))]
+fn text_of(alloc: Global, bytes: &[u8]) -> Result<Bytes, OutOfMemory>
+    requires { length bytes.now < 2 ^ 32 }
+    ensures { IfOk result (λ text. text ≡ listing 0 bytes.now) }
+{
+    let mut text = Bytes::new(alloc);
+    let words = bytes.len() / 4;
+    for index in 0..words {
+        let at = 4 * index;
+        put_word(&mut text, at as u32, &bytes[at..at + 4])?;
+    }
+    let at = 4 * words;
+    if at < bytes.len() {
+        put_rest(&mut text, at as u32, &bytes[at..])?;
+    }
+    Ok(text)
+}
+
+/// Adds a number in eight hexadecimal digits, and a blank.
+fn put_number(text: &mut Bytes, number: u32) -> Result<(), OutOfMemory>
+    ensures { OnOk result (text.new ≡ text.old ++ (hex_word number ++ 32 ∷ [])) }
+{
+    let mut bytes = [0; 4];
+    let mut digits = [b' '; 9];
+    BigEndian::write_u32(&mut bytes, number);
+    hex::encode_to_slice(&bytes, &mut digits[..8]).unwrap();
+    text.extend(&digits)
+}
+
+/// Adds the line of a word.
+#[tactic(auto, using(crate::proofs::Listing::listings))]
+fn put_word(text: &mut Bytes, offset: u32, bytes: &[u8]) -> Result<(), OutOfMemory>
+    requires { length bytes.now ≡ 4 }
+    ensures { OnOk result (text.new ≡ text.old ++ word_line offset (little_number 4 bytes.now)) }
+{
+    let word = LittleEndian::read_u32(bytes);
+    put_number(text, offset)?;
+    put_number(text, word)?;
+    put_instruction(text, offset, word)?;
+    text.push(b'\n')?;
+    Ok(())
+}
+
+/// Adds a word's instruction, or `?`.
+fn put_instruction(text: &mut Bytes, offset: u32, word: u32) -> Result<(), OutOfMemory>
+    ensures { OnOk result (text.new ≡ text.old ++ instruction_text offset (decoded word)) }
+{
+    match decode(word) {
+        Some(inst) => text.extend(print(&inst, u64::from(offset)).as_slice()),
+        None => text.push(b'?'),
+    }
+}
+
+/// Adds the line of the bytes that are left.
+#[tactic(auto, using(crate::proofs::Listing::listings))]
+fn put_rest(text: &mut Bytes, offset: u32, bytes: &[u8]) -> Result<(), OutOfMemory>
+    ensures { OnOk result (text.new ≡ text.old ++ rest_line offset bytes.now) }
+{
+    put_number(text, offset)?;
+    text.extend(b"rest ")?;
+    ddc_base::put_hex(text, bytes)?;
+    text.push(b'\n')?;
+    Ok(())
+}

@@ -1,0 +1,155 @@
+//! `run PROGRAM STEPS ARG..`: how the program's run ends within so many steps, and what it leaves.
+
+ghost use Rattle.std.specs.Prelude.{◌≡◌, ◌≤◌, ◌<◌, ◌+◌, ◌^◌, ◌∷◌, IfOk, IfSome, IsTrue, map};
+ghost use Rattle.std.specs.List.{list_all};
+ghost use Rattle.ddc_base.specs.Outside.{IsFileName};
+ghost use Rattle.guest_run.specs.Setting.{is_text, IsText};
+ghost use Rattle.guest_run.specs.Run.{first_end};
+ghost use Rattle.guest_run.specs.Start.{start_of};
+ghost use Rattle.command_plan.specs.declared.status.Status.TheVariants.{RunFailed};
+ghost use Rattle.command_plan.specs.Performs.{Performs};
+ghost use Rattle.command_plan.specs.Steps.{Says};
+ghost use Rattle.command_plan.specs.Plan.{answers};
+ghost use Rattle.tool_commands.specs.RunProgram.{setting_of, end_plan, start_plan, status_of, run_file, run_words, run_plan};
+
+use crate::run_texts;
+use crate::words::are_texts;
+use command_plan::words::{is_file_word, steps_of};
+use command_plan::{Answer, Status, Stop, fetch_file, usage};
+use ddc_base::{Bytes, OutOfMemory, Shelf};
+use guest_run::{Guest, RunBox, RunEnd, RunRam, StartRefusal};
+use std::alloc::Global;
+
+/// The most bytes of a program's heap, where the command has no other word on it.
+const HEAP: u64 = 536_870_912;
+
+/// Performs the command on the words after its name.
+#[tactic(auto, using(command_plan::proofs::Performing::performing))]
+pub fn perform<S: Shelf>(alloc: Global, words: &[&str], shelf: &mut S) -> Result<Answer, Stop>
+    ensures { Performs (run_plan (map (λ w. w.now) words.now)) (S.state shelf.old) (S.state shelf.new) result }
+{
+    match words {
+        [program, steps, args @ ..] => judge(alloc, program, steps_of(steps), args, shelf),
+        _ => usage(alloc),
+    }
+}
+
+/// Judges the words after the command.
+#[tactic(auto, using(command_plan::proofs::Performing::performing, crate::proofs::Arguments::texts_of_words))]
+fn judge<S: Shelf>(
+    alloc: Global,
+    program: &str,
+    most: Option<u64>,
+    args: &[&str],
+    shelf: &mut S,
+) -> Result<Answer, Stop>
+    requires { IfSome most (λ steps. (1 ≤ steps) × (steps ≤ 2 ^ 48)) }
+    ensures { Performs (run_words program.now (map (λ w. w.now) args.now) most) (S.state shelf.old) (S.state shelf.new) result }
+{
+    match most {
+        Some(most) if is_file_word(program) && are_texts(args) => {
+            run_file(alloc, program, args, most, shelf)
+        }
+        _ => usage(alloc),
+    }
+}
+
+/// Fetches the program, and runs it.
+#[tactic(auto, using(command_plan::proofs::Performing::performing), unfolding(crate::specs::RunProgram::run_file))]
+fn run_file<S: Shelf>(
+    alloc: Global,
+    program: &str,
+    args: &[&str],
+    most: u64,
+    shelf: &mut S,
+) -> Result<Answer, Stop>
+    requires name { IsFileName program.now }
+    requires text { IsText program.now }
+    requires texts { IsTrue (list_all (λ w. is_text w.now) args.now) }
+    requires some { 1 ≤ most }
+    requires few { most ≤ 2 ^ 48 }
+    ensures { Performs (run_file program.now (map (λ w. w.now) args.now) most) (S.state shelf.old) (S.state shelf.new) result }
+{
+    let bytes = fetch_file(alloc, shelf, program)?;
+    start(alloc, program, bytes.as_slice(), args, most)
+}
+
+/// Starts a program with its name and the arguments, and runs it.
+fn start(
+    alloc: Global,
+    name: &str,
+    program: &[u8],
+    args: &[&str],
+    most: u64,
+) -> Result<Answer, Stop>
+    requires text { IsText name.now }
+    requires texts { IsTrue (list_all (λ w. is_text w.now) args.now) }
+    requires some { 1 ≤ most }
+    requires few { most ≤ 2 ^ 48 }
+    ensures { Says (start_plan (start_of program.now (setting_of (name.now ∷ map (λ w. w.now) args.now))) most) result }
+{
+    let setting = box_of(alloc, name, args)?;
+    match Guest::<RunRam>::start(alloc, program, &setting) {
+        Ok(mut guest) => run_guest(alloc, &mut guest, most),
+        Err(StartRefusal::Elf(elf)) => failed(run_texts::not_loaded(alloc, elf)?),
+        Err(StartRefusal::ArgsTooLong) => failed(run_texts::too_many_args(alloc)?),
+        Err(StartRefusal::BoxTooLarge) => failed(run_texts::too_large_box(alloc)?),
+        Err(StartRefusal::OutOfMemory) => Err(Stop::OutOfMemory),
+    }
+}
+
+/// What a program is given: its name and the arguments, and nothing else.
+#[tactic(auto, using(crate::proofs::Arguments::text_at))]
+fn box_of<'a>(alloc: Global, name: &'a str, args: &'a [&'a str]) -> Result<RunBox<'a>, OutOfMemory>
+    requires text { IsText name.now }
+    requires texts { IsTrue (list_all (λ w. is_text w.now) args.now) }
+    ensures { IfOk result (λ given. given ≡ setting_of (name.now ∷ map (λ w. w.now) args.now)) }
+{
+    let mut given = RunBox::new(alloc, HEAP);
+    given.push_arg(name.as_bytes())?;
+    for arg in args {
+        given.push_arg(arg.as_bytes())?;
+    }
+    Ok(given)
+}
+
+/// Runs a program from its state on.
+fn run_guest(alloc: Global, guest: &mut Guest<RunRam>, most: u64) -> Result<Answer, Stop>
+    requires some { 1 ≤ most }
+    requires few { guest.old.steps + most ≤ 2 ^ 48 }
+    ensures { Says (end_plan (first_end guest.old most) most) result }
+{
+    let end = guest.run(most);
+    let steps = guest.steps();
+    match end {
+        RunEnd::Exited(status) => Ok(Answer {
+            status: status_of(status),
+            text: run_texts::exit_text(alloc, status, steps + 1, guest.files())?,
+        }),
+        RunEnd::Trapped(cause) => failed(run_texts::trapped(alloc, cause, steps + 1)?),
+        RunEnd::UnknownCall(number) => failed(run_texts::called(alloc, number, steps + 1)?),
+        RunEnd::Spent => failed(run_texts::spent(alloc, most)?),
+        RunEnd::OutOfMemory => Err(Stop::OutOfMemory),
+    }
+}
+
+/// The status of an exit.
+fn status_of(status: u8) -> Status
+    ensures { result ≡ status_of status }
+{
+    if status == 0 {
+        Status::Yes
+    } else {
+        Status::RunFailed
+    }
+}
+
+/// The answer to a run that failed.
+fn failed(text: Bytes) -> Result<Answer, Stop>
+    ensures { Says (answers RunFailed text) result }
+{
+    Ok(Answer {
+        status: Status::RunFailed,
+        text,
+    })
+}

@@ -1,0 +1,138 @@
+//! The texts of the command `run`.
+
+ghost use Rattle.std.specs.Prelude.{◌≡◌, ◌++◌, [], OnOk, IfOk, string_bytes, unwrap_or, IsTrue};
+ghost use Rattle.std.specs.List.{flat_map};
+ghost use Rattle.hex.specs.Hex.{encode_lower};
+ghost use Rattle.mem_files.specs.Calls.{content_at};
+ghost use Rattle.mem_files.specs.Names.{is_stripped_name};
+ghost use Rattle.mem_files.specs.Outputs.{left};
+ghost use Rattle.mem_files.specs.Sound.{IsSound};
+ghost use Rattle.command_plan.specs.Causes.Texts.{trap_text, call_text, elf_text, args_text, box_text, spent_text};
+ghost use Rattle.tool_commands.specs.RunProgram.{failed_line, stream_line, left_line, exited_line, exited_text};
+
+use ddc_base::{Bytes, OutOfMemory, digest};
+use elf_load::ElfRefusal;
+use mem_files::Files;
+use rv64_machine::Cause;
+use std::alloc::Global;
+
+/// Bytes in hexadecimal.
+fn hex_text(alloc: Global, bytes: &[u8]) -> Result<String, OutOfMemory>
+    ensures { IfOk result (λ text. string_bytes text ≡ encode_lower bytes.now) }
+{
+    Ok(hex::encode(alloc, bytes)?)
+}
+
+/// The line of a run that failed.
+#[tactic(auto, unfolding(crate::specs::RunProgram::failed_line))]
+fn failed(alloc: Global, cause: &str, step: u64) -> Result<Bytes, OutOfMemory>
+    ensures { IfOk result (λ text. text ≡ failed_line cause.now step) }
+{
+    Ok(Bytes::from_vec(format!(in alloc; "failed {cause} step {step}\n")?.into_bytes()))
+}
+
+/// A run that ended in a trap.
+pub(crate) fn trapped(alloc: Global, cause: Cause, step: u64) -> Result<Bytes, OutOfMemory>
+    ensures { IfOk result (λ text. text ≡ failed_line (trap_text cause) step) }
+{
+    let cause = command_plan::causes::trap(alloc, cause)?;
+    failed(alloc, cause.as_str(), step)
+}
+
+/// A run that made an unknown call.
+pub(crate) fn called(alloc: Global, number: u64, step: u64) -> Result<Bytes, OutOfMemory>
+    ensures { IfOk result (λ text. text ≡ failed_line (call_text number) step) }
+{
+    let cause = command_plan::causes::call(alloc, number)?;
+    failed(alloc, cause.as_str(), step)
+}
+
+/// A run that used up its steps.
+pub(crate) fn spent(alloc: Global, steps: u64) -> Result<Bytes, OutOfMemory>
+    ensures { IfOk result (λ text. text ≡ failed_line spent_text steps) }
+{
+    failed(alloc, command_plan::causes::spent(), steps)
+}
+
+/// A program that the loader refuses.
+pub(crate) fn not_loaded(alloc: Global, refusal: ElfRefusal) -> Result<Bytes, OutOfMemory>
+    ensures { IfOk result (λ text. text ≡ failed_line (elf_text refusal) 0) }
+{
+    let cause = command_plan::causes::elf(alloc, refusal)?;
+    failed(alloc, cause.as_str(), 0)
+}
+
+/// A program whose arguments are too long.
+pub(crate) fn too_many_args(alloc: Global) -> Result<Bytes, OutOfMemory>
+    ensures { IfOk result (λ text. text ≡ failed_line args_text 0) }
+{
+    failed(alloc, command_plan::causes::args(), 0)
+}
+
+/// A program that is given too large files.
+pub(crate) fn too_large_box(alloc: Global) -> Result<Bytes, OutOfMemory>
+    ensures { IfOk result (λ text. text ≡ failed_line box_text 0) }
+{
+    failed(alloc, command_plan::causes::box_files(), 0)
+}
+
+/// The line of an exit.
+#[tactic(auto, unfolding(crate::specs::RunProgram::exited_line))]
+fn exited(alloc: Global, status: u8, step: u64) -> Result<Bytes, OutOfMemory>
+    ensures { IfOk result (λ text. text ≡ exited_line status step) }
+{
+    Ok(Bytes::from_vec(format!(in alloc; "exited {status} step {step}\n")?.into_bytes()))
+}
+
+/// The line of a stream.
+#[tactic(auto, unfolding(crate::specs::RunProgram::stream_line))]
+fn stream(alloc: Global, which: u8, bytes: &[u8]) -> Result<Bytes, OutOfMemory>
+    ensures { IfOk result (λ text. text ≡ stream_line which bytes.now) }
+{
+    let size = bytes.len();
+    let digest = hex_text(alloc, &digest(bytes).0)?;
+    Ok(Bytes::from_vec(format!(in alloc; "stream {which} {size} {digest}\n")?.into_bytes()))
+}
+
+/// The line of a file that is left.
+#[tactic(auto, unfolding(crate::specs::RunProgram::left_line))]
+fn left(alloc: Global, files: &Files, name: &[u8]) -> Result<Bytes, OutOfMemory>
+    requires { IsTrue (is_stripped_name name.now) }
+    ensures { IfOk result (λ text. text ≡ left_line (name.now, unwrap_or (content_at files.now name.now) [])) }
+{
+    let content = files.content(name).unwrap_or(&[]);
+    let size = content.len();
+    let digest = hex_text(alloc, &digest(content).0)?;
+    let name = hex_text(alloc, name)?;
+    Ok(Bytes::from_vec(format!(in alloc; "left {name} {size} {digest}\n")?.into_bytes()))
+}
+
+/// The lines of all files that are left, by the bytes of their names.
+fn put_left(alloc: Global, text: &mut Bytes, files: &Files) -> Result<(), OutOfMemory>
+    requires { IsSound files.now }
+    ensures { OnOk result (text.new ≡ text.old ++ flat_map left_line (left files.now)) }
+{
+    let mut last: Option<&[u8]> = None;
+    while let Some(name) = files.name_after(last) {
+        text.extend(left(alloc, files, name)?.as_slice())?;
+        last = Some(name);
+    }
+    Ok(())
+}
+
+/// The text of an exit: its line, those of both streams, and those of all files that are left.
+#[tactic(auto, unfolding(crate::specs::RunProgram::exited_text))]
+pub(crate) fn exit_text(
+    alloc: Global,
+    status: u8,
+    step: u64,
+    files: &Files,
+) -> Result<Bytes, OutOfMemory>
+    ensures { IfOk result (λ text. text ≡ exited_text status step files.now) }
+{
+    let mut text = exited(alloc, status, step)?;
+    text.extend(stream(alloc, 1, files.stream(1))?.as_slice())?;
+    text.extend(stream(alloc, 2, files.stream(2))?.as_slice())?;
+    put_left(alloc, &mut text, files)?;
+    Ok(text)
+}

@@ -1,0 +1,32 @@
+ghost use Rattle.verifier.specs.Conclusion.Verdicts.{Shows};
+ghost use Rattle.verifier.specs.Faults.{first_fault};
+ghost use Rattle.verifier.specs.Verdicts.{IsReplaying, Judges, OnWant};
+ghost use Rattle.wheeler.specs.Valid.{IsInputs};
+
+use crate::Verdict;
+use crate::conclusion::laws::a_true_report_shows;
+use meaning::Meaning;
+use recipe::{Inputs, Recipe};
+use report::Report;
+use std::alloc::Global;
+
+/// Replays a report, as `crate::verify` does, with the same verdict.
+///
+/// Whatever sources mean: where the report is true and every line of `meaning::assumptions` holds, every stage follows. Where it says that
+/// the artefact and the binary are equal, the parent source prescribes the audited binary and nothing else; where it says that they differ,
+/// no program that makes the audited binary implements the parent source. docs/reference/argument.md has the words.
+pub fn verify<M: Meaning>(
+    alloc: Global,
+    recipe: &Recipe,
+    inputs: &Inputs,
+    report: &Report,
+) -> Verdict
+    requires { IsInputs recipe.now inputs.now }
+    ensures value { Judges (first_fault recipe.now inputs.now report.now) report.now.compare.result result }
+    ensures memory { OnWant result (IsReplaying recipe.now inputs.now report.now) }
+    ensures shown { Shows M.prescribes M.compiles recipe.now inputs.now result }
+{
+    a_true_report_shows::<M>();
+    let _digest = recipe.digest();
+    crate::verify(alloc, recipe, inputs, report)
+}
