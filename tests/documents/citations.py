@@ -18,7 +18,7 @@ IN_FILE = re.compile(rf"`(crates/[\w/]+\.(?:antt|rt))`((?:, {QUOTED}| and {QUOTE
 DEFINED = [
     r"\b(?:fn|struct|enum|trait|const|static|mod|type|macro_rules!|record|data|ensures|requires|ghost)\s+([\w-]+)",
     r"^\s*(?:(?:abbrev|unfoldable|pub)\s+)*([\w-]+)\s*:",
-    r"^\s*(?:\w+\s+)*?([\w-]+)\s*(?:\(.*\)|\{.*)?,?$",
+    r"^\s+([A-Z]\w*)(?:\(.*\)| \{.*)?,$",
 ]
 
 
@@ -73,13 +73,13 @@ def check_paths(root, text):
 
 
 def check_files(root, paragraph, crates):
-    """A file without its folder is one of the crate that the paragraph named last by a path, or of the crate behind its name."""
+    """A file without its folder is in the one that the paragraph named last by a path, or in the crate behind its name."""
     for found in FILE.finditer(paragraph):
         named = re.match(r" of `(\w+)`", paragraph[found.end():])
-        before = re.findall(r"crates/(\w+)", paragraph[:found.start()])
-        crate = named.group(1) if named else before[-1] if before else None
-        within = [crate] if crate else crates
-        if not any(str(path).endswith("/" + found.group(1)) for other in within for path in sources(root, other)):
+        before = re.findall(r"crates/(\w+)/?(specs|src|proofs)?", paragraph[:found.start()])
+        crate, folder = (named.group(1), "") if named else before[-1] if before else ("", "")
+        end = found.group(1) if "/" in found.group(1) else f"{folder}/**/{found.group(1)}" if folder else f"**/{found.group(1)}"
+        if not any(list((root / "crates" / other).glob(end)) for other in ([crate] if crate else crates)):
             yield f"{found.group(1)}: no such file" + (f" of {crate}" if crate else "")
 
 
@@ -95,6 +95,10 @@ def check_qualified(root, text, crates):
             continue
         within = [parts[0]] if parts[0] in crates else crates
         if not holds(root, within, parts):
+            yield f"{cited}: no such name"
+    for cited in re.findall(r"`(?:Rattle\.)?(\w+\.(?:specs|proofs)\.[\w.-]+)`", text):
+        crate, *parts = cited.split(".")
+        if crate != "std" and not (crate in crates and holds(root, [crate], set(parts) - {"declared"})):
             yield f"{cited}: no such name"
 
 
