@@ -7,7 +7,7 @@ from architecture import stands_on
 # What a benchmark makes and git ignores, and crates that are to come.
 MADE = {"bench/work/"}
 PLANNED = {"kaem_script", "audit_chain"}
-ROOTED = re.compile(r"(?<![\w./*-])((?:crates|docs|tests|examples|bench|\.ci)/[\w./*-]*[\w*/])")
+ROOTED = re.compile(r"(?<![\w./*-])((?:crates|docs|tests|examples|bench|build|\.ci)/[\w./*-]*[\w*/])")
 FILE = re.compile(r"`((?:specs|src|proofs)/[\w/]+\.\w+|\w+\.(?:antt|rt))`")
 LINK = re.compile(r"\]\(([^)\s]+)\)")
 QUOTED = r"`[\w-]+`"
