@@ -1,2 +1,2 @@
-mod Others
-mod Refused
+pub mod Others
+pub mod Refused

@@ -1,6 +1,6 @@
 pub mod Answered
-mod Judged
-mod Written
+pub mod Judged
+pub mod Written
 pub mod Exactly
-mod Placed
+pub mod Placed
 pub mod SaveLengths

@@ -1,4 +1,4 @@
-mod Walking
-mod Lines
-mod Joining
-mod Placing
+pub mod Walking
+pub mod Lines
+pub mod Joining
+pub mod Placing

@@ -1,1 +1,1 @@
-mod Wants
+pub mod Wants
