@@ -162,9 +162,12 @@ def faults(root):
         text = document.read_text()
         found = [*check_links(root, document, text)]
         is_proving = document.name == "PROVING.md"
+        # A folder of tests names its own files and edits beside the crates that they are of.
+        is_of_tests = document.parent.parent == root / "tests"
         for piece in paragraphs(text):
             found += [*check_paths(root, piece), *check_files(root, piece, crates)]
-            found += [*check_qualified(root, piece, crates), *check_beside(root, piece, crates, is_proving)]
+            found += [*check_qualified(root, piece, crates)]
+            found += [] if is_of_tests else [*check_beside(root, piece, crates, is_proving)]
             found += [] if is_proving else [*check_words(root, piece)]
         found += [*check_headings(text, crates, root)] if is_proving else []
         yield from (f"{document.relative_to(root)}: {fault}" for fault in found)
