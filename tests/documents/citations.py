@@ -125,10 +125,11 @@ def check_beside(root, text, crates, has_kit):
 def words(root):
     """Every word of the crates' sources and of what tests, examples and benchmarks are made of, and the names of their files."""
     files = [path for crate in stands_on(root) for path in sources(root, crate)]
-    files += [path for folder in ("tests", "examples", "bench") for path in (root / folder).rglob("*") if path.is_file()]
+    files += [path for folder in ("tests", "examples", "bench") for path in (root / folder).rglob("*")]
     held = set(stands_on(root)) | PLANNED
     for path in files:
-        held |= {path.stem, path.parent.name, *re.findall(r"\w+", path.read_text(errors="ignore"))}
+        if path.is_file() and path.suffix != ".md":
+            held |= {path.stem, path.parent.name, *re.findall(r"\w+", path.read_text(errors="ignore"))}
     return held
 
 
