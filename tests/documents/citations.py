@@ -169,6 +169,6 @@ def faults(root):
             found += [*check_paths(root, piece), *check_files(root, piece, crates)]
             found += [*check_qualified(root, piece, crates)]
             found += [] if is_of_tests else [*check_beside(root, piece, crates, is_proving)]
-            found += [] if is_proving else [*check_words(root, piece)]
+            found += [] if is_proving or is_of_tests else [*check_words(root, piece)]
         found += [*check_headings(text, crates, root)] if is_proving else []
         yield from (f"{document.relative_to(root)}: {fault}" for fault in found)
