@@ -31,8 +31,8 @@ abbrev pub OnWant : Verdict → Type 0 → Type 0
 OnWant OutOfMemory fact = fact
 OnWant answer fact = Unit {0}
 
--- where want of memory can come: while a stage is replayed. The header and the inputs are right, and so are the stages before this one,
--- after which these artefacts are there: the first fault, if any, is one of this stage, of those behind it, or of the comparison
+-- where want of memory can come: the header and the inputs are right, and the first fault, if any, is that of these stages behind these
+-- artefacts, or of the comparison. Those of the beginning are always such ones, so of the stages this says nothing
 pub record IsReplaying (recipe : Said) (inputs : List (List ℕ)) (report : Report) : Type 0 where
   pub header : is_header recipe report ≡ true
   pub inputs_right : inputs_fault 1 inputs report.inputs ≡ None

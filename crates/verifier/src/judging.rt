@@ -25,8 +25,8 @@ use std::alloc::Global;
 /// Replays a report, which it doesn't believe.
 ///
 /// `Refuted` names the first part that is not true, judged on the bytes that the earlier runs left. Otherwise it is `Yes` where the report
-/// says that the artefact and the binary are equal, and `TrueButDiffers` where it says that they differ. Want of memory comes only while a
-/// stage is replayed: the header, the inputs and the stages before it were right by then.
+/// says that the artefact and the binary are equal, and `TrueButDiffers` where it says that they differ. Want of memory comes only where
+/// the header and the inputs are right.
 ///
 /// The inputs are as many as the recipe's, each with at most 268,435,456 bytes. docs/reference/verify.md has the rules.
 pub fn verify(alloc: Global, recipe: &Recipe, inputs: &Inputs, report: &Report) -> Verdict

@@ -14,7 +14,7 @@ use Rattle.verifier.specs.Faults.{compare_fault, stages_fault}
 abbrev pub whole_fault : Said → List (List ℕ) → List StageLine → Compared → Option (Part × ℕ)
 whole_fault recipe inputs lines compare = stages_fault recipe compare (record { inputs = inputs; artefacts = [] }) recipe.stages lines
 
--- no part before a stage has a fault
+-- the first fault is that of these stages and of the comparison after them, as it always is of those of the beginning
 pub record StandsAtStage (recipe : Said) (inputs : List (List ℕ)) (lines : List StageLine) : Type 0 where
   pub so_far : Contents
   pub stage : Stage
