@@ -104,8 +104,10 @@ unsigned long strtoul(const char *text, char **end, int base) {
     int negative = 0;
     while (*text == ' ')
         text += 1;
-    if (*text == '-' || *text == '+')
-        negative = *text++ == '-';
+    if (*text == '-' || *text == '+') {
+        negative = *text == '-';
+        text += 1;
+    }
     if ((base == 0 || base == 16) && text[0] == '0' && (text[1] | 32) == 'x') {
         base = 16;
         text += 2;
@@ -256,7 +258,7 @@ static void put_text(struct target *target, struct field *field, const char *tex
 static void put_number(struct target *target, struct field *field, int letter, unsigned long value) {
     char digits[24];
     int at = sizeof(digits), base = letter == 'o' ? 8 : letter == 'x' || letter == 'X' || letter == 'p' ? 16 : 10;
-    int negative = letter == 'd' && (long)value < 0;
+    int negative = (letter == 'd' || letter == 'i') && (long)value < 0;
     if (negative)
         value = -value;
     do {
@@ -264,44 +266,63 @@ static void put_number(struct target *target, struct field *field, int letter, u
         digits[at] = (letter == 'X' ? "0123456789ABCDEF" : "0123456789abcdef")[value % base];
         value /= base;
     } while (value > 0);
-    if (negative)
-        digits[--at] = '-';
+    if (negative && field->zeros) {
+        put(target, '-');
+        field->width -= 1;
+    } else if (negative) {
+        at -= 1;
+        digits[at] = '-';
+    }
     put_padded(target, field, digits + at, sizeof(digits) - at);
 }
 
-// A width or a most that is written, or `*`, which takes the next value.
-#define NUMBER_OF(format, values) (*format == '*' ? (format += 1, va_arg(values, int)) : strtol(format, (char **)&format, 10))
+// A number that is written, or `*`, which takes the next value.
+static int read_number(const char **format, va_list *values) {
+    if (**format != '*')
+        return strtol(*format, (char **)format, 10);
+    *format += 1;
+    return va_arg(*values, int);
+}
+
+// Reads what stands behind %, and gives the place of the letter.
+static const char *read_field(struct field *field, const char *format, va_list *values) {
+    for (; *format == '-' || *format == '0'; format += 1)
+        *(*format == '-' ? &field->left : &field->zeros) = 1;
+    field->width = read_number(&format, values);
+    if (*format == '.') {
+        format += 1;
+        field->most = read_number(&format, values);
+    }
+    for (; *format == 'l'; format += 1)
+        field->wide = 1;
+    return format;
+}
+
+static void put_value(struct target *target, struct field *field, int letter, va_list *values) {
+    if (letter == 's')
+        put_text(target, field, va_arg(*values, char *));
+    else if (letter == 'c')
+        put(target, va_arg(*values, int));
+    else if (letter == '%')
+        put(target, '%');
+    else if (letter == 'p' || (field->wide && strchr("diuxXo", letter)))
+        put_number(target, field, letter, va_arg(*values, long));
+    else if (letter == 'd' || letter == 'i')
+        put_number(target, field, letter, va_arg(*values, int));
+    else if (strchr("uxXo", letter))
+        put_number(target, field, letter, va_arg(*values, unsigned));
+    else
+        abort();
+}
 
 static int print(struct target *target, const char *format, va_list values) {
     for (; *format != 0; format += 1) {
         struct field field = { 0, 0, 0, 0, -1 };
         if (*format != '%') {
             put(target, *format);
-            continue;
-        }
-        for (format += 1; *format == '-' || *format == '0'; format += 1)
-            *(*format == '-' ? &field.left : &field.zeros) = 1;
-        field.width = NUMBER_OF(format, values);
-        if (*format == '.') {
-            format += 1;
-            field.most = NUMBER_OF(format, values);
-        }
-        for (; *format == 'l'; format += 1)
-            field.wide = 1;
-        if (*format == 's') {
-            put_text(target, &field, va_arg(values, char *));
-        } else if (*format == 'c') {
-            put(target, va_arg(values, int));
-        } else if (*format == '%') {
-            put(target, '%');
-        } else if (*format == 'p' || (field.wide && strchr("diuxXo", *format))) {
-            put_number(target, &field, *format == 'i' ? 'd' : *format, va_arg(values, long));
-        } else if (*format == 'd' || *format == 'i') {
-            put_number(target, &field, 'd', va_arg(values, int));
-        } else if (strchr("uxXo", *format)) {
-            put_number(target, &field, *format, va_arg(values, unsigned));
         } else {
-            abort();
+            format = read_field(&field, format + 1, &values);
+            put_value(target, &field, *format, &values);
         }
     }
     return target->count;
@@ -359,7 +380,9 @@ int sscanf(const char *text, const char *format, ...) {
             format += 1;
             *va_arg(values, int *) = strtol(text, (char **)&text, 10);
             count += 1;
-        } else if (*text++ != *format) {
+        } else if (*text == *format) {
+            text += 1;
+        } else {
             break;
         }
     }
