@@ -1,12 +1,12 @@
 -- What taking one token after the other comes to.
-use Rattle.std.proofs.Common.{◌≡◌, ℕ, suc, ◌-◌, replicate, ◌+◌, ◌<◌, ◌≤◌, true, false, nat_lt, List, [], ◌∷◌, ◌++◌, length, map, refl, sym, ap, ◌∙◌, arith, Option, Some, None, Result, Ok, Err, length-append}
+use Rattle.std.proofs.Common.{◌≡◌, ℕ, suc, ◌-◌, replicate, ◌+◌, ◌<◌, ◌≤◌, true, false, nat_lt, List, [], ◌∷◌, ◌++◌, length, map, refl, sym, ap, ◌∙◌, arith, Option, Result, Ok, Err, length-append}
 use Rattle.std.proofs.lemmas.Bool.{cond-true, cond-false}
 use Rattle.std.proofs.lemmas.Bool.Decides.{nat_tests}
 use Rattle.std.proofs.lemmas.List.{append-nil}
 use Rattle.hex_langs.specs.declared.items.item.Item.{Item}
 use Rattle.hex_langs.specs.declared.items.token.Token.{Token}
 use Rattle.hex_langs.specs.declared.items.token.Token.TheVariants.{Byte}
-use Rattle.m1_lang.specs.Words.Representation.Meanings.{front_bytes}
+use Rattle.m1_lang.specs.Words.Meanings.{front_bytes}
 use Rattle.hex_langs.specs.declared.items.words.Open.{Open}
 use Rattle.hex_langs.specs.declared.items.words.Halt.{Halt}
 use Rattle.hex_langs.specs.declared.items.words.Halt.TheVariants as halt

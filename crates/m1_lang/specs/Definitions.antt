@@ -1,16 +1,11 @@
 -- The definitions of an M1 source. Public source: the language M1 of stage0-posix and mescc-tools, whose exact rules here are this project's
 -- profile. docs/reference/m1.md says the same for people.
-use Rattle.std.specs.Prelude.{ℕ, nat_eq, Bool, not, if◌then◌else◌, List, [], ◌∷◌, ◌++◌, codes, is_some, Option, Some, None, Result, Ok, Err}
+use Rattle.std.specs.Prelude.{ℕ, bytes_eq, Bool, not, if◌then◌else◌, List, [], ◌∷◌, ◌++◌, codes, is_some, Option, Some, None, Result, Ok, Err}
 use Rattle.std.specs.Map.{lookup}
-use Rattle.std.specs.Cmp.Lexicographic.{pointwise}
 use Rattle.m1_lang.specs.Words.Words.{Word, Words, open_quote, word_list}
 use Rattle.m1_lang.specs.Words.Forms.{value_tokens}
 use Rattle.m1_lang.specs.declared.refusal.M1Refusal.{M1Refusal}
 use Rattle.m1_lang.specs.declared.refusal.M1Refusal.TheVariants.{BadDefine, DoubleDefine, OpenString}
-
--- two texts of the same bytes
-abbrev pub same_text : List ℕ → List ℕ → Bool
-same_text = pointwise nat_eq
 
 -- a part of a source: a definition with the offset of its `DEFINE`, a `DEFINE` that fewer than two words follow, or another word
 pub data Part : Type 0 where
@@ -19,7 +14,7 @@ pub data Part : Type 0 where
   Plain : (word : Word) → Part
 
 abbrev pub is_define : List ℕ → Bool
-is_define text = same_text text (codes "DEFINE")
+is_define text = bytes_eq text (codes "DEFINE")
 
 -- `DEFINE` and the two words after it are one definition
 abbrev pub parts : List Word → List Part
@@ -42,7 +37,7 @@ Defined = List (List ℕ × List ℕ)
 
 -- the value that a definition gives a word
 abbrev pub value_in : Defined → List ℕ → Option (List ℕ)
-value_in defined text = lookup (same_text text) defined
+value_in defined text = lookup (bytes_eq text) defined
 
 abbrev pub is_value : List ℕ → Bool
 is_value text = is_some (value_tokens text)

@@ -1,4 +1,5 @@
--- What an M1 source expands to: the items of hex2 that its words give, or its first refusal. docs/reference/m1.md says the same for people.
+-- What an M1 source expands to: the items of hex2 that its words give, or its first refusal. Public source: the language M1 of stage0-posix
+-- and mescc-tools, whose exact rules here are this project's profile. docs/reference/m1.md says the same for people.
 use Rattle.std.specs.Prelude.{◌≡◌, ℕ, nat_lt, if◌then◌else◌, List, [], ◌∷◌, length, Option, None, Result, Ok, Err}
 use Rattle.hex_langs.specs.declared.items.item.Item.{Item}
 use Rattle.hex_langs.specs.declared.items.token.Token.{Token}

@@ -1,5 +1,5 @@
 -- What one token, and one gap, does to what is left.
-use Rattle.std.proofs.Common.{◌≡◌, ℕ, zero, suc, ◌+◌, ◌-◌, ◌<◌, ◌≤◌, ◌==◌, Bool, true, false, not, List, [], ◌∷◌, ◌++◌, length, drop, take, get_or, cond, nat_lt, ◌||◌, refl, sym, ap, subst, ◌∙◌, arith, append_assoc, Option, Some, None, Result, Ok, Err, length-append}
+use Rattle.std.proofs.Common.{◌≡◌, ℕ, zero, suc, ◌+◌, ◌-◌, ◌<◌, ◌≤◌, Bool, true, false, List, [], ◌∷◌, ◌++◌, length, drop, take, get_or, cond, nat_lt, ◌||◌, refl, sym, ap, subst, ◌∙◌, arith, append_assoc, Option, None, Result, Ok, Err, length-append}
 use Rattle.std.proofs.lemmas.Bool.{cond-true, cond-false}
 use Rattle.std.proofs.lemmas.Bool.Decides.{nat_tests}
 use Rattle.std.proofs.lemmas.List.{append-nil, at_drop_more, drop-drop, length-drop}
@@ -18,7 +18,7 @@ use Rattle.hex_langs.specs.declared.items.reader.HexRefusal.TheVariants.{TooLong
 use Rattle.hex_langs.specs.Items.Tokens.{gap_from, gap_length, is_blank, opens_gap, pair_at, token_at}
 use Rattle.hex_langs.specs.Hex0.{begins_comment}
 use Rattle.hex_langs.specs.Items.Words.{Step, taken, Takes}
-use Rattle.hex_langs.specs.Items.Reading.{answer, Ending, Ends, Faulted, Faulty, Formed, fault_at, formed, behind_step, Halted, halted, items_of, judged, Reading, Reads, reading, Then, with_front}
+use Rattle.hex_langs.specs.Items.Reading.{answer, Ending, Ends, Faulty, Formed, fault_at, formed, behind_step, Halted, halted, items_of, judged, Reading, Reads, reading, Then, with_front}
 
 -- what is read already is passed over
 pub reading-inside : (dialect : Dialect) (at inside : ℕ) (left : List ℕ)

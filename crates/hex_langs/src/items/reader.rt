@@ -8,6 +8,7 @@ ghost use Rattle.std.specs.Prelude.{◌≡◌, ◌++◌, ◌≤◌, ◌<◌, len
 use crate::items::items::Items;
 use crate::items::token::{Dialect, Fault, gap_length, is_digit, opens_gap, pair_at, token_at};
 use crate::items::words::{Halt, take, take_byte};
+use ddc_base::OutOfMemory;
 use std::alloc::Global;
 
 /// The first refusal of a source, by the offset of a byte, or of its items, by the number of an item; both count from 0.
@@ -28,6 +29,16 @@ pub enum HexRefusal {
     /// The source has more than 67,108,864 bytes, or more than 33,554,432 items.
     TooLong,
     OutOfMemory,
+}
+
+impl From<OutOfMemory> for HexRefusal {
+    ghost use Rattle.hex_langs.specs.declared.items.reader.HexRefusal.TheVariants.{OutOfMemory};
+
+    ghost from_gives = { λ _ e. e ≡ OutOfMemory };
+
+    fn from(_error: OutOfMemory) -> HexRefusal {
+        HexRefusal::OutOfMemory
+    }
 }
 
 impl HexRefusal {
