@@ -4,6 +4,7 @@ use Rattle.std.specs.Prelude.{bytes_eq}
 use Rattle.std.proofs.lemmas.Bool.{and_parts}
 use Rattle.ddc_base.specs.declared.outside.Loaded.TheVariants.{Bytes}
 use Rattle.ddc_base.specs.Outside.{Files, loaded}
+use Rattle.recipe.proofs.Keeps.{reads_keep}
 use Rattle.recipe.specs.Kept.{IsRecipe}
 use Rattle.recipe.specs.Reading.{recipe_of}
 use Rattle.recipe.specs.declared.contents.Said.{Said}
@@ -18,7 +19,7 @@ use Rattle.ddc_app.specs.Accepting.{audit}
 use Rattle.ddc_app.specs.Pausing.{AreWords, IsCount, part}
 use Rattle.ddc_app.proofs.CountWords.{count-again}
 use Rattle.ddc_app.proofs.Loads.{two_apart}
-use Rattle.ddc_app.proofs.Openings.{Holds, said_keeps}
+use Rattle.ddc_app.proofs.Openings.{Holds}
 use Rattle.ddc_app.proofs.Walks.{IsRefusal, both_need_all, both_need_recipe, told}
 
 -- ---- the words
@@ -86,7 +87,7 @@ module _ (recipe save report : List ℕ) (steps : ℕ) (files : Files) where
       (outcome (needs_inputs said (λ inputs. audited said report (bench said inputs))) files)) (sym no_save)
       (both_need_all Begins files refused 268_435_456 1_073_741_824 (paths said) (λ inputs. came_to said inputs save report (position said inputs steps))
       (λ inputs. audited said report (bench said inputs)) (λ inputs inputs_held. inr (record {
-        c = record { words = words; said = said; inputs = inputs; is = said_keeps bytes said reads; no_report = no_report; no_save = no_save };
+        c = record { words = words; said = said; inputs = inputs; is = reads_keep bytes said reads; no_report = no_report; no_save = no_save };
         holds = record { bytes = bytes; recipe_held = held; reads = reads; inputs_held = inputs_held };
         comes = refl;
         answers = refl;

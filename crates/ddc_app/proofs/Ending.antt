@@ -12,7 +12,7 @@ use Rattle.command_plan.specs.Endings.{Completes}
 use Rattle.command_plan.specs.Performs.{Answers, Faults, WantsMemory, Performs}
 use Rattle.command_plan.proofs.Performing.{stops_complete}
 use Rattle.ddc_app.specs.Run.{TakesOne, NamesFault, LosesText}
-use Rattle.ddc_app.specs.Concluding.{PutEnds, Concludes}
+use Rattle.ddc_app.specs.Inside.Concluding.{PutEnds, Concludes}
 
 -- the five ways in which the top call ends: an answer or a fault that was said, either of them lost in the put, or want of memory
 pub data Ends (plan : Plan) (old new : ShelfState) (before after : SinkState) (result : Status) : Type 0 where

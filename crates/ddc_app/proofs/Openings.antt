@@ -1,19 +1,15 @@
 -- A recipe and its inputs in files, and what a plan that needs them goes on to.
-use Rattle.std.proofs.Common.{◌≡◌, ℕ, false, cond, Result, Ok, Err, List, refl, ap, ◌∙◌, subst}
+use Rattle.std.proofs.Common.{◌≡◌, ℕ, false, cond, Ok, List, ap, ◌∙◌}
 use Rattle.std.specs.Prelude.{bytes_eq}
 use Rattle.std.specs.FinMap as finite
 use Rattle.std.proofs.lemmas.List.{length-map}
 use Rattle.ddc_base.specs.declared.outside.Loaded.TheVariants.{Bytes}
 use Rattle.ddc_base.specs.Outside.{Files, loaded}
-use Rattle.recipe.specs.declared.text.refusal.RecipeRefusal.{RecipeRefusal as Refusal}
-use Rattle.recipe.specs.Text.Reading.{◌>>◌}
-use Rattle.recipe.proofs.TextLemmas.Accepted.{bound}
 use Rattle.recipe.specs.Kept.{IsRecipe}
-use Rattle.recipe.specs.Reading.{first_walk, recipe_of}
-use Rattle.recipe.specs.SecondWalk.{second_walk}
+use Rattle.recipe.specs.Reading.{recipe_of}
 use Rattle.recipe.specs.declared.contents.Said.{Said}
 use Rattle.recipe.specs.declared.parts.Input.{Input}
-use Rattle.recipe.proofs.Keeps.{keeps}
+use Rattle.recipe.proofs.Keeps.{reads_keep}
 use Rattle.wheeler.specs.Valid.{IsInputs}
 use Rattle.command_plan.specs.Plan.{Plan, outcome}
 use Rattle.command_plan.specs.Words.{usage}
@@ -21,16 +17,6 @@ use Rattle.audit_commands.specs.Audit.{is_input, needs_inputs, needs_recipe, pat
 use Rattle.ddc_app.specs.Accepting.{HoldBytes}
 use Rattle.ddc_app.specs.Holding.{AreHeld}
 use Rattle.ddc_app.proofs.Loads.{are_contents, as_many, follow_all, follows, found_again, other_held}
-
--- what bytes say that read as a recipe keeps its rules
-pub said_keeps : (bytes : List ℕ) (said : Said) → recipe_of bytes ≡ Ok said → IsRecipe said
-unfolding recipe_of
-said_keeps bytes said is = bound (IsRecipe said) (first_walk bytes) (λ read. second_walk read >> Ok read) said is (λ read walked ends. by read walked (second_walk read) refl ends) where
-  by : (read : Said) → first_walk bytes ≡ Ok read → (second : Result (Unit {0}) Refusal) → second_walk read ≡ second → (second >> Ok read) ≡ Ok said → IsRecipe said
-  by read walked (Ok u) passed ends =
-      let same : read ≡ said = cc in
-      keeps bytes said (walked ∙ ap Ok same) (subst (λ (s : Said). second_walk s ≡ Ok u) same passed)
-  by read walked (Err refusal) passed ends = absurd cc
 
 -- the files hold a recipe that reads and its inputs
 pub record Holds (recipe : List ℕ) (said : Said) (inputs : List (List ℕ)) (files : Files) : Type 0 where
@@ -58,7 +44,7 @@ module _ (recipe : List ℕ) (said : Said) (inputs : List (List ℕ)) (files : F
   }
 
   pub is_recipe : IsRecipe said
-  is_recipe = said_keeps h.bytes said h.reads
+  is_recipe = reads_keep h.bytes said h.reads
 
   pub are_inputs : HoldBytes files → IsInputs said inputs
   are_inputs bytes = record {

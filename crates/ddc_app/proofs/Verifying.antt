@@ -16,6 +16,7 @@ use Rattle.verifier.specs.declared.part.Part.{Part}
 use Rattle.verifier.specs.Faults.{first_fault}
 use Rattle.verifier.specs.Verdicts.{true_verdict}
 use Rattle.meaning.specs.Meaning.{Compiles, Prescribes}
+use Rattle.meaning.proofs.ComparedStages.{has-compared}
 use Rattle.verifier.specs.Conclusion.Verdicts.{Shows}
 use Rattle.command_plan.specs.declared.status.Status.{Status}
 use Rattle.command_plan.specs.declared.status.Status.TheVariants as status
@@ -120,8 +121,11 @@ module _ (prescribes : Prescribes) (compiles : Compiles) where
         recipe_held = (within 1_048_576 (finite.get files recipe) r.holds.bytes r.holds.recipe_held).0;
         said = r.said;
         recipe_reads = r.holds.reads;
+        rules = rules;
+        compared = has-compared r.said rules;
         inputs = r.inputs;
         inputs_held = all-held 1_073_741_824 files (paths r.said) r.inputs r.holds.inputs_held;
+        limits = given;
         report_bytes = r.text;
         report_held = (within 1_073_741_824 (finite.get files report) r.text r.text_held).0;
         made = r.made;

@@ -1,6 +1,6 @@
 pub mod Commands
 pub mod Run
-pub mod Concluding
+pub mod Inside
 pub mod Accepting
 pub mod Holding
 pub mod Pausing

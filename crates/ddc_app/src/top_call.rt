@@ -6,7 +6,7 @@ ghost use Rattle.command_plan.specs.Performs.{Performs, WantsMemory};
 ghost use Rattle.ddc_app.specs.Accepting.{HoldBytes, is_compared};
 ghost use Rattle.ddc_app.specs.Verified.{Verified};
 ghost use Rattle.ddc_app.specs.Run.{plan_for, due, IsDue, TakesOne, NamesFault, LosesText};
-ghost use Rattle.ddc_app.specs.Concluding.{PutEnds, Concludes};
+ghost use Rattle.ddc_app.specs.Inside.Concluding.{PutEnds, Concludes};
 
 use crate::laws::verified;
 use audit_commands::{audit, part, resume, show};

@@ -49,7 +49,7 @@ All-back P (x ∷ xs) ys all = All-back P xs ys (All-tail P x (xs ++ ys) all)
 -- ---- the induction
 
 -- what holds of each stage with those before it
-by-stages : (recipe : Said) (P : Stage → Type 0) (earlier stages : List Stage) → recipe.stages ≡ earlier ++ stages
+pub by-stages : (recipe : Said) (P : Stage → Type 0) (earlier stages : List Stage) → recipe.stages ≡ earlier ++ stages
     → ((earlier : List Stage) (stage : Stage) (rest : List Stage) → recipe.stages ≡ earlier ++ stage ∷ rest → P stage) → All P stages
 by-stages recipe P earlier [] split holds = All-nil P
 by-stages recipe P earlier (stage ∷ rest) split holds =

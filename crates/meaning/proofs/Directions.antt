@@ -20,19 +20,21 @@ use Rattle.wheeler.proofs.GivenBoxes.{box-is}
 use Rattle.wheeler.proofs.Rules as rules
 use Rattle.meaning.specs.AllContents.{all_contents, text_named}
 use Rattle.meaning.specs.Assumptions.{LinesHold}
+use Rattle.meaning.specs.Checked.{HasCheckItems, HasItemsOf, IsCheckValue}
 use Rattle.meaning.specs.Concludes.{Concludes, ConcludesDifferent, ConcludesEqual}
 use Rattle.meaning.specs.Differing.{IsExcluded, IsExcludedByOwn, IsNoValue}
 use Rattle.meaning.specs.Follows.{Follows, FollowsBy, HasParent, IsCompared, IsOnlyContent, PrescribesOnly, audited}
 use Rattle.meaning.specs.Meaning.{Compiles, Implements, Prescribes}
 use Rattle.meaning.specs.Values.{binary_of}
 use Rattle.meaning.proofs.Argument.{follows-law}
+use Rattle.meaning.proofs.Items.{checked-items}
 use Rattle.meaning.proofs.Gathering.{Reached, reached}
 use Rattle.meaning.proofs.Ran.{Ran}
 use Rattle.meaning.proofs.Sound.{Laws}
 use Rattle.meaning.proofs.Values.{checked-value, no-difference, some-difference}
 
 -- what a search finds is an element that passes
-found : {X : Type 0} (test : X → Bool) (P : X → Type 0) (xs : List X) (x : X) → All P xs → find test xs ≡ Some x → P x × (test x ≡ true)
+pub found : {X : Type 0} (test : X → Bool) (P : X → Type 0) (xs : List X) (x : X) → All P xs → find test xs ≡ Some x → P x × (test x ≡ true)
 found test P [] x all is = absurd cc
 found test P (y ∷ ys) x all is = by_test (test y) refl is (λ later. found test P ys x (All-tail P y ys all) later) where
   by_test : (b : Bool) → test y ≡ b → cond b (Some y) (find test ys) ≡ Some x → (find test ys ≡ Some x → P x × (test x ≡ true)) → P x × (test x ≡ true)
@@ -73,9 +75,12 @@ module _ (prescribes : Prescribes) (compiles : Compiles) (laws : Laws prescribes
       subst (λ s. Implements prescribes (program_of recipe all stage) (text_named recipe all s) × PrescribesOnly prescribes recipe all stage s (content recipe all stage.name)) same
       (here.implements, here.prescribed)
 
+  equalling : content recipe all recipe.compare.stage ≡ audited recipe inputs → (stage : Stage) → IsCompared recipe stage → content recipe all stage.name ≡ audited recipe inputs
+  equalling same stage at = ap (content recipe all) (own-name stage at) ∙ same
+
   only : content recipe all recipe.compare.stage ≡ audited recipe inputs → LinesHold prescribes compiles recipe inputs → IsOnlyContent prescribes recipe inputs
   only same lines stage source parent =
-      subst (PrescribesOnly prescribes recipe all stage source) (ap (content recipe all) (own-name stage parent.compared) ∙ same)
+      subst (PrescribesOnly prescribes recipe all stage source) (equalling same stage parent.compared)
       (prescribed stage source parent (follows lines)).1
 
   differing : content recipe all recipe.compare.stage ≢ audited recipe inputs → (stage : Stage) → IsCompared recipe stage → content recipe all stage.name ≢ audited recipe inputs
@@ -94,18 +99,28 @@ module _ (prescribes : Prescribes) (compiles : Compiles) (laws : Laws prescribes
   excluded : content recipe all recipe.compare.stage ≢ audited recipe inputs → LinesHold prescribes compiles recipe inputs → IsExcluded prescribes recipe inputs
   excluded differs lines stage source parent = excluded_by_own differs stage source parent (prescribed stage source parent (follows lines)).0
 
-  no_value : content recipe all recipe.compare.stage ≢ audited recipe inputs → IsNoValue recipe inputs
-  no_value differs stage source at is = by_check stage.check refl is where
+  own-value : (stage : Stage) (source : List ℕ) → IsCompared recipe stage → option_and_then (hex_check recipe.sources) stage.check ≡ Some source
+      → binary_of (text_named recipe all source) ≡ Some (content recipe all stage.name)
+  own-value stage source at is = by_check stage.check refl is where
     by_check : (o : Option (List ℕ)) → stage.check ≡ o → option_and_then (hex_check recipe.sources) o ≡ Some source
-        → binary_of (text_named recipe all source) ≢ Some (audited recipe inputs)
-    by_check None was is value = absurd cc
-    by_check (Some check) was is value =
-        differing differs stage at
-        (same_Some (content recipe all stage.name) (audited recipe inputs)
-        (sym (checked-value recipe all stage check source (content recipe all stage.name) was is (ran stage at).right) ∙ value))
+        → binary_of (text_named recipe all source) ≡ Some (content recipe all stage.name)
+    by_check None was is = absurd cc
+    by_check (Some check) was is = checked-value recipe all stage check source (content recipe all stage.name) was is (ran stage at).right
+
+  value : content recipe all recipe.compare.stage ≡ audited recipe inputs → IsCheckValue recipe inputs
+  value same stage source at is = own-value stage source at is ∙ ap Some (equalling same stage at)
+
+  items : content recipe all recipe.compare.stage ≡ audited recipe inputs → HasCheckItems recipe inputs
+  items same stage source at was language =
+      subst (HasItemsOf (text_named recipe all source)) (equalling same stage at)
+      (checked-items recipe all stage source (content recipe all stage.name) was language (ran stage at).right)
+
+  no_value : content recipe all recipe.compare.stage ≢ audited recipe inputs → IsNoValue recipe inputs
+  no_value differs stage source at is value =
+      differing differs stage at (same_Some (content recipe all stage.name) (audited recipe inputs) (sym (own-value stage source at is) ∙ value))
 
   equal : content recipe all recipe.compare.stage ≡ audited recipe inputs → ConcludesEqual prescribes compiles recipe inputs
-  equal same = record { follows = follows; only = only same }
+  equal same = record { follows = follows; only = only same; value = value same; items = items same }
 
   different : content recipe all recipe.compare.stage ≢ audited recipe inputs → ConcludesDifferent prescribes compiles recipe inputs
   different differs = record { follows = follows; excluded = excluded differs; excluded_by_own = excluded_by_own differs; no_value = no_value differs }

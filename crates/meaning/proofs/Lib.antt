@@ -3,6 +3,8 @@ pub mod Finding
 pub mod Ran
 pub mod Gathering
 pub mod Values
+pub mod Items
 pub mod Sound
 pub mod Argument
 pub mod Directions
+pub mod ComparedStages

@@ -51,6 +51,12 @@ pub record HasParent (recipe : Said) (stage : Stage) (source : List ℕ) : Type 
   pub unchecked : stage.check ≡ None
   pub parent : source_of recipe stage.program ≡ Some source
 
+-- the compared stage is there, and where it is unchecked it has a parent source
+pub record HasCompared (recipe : Said) : Type 0 where
+  pub stage : Stage
+  pub compared : IsCompared recipe stage
+  pub parent : stage.check ≡ None → (source : List ℕ) × HasParent recipe stage source
+
 -- the parent source prescribes the audited binary for the compared stage, and nothing else
 abbrev pub IsOnlyContent : Prescribes → Said → List (List ℕ) → Type 0
 IsOnlyContent prescribes recipe inputs =

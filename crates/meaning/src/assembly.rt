@@ -1,5 +1,6 @@
 ghost use Rattle.meaning.specs.Assembly.{ValueLeaves, ValueLeavesValue};
-ghost use Rattle.meaning.specs.AssemblyLaws.{carry-value, fixed-value, literal-value};
+ghost use Rattle.meaning.specs.Inside.AssemblyLaws.{carry-value, fixed-value, literal-value};
+ghost use Rattle.guest_run.proofs.Programs.{one-run};
 
 use crate::meaning::Meaning;
 
@@ -13,9 +14,9 @@ impl Meaning for Assembly {
 
     ghost compiles = { ValueLeavesValue };
 
-    ghost fixed = { fixed-value };
+    ghost fixed = { fixed-value one-run };
 
-    ghost carry = { carry-value };
+    ghost carry = { carry-value one-run };
 
     ghost literal = { literal-value };
 }

@@ -1,6 +1,7 @@
 //! Laws of every meaning. Each law is the contract of a function that does nothing.
 
 ghost use Rattle.meaning.specs.Concludes.{Concludes};
+ghost use Rattle.meaning.specs.Follows.{HasCompared};
 ghost use Rattle.recipe.specs.Kept.{IsRecipe};
 ghost use Rattle.recipe.specs.declared.contents.Said.{Said};
 ghost use Rattle.report.specs.declared.types.Report.{Report};
@@ -10,6 +11,11 @@ ghost use Rattle.wheeler.specs.Valid.{IsInputs};
 ghost use Rattle.wheeler.specs.declared.answer.Answer.TheVariants.{Completes};
 
 use crate::meaning::Meaning;
+
+/// The compared stage of a recipe that keeps its rules is there, and where it is unchecked it has a parent source.
+pub fn a_compared_stage_is_there()
+    ensures { (recipe : Said) → IsRecipe recipe → HasCompared recipe }
+{}
 
 /// Wheeler's argument, in both directions: of a recipe that keeps its rules and inputs within their limits, where the bench reaches its
 /// end, the conclusion that belongs to its comparison holds.

@@ -1,18 +1,19 @@
 -- What both walks accept is a recipe.
-use Rattle.std.proofs.Common.{◌≡◌, ℕ, ◌+◌, ◌≤◌, List, [], ◌∷◌, length, take, Option, Some, None, Ok, refl, subst, arith}
+use Rattle.std.proofs.Common.{◌≡◌, ℕ, ◌+◌, ◌≤◌, List, [], ◌∷◌, length, take, Option, Some, None, Result, Ok, Err, refl, ap, ◌∙◌, subst, arith}
 use Rattle.std.specs.Prelude.{IfSome, bytes_eq, slice_get, unwrap_or}
 use Rattle.std.specs.List.{IsDistinct}
 use Rattle.sha2.specs.Sha256.{sha256}
 use Rattle.toml.specs.Data.{Members}
 use Rattle.recipe.specs.declared.text.keys.Key.TheVariants as key
-use Rattle.recipe.specs.Text.Reading.{a_list, a_number, a_table, no_other_key, document_of, gathered, optional, required}
+use Rattle.recipe.specs.declared.text.refusal.RecipeRefusal.{RecipeRefusal}
+use Rattle.recipe.specs.Text.Reading.{◌>>◌, a_list, a_number, a_table, no_other_key, document_of, gathered, optional, required}
 use Rattle.recipe.proofs.TextLemmas.Accepted.{bound, ok_same, required_ok, optional_ok, list_ok, gathered_each, gathered_keeps, gathered_length, passes_at, unless_ok, Few, Read}
 use Rattle.recipe.specs.declared.contents.Said.{Said}
 use Rattle.recipe.specs.declared.parts.Input.{Input}
 use Rattle.recipe.specs.declared.parts.Source.{Source}
 use Rattle.recipe.specs.declared.parts.Stage.{Stage}
 use Rattle.recipe.specs.Kept.{IsRecipe, IsStage}
-use Rattle.recipe.specs.Reading.{first_walk}
+use Rattle.recipe.specs.Reading.{first_walk, recipe_of}
 use Rattle.recipe.specs.SecondWalk.{second_walk}
 use Rattle.recipe.specs.Tables.{top_place, input_place, source_place, stage_place, Top, top_table, next_input, next_source, next_stage, compare_table}
 use Rattle.recipe.proofs.DistinctNames.{names_of, input_added, source_added, stage_added}
@@ -159,3 +160,13 @@ keeps bytes said is second =
       compared = walk.compared;
       binary = walk.binary;
     }
+
+-- what bytes that read say is a recipe
+pub reads_keep : (bytes : List ℕ) (said : Said) → recipe_of bytes ≡ Ok said → IsRecipe said
+unfolding recipe_of
+reads_keep bytes said is = bound (IsRecipe said) (first_walk bytes) (λ read. second_walk read >> Ok read) said is (λ read walked ends. by read walked (second_walk read) refl ends) where
+  by : (read : Said) → first_walk bytes ≡ Ok read → (second : Result (Unit {0}) RecipeRefusal) → second_walk read ≡ second → (second >> Ok read) ≡ Ok said → IsRecipe said
+  by read walked (Ok u) passed ends =
+      let same : read ≡ said = cc in
+      keeps bytes said (walked ∙ ap Ok same) (subst (λ (s : Said). second_walk s ≡ Ok u) same passed)
+  by read walked (Err refusal) passed ends = absurd cc

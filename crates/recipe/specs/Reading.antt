@@ -1,4 +1,5 @@
--- What the bytes of a recipe say, or the first refusal of its two walks (docs/reference/recipe.md).
+-- What the bytes of a recipe say, or the first refusal of its two walks (docs/reference/recipe.md). A recipe's digest is the SHA-256 of its
+-- bytes (FIPS 180-4).
 use Rattle.std.specs.Prelude.{ℕ, List, [], Result, Ok}
 use Rattle.sha2.specs.Sha256.{sha256}
 use Rattle.recipe.specs.Text.Reading.{◌>>=◌, ◌>>◌, gathered, document_of}

@@ -1,7 +1,8 @@
 -- What a text reads as, in the words of the report's text.
-use Rattle.std.proofs.Common.{◌≡◌, ℕ, zero, suc, ◌+◌, ◌<◌, ◌≤◌, List, [], ◌∷◌, length, Option, Some, None, Result, Ok, Err, refl, sym, ap, subst, ◌∙◌, arith, length-append}
+use Rattle.std.proofs.Common.{◌≡◌, ℕ, zero, suc, ◌+◌, ◌<◌, ◌≤◌, List, [], ◌∷◌, length, Option, Some, None, Result, Ok, Err, refl, sym, ap, subst, ◌∙◌, arith, inl, inr, length-append}
 use Rattle.std.specs.Prelude.{IfOk, IfErr}
 use Rattle.std.specs.Option.{option_map_or}
+use Rattle.std.proofs.lemmas.Bool.{cases_lt}
 use Rattle.report.specs.declared.line.Line.{Line}
 use Rattle.report.specs.declared.state.State.{State}
 use Rattle.report.specs.declared.state.State.TheVariants.{Start, Ended}
@@ -11,9 +12,9 @@ use Rattle.report.specs.declared.refusal.ReportRefusal.TheVariants.{Form, OutOfM
 use Rattle.report.specs.Inside.Cuts.{◌>>=◌, cut_at}
 use Rattle.report.specs.Inside.LinesRead.{line_of}
 use Rattle.report.specs.Inside.States.{step}
-use Rattle.report.specs.Inside.Reading.{next_line, one_more, after, Stands, Stops}
-use Rattle.report.specs.Reading.{ended, read_on, report_of, Reads}
-use Rattle.report.specs.Reports.{report_text, IsReport, IsFirstFault, IsRead, IsFault}
+use Rattle.report.specs.Inside.Reading.{next_line, one_more, after, ended, read_on, Stands, Stops}
+use Rattle.report.specs.Reading.{report_of, Reads}
+use Rattle.report.specs.Reports.{report_text, IsReport, IsFirstFault, IsRead, IsReading, IsFault}
 use Rattle.report.proofs.Cuts.{cut_at-takes, bind_some, same_some}
 use Rattle.report.proofs.Turns.{no_more, after_more}
 use Rattle.report.proofs.Faults.{Last, first_fault, one_last, whole, text_last}
@@ -98,6 +99,29 @@ read_fault bytes number e =
     let p = place bytes in
     let same = ended_err (p.number + 1) p.at.0 p.at.1 number (sym p.is ∙ e) in
     subst (λ (k : ℕ). IsFirstFault k bytes) same (first_fault p.number bytes p.at p.last)
+
+-- ---- the one reading
+
+one_fault : (bytes : List ℕ) (n m : ℕ) → IsFirstFault n bytes → IsFirstFault m bytes → n ≡ m
+one_fault bytes n m first second = elim (cases_lt n m) [
+  | inl less ↦ absurd (first.not_here (second.before n less))
+  | inr past ↦ elim (cases_lt m n) [
+    | inl less ↦ absurd (second.not_here (first.before m less))
+    | inr other ↦ omega (arith, past, other)
+  ]
+]
+
+pub is_reading : (bytes : List ℕ) (reading : Result Report ℕ) → report_of bytes ≡ reading → IsReading bytes reading
+is_reading bytes (Ok report) e = read_report bytes report e
+is_reading bytes (Err number) e =
+    (read_fault bytes number e, λ report is text. let both : Ok report ≡ Err number = sym (read_text bytes report is text) ∙ e in absurd cc)
+
+pub the_reading : (bytes : List ℕ) (reading : Result Report ℕ) → IsReading bytes reading → report_of bytes ≡ reading
+the_reading bytes (Ok report) is = read_text bytes report is.0 is.1
+the_reading bytes (Err number) is = by (report_of bytes) refl where
+  by : (found : Result Report ℕ) → report_of bytes ≡ found → report_of bytes ≡ Err number
+  by (Ok report) e = let whole = read_report bytes report e in absurd (is.1 report whole.0 whole.1)
+  by (Err other) e = e ∙ ap Err (one_fault bytes other number (read_fault bytes other e) is.0)
 
 -- ---- what the code's loop gives
 

@@ -1,27 +1,14 @@
--- What a text reads as. The laws `read_text`, `read_report` and `read_fault` say in terms of texts what it gives for every text, so that no
--- promise rests on its being read line by line.
-use Rattle.std.specs.Prelude.{◌≡◌, ℕ, zero, suc, ◌+◌, List, [], length, Result, Ok, Err}
-use Rattle.std.specs.Option.{option_map_or}
-use Rattle.report.specs.declared.state.State.{State}
-use Rattle.report.specs.declared.state.State.TheVariants.{Start, Ended}
+-- What a text reads as, as a function, which what a command says of a text can cite. The law `one_reading` says that it is the text's one
+-- reading (`IsReading`), and no other promise rests on how it is found.
+use Rattle.std.specs.Prelude.{◌≡◌, ℕ, List, Result, Ok, Err}
 use Rattle.report.specs.declared.types.Report.{Report}
 use Rattle.report.specs.declared.refusal.ReportRefusal.{ReportRefusal}
 use Rattle.report.specs.declared.refusal.ReportRefusal.TheVariants.{Form, OutOfMemory}
-use Rattle.report.specs.Inside.Reading.{one_more}
+use Rattle.report.specs.Inside.Reading.{read_all}
 
--- what lines lead to where none goes on with them, and the number of the line that does not
-abbrev pub ended : ℕ → State → List ℕ → Result Report ℕ
-ended number (Ended report) [] = Ok report
-ended number _ _ = Err number
-
--- the lines from a number on, as long as they go on
-unfoldable pub read_on : ℕ → ℕ → State × List ℕ → Result Report ℕ
-read_on zero number at = ended number at.0 at.1
-read_on (suc more) number at = option_map_or (λ next. read_on more (number + 1) next) (one_more at) (ended number at.0 at.1)
-
--- the report whose text the bytes are, or else the number of the first line that begins none
+-- the report whose text the bytes are, or else the least number of lines that begin no report
 unfoldable pub report_of : List ℕ → Result Report ℕ
-report_of bytes = read_on (length bytes) 1 (Start, bytes)
+report_of bytes = read_all bytes
 
 -- a refusal of a text which reads so
 abbrev pub Refuses : Result Report ℕ → ReportRefusal → Type 0

@@ -1,5 +1,5 @@
 -- A report: which are well formed, their one text, and where a text is none. docs/reference/report.md says the same for people.
-use Rattle.std.specs.Prelude.{◌≡◌, ℕ, ◌<◌, ◌≤◌, ◌^◌, Bool, true, ◌&&◌, All, List, [], ◌∷◌, ◌++◌, length, take, map, Result, Ok, Err, ◌⊎◌, IsTrue}
+use Rattle.std.specs.Prelude.{◌≡◌, ◌≢◌, ℕ, ◌<◌, ◌≤◌, ◌^◌, Bool, true, ◌&&◌, All, List, [], ◌∷◌, ◌++◌, length, take, map, Result, Ok, Err, ◌⊎◌, IsTrue}
 use Rattle.std.specs.List.{flat_map}
 use Rattle.std.specs.Ordering.{nat_cmp, is_lt}
 use Rattle.std.specs.Cmp.Lexicographic.{slice_cmp}
@@ -118,6 +118,11 @@ pub record Begins (n : ℕ) (bytes : List ℕ) : Type 0 where
 pub record IsFirstFault (number : ℕ) (bytes : List ℕ) : Type 0 where
   pub not_here : ¬ (Begins number bytes)
   pub before : (m : ℕ) → m < number → Begins m bytes
+
+-- the one reading of a text: the report whose text it is; or, where it is none's, the least number of lines that begin no report
+abbrev pub IsReading : List ℕ → Result Report ℕ → Type 0
+IsReading bytes (Ok report) = IsReport report × (bytes ≡ report_text report)
+IsReading bytes (Err number) = IsFirstFault number bytes × ((report : Report) → IsReport report → bytes ≢ report_text report)
 
 -- what reading the text of this report may answer
 abbrev pub IsRead : Report → Result Report ReportRefusal → Type 0

@@ -1,5 +1,5 @@
 -- The stages' lines, one after the other.
-use Rattle.std.proofs.Common.{◌≡◌, ℕ, zero, suc, ◌+◌, ◌<◌, ◌≤◌, None, Some, Ok, Err, List, [], ◌∷◌, length, drop, get_or, refl, sym, ap, ◌∙◌, arith, inl, inr}
+use Rattle.std.proofs.Common.{◌≡◌, ℕ, zero, suc, ◌+◌, ◌-◌, ◌<◌, ◌≤◌, None, Some, Ok, Err, List, [], ◌∷◌, ◌++◌, length, drop, take, get_or, refl, sym, ap, subst, ◌∙◌, arith, inl, inr}
 use Rattle.std.specs.Prelude.{Contains, slice_get}
 use Rattle.std.proofs.lemmas.Bool.{cases_lt}
 use Rattle.std.proofs.lemmas.Option.{same_Some, slice_get-get_or, slice_get_past}
@@ -11,6 +11,7 @@ use Rattle.report.specs.declared.types.StageLine.{StageLine}
 use Rattle.wheeler.specs.Contents.{Contents}
 use Rattle.verifier.specs.declared.part.Part.{Part}
 use Rattle.verifier.specs.Faults.{after_stage, compare_fault, replayed, stages_fault, with_artefact}
+use Rattle.verifier.specs.Verdicts.{AreReplayed, StandsAtStage}
 
 drop-found : {A : Type 0} (xs : List A) (index : ℕ) (x : A) → slice_get xs index ≡ Some x → drop index xs ≡ x ∷ drop (index + 1) xs
 drop-found [] index x is = absurd cc
@@ -18,6 +19,13 @@ drop-found (y ∷ ys) zero x is = ap (λ z. z ∷ ys) (same_Some y x is)
 drop-found (y ∷ ys) (suc index) x is =
     let next : suc index + 1 ≡ suc (index + 1) = omega arith in
     drop-found ys index x is ∙ ap (λ n. x ∷ drop n (y ∷ ys)) (sym next)
+
+take-found : {A : Type 0} (xs : List A) (index : ℕ) (x : A) → slice_get xs index ≡ Some x → take (index + 1) xs ≡ take index xs ++ x ∷ []
+take-found [] index x is = absurd cc
+take-found (y ∷ ys) zero x is = ap (λ z. z ∷ []) (same_Some y x is)
+take-found (y ∷ ys) (suc index) x is =
+    let next : suc index + 1 ≡ suc (index + 1) = omega arith in
+    ap (λ n. take n (y ∷ ys)) next ∙ ap (λ l. y ∷ l) (take-found ys index x is)
 
 drop-past : {A : Type 0} (xs : List A) (index : ℕ) → slice_get xs index ≡ None → drop index xs ≡ []
 drop-past [] zero none = refl
@@ -64,3 +72,40 @@ no_line recipe compare so_far stages lines index past = at_drop_all (stages_faul
   by_stages : (stages : List Stage) → stages_fault recipe compare so_far stages [] ≡ compare_fault recipe so_far compare
   by_stages [] = refl
   by_stages (stage ∷ stages) = refl
+
+-- ---- the lines that are right
+
+one-more : (recipe : Said) (so_far all : Contents) (stages : List Stage) (lines : List StageLine) (stage : Stage) (line : StageLine) (made : List ℕ)
+    → AreReplayed recipe so_far stages lines all → replayed recipe all stage line ≡ Ok made
+    → AreReplayed recipe so_far (stages ++ stage ∷ []) (lines ++ line ∷ []) (with_artefact all made)
+one-more recipe so_far all [] [] stage line made before right =
+    (made, subst (λ c. replayed recipe c stage line ≡ Ok made) before right, ap (λ (c : Contents). with_artefact c made) before)
+one-more recipe so_far all [] (l ∷ lines) stage line made before right = absurd before
+one-more recipe so_far all (s ∷ stages) [] stage line made before right = absurd before
+one-more recipe so_far all (s ∷ stages) (l ∷ lines) stage line made before right =
+    (before.0, before.1, one-more recipe (with_artefact so_far before.0) all stages lines stage line made before.2 right)
+
+pub replayed_on : (recipe : Said) (so_far all : Contents) (stages : List Stage) (lines : List StageLine) (index : ℕ) (stage : Stage) (line : StageLine) (made : List ℕ)
+    → slice_get stages index ≡ Some stage → index < length lines → line ≡ get_or lines index line
+    → AreReplayed recipe so_far (take index stages) (take index lines) all → replayed recipe all stage line ≡ Ok made
+    → AreReplayed recipe so_far (take (index + 1) stages) (take (index + 1) lines) (with_artefact all made)
+replayed_on recipe so_far all stages lines index stage line made found less is before right =
+    let there : slice_get lines index ≡ Some line = slice_get-get_or lines index line less ∙ ap Some (sym is) in
+    subst (λ (s : List Stage). AreReplayed recipe so_far s (take (index + 1) lines) (with_artefact all made)) (sym (take-found stages index stage found))
+    (subst (λ (l : List StageLine). AreReplayed recipe so_far (take index stages ++ stage ∷ []) l (with_artefact all made)) (sym (take-found lines index line there))
+    (one-more recipe so_far all (take index stages) (take index lines) stage line made before right))
+
+pub stands : (recipe : Said) (inputs : List (List ℕ)) (stages : List Stage) (lines : List StageLine) (index number : ℕ) (so_far : Contents) (stage : Stage)
+    → stages ≡ recipe.stages → number ≡ index + 1 → slice_get stages index ≡ Some stage
+    → AreReplayed recipe (record { inputs = inputs; artefacts = [] }) (take index stages) (take index lines) so_far
+    → StandsAtStage recipe inputs lines number
+stands recipe inputs stages lines index number so_far stage same is found before =
+    let less : index < length stages = (among stages index stage found).1 in
+    let place : index ≡ number - 1 = omega (arith, is) in
+    record {
+      some = omega (arith, is);
+      there = omega (arith, is, less, ap length same);
+      so_far = so_far;
+      before = subst (λ (n : ℕ). AreReplayed recipe (record { inputs = inputs; artefacts = [] }) (take n recipe.stages) (take n lines) so_far) place
+          (subst (λ (s : List Stage). AreReplayed recipe (record { inputs = inputs; artefacts = [] }) (take index s) (take index lines) so_far) same before);
+    }

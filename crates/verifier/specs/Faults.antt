@@ -1,5 +1,5 @@
 -- The first fault of a report, part by part in the order of docs/reference/verify.md, which says the same for people.
--- A stage's recorded step is judged and not searched for, and programs and files are the bytes that the earlier runs left.
+-- A stage's recorded step is judged and not searched for, and programs and files are the bytes that the earlier runs left. Digests are SHA-256 (FIPS 180-4).
 use Rattle.std.specs.Prelude.{ℕ, ◌+◌, ◌==◌, Bool, true, false, ◌&&◌, if◌then◌else◌, nat_le, bytes_eq, Option, None, Some, Result, Ok, Err, List, [], ◌∷◌, ◌++◌, length, sum_by}
 use Rattle.sha2.specs.Sha256.{sha256}
 use Rattle.ddc_base.specs.Difference.{first_difference}

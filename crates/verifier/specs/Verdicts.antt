@@ -1,5 +1,5 @@
 -- What a replay answers by the first fault of a report. docs/reference/verify.md says the same for people.
-use Rattle.std.specs.Prelude.{◌≡◌, ℕ, true, Option, None, Some, List, ◌∷◌}
+use Rattle.std.specs.Prelude.{◌≡◌, ℕ, ◌-◌, ◌≤◌, true, Option, None, Some, Ok, List, [], ◌∷◌, length, take}
 use Rattle.recipe.specs.declared.contents.Said.{Said}
 use Rattle.recipe.specs.declared.parts.Stage.{Stage}
 use Rattle.report.specs.declared.types.Compared.{Compared}
@@ -10,7 +10,7 @@ use Rattle.wheeler.specs.Contents.{Contents}
 use Rattle.verifier.specs.declared.part.Part.{Part}
 use Rattle.verifier.specs.declared.part.Verdict.{Verdict}
 use Rattle.verifier.specs.declared.part.Verdict.TheVariants.{Yes, TrueButDiffers, Refuted, OutOfMemory}
-use Rattle.verifier.specs.Faults.{first_fault, inputs_fault, is_header, stages_fault}
+use Rattle.verifier.specs.Faults.{inputs_fault, is_header, replayed, with_artefact}
 
 -- a report without a fault is true, and says that the artefact and the binary are equal, or that they differ
 abbrev pub true_verdict : Compared → Verdict
@@ -23,22 +23,30 @@ verdict_of (Some (part, place)) line = Refuted part place
 
 -- an answer to a report with this first fault and this compare line: the verdict, or want of memory
 abbrev pub Judges : Option (Part × ℕ) → Compared → Verdict → Type 0
-Judges fault line OutOfMemory = Unit {0}
+Judges fault line (OutOfMemory stage) = Unit {0}
 Judges fault line answer = answer ≡ verdict_of fault line
 
--- a fact for want of memory
-abbrev pub OnWant : Verdict → Type 0 → Type 0
-OnWant OutOfMemory fact = fact
+-- a fact on the stage at which memory was wanting
+abbrev pub OnWant : Verdict → (ℕ → Type 0) → Type 0
+OnWant (OutOfMemory stage) fact = fact stage
 OnWant answer fact = Unit {0}
 
--- where want of memory can come: the header and the inputs are right, and the first fault, if any, is that of these stages behind these
--- artefacts, or of the comparison. Those of the beginning are always such ones, so of the stages this says nothing
-pub record IsReplaying (recipe : Said) (inputs : List (List ℕ)) (report : Report) : Type 0 where
+-- the lines of these stages are right, one after the other over these contents, which with their artefacts are the latter ones
+abbrev pub AreReplayed : Said → Contents → List Stage → List StageLine → Contents → Type 0
+AreReplayed recipe so_far [] [] all = all ≡ so_far
+AreReplayed recipe so_far (stage ∷ stages) (line ∷ lines) all =
+    (made : List ℕ) × (replayed recipe so_far stage line ≡ Ok made) × AreReplayed recipe (with_artefact so_far made) stages lines all
+AreReplayed recipe so_far _ _ all = ⊥
+
+-- a replay stands at the stage of this number, from 1: the lines of all stages before it are right
+pub record StandsAtStage (recipe : Said) (inputs : List (List ℕ)) (lines : List StageLine) (number : ℕ) : Type 0 where
+  pub some : 1 ≤ number
+  pub there : number ≤ length recipe.stages
+  pub so_far : Contents
+  pub before : AreReplayed recipe (record { inputs = inputs; artefacts = [] }) (take (number - 1) recipe.stages) (take (number - 1) lines) so_far
+
+-- where want of memory can come: the header and the inputs are right, and all stages before the one of this number
+pub record IsReplaying (recipe : Said) (inputs : List (List ℕ)) (report : Report) (number : ℕ) : Type 0 where
   pub header : is_header recipe report ≡ true
   pub inputs_right : inputs_fault 1 inputs report.inputs ≡ None
-  pub so_far : Contents
-  pub stage : Stage
-  pub stages : List Stage
-  pub line : StageLine
-  pub lines : List StageLine
-  pub ahead : first_fault recipe inputs report ≡ stages_fault recipe report.compare.result so_far (stage ∷ stages) (line ∷ lines)
+  pub stands : StandsAtStage recipe inputs report.stages number

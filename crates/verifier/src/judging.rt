@@ -25,8 +25,8 @@ use std::alloc::Global;
 /// Replays a report, which it doesn't believe.
 ///
 /// `Refuted` names the first part that is not true, judged on the bytes that the earlier runs left. Otherwise it is `Yes` where the report
-/// says that the artefact and the binary are equal, and `TrueButDiffers` where it says that they differ. Want of memory comes only where
-/// the header and the inputs are right.
+/// says that the artefact and the binary are equal, and `TrueButDiffers` where it says that they differ. Want of memory comes only at a
+/// stage, where the header, the inputs and all stages before it are right.
 ///
 /// The inputs are as many as the recipe's, each with at most 268,435,456 bytes. docs/reference/verify.md has the rules.
 pub fn verify(alloc: Global, recipe: &Recipe, inputs: &Inputs, report: &Report) -> Verdict
@@ -109,6 +109,7 @@ fn replay_all(
         let Some(stage) = stages.get(index) else {
             return Ok(artefacts);
         };
+        let number = index as u32 + 1;
         let held = Held {
             recipe,
             inputs,
@@ -119,16 +120,16 @@ fn replay_all(
                 total += made.len() as u64;
                 match artefacts.push(made) {
                     Ok(()) => {}
-                    Err(OutOfMemory) => return Err(Verdict::OutOfMemory),
+                    Err(OutOfMemory) => return Err(Verdict::OutOfMemory { stage: number }),
                 }
             }
             Err(Stop::Refuted(part)) => {
                 return Err(Verdict::Refuted {
                     part,
-                    place: index as u32 + 1,
+                    place: number,
                 });
             }
-            Err(Stop::OutOfMemory) => return Err(Verdict::OutOfMemory),
+            Err(Stop::OutOfMemory) => return Err(Verdict::OutOfMemory { stage: number }),
         }
     }
     Ok(artefacts)

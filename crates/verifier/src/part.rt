@@ -43,6 +43,6 @@ pub enum Verdict {
     TrueButDiffers,
     /// The first part that is not true, with the number of the input or of the stage, from 1; 0 for the header and the comparison.
     Refuted { part: Part, place: u32 },
-    /// Want of memory of this process, before anything was found to be untrue.
-    OutOfMemory,
+    /// Want of memory of this process at the stage of this number, from 1; nothing before that stage is untrue.
+    OutOfMemory { stage: u32 },
 }

@@ -104,7 +104,7 @@ fn answer<M: Meaning>(
         Verdict::Yes => accepted(alloc, recipe, &report.compare),
         Verdict::TrueButDiffers => accepted(alloc, recipe, &report.compare),
         Verdict::Refuted { part, place } => refuted(alloc, part, place),
-        Verdict::OutOfMemory => Err(Stop::OutOfMemory),
+        Verdict::OutOfMemory { .. } => Err(Stop::OutOfMemory),
     }
 }
 

@@ -1,4 +1,5 @@
--- One stage: the start of its program, its run, and what its end comes to. docs/reference/audit.md says the same for people.
+-- One stage: the start of its program, its run, and what its end comes to. docs/reference/audit.md says the same for people. Digests are
+-- SHA-256 (FIPS 180-4).
 use Rattle.std.specs.Prelude.{ℕ, ◌+◌, ◌==◌, if◌then◌else◌, nat_lt, Option, None, Some, Result, Ok, Err, List, length, map, sum_by}
 use Rattle.sha2.specs.Sha256.{sha256}
 use Rattle.mem_files.specs.World.{World}

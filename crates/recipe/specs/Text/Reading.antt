@@ -1,4 +1,5 @@
--- What stands at a key of a recipe's tables: its value, or the first refusal (docs/reference/recipe.md, "What stands at a key").
+-- What stands at a key of a recipe's tables: its value, or the first refusal (docs/reference/recipe.md, "What stands at a key"). The tables
+-- are those of a document of TOML 1.0.0 (toml.io), whose bytes are UTF-8 (RFC 3629).
 use Rattle.std.specs.Prelude.{◌≡◌, ℕ, ◌+◌, ℤ, pos, negsuc, Bool, ◌&&◌, nat_le, List, [], ◌∷◌, ◌++◌, length, Option, Some, None, option_map, Result, Ok, Err, if◌then◌else◌}
 use Rattle.std.specs.List.{list_all}
 use Rattle.std.specs.Str.{is_utf8}
@@ -54,6 +55,11 @@ IsRefused refusal reading = reading ≡ Err refusal
 abbrev pub Gives : {X Y : Type 0} → (X → Y) → Result X RecipeRefusal → Result Y RecipeRefusal → Type 0
 Gives view (Ok x) reading = reading ≡ Ok (view x)
 Gives view (Err refusal) reading = IsRefused refusal reading
+
+-- the answer of a reader that takes no memory
+abbrev pub NeverWants : {X : Type 0} → Result X RecipeRefusal → Type 0
+NeverWants (Err OutOfMemory) = ⊥
+NeverWants answer = Unit {0}
 
 -- ---- the readers of a value: each takes the place of the table and the key, which its refusals name
 
@@ -151,6 +157,6 @@ no_other_key place keys table = refused_unless (Unknown place) (are_listed keys 
 
 -- ---- the whole text
 
--- the top table that the bytes are
+-- the top table that the bytes are: a document of TOML 1.0.0 in UTF-8
 unfoldable pub document_of : List ℕ → Result Members RecipeRefusal
 document_of bytes = or_refused NotToml (if is_utf8 bytes then parse_document bytes else None)

@@ -6,7 +6,7 @@ ghost use Rattle.std.specs.BTreeMap.{keys as map_keys};
 ghost use Rattle.toml.specs.Data.{get_member};
 ghost use Rattle.toml.specs.View.{view, table_view};
 ghost use Rattle.recipe.specs.Text.Keys.{key_word, is_listed, are_listed};
-ghost use Rattle.recipe.specs.Text.Reading.{Gives, or_refused, required, optional, a_name, a_number, no_other_key};
+ghost use Rattle.recipe.specs.Text.Reading.{Gives, NeverWants, or_refused, required, optional, a_name, a_number, no_other_key};
 ghost use Rattle.recipe.specs.declared.text.refusal.RecipeRefusal.TheVariants.{Missing as Absent};
 
 use crate::text::keys::{Key, Place};
@@ -31,7 +31,8 @@ fn find_word<'a>(table: &'a Table, word: &str) -> Option<&'a Value>
 
 /// The value at a key that has to be there.
 pub fn required(place: Place, key: Key, table: &Table) -> Result<&Value, RecipeRefusal>
-    ensures { Gives (λ v. view v.now) result (or_refused (Absent place key) (get_member (key_word key) (table_view table.now))) }
+    ensures value { Gives (λ v. view v.now) result (or_refused (Absent place key) (get_member (key_word key) (table_view table.now))) }
+    ensures memory { NeverWants result }
 {
     match find(table, key) {
         Some(value) => Ok(value),
@@ -42,7 +43,8 @@ pub fn required(place: Place, key: Key, table: &Table) -> Result<&Value, RecipeR
 /// The name at a key that has to be there.
 #[tactic(auto, unfolding(crate::specs::Text::Reading::required))]
 pub fn required_name(place: Place, key: Key, table: &Table) -> Result<Name, RecipeRefusal>
-    ensures { Gives (λ x. x) result (required a_name place key (table_view table.now)) }
+    ensures value { Gives (λ x. x) result (required a_name place key (table_view table.now)) }
+    ensures memory { NeverWants result }
 {
     name(place, key, required(place, key, table)?)
 }
@@ -50,7 +52,8 @@ pub fn required_name(place: Place, key: Key, table: &Table) -> Result<Name, Reci
 /// The name at a key that may be absent.
 #[tactic(auto, unfolding(crate::specs::Text::Reading::optional))]
 pub fn optional_name(place: Place, key: Key, table: &Table) -> Result<Option<Name>, RecipeRefusal>
-    ensures { Gives (λ x. x) result (optional a_name place key (table_view table.now)) }
+    ensures value { Gives (λ x. x) result (optional a_name place key (table_view table.now)) }
+    ensures memory { NeverWants result }
 {
     match find(table, key) {
         Some(value) => Ok(Some(name(place, key, value)?)),
@@ -67,7 +70,8 @@ pub fn required_number(
     key: Key,
     table: &Table,
 ) -> Result<u64, RecipeRefusal>
-    ensures { Gives (λ x. x) result (required (a_number least most) place key (table_view table.now)) }
+    ensures value { Gives (λ x. x) result (required (a_number least most) place key (table_view table.now)) }
+    ensures memory { NeverWants result }
 {
     number(least, most, place, key, required(place, key, table)?)
 }
@@ -81,7 +85,8 @@ pub fn optional_number(
     key: Key,
     table: &Table,
 ) -> Result<Option<u64>, RecipeRefusal>
-    ensures { Gives (λ x. x) result (optional (a_number least most) place key (table_view table.now)) }
+    ensures value { Gives (λ x. x) result (optional (a_number least most) place key (table_view table.now)) }
+    ensures memory { NeverWants result }
 {
     match find(table, key) {
         Some(value) => Ok(Some(number(least, most, place, key, value)?)),
@@ -92,7 +97,8 @@ pub fn optional_number(
 /// Refuses a table that has a key beside these.
 #[tactic(auto, unfolding(crate::specs::Text::Reading::no_other_key))]
 pub fn no_other_key(place: Place, keys: &[Key], table: &Table) -> Result<(), RecipeRefusal>
-    ensures { Gives (λ x. x) result (no_other_key place keys.now (table_view table.now)) }
+    ensures value { Gives (λ x. x) result (no_other_key place keys.now (table_view table.now)) }
+    ensures memory { NeverWants result }
 {
     if are_listed(keys, table) {
         Ok(())

@@ -2,7 +2,7 @@
 
 ghost use Rattle.std.specs.Prelude.{◌≡◌, ◌≤◌, IfOk, length, map, []};
 ghost use Rattle.toml.specs.View.{view};
-ghost use Rattle.recipe.specs.Text.Reading.{Gives, a_list, a_name, a_table, a_word, an_array, gathered};
+ghost use Rattle.recipe.specs.Text.Reading.{Gives, NeverWants, a_list, a_name, a_table, a_word, an_array, gathered};
 ghost use Rattle.recipe.specs.Text.Inside.Views.{tables_view};
 
 use crate::text::keys::{Key, Place};
@@ -23,6 +23,7 @@ pub fn array(
 ) -> Result<&[Value], RecipeRefusal>
     ensures values { Gives (λ values. map view values.now) result (an_array least most place key (view value.now)) }
     ensures few { IfOk result (λ values. length values.now ≤ most) }
+    ensures memory { NeverWants result }
 {
     match value.as_array() {
         Some(array) => {

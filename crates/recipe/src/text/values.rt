@@ -3,7 +3,7 @@
 ghost use Rattle.std.specs.Prelude.{◌≡◌, map};
 ghost use Rattle.std.specs.List.{list_all};
 ghost use Rattle.toml.specs.View.{view, table_view};
-ghost use Rattle.recipe.specs.Text.Reading.{Gives, a_text, a_name, a_path, a_word, a_number, a_table, in_range, is_word, is_word_byte};
+ghost use Rattle.recipe.specs.Text.Reading.{Gives, NeverWants, a_text, a_name, a_path, a_word, a_number, a_table, in_range, is_word, is_word_byte};
 
 use crate::text::keys::{Key, Place};
 use crate::text::paths::{Path, is_path};
@@ -15,7 +15,8 @@ use toml::{Table, Value};
 /// A string.
 #[tactic(auto, unfolding(crate::specs::Text::Reading::a_text))]
 pub fn text(place: Place, key: Key, value: &Value) -> Result<&str, RecipeRefusal>
-    ensures { Gives (λ text. text.now) result (a_text place key (view value.now)) }
+    ensures value { Gives (λ text. text.now) result (a_text place key (view value.now)) }
+    ensures memory { NeverWants result }
 {
     match value.as_str() {
         Some(text) => Ok(text),
@@ -26,7 +27,8 @@ pub fn text(place: Place, key: Key, value: &Value) -> Result<&str, RecipeRefusal
 /// A name.
 #[tactic(auto, unfolding(crate::specs::Text::Reading::a_name))]
 pub fn name(place: Place, key: Key, value: &Value) -> Result<Name, RecipeRefusal>
-    ensures { Gives (λ name. name) result (a_name place key (view value.now)) }
+    ensures value { Gives (λ name. name) result (a_name place key (view value.now)) }
+    ensures memory { NeverWants result }
 {
     let text = text(place, key, value)?;
     match Name::read(text.as_bytes()) {
@@ -85,7 +87,8 @@ pub fn number(
     key: Key,
     value: &Value,
 ) -> Result<u64, RecipeRefusal>
-    ensures { Gives (λ number. number) result (a_number least most place key (view value.now)) }
+    ensures value { Gives (λ number. number) result (a_number least most place key (view value.now)) }
+    ensures memory { NeverWants result }
 {
     match value.as_integer() {
         Some(number) => match in_range(least, most, number) {
@@ -114,7 +117,8 @@ fn in_range(least: u64, most: u64, number: i64) -> Option<u64>
 /// A table.
 #[tactic(auto, unfolding(crate::specs::Text::Reading::a_table))]
 pub fn table(place: Place, key: Key, value: &Value) -> Result<&Table, RecipeRefusal>
-    ensures { Gives (λ table. table_view table.now) result (a_table place key (view value.now)) }
+    ensures value { Gives (λ table. table_view table.now) result (a_table place key (view value.now)) }
+    ensures memory { NeverWants result }
 {
     match value.as_table() {
         Some(table) => Ok(table),

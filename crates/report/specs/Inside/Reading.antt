@@ -1,5 +1,6 @@
 -- No promise rests on this file being read: a report read line by line.
-use Rattle.std.specs.Prelude.{◌≡◌, ℕ, zero, suc, ◌+◌, List, [], Option, Some, None}
+use Rattle.std.specs.Prelude.{◌≡◌, ℕ, zero, suc, ◌+◌, List, [], length, Option, Some, None, Result, Ok, Err}
+use Rattle.std.specs.Option.{option_map_or}
 use Rattle.report.specs.declared.line.Line.{Line}
 use Rattle.report.specs.declared.state.State.{State}
 use Rattle.report.specs.declared.state.State.TheVariants.{Start, Ended}
@@ -26,6 +27,20 @@ one_more at = do
 unfoldable pub after : ℕ → List ℕ → Option (State × List ℕ)
 after zero bytes = Some (Start, bytes)
 after (suc n) bytes = after n bytes >>= one_more
+
+-- what lines lead to where none goes on with them, and the number of the line that does not
+abbrev pub ended : ℕ → State → List ℕ → Result Report ℕ
+ended number (Ended report) [] = Ok report
+ended number _ _ = Err number
+
+-- the lines from a number on, as long as they go on
+unfoldable pub read_on : ℕ → ℕ → State × List ℕ → Result Report ℕ
+read_on zero number at = ended number at.0 at.1
+read_on (suc more) number at = option_map_or (λ next. read_on more (number + 1) next) (one_more at) (ended number at.0 at.1)
+
+-- all lines of a text
+abbrev pub read_all : List ℕ → Result Report ℕ
+read_all bytes = read_on (length bytes) 1 (Start, bytes)
 
 -- the bytes are left after whole lines
 pub record Stands (bytes : List ℕ) (n : ℕ) (state : State) (rest : List ℕ) : Type 0 where

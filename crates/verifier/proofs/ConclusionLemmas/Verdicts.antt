@@ -18,7 +18,7 @@ by-comparison prescribes compiles recipe inputs (Differs offset ours theirs) sho
 
 pub by-verdict : (prescribes : Prescribes) (compiles : Compiles) (recipe : Said) (inputs : List (List ℕ)) (fault : Option (Part × ℕ)) (line : Compared) (verdict : Verdict)
     → Judges fault line verdict → (fault ≡ None → Shows prescribes compiles recipe inputs (true_verdict line)) → Shows prescribes compiles recipe inputs verdict
-by-verdict prescribes compiles recipe inputs fault line OutOfMemory judges shown = tt
+by-verdict prescribes compiles recipe inputs fault line (OutOfMemory stage) judges shown = tt
 by-verdict prescribes compiles recipe inputs fault line (Refuted part place) judges shown = tt
 by-verdict prescribes compiles recipe inputs None line Yes judges shown = subst (Shows prescribes compiles recipe inputs) (sym judges) (shown refl)
 by-verdict prescribes compiles recipe inputs (Some (part, place)) line Yes judges shown = absurd cc

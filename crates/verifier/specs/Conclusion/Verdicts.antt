@@ -10,4 +10,4 @@ abbrev pub Shows : Prescribes → Compiles → Said → List (List ℕ) → Verd
 Shows prescribes compiles recipe inputs Yes = ConcludesEqual prescribes compiles recipe inputs
 Shows prescribes compiles recipe inputs TrueButDiffers = ConcludesDifferent prescribes compiles recipe inputs
 Shows prescribes compiles recipe inputs (Refuted part place) = Unit {0}
-Shows prescribes compiles recipe inputs OutOfMemory = Unit {0}
+Shows prescribes compiles recipe inputs (OutOfMemory stage) = Unit {0}

@@ -1,4 +1,4 @@
-use Rattle.std.proofs.Common.{◌≡◌, ◌+◌, ◌∙◌, ◌++◌, ◌∷◌, [], ℕ, List, Some, Ok, arith, drop, length, sym, ap, subst, All}
+use Rattle.std.proofs.Common.{◌≡◌, ◌+◌, ◌∙◌, ◌++◌, ◌∷◌, [], ℕ, List, Some, Ok, arith, drop, take, length, refl, sym, ap, subst, All}
 use Rattle.std.specs.Prelude.{Contains, slice_get, sum_by}
 use Rattle.std.proofs.lemmas.Option.{slice_get-get_or}
 use Rattle.std.proofs.lemmas.List.{length_push}
@@ -8,8 +8,9 @@ use Rattle.mem_files.specs.Outputs.{IsContent}
 use Rattle.recipe.specs.declared.parts.Stage.{Stage}
 use Rattle.wheeler.specs.Contents.{Contents}
 use Rattle.verifier.specs.Faults.{replayed, stages_fault}
+use Rattle.verifier.specs.Verdicts.{AreReplayed}
 use Rattle.verifier.proofs.DoneStages.{replayed-content}
-use Rattle.verifier.proofs.Looping.{among, at_stage, goes_on, no_line}
+use Rattle.verifier.proofs.Looping.{among, at_stage, goes_on, no_line, replayed_on, stands}
 use Rattle.verifier.proofs.judging.replay_all.Goals as goal
 
 pub returns-in-Err : goal.returns-in-Err
@@ -18,17 +19,7 @@ returns-in-Err c =
     let look = c.in-Some.ensures.lookup in
     let found : slice_get c.args.stages.now c.loop-index.index ≡ Some c.in-Some.stage.now =
     slice_get-get_or c.args.stages.now c.loop-index.index c.in-Some.stage.now look.3.0 ∙ ap Some (sym look.1) in
-    record {
-      so_far = all;
-      stage = c.in-Some.stage.now;
-      later = drop (c.loop-index.index + 1) c.args.stages.now;
-      line = c.index-lines-index.result;
-      others = drop (c.loop-index.index + 1) c.args.lines.now;
-      ahead = λ compare.
-          c.loop-index.invariant.4 compare
-          ∙ at_stage c.args.recipe.now compare all c.args.stages.now c.args.lines.now c.loop-index.index c.in-Some.stage.now c.index-lines-index.result
-          found (omega arith) c.index-lines-index.is;
-    }
+    stands c.args.recipe.now c.args.inputs.now c.args.stages.now c.args.lines.now c.loop-index.index _ all c.in-Some.stage.now c.requires.stages refl found c.loop-index.invariant.5
 
 pub returns-in-Err-OutOfMemory : goal.returns-in-Err-OutOfMemory
 returns-in-Err-OutOfMemory c =
@@ -36,17 +27,7 @@ returns-in-Err-OutOfMemory c =
     let look = c.in-Some.ensures.lookup in
     let found : slice_get c.args.stages.now c.loop-index.index ≡ Some c.in-Some.stage.now =
     slice_get-get_or c.args.stages.now c.loop-index.index c.in-Some.stage.now look.3.0 ∙ ap Some (sym look.1) in
-    record {
-      so_far = all;
-      stage = c.in-Some.stage.now;
-      later = drop (c.loop-index.index + 1) c.args.stages.now;
-      line = c.index-lines-index.result;
-      others = drop (c.loop-index.index + 1) c.args.lines.now;
-      ahead = λ compare.
-          c.loop-index.invariant.4 compare
-          ∙ at_stage c.args.recipe.now compare all c.args.stages.now c.args.lines.now c.loop-index.index c.in-Some.stage.now c.index-lines-index.result
-          found (omega arith) c.index-lines-index.is;
-    }
+    stands c.args.recipe.now c.args.inputs.now c.args.stages.now c.args.lines.now c.loop-index.index _ all c.in-Some.stage.now c.requires.stages refl found c.loop-index.invariant.5
 
 pub loop-index-preserved : goal.loop-index-preserved
 loop-index-preserved c =
@@ -76,6 +57,10 @@ loop-index-preserved c =
           ∙ at_stage c.args.recipe.now compare all c.args.stages.now c.args.lines.now c.loop-index.index stage line found (omega arith) c.index-lines-index.is
           ∙ goes_on c.args.recipe.now compare all stage (drop (c.loop-index.index + 1) c.args.stages.now) line (drop (c.loop-index.index + 1) c.args.lines.now) c.in-Ok.made right
           ∙ ap (λ a. stages_fault c.args.recipe.now compare (record { inputs = c.args.inputs.now; artefacts = a }) (drop (c.loop-index.index + 1) c.args.stages.now) (drop (c.loop-index.index + 1) c.args.lines.now)) (sym pushed),
+      subst (λ (a : List (List ℕ)). AreReplayed c.args.recipe.now (record { inputs = c.args.inputs.now; artefacts = [] }) (take (c.loop-index.index + 1) c.args.stages.now) (take (c.loop-index.index + 1) c.args.lines.now)
+          (record { inputs = c.args.inputs.now; artefacts = a })) (sym pushed)
+          (replayed_on c.args.recipe.now (record { inputs = c.args.inputs.now; artefacts = [] }) all c.args.stages.now c.args.lines.now c.loop-index.index stage line c.in-Ok.made
+          found (omega arith) c.index-lines-index.is c.loop-index.invariant.5 right),
     )
 
 pub returns : goal.returns
