@@ -15,7 +15,7 @@ use Rattle.guest_run.specs.Run.{End, Exited, Trapped, UnknownCall, first_end}
 use Rattle.command_plan.specs.declared.status.Status.{Status}
 use Rattle.command_plan.specs.declared.status.Status.TheVariants.{Yes, RunFailed}
 use Rattle.command_plan.specs.Causes.Texts.{trap_text, call_text, elf_text, args_text, box_text, spent_text}
-use Rattle.command_plan.specs.Words.{as_steps, is_file_word, usage}
+use Rattle.command_plan.specs.Words.{as_steps, is_file_word, or_usage, usage}
 use Rattle.command_plan.specs.Plan.{Plan, answers, needs}
 
 -- a refused start
@@ -77,10 +77,7 @@ run_file program args most =
     needs program 268_435_456 (λ bytes. start_plan (start_of bytes (setting_of (program ∷ args))) most)
 
 -- the words after `run`
-abbrev pub run_words : List ℕ → List (List ℕ) → Option ℕ → Plan
-run_words program args None = usage
-run_words program args (Some most) = if is_file_word program && list_all is_text args then run_file program args most else usage
-
 abbrev pub run_plan : List (List ℕ) → Plan
-run_plan (program ∷ steps ∷ args) = run_words program args (as_steps steps)
+run_plan (program ∷ steps ∷ args) =
+    or_usage (as_steps steps) (λ most. if is_file_word program && list_all is_text args then run_file program args most else usage)
 run_plan _ = usage
