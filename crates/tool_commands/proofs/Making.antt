@@ -1,5 +1,5 @@
 -- What a source comes to, or its refusal, as a step of a plan.
-use Rattle.std.proofs.Common.{◌≡◌, ℕ, List, Result, Ok, Err, refl, sym}
+use Rattle.std.proofs.Common.{◌≡◌, ℕ, List, Ok, Err, refl, sym}
 use Rattle.ddc_base.specs.Outside.{ShelfState}
 use Rattle.hex_langs.specs.declared.items.item.Item.{Item}
 use Rattle.hex_langs.specs.declared.items.reader.HexRefusal.{HexRefusal}
