@@ -1,5 +1,5 @@
 -- What a text is as a save is what was read of it, where memory was not wanting.
-use Rattle.std.proofs.Common.{◌≡◌, ◌≢◌, ℕ, List, Result, Ok, Err}
+use Rattle.std.proofs.Common.{◌≢◌, ℕ, List, Ok, Err}
 use Rattle.ddc_base.specs.Outside.{ShelfState}
 use Rattle.recipe.specs.declared.contents.Said.{Said}
 use Rattle.audit_run.specs.declared.save.reading.SaveRefusal.{SaveRefusal}

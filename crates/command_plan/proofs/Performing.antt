@@ -1,5 +1,5 @@
 -- How the steps of a command make up the whole.
-use Rattle.std.proofs.Common.{◌≡◌, ℕ, zero, suc, Bool, true, false, IsTrue, inl, inr, Option, Some, None, Result, Ok, Err, List, [], ◌∷◌, ◌++◌, length, take, slice_get, append_assoc, append-nil, take_all, le_refl, refl, sym, ap, subst, ◌∙◌, arith}
+use Rattle.std.proofs.Common.{◌≡◌, ℕ, suc, Bool, true, false, IsTrue, inl, inr, Result, Ok, Err, List, [], ◌∷◌, ◌++◌, length, take, slice_get, append_assoc, append-nil, take_all, le_refl, refl, sym, ap, subst, ◌∙◌}
 use Rattle.std.specs.Bool.{OnTrue}
 use Rattle.std.specs.Option.{option_map}
 use Rattle.std.specs.FinMap as map
@@ -7,7 +7,6 @@ use Rattle.ddc_base.specs.declared.outside.Operation.{Operation}
 use Rattle.ddc_base.specs.declared.outside.Operation.TheVariants as operation
 use Rattle.ddc_base.specs.declared.outside.Call.{Call}
 use Rattle.ddc_base.specs.declared.outside.Call.TheVariants.{Load, Save}
-use Rattle.ddc_base.specs.declared.outside.Loaded.{Loaded}
 use Rattle.ddc_base.specs.declared.outside.Loaded.TheVariants as content
 use Rattle.ddc_base.specs.Outside.{Files, ShelfState, SaveFails, after_call, after_fault, after_setting, loaded, one_more}
 use Rattle.command_plan.specs.declared.status.Status.TheVariants.{FileRefused}
@@ -15,8 +14,8 @@ use Rattle.command_plan.specs.declared.answer.Answer.{Answer}
 use Rattle.command_plan.specs.declared.stop.Stop.{Stop}
 use Rattle.command_plan.specs.declared.stop.Stop.TheVariants as stop
 use Rattle.command_plan.specs.Plan.{Plan, answers, needs, sets, follow, outcome, asked, files_after, IsSettled}
-use Rattle.command_plan.specs.Endings.{Completes, Stops, StandsAt, Fails, FailsAt, failure_of}
-use Rattle.command_plan.specs.Performs.{Answers, Faults, Performs}
+use Rattle.command_plan.specs.Endings.{Completes, Stops, Fails, failure_of}
+use Rattle.command_plan.specs.Performs.{Answers, Performs}
 use Rattle.command_plan.specs.Steps.{Says, IsRefusal, Fetches, Saves}
 
 -- a fact that holds where the shelf tells, on a shelf that tells

@@ -1,5 +1,5 @@
 -- How a piece of an audit begins beside the undivided audit: both are refused alike, or a recipe and its inputs are found.
-use Rattle.std.proofs.Common.{◌≡◌, ℕ, Bool, true, false, cond, IsTrue, ◌&&◌, ◌⊎◌, inl, inr, Ok, List, decimal, refl, sym, ap, ◌∙◌, subst}
+use Rattle.std.proofs.Common.{◌≡◌, ℕ, true, false, cond, IsTrue, ◌&&◌, ◌⊎◌, inl, inr, Ok, List, decimal, refl, sym, ap, ◌∙◌, subst}
 use Rattle.std.proofs.lemmas.Bool.{and_parts}
 use Rattle.ddc_base.specs.declared.outside.Loaded.TheVariants.{Bytes}
 use Rattle.ddc_base.specs.Outside.{Files, loaded}

@@ -65,9 +65,12 @@ module _ (recipe save report : List ℕ) (steps : ℕ) (files : Files) (name : L
 
   resume_keeps : (n : ℕ) → Keeps (resume_files recipe save report n)
   unfolding resume_files
-  resume_keeps n =
-      recipe_keeps _ (λ said. apart_keeps said report _ (apart_keeps said save _ (load_keeps _ (λ text. inputs_keep said _ (λ inputs.
-      position_keeps said inputs text _ (λ p. came said inputs (forward said inputs p n)))))))
+  resume_keeps n = recipe_keeps _ (λ said.
+      let last : List (List ℕ) → Position → Plan = λ inputs p. came_to said inputs save report (forward said inputs p n) in
+      let at : List ℕ → List (List ℕ) → Plan = λ text inputs. needs_position said inputs text (last inputs) in
+      let loads : List ℕ → Plan = λ text. needs_inputs said (at text) in
+      apart_keeps said report _ (apart_keeps said save (λ _. needs save 4_294_967_296 loads)
+      (load_keeps loads (λ text. inputs_keep said (at text) (λ inputs. position_keeps said inputs text (last inputs) (λ p. came said inputs (forward said inputs p n)))))))
 
   pub part_stays : finite.get (part recipe save report steps files).files name ≡ finite.get files name
   part_stays = worded (part_files recipe save report) part_keeps (are_three_files recipe save report) (as_steps (decimal steps))

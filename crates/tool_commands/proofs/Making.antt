@@ -1,5 +1,5 @@
 -- What a source comes to, or its refusal, as a step of a plan.
-use Rattle.std.proofs.Common.{◌≡◌, ℕ, List, Result, Ok, Err, refl, ap, ◌∙◌}
+use Rattle.std.proofs.Common.{◌≡◌, ℕ, List, Ok, Err, refl, sym}
 use Rattle.ddc_base.specs.Outside.{ShelfState}
 use Rattle.hex_langs.specs.declared.items.item.Item.{Item}
 use Rattle.hex_langs.specs.declared.items.reader.HexRefusal.{HexRefusal}
@@ -28,12 +28,12 @@ module _ (language : HexLanguage) (base : ℕ) (source : List ℕ) (shelf : Shel
   refuse why = answers CheckFailed (refused_line (refusal_number why) (refusal_place why))
 
   pub has_value : (value : List ℕ) → Links (Ok value) (value_of language base source) → Obtains (needs_value language base source) shelf shelf (Ok value)
-  has_value value is = step.reads (value_of language base source) refuse (λ v. v) shelf value value is refl
+  has_value value is = step.reads (value_of language base source) refuse (λ v. v) shelf value value (sym is) refl
 
   pub has_none : (why : HexRefusal) (answer : Answer) → Links (Err why) (value_of language base source) → Refuses why (Ok answer)
       → Obtains (needs_value language base source) shelf shelf (Err (stop.Answered answer))
   has_none refusal.OutOfMemory answer is said = absurd cc
-  has_none why answer is said = step.refuses (value_of language base source) refuse (λ v. v) shelf why answer is said.by_result
+  has_none why answer is said = step.refuses (value_of language base source) refuse (λ v. v) shelf why answer (sym is) said.by_result
 
   pub value_wants : (why : HexRefusal) (ending : Stop) → Refuses why (Err ending) → Obtains (needs_value language base source) shelf shelf (Err ending)
   value_wants refusal.OutOfMemory ending said = step.wants_as (needs_value language base source) shelf ending cc

@@ -45,10 +45,10 @@ needs_items source next =
 
 -- what a source comes to in a language, at a base, which hex0 and M1 don't know
 abbrev pub needs_made : Language → ℕ → List ℕ → (List ℕ → Plan) → Plan
-needs_made Hex0 base source next = needs_value hex.Hex0 base source next
-needs_made Hex1 base source next = needs_value hex.Hex1 base source next
-needs_made Hex2 base source next = needs_value hex.Hex2 base source next
-needs_made M1 base source next = needs_items source next
+needs_made Hex0 base source = needs_value hex.Hex0 base source
+needs_made Hex1 base source = needs_value hex.Hex1 base source
+needs_made Hex2 base source = needs_value hex.Hex2 base source
+needs_made M1 base source = needs_items source
 
 -- the source, of at most 268,435,456 bytes, and what it comes to, which is saved
 unfoldable pub asm_files : Language → ℕ → List ℕ → List ℕ → Plan

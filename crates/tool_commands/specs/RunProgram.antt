@@ -1,6 +1,6 @@
 -- `run PROGRAM STEPS ARG..`: how a program's run ends within so many steps, and what it leaves. docs/reference/command-line.md says the
 -- same for people.
-use Rattle.std.specs.Prelude.{ℕ, ◌+◌, ◌&&◌, ◌==◌, Option, Some, None, Result, Ok, Err, List, [], ◌∷◌, ◌++◌, length, unwrap_or, codes, decimal, if◌then◌else◌}
+use Rattle.std.specs.Prelude.{ℕ, ◌+◌, Bool, ◌&&◌, ◌==◌, Option, Some, None, Result, Ok, Err, List, [], ◌∷◌, ◌++◌, length, unwrap_or, codes, decimal, if◌then◌else◌}
 use Rattle.std.specs.List.{flat_map, list_all}
 use Rattle.std.specs.FinMap as map
 use Rattle.hex.specs.Hex.{encode_lower}
@@ -76,8 +76,12 @@ unfoldable pub run_file : List ℕ → List (List ℕ) → ℕ → Plan
 run_file program args most =
     needs program 268_435_456 (λ bytes. start_plan (start_of bytes (setting_of (program ∷ args))) most)
 
+-- words that can name a program and its arguments
+abbrev pub are_run_words : List ℕ → List (List ℕ) → Bool
+are_run_words program args = is_file_word program && list_all is_text args
+
 -- the words after `run`
 abbrev pub run_plan : List (List ℕ) → Plan
 run_plan (program ∷ steps ∷ args) =
-    or_usage (as_steps steps) (λ most. if is_file_word program && list_all is_text args then run_file program args most else usage)
+    or_usage (as_steps steps) (λ most. if are_run_words program args then run_file program args most else usage)
 run_plan _ = usage

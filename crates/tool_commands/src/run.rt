@@ -13,8 +13,8 @@ ghost use Rattle.command_plan.specs.Plan.{answers};
 ghost use Rattle.tool_commands.specs.RunProgram.{setting_of, end_plan, start_plan, status_of, run_file, run_plan};
 
 use crate::run_texts;
-use crate::words::are_texts;
-use command_plan::words::{is_file_word, steps_of};
+use crate::words::are_run_words;
+use command_plan::words::steps_of;
 use command_plan::{Answer, Status, Stop, fetch_file, usage};
 use ddc_base::{Bytes, OutOfMemory, Shelf};
 use guest_run::{Guest, RunBox, RunEnd, RunRam, StartRefusal};
@@ -24,7 +24,7 @@ use std::alloc::Global;
 const HEAP: u64 = 536_870_912;
 
 /// Performs the command on the words after its name.
-#[tactic(auto, using(command_plan::proofs::Performing::performing, crate::proofs::Arguments::texts_of_words))]
+#[tactic(auto, using(command_plan::proofs::Performing::performing))]
 pub fn perform<S: Shelf>(alloc: Global, words: &[&str], shelf: &mut S) -> Result<Answer, Stop>
     ensures { Performs (run_plan (map (λ w. w.now) words.now)) (S.state shelf.old) (S.state shelf.new) result }
 {
@@ -32,9 +32,7 @@ pub fn perform<S: Shelf>(alloc: Global, words: &[&str], shelf: &mut S) -> Result
         return usage(alloc);
     };
     match steps_of(steps) {
-        Some(most) if is_file_word(program) && are_texts(args) => {
-            run(alloc, shelf, program, args, most)
-        }
+        Some(most) if are_run_words(program, args) => run(alloc, shelf, program, args, most),
         _ => usage(alloc),
     }
 }

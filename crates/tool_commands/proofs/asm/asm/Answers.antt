@@ -23,4 +23,4 @@ pub returns : goal.returns
 unfolding asm_files
 returns g c =
     goes_on_with _ _ _ _ _ _ _ c.in_ok-text.ensures.obtained (goes_on_with _ _ _ _ _ _ _ (rw c.as_slice.ensures at c.in_ok-made.ensures _)
-    (rw (c.as_slice-2.ensures, c.in_ok-made_text.ensures) at c.keep.ensures))
+    (rw (c.as_slice-2.ensures, c.in_ok-made_text.ensures, c.len.ensures) at c.keep.ensures))
