@@ -3,7 +3,6 @@ use Rattle.std.proofs.Common.{◌≡◌, ℕ, suc, Bool, true, false, cond, Opti
 use Rattle.std.specs.Prelude.{◌==◌, ◌&&◌, bytes_eq, option_and_then, option_map}
 use Rattle.std.proofs.lemmas.Bool.{and_parts, eqb-true}
 use Rattle.std.proofs.lemmas.Slice.Eq.{bytes_eq-Decides}
-use Rattle.ddc_base.specs.declared.languages.Language.{Language}
 use Rattle.ddc_base.specs.declared.languages.Language.TheVariants.{M1}
 use Rattle.hex_langs.specs.declared.items.item.Item.{Item}
 use Rattle.hex_langs.specs.declared.items.item.Item.TheVariants as item
