@@ -79,7 +79,7 @@ const ABD: (&str, &str) = (
 /// What is changed in the recipe, into what, and the status and the text of its audit.
 type Row = (&'static str, &'static str, Status, &'static str);
 
-static ROWS: [Row; 22] = [
+static ROWS: [Row; 23] = [
     ("", "", Status::Yes, "equal two bin 3\n"),
     // the compared binary: the last byte, one less, one more, none
     (
@@ -145,12 +145,13 @@ static ROWS: [Row; 22] = [
         "file refused none absent\n",
     ),
     ("\"copy.elf\"", "\"r\"", Status::Usage, "usage\n"),
-    // `./r` is not `r`, whatever the host makes of it
+    // Leading `./` are taken off an input's path too, and nothing else is.
+    ("\"copy.elf\"", "\"././r\"", Status::Usage, "usage\n"),
     (
         "\"copy.elf\"",
-        "\"./r\"",
+        "\".//r\"",
         Status::FileRefused,
-        "file refused ./r absent\n",
+        "file refused .//r absent\n",
     ),
     // `one` makes other bytes than its source stands for
     (
@@ -317,13 +318,19 @@ fn faults_of_the_shelf_are_said(rt: HostRuntime) -> Result<(), Fail> {
 fn the_words_of_an_audit_are_judged(rt: HostRuntime) -> Result<(), Fail> {
     let alloc = rt.alloc();
     let mut shelf = audit_shelf(alloc, "", "")?;
-    let lines: [&[&str]; 6] = [
+    let lines: [&[&str]; 11] = [
         &["audit"],
         &["audit", "a.toml"],
         &["audit", "a.toml", "r", "r"],
         &["audit", "a.toml", "a.toml"],
         &["audit", "", "r"],
         &["audit", "a.toml", "b.bin"],
+        // Words that are equal behind leading `./`.
+        &["audit", "a.toml", "./a.toml"],
+        &["audit", "./a.toml", "././a.toml"],
+        &["audit", "a.toml", "./b.bin"],
+        &["audit", "a.toml", "./././b.bin"],
+        &["audit", "./", "./"],
     ];
     for words in lines {
         let mut out = MemSink::new(alloc);
@@ -332,6 +339,24 @@ fn the_words_of_an_audit_are_judged(rt: HostRuntime) -> Result<(), Fail> {
             Status::Usage
         );
         assert_eq!(rt; out.written(), "usage\n".as_bytes());
+    }
+    Ok(())
+}
+
+/// A word of which nothing is left behind `./` clashes with no other, and only leading `./` are taken off. A report is saved under its word.
+#[test]
+fn reports_are_saved_under_their_words(rt: HostRuntime) -> Result<(), Fail> {
+    let alloc = rt.alloc();
+    for report in ["./r", "./", "././", ".//b.bin", "x/../b.bin", ".b.bin", "./../b.bin"] {
+        let mut shelf = audit_shelf(alloc, "", "")?;
+        let mut out = MemSink::new(alloc);
+        assert_eq!(rt;
+            run::<Assembly, _, _>(alloc, &["audit", "a.toml", report], &mut shelf, &mut out),
+            Status::Yes
+        );
+        assert_eq!(rt; shelf.get(report).unwrap_or(&[]), REPORT.as_bytes());
+        assert!(rt; shelf.get("r").is_none());
+        assert_eq!(rt; shelf.get("b.bin").unwrap_or(&[]), b"abc".as_slice());
     }
     Ok(())
 }

@@ -376,7 +376,7 @@ fn words_are_judged(rt: HostRuntime) -> Result<(), Fail> {
 /// Words after either command, their ending, and how many calls were answered.
 type Opening = (&'static [&'static str], Status, &'static str, usize);
 
-static OPENINGS: [Opening; 6] = [
+static OPENINGS: [Opening; 9] = [
     (
         &["none", "s", "r", "1"],
         Status::FileRefused,
@@ -409,6 +409,20 @@ static OPENINGS: [Opening; 6] = [
         "usage\n",
         1,
     ),
+    // So it is behind leading `./`; and words are judged before anything is loaded.
+    (
+        &["a.toml", "./b.bin", "r", "1"],
+        Status::Usage,
+        "usage\n",
+        1,
+    ),
+    (
+        &["a.toml", "s", "././copy.elf", "1"],
+        Status::Usage,
+        "usage\n",
+        1,
+    ),
+    (&["a.toml", "s", "./s", "1"], Status::Usage, "usage\n", 0),
 ];
 
 #[test]

@@ -113,7 +113,7 @@ fn sources_are_assembled(rt: HostRuntime) -> Result<(), Fail> {
     let mut shelf = worked_shelf(alloc)?;
     shelf.set("worked.m1", WORKED)?;
     shelf.set("range.m1", b"!2048")?;
-    let table: [(&[&str], Status, &str); 5] = [
+    let table: [(&[&str], Status, &str); 6] = [
         (
             &["asm", "m1", "0", "worked.m1", "text"],
             Status::Yes,
@@ -128,6 +128,11 @@ fn sources_are_assembled(rt: HostRuntime) -> Result<(), Fail> {
             &["asm", "m1", "0", "range.m1", "text"],
             Status::CheckFailed,
             "refused 5 0\n",
+        ),
+        (
+            &["asm", "m1", "0", "worked.m1", "././worked.m1"],
+            Status::Usage,
+            "usage\n",
         ),
         (
             &["asm", "m1", "x", "worked.m1", "text"],

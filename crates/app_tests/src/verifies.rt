@@ -552,13 +552,15 @@ fn loads_come_in_order(rt: HostRuntime) -> Result<(), Fail> {
 fn the_words_of_verify_are_judged(rt: HostRuntime) -> Result<(), Fail> {
     let alloc = rt.alloc();
     let mut shelf = audit_shelf(alloc, "", "")?;
-    let table: [(&[&str], Status, &str); 8] = [
+    let table: [(&[&str], Status, &str); 10] = [
         (&["verify"], Status::Usage, "usage\n"),
         (&["verify", "a.toml"], Status::Usage, "usage\n"),
         (&["verify", "a.toml", "r", "r"], Status::Usage, "usage\n"),
         (&["verify", "a.toml", "a.toml"], Status::Usage, "usage\n"),
         (&["verify", "a.toml", ""], Status::Usage, "usage\n"),
         (&["verify", "a.toml", "b.bin"], Status::Usage, "usage\n"),
+        (&["verify", "a.toml", "./a.toml"], Status::Usage, "usage\n"),
+        (&["verify", "a.toml", "././b.bin"], Status::Usage, "usage\n"),
         (
             &["verify", "a.toml", "r"],
             Status::FileRefused,

@@ -1,37 +1,52 @@
 -- What a text is as a save is what was read of it, where memory was not wanting.
-use Rattle.std.proofs.Common.{◌≡◌, ◌≢◌, ℕ, List, Result, Ok, Err, ap, ◌∙◌, subst}
+use Rattle.std.proofs.Common.{◌≡◌, ◌≢◌, ℕ, List, Result, Ok, Err}
 use Rattle.ddc_base.specs.Outside.{ShelfState}
 use Rattle.recipe.specs.declared.contents.Said.{Said}
-use Rattle.wheeler.specs.Positions.{forward_from}
 use Rattle.audit_run.specs.declared.save.reading.SaveRefusal.{SaveRefusal}
-use Rattle.audit_run.specs.declared.save.reading.SaveRefusal.TheVariants.{OutOfMemory}
-use Rattle.audit_run.proofs.SaveLemmas.Answered.{answered, is_answer}
-use Rattle.audit_run.specs.Saved.{ResumesAudit}
-use Rattle.audit_run.specs.Seen.{AuditState, standing}
+use Rattle.audit_run.specs.declared.save.reading.SaveRefusal.TheVariants.{Form, OtherRecipe, State, OutOfMemory}
+use Rattle.audit_run.proofs.SaveLemmas.Answered.{is_answer}
+use Rattle.audit_run.specs.Saved.{ResumesAudit, standing_at}
+use Rattle.audit_run.specs.Seen.{AuditState}
 use Rattle.command_plan.specs.declared.answer.Answer.{Answer}
 use Rattle.command_plan.specs.declared.stop.Stop.{Stop}
+use Rattle.command_plan.specs.declared.stop.Stop.TheVariants as stop
 use Rattle.command_plan.specs.declared.status.Status.TheVariants.{SaveRefused}
-use Rattle.command_plan.specs.Performs.{Performs}
-use Rattle.command_plan.specs.Plan.{answers}
-use Rattle.command_plan.specs.Steps.{Says}
-use Rattle.command_plan.proofs.Performing.{says}
-use Rattle.audit_commands.specs.Pause.{came_to, read_as, resumed}
+use Rattle.command_plan.specs.Plan.{Plan, answers}
+use Rattle.command_plan.specs.Steps.{Obtains, Says}
+use Rattle.command_plan.proofs.Obtaining as step
+use Rattle.audit_commands.specs.Inside.Refusing.{Refuses}
+use Rattle.audit_commands.specs.Pause.{needs_position, read_as}
 use Rattle.audit_commands.specs.PauseTexts.{refused_line}
 
-module _ (recipe : Said) (inputs : List (List ℕ)) (text save report : List ℕ) (steps : ℕ) (old : ShelfState) (result : Result Answer Stop) where
-  -- the audit goes on from the position that was read
-  pub goes_on : (new : ShelfState) (audit : AuditState) → ResumesAudit recipe inputs text (Ok audit)
-      → Performs (came_to audit.recipe audit.inputs save report (forward_from audit.recipe audit.inputs (standing audit) steps)) old new result
-      → Performs (resumed recipe inputs save report steps (read_as recipe inputs text)) old new result
-  unfolding read_as
-  goes_on new audit r performs =
-      let read : (answered recipe inputs text).result ≡ Ok r.0 = is_answer recipe inputs text (Ok r.0) r.2 (λ same. cc) in
-      rw read
-      (subst (λ (a : AuditState). Performs (came_to a.recipe a.inputs save report (forward_from a.recipe a.inputs (standing a) steps)) old new result) r.1 performs)
+module _ (recipe : Said) (inputs : List (List ℕ)) (text : List ℕ) (shelf : ShelfState) where
+  -- the plan of a save that is read, as one over audits
+  abbrev pub needs_audit : (AuditState → Plan) → Plan
+  needs_audit next = needs_position recipe inputs text (λ p. next (standing_at recipe inputs p))
 
-  pub refuses : (refusal given : SaveRefusal) → refusal ≡ given → given ≢ OutOfMemory → ResumesAudit recipe inputs text (Err refusal)
-      → Says (answers SaveRefused (refused_line given)) result → Performs (resumed recipe inputs save report steps (read_as recipe inputs text)) old old result
+  abbrev refuse : SaveRefusal → Plan
+  refuse refusal = answers SaveRefused (refused_line refusal)
+
+  -- the audit goes on from the position that was read
+  pub goes_on : (audit : AuditState) → ResumesAudit recipe inputs text (Ok audit) → Obtains needs_audit shelf shelf (Ok audit)
   unfolding read_as
-  refuses refusal given same other r said =
-      let read : (answered recipe inputs text).result ≡ Err given = is_answer recipe inputs text (Err refusal) r (λ wants. other cc) ∙ ap Err same in
-      rw read (says (answers SaveRefused (refused_line given)) old result said)
+  goes_on audit r = step.reads (read_as recipe inputs text) refuse (standing_at recipe inputs) shelf r.0 audit (is_answer recipe inputs text (Ok r.0) r.2 (λ same. cc)) r.1
+
+  -- a refusal that is the file's own is said
+  refused : (refusal : SaveRefusal) (answer : Answer) → refusal ≢ OutOfMemory → ResumesAudit recipe inputs text (Err refusal)
+      → Says (refuse refusal) (Ok answer) → Obtains needs_audit shelf shelf (Err (stop.Answered answer))
+  unfolding read_as
+  refused refusal answer other r said =
+      step.refuses (read_as recipe inputs text) refuse (standing_at recipe inputs) shelf refusal answer (is_answer recipe inputs text (Err refusal) r (λ wants. other cc)) said.by_result
+
+  pub refuses : (refusal : SaveRefusal) (answer : Answer) → ResumesAudit recipe inputs text (Err refusal) → Refuses refusal (Ok answer)
+      → Obtains needs_audit shelf shelf (Err (stop.Answered answer))
+  refuses OutOfMemory answer r said = absurd cc
+  refuses (Form offset) answer r said = refused (Form offset) answer (λ same. cc) r said
+  refuses OtherRecipe answer r said = refused OtherRecipe answer (λ same. cc) r said
+  refuses State answer r said = refused State answer (λ same. cc) r said
+
+  pub wants : (refusal : SaveRefusal) (ending : Stop) → Refuses refusal (Err ending) → Obtains needs_audit shelf shelf (Err ending)
+  wants OutOfMemory ending said = step.wants_as needs_audit shelf ending cc
+  wants (Form offset) ending said = step.wants_as needs_audit shelf ending said.by_result
+  wants OtherRecipe ending said = step.wants_as needs_audit shelf ending said.by_result
+  wants State ending said = step.wants_as needs_audit shelf ending said.by_result

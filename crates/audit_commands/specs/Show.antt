@@ -1,21 +1,14 @@
 -- `show REPORT`: the report's text, if the file is one. docs/reference/command-line.md says the same for people.
-use Rattle.std.specs.Prelude.{ℕ, Result, Ok, Err, List, [], ◌∷◌, if◌then◌else◌}
-use Rattle.report.specs.declared.types.Report.{Report}
-use Rattle.report.specs.Reading.{report_of}
+use Rattle.std.specs.Prelude.{ℕ, List, [], ◌∷◌, if◌then◌else◌}
 use Rattle.report.specs.Reports.{report_text}
-use Rattle.command_plan.specs.declared.status.Status.TheVariants.{Yes, ReportRefused}
+use Rattle.command_plan.specs.declared.status.Status.TheVariants.{Yes}
 use Rattle.command_plan.specs.Words.{is_file_word, usage}
-use Rattle.command_plan.specs.Plan.{Plan, answers, needs}
-use Rattle.audit_commands.specs.Texts.{report_line}
+use Rattle.command_plan.specs.Plan.{Plan, answers}
+use Rattle.recipe_plan.specs.Reports.{needs_report}
 
--- a report's text, or the first line that begins none
-abbrev pub shown : Result Report ℕ → Plan
-shown (Ok report) = answers Yes (report_text report)
-shown (Err number) = answers ReportRefused (report_line number)
-
--- the report is needed, of at most 1,073,741,824 bytes, and shown
+-- the report is needed, and its text is said
 unfoldable pub show_file : List ℕ → Plan
-show_file report = needs report 1_073_741_824 (λ bytes. shown (report_of bytes))
+show_file report = needs_report report (λ made. answers Yes (report_text made))
 
 -- the words after `show`
 abbrev pub show_plan : List (List ℕ) → Plan

@@ -7,22 +7,23 @@ ghost use Rattle.report.specs.Reports.{IsReport};
 ghost use Rattle.wheeler.specs.Bench.{bench};
 ghost use Rattle.wheeler.specs.declared.answer.Answer.{Answer as Outcome};
 ghost use Rattle.wheeler.specs.Positions.{Over};
-ghost use Rattle.wheeler.specs.Valid.{IsInputs};
 ghost use Rattle.command_plan.specs.declared.status.Status.TheVariants.{RunFailed, CheckFailed};
 ghost use Rattle.command_plan.specs.Performs.{Performs};
 ghost use Rattle.command_plan.specs.Plan.{answers};
 ghost use Rattle.command_plan.specs.Steps.{Says};
-ghost use Rattle.audit_commands.specs.Audit.{audited, audit_files, audit_plan, audit_recipe, compared_status, completed};
+ghost use Rattle.recipe_plan.specs.Reports.{compared_status};
+ghost use Rattle.recipe_plan.specs.Texts.{compared_line};
+ghost use Rattle.audit_commands.specs.Audit.{audited, audit_files, audit_plan, completed};
 ghost use Rattle.audit_commands.specs.Inside.Finishing.{Comes};
-ghost use Rattle.audit_commands.specs.Texts.{compared_line, stage_name, run_failed_line, check_failed_line};
+ghost use Rattle.audit_commands.specs.Texts.{stage_name, run_failed_line, check_failed_line};
 
-use crate::inputs::{fetch_inputs, fetch_recipe};
 use crate::texts;
 use audit_run::{Audit, Progress};
 use command_plan::words::are_two_files;
 use command_plan::{Answer, Status, Stop, keep, usage};
 use ddc_base::{OutOfMemory, Shelf};
-use recipe::{Inputs, Recipe};
+use recipe::Recipe;
+use recipe_plan::{apart, fetch_inputs, fetch_recipe};
 use report::{CompareLine, Compared, Report};
 use std::alloc::Global;
 use wheeler::RunCause;
@@ -34,62 +35,26 @@ pub fn perform<S: Shelf>(alloc: Global, words: &[&str], shelf: &mut S) -> Result
     ensures { Performs (audit_plan (map (λ w. w.now) words.now)) (S.state shelf.old) (S.state shelf.new) result }
 {
     match words {
-        [recipe, report] if are_two_files(recipe, report) => {
-            audit_files(alloc, recipe, report, shelf)
-        }
+        [recipe, report] if are_two_files(recipe, report) => audit(alloc, shelf, recipe, report),
         _ => usage(alloc),
     }
 }
 
-/// Fetches the recipe, and goes on with it.
-#[tactic(auto, using(command_plan::proofs::Gathering::obtaining), unfolding(crate::specs::Audit::audit_files))]
-fn audit_files<S: Shelf>(
+/// The command on two files.
+#[tactic(auto, using(command_plan::proofs::Obtaining::obtaining), unfolding(crate::specs::Audit::audit_files))]
+fn audit<S: Shelf>(
     alloc: Global,
+    shelf: &mut S,
     recipe: &str,
     report: &str,
-    shelf: &mut S,
 ) -> Result<Answer, Stop>
     requires recipe { IsFileName recipe.now }
     requires report { IsFileName report.now }
     ensures { Performs (audit_files recipe.now report.now) (S.state shelf.old) (S.state shelf.new) result }
 {
-    match fetch_recipe(alloc, shelf, recipe, report) {
-        Ok(recipe) => audit_recipe(alloc, recipe, report, shelf),
-        Err(stop) => Err(stop),
-    }
-}
-
-/// Fetches the inputs, and goes on with them.
-#[tactic(auto, using(command_plan::proofs::Gathering::obtaining), unfolding(crate::specs::Audit::audit_recipe))]
-fn audit_recipe<S: Shelf>(
-    alloc: Global,
-    recipe: Recipe,
-    report: &str,
-    shelf: &mut S,
-) -> Result<Answer, Stop>
-    requires { IsFileName report.now }
-    ensures { Performs (audit_recipe report.now recipe) (S.state shelf.old) (S.state shelf.new) result }
-{
-    match fetch_inputs(alloc, shelf, &recipe) {
-        Ok(inputs) => audit_inputs(alloc, recipe, inputs, report, shelf),
-        Err(stop) => Err(stop),
-    }
-}
-
-/// Makes the audit, and goes on with what it comes to.
-#[tactic(auto, using(command_plan::proofs::Performing::performing))]
-fn audit_inputs<S: Shelf>(
-    alloc: Global,
-    recipe: Recipe,
-    inputs: Inputs,
-    report: &str,
-    shelf: &mut S,
-) -> Result<Answer, Stop>
-    requires inputs { IsInputs recipe inputs }
-    requires kept { IsRecipe recipe }
-    requires report { IsFileName report.now }
-    ensures { Performs (audited recipe report.now (bench recipe inputs)) (S.state shelf.old) (S.state shelf.new) result }
-{
+    let recipe = fetch_recipe(alloc, shelf, recipe)?;
+    apart(alloc, &recipe, report)?;
+    let inputs = fetch_inputs(alloc, shelf, &recipe)?;
     let mut audit = Audit::new(alloc, recipe, inputs);
     let progress = finish(&mut audit);
     conclude(alloc, &audit, progress, report, shelf)
@@ -188,7 +153,7 @@ fn compared(alloc: Global, compare: &CompareLine) -> Result<Answer, OutOfMemory>
     ensures status { IfOk result (λ answer. answer.status ≡ compared_status compare.now.result) }
     ensures text { IfOk result (λ answer. answer.text ≡ compared_line compare.now) }
 {
-    let text = texts::compared(alloc, compare)?;
+    let text = recipe_plan::texts::compared(alloc, compare)?;
     match compare.result {
         Compared::Equal(_) => Ok(Answer {
             status: Status::Yes,

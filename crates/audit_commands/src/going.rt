@@ -7,17 +7,14 @@ ghost use Rattle.audit_run.specs.Saved.{IsOn};
 ghost use Rattle.audit_run.specs.Seen.{standing};
 ghost use Rattle.audit_commands.specs.Inside.Finishing.{Comes};
 ghost use Rattle.command_plan.specs.Performs.{Performs};
-ghost use Rattle.audit_commands.specs.Inside.Apart.{IsApart};
 ghost use Rattle.audit_commands.specs.Pause.{came_to, paused};
 
 use crate::audit::conclude;
-use crate::inputs::is_input;
 use crate::pause_texts;
 use crate::texts::stage_name;
 use audit_run::{Audit, Progress};
-use command_plan::{Answer, Status, Stop, keep, usage};
+use command_plan::{Answer, Status, Stop, keep};
 use ddc_base::Shelf;
-use recipe::Recipe;
 use std::alloc::Global;
 
 /// Goes on by at most so many steps, and then keeps the save or the report.
@@ -85,18 +82,4 @@ fn keep_save<S: Shelf>(
         text: line,
     };
     keep(alloc, shelf, save, text.as_slice(), answer)
-}
-
-/// Ends the command where a file is one of the recipe's inputs.
-pub(crate) fn apart(alloc: Global, recipe: &Recipe, file: &str) -> Result<(), Stop>
-    ensures { IsApart recipe.now file.now result }
-{
-    if is_input(recipe, file) {
-        match usage(alloc) {
-            Ok(answer) => Err(Stop::Answered(answer)),
-            Err(stop) => Err(stop),
-        }
-    } else {
-        Ok(())
-    }
 }

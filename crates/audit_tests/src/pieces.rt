@@ -1,10 +1,10 @@
 //! Audits that are advanced in pieces.
 
 use crate::place_after;
-use audit_commands::inputs::{fetch_inputs, fetch_recipe};
 use audit_run::{Audit, Progress};
 use ddc_base::{Bytes, MemShelf, OutOfMemory, read_hex};
 use guest_run::{Guest, RunRam};
+use recipe_plan::{fetch_inputs, fetch_recipe};
 use std::alloc::Global;
 use std::test::Fail;
 
@@ -65,7 +65,7 @@ fn worked(alloc: Global) -> Result<Audit, OutOfMemory> {
     shelf.set("a.bin", b"abc")?;
     shelf.set("b.bin", b"abc")?;
     shelf.set("a.toml", RECIPE.as_bytes())?;
-    let recipe = match fetch_recipe(alloc, &mut shelf, "a.toml", "r") {
+    let recipe = match fetch_recipe(alloc, &mut shelf, "a.toml") {
         Ok(recipe) => recipe,
         Err(_) => return Err(OutOfMemory),
     };

@@ -15,17 +15,6 @@ use Rattle.command_plan.proofs.Performing.{ends_at_fetch, goes_on_after_fetch, w
 abbrev pub rest_of : ℕ → ℕ → List (List ℕ) → List (List ℕ) → (List (List ℕ) → Plan) → Plan
 rest_of most room contents names next = needs_all most room names (λ more. next (contents ++ more))
 
--- what follows what was obtained, and what ended the command
-pub goes_on_with : {A : Type 0} (plan : (A → Plan) → Plan) (next : A → Plan) (old mid new : ShelfState) (value : A) (result : Result Answer Stop)
-    → Obtains plan old mid (Ok value) → Performs (next value) mid new result → Performs (plan next) old new result
-goes_on_with plan next old mid new value result o p = o.by_result next new result p
-
-pub ends_before : {A : Type 0} (plan : (A → Plan) → Plan) (next : A → Plan) (old new : ShelfState) (ending : Stop)
-    → Obtains plan old new (Err ending) → Performs (plan next) old new (Err ending)
-ends_before plan next old new ending o = o.by_result next
-
-pub ruleset obtaining = (goes_on_with, ends_before)
-
 module _ (plan : (List (List ℕ) → Plan) → Plan) (most room : ℕ) (contents : List (List ℕ)) (old now : ShelfState) where
   -- one more content
   more : (name : List ℕ) (names : List (List ℕ)) (mid : ShelfState) (content : List ℕ) → LeadsOn plan (rest_of most room contents (name ∷ names)) old now

@@ -1,6 +1,6 @@
 -- What a command does, as a plan over files by name, and what the plan comes to over the files that are held.
 -- docs/reference/command-line.md says the same for people.
-use Rattle.std.specs.Prelude.{ℕ, zero, suc, ◌-◌, Bool, IsTrue, List, [], ◌∷◌, length, min}
+use Rattle.std.specs.Prelude.{ℕ, zero, suc, ◌-◌, Bool, IsTrue, Result, Ok, Err, List, [], ◌∷◌, length, min}
 use Rattle.std.specs.FinMap as map
 use Rattle.ddc_base.specs.declared.outside.Loaded.{Loaded}
 use Rattle.ddc_base.specs.declared.outside.Loaded.TheVariants.{Bytes, Absent, TooLong}
@@ -24,6 +24,11 @@ abbrev pub needs_all : ℕ → ℕ → List (List ℕ) → (List (List ℕ) → 
 needs_all most room [] next = next []
 needs_all most room (name ∷ names) next =
     needs name (min most room) (λ content. needs_all most (room - length content) names (λ contents. next (content ∷ contents)))
+
+-- what was read leads on, and what was refused is answered
+abbrev pub unless_refused : {A E : Type 0} → Result A E → (E → Plan) → (A → Plan) → Plan
+unless_refused (Ok value) refuse next = next value
+unless_refused (Err refusal) refuse next = refuse refusal
 
 -- what a command comes to: its status, its text, and the files afterwards
 pub record Outcome : Type 0 where

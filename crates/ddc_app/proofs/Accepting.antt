@@ -19,14 +19,18 @@ use Rattle.wheeler.proofs.Closing.{bench-report}
 use Rattle.wheeler.proofs.Rules.{rules}
 use Rattle.verifier.proofs.OneReport.{none-fault}
 use Rattle.command_plan.specs.declared.status.Status.{Status}
-use Rattle.command_plan.specs.Plan.{Plan, Outcome, outcome}
+use Rattle.command_plan.specs.declared.status.Status.TheVariants.{ReportRefused}
+use Rattle.command_plan.specs.Plan.{Plan, Outcome, answers, outcome, unless_refused}
 use Rattle.command_plan.specs.Words.{are_two_files, usage}
-use Rattle.audit_commands.specs.Audit.{audit_files, audit_recipe, audited, completed, is_input, paths}
-use Rattle.verify_command.specs.Verify.{judged, verified, verify_files, verify_recipe, verify_report, with_report}
+use Rattle.recipe_plan.specs.Recipes.{is_input, needs_apart, needs_inputs}
+use Rattle.recipe_plan.specs.Reports.{needs_report}
+use Rattle.recipe_plan.specs.Texts.{report_line}
+use Rattle.audit_commands.specs.Audit.{audit_files, audited, completed}
+use Rattle.verify_command.specs.Verify.{judged, verified, verify_files}
 use Rattle.ddc_app.specs.Accepting.{HoldBytes, audit, is_compared, verify}
 use Rattle.ddc_app.proofs.Loads.{follows, is_loaded, set_held, two_apart}
-use Rattle.ddc_app.proofs.Openings.{Holds, are_inputs, holds_again, inputs_open, is_recipe, recipe_opens}
-use Rattle.ddc_app.proofs.Walks.{IsRefusal, both_need_all, both_need_recipe, told}
+use Rattle.ddc_app.proofs.Openings.{Holds, apart_opens, are_inputs, holds_again, inputs_open, is_recipe, recipe_opens}
+use Rattle.ddc_app.proofs.Walks.{IsRefusal, both_need_apart, both_need_inputs, both_need_recipe, told}
 
 -- ---- an audit that comes to a comparison
 
@@ -53,19 +57,22 @@ module _ (recipe report : List ℕ) (files : Files) where
   by_answer said inputs holds apart (Fails number (Runs cause step)) comes compared = absurd cc
   by_answer said inputs holds apart (Fails number (Checks cause)) comes compared = absurd cc
 
-  by_recipe : (bytes : List ℕ) (said : Said) → loaded files recipe 1_048_576 ≡ Bytes bytes → recipe_of bytes ≡ Ok said → is_input said report ≡ false
-      → Goes (outcome (audit_recipe report said) files) (outcome (audit_recipe report said) files)
-  unfolding audit_recipe
-  by_recipe bytes said held reads apart =
-      let next : List (List ℕ) → Plan = λ inputs. audited said report (bench said inputs) in
-      both_need_all Goes files refused 268_435_456 1_073_741_824 (paths said) next next (λ inputs inputs_held.
-      by_answer said inputs (record { bytes = bytes; recipe_held = held; reads = reads; inputs_held = inputs_held }) apart (bench said inputs) refl)
+  by_recipe : (bytes : List ℕ) (said : Said) → loaded files recipe 1_048_576 ≡ Bytes bytes → recipe_of bytes ≡ Ok said
+      → Goes (outcome (needs_apart said report (λ _. needs_inputs said (λ inputs. audited said report (bench said inputs)))) files)
+      (outcome (needs_apart said report (λ _. needs_inputs said (λ inputs. audited said report (bench said inputs)))) files)
+  by_recipe bytes said held reads =
+      let last : List (List ℕ) → Plan = λ inputs. audited said report (bench said inputs) in
+      let then : Unit {0} → Plan = λ _. needs_inputs said last in
+      both_need_apart Goes files refused said report then then (λ apart. both_need_inputs Goes files refused said last last (λ inputs inputs_held.
+      by_answer said inputs (record { bytes = bytes; recipe_held = held; reads = reads; inputs_held = inputs_held }) apart (bench said inputs) refl))
 
   went : (two : Bool) → IsTrue (is_compared (outcome (cond two (audit_files recipe report) usage) files).status)
       → (two ≡ true) × Went recipe report files (outcome (cond two (audit_files recipe report) usage) files)
   unfolding audit_files
   went false compared = absurd cc
-  went true compared = (refl, both_need_recipe Goes files refused recipe report (audit_recipe report) (audit_recipe report) by_recipe compared)
+  went true compared =
+      let next : Said → Plan = λ said. needs_apart said report (λ _. needs_inputs said (λ inputs. audited said report (bench said inputs))) in
+      (refl, both_need_recipe Goes files refused recipe next next by_recipe compared)
 
 -- ---- a replay of its report
 
@@ -87,14 +94,17 @@ module _ (recipe report : List ℕ) (files : Files) (r : Replays recipe report f
 
   -- the same loads lead to its verdict
   pub judges : verify recipe report files ≡ outcome (judged r.said r.made.compare None) files
-  unfolding verify_files verify_recipe verify_report
+  unfolding verify_files
   judges =
+      let last : Report → Plan = λ made. needs_inputs r.said (λ inputs. verified r.said inputs made) in
+      let refuse : ℕ → Plan = λ number. answers ReportRefused (report_line number) in
       ap (λ two. outcome (cond two (verify_files recipe report) usage) files) r.two
-      ∙ recipe_opens recipe r.said r.inputs files r.holds report (verify_recipe report)
-      ∙ ap (λ clash. outcome (cond clash usage (verify_recipe report r.said)) files) r.apart
-      ∙ follows report 1_073_741_824 (λ text. with_report (verify_report r.said) (report_of text)) files (report_text r.made)
+      ∙ recipe_opens recipe r.said r.inputs files r.holds
+      (λ said. needs_apart said report (λ _. needs_report report (λ made. needs_inputs said (λ inputs. verified said inputs made))))
+      ∙ apart_opens r.said report (λ _. needs_report report last) files false r.apart
+      ∙ follows report 1_073_741_824 (λ text. unless_refused (report_of text) refuse last) files (report_text r.made)
       (is_loaded files report (report_text r.made) 1_073_741_824 r.report_held (short r.made is_report))
-      ∙ ap (λ reading. outcome (with_report (verify_report r.said) reading) files) (read_text (report_text r.made) r.made is_report refl)
+      ∙ ap (λ reading. outcome (unless_refused reading refuse last) files) (read_text (report_text r.made) r.made is_report refl)
       ∙ inputs_open recipe r.said r.inputs files r.holds (λ inputs. verified r.said inputs r.made)
       ∙ ap (λ fault. outcome (judged r.said r.made.compare fault) files) (none-fault r.said r.inputs r.made r.given.count r.comes)
 

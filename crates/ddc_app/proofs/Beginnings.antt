@@ -1,6 +1,5 @@
 -- How a piece of an audit begins beside the undivided audit: both are refused alike, or a recipe and its inputs are found.
 use Rattle.std.proofs.Common.{◌≡◌, ℕ, Bool, true, false, cond, IsTrue, ◌&&◌, ◌⊎◌, inl, inr, Ok, List, decimal, refl, sym, ap, ◌∙◌, subst}
-use Rattle.std.specs.Prelude.{bytes_eq}
 use Rattle.std.proofs.lemmas.Bool.{and_parts}
 use Rattle.ddc_base.specs.declared.outside.Loaded.TheVariants.{Bytes}
 use Rattle.ddc_base.specs.Outside.{Files, loaded}
@@ -12,15 +11,16 @@ use Rattle.wheeler.specs.Bench.{bench}
 use Rattle.wheeler.specs.Positions.{position}
 use Rattle.command_plan.specs.declared.status.Status.{Status}
 use Rattle.command_plan.specs.Plan.{Plan, Outcome, outcome}
-use Rattle.command_plan.specs.Words.{are_two_files, as_steps, usage}
-use Rattle.audit_commands.specs.Audit.{audit_files, audit_recipe, audited, is_input, needs_inputs, paths}
-use Rattle.audit_commands.specs.Pause.{are_three_files, came_to, part_files, part_recipe, with_steps}
+use Rattle.command_plan.specs.Words.{are_two_files, as_steps, is_one_file, or_usage, usage}
+use Rattle.recipe_plan.specs.Recipes.{is_input, needs_apart, needs_inputs}
+use Rattle.audit_commands.specs.Audit.{audit_files, audited}
+use Rattle.audit_commands.specs.Pause.{are_three_files, came_to, part_files}
 use Rattle.ddc_app.specs.Accepting.{audit}
 use Rattle.ddc_app.specs.Pausing.{AreWords, IsCount, part}
 use Rattle.ddc_app.proofs.CountWords.{count-again}
 use Rattle.ddc_app.proofs.Loads.{two_apart}
-use Rattle.ddc_app.proofs.Openings.{Holds}
-use Rattle.ddc_app.proofs.Walks.{IsRefusal, both_need_all, both_need_recipe, told}
+use Rattle.ddc_app.proofs.Openings.{Holds, apart_opens}
+use Rattle.ddc_app.proofs.Walks.{IsRefusal, both_need_apart, both_need_inputs, both_need_recipe, told}
 
 -- ---- the words
 
@@ -28,9 +28,9 @@ use Rattle.ddc_app.proofs.Walks.{IsRefusal, both_need_all, both_need_recipe, tol
 pub record Apart (recipe save report : List ℕ) : Type 0 where
   pub three : IsTrue (are_three_files recipe save report)
   pub two : are_two_files recipe report ≡ true
-  pub recipe_save : bytes_eq recipe save ≡ false
-  pub recipe_report : bytes_eq recipe report ≡ false
-  pub save_report : bytes_eq save report ≡ false
+  pub recipe_save : is_one_file recipe save ≡ false
+  pub recipe_report : is_one_file recipe report ≡ false
+  pub save_report : is_one_file save report ≡ false
 
 pub three_apart : (recipe save report : List ℕ) → IsTrue (are_three_files recipe save report) → Apart recipe save report
 three_apart recipe save report three =
@@ -46,10 +46,10 @@ three_apart recipe save report three =
 
 -- the words of either command lead to its plan
 pub with_words : (recipe save report : List ℕ) (steps : ℕ) (next : ℕ → Plan) (files : Files) → IsTrue (are_three_files recipe save report) → IsCount steps
-    → outcome (cond (are_three_files recipe save report) (with_steps next (as_steps (decimal steps))) usage) files ≡ outcome (next steps) files
+    → outcome (or_usage (as_steps (decimal steps)) (λ count. cond (are_three_files recipe save report) (next count) usage)) files ≡ outcome (next steps) files
 with_words recipe save report steps next files three count =
-    ap (λ t. outcome (cond t (with_steps next (as_steps (decimal steps))) usage) files) three
-    ∙ ap (λ n. outcome (with_steps next n) files) (count-again steps count)
+    ap (λ n. outcome (or_usage n (λ count. cond (are_three_files recipe save report) (next count) usage)) files) (count-again steps count)
+    ∙ ap (λ t. outcome (cond t (next steps) usage) files) three
 
 -- ---- the first piece
 
@@ -79,25 +79,33 @@ module _ (recipe save report : List ℕ) (steps : ℕ) (files : Files) where
   refused : (status : Status) (text : List ℕ) → IsRefusal status → Begins (told files status text) (told files status text)
   refused status text refusal = inl (record { same = refl; refusal = refusal })
 
-  begins_apart : Apart recipe save report → (bytes : List ℕ) (said : Said) → loaded files recipe 1_048_576 ≡ Bytes bytes → recipe_of bytes ≡ Ok said → is_input said report ≡ false → is_input said save ≡ false
-      → Begins (outcome (part_recipe save report steps said) files) (outcome (audit_recipe report said) files)
-  unfolding part_recipe audit_recipe
-  begins_apart words bytes said held reads no_report no_save =
-      subst (λ (clash : Bool). Begins (outcome (cond clash usage (needs_inputs said (λ inputs. came_to said inputs save report (position said inputs steps)))) files)
-      (outcome (needs_inputs said (λ inputs. audited said report (bench said inputs))) files)) (sym no_save)
-      (both_need_all Begins files refused 268_435_456 1_073_741_824 (paths said) (λ inputs. came_to said inputs save report (position said inputs steps))
-      (λ inputs. audited said report (bench said inputs)) (λ inputs inputs_held. inr (record {
-        c = record { words = words; said = said; inputs = inputs; is = reads_keep bytes said reads; no_report = no_report; no_save = no_save };
+  piece_from : Said → List (List ℕ) → Plan
+  piece_from said inputs = came_to said inputs save report (position said inputs steps)
+
+  whole_from : Said → List (List ℕ) → Plan
+  whole_from said inputs = audited said report (bench said inputs)
+
+  begins_apart : AreWords recipe save report files → (bytes : List ℕ) (said : Said) → loaded files recipe 1_048_576 ≡ Bytes bytes → recipe_of bytes ≡ Ok said → is_input said report ≡ false
+      → Begins (outcome (needs_apart said save (λ _. needs_inputs said (piece_from said))) files) (outcome (needs_inputs said (whole_from said)) files)
+  unfolding piece_from whole_from
+  begins_apart words bytes said held reads no_report =
+      let no_save : is_input said save ≡ false = words.apart bytes said held reads in
+      subst (λ (piece : Outcome). Begins piece (outcome (needs_inputs said (whole_from said)) files))
+      (sym (apart_opens said save (λ _. needs_inputs said (piece_from said)) files false no_save))
+      (both_need_inputs Begins files refused said (piece_from said) (whole_from said) (λ inputs inputs_held. inr (record {
+        c = record { words = three_apart recipe save report words.three; said = said; inputs = inputs; is = reads_keep bytes said reads; no_report = no_report; no_save = no_save };
         holds = record { bytes = bytes; recipe_held = held; reads = reads; inputs_held = inputs_held };
         comes = refl;
         answers = refl;
       })))
 
   begins_files : AreWords recipe save report files → Begins (outcome (part_files recipe save report steps) files) (outcome (audit_files recipe report) files)
-  unfolding part_files audit_files
+  unfolding part_files audit_files piece_from whole_from
   begins_files words =
-      both_need_recipe Begins files refused recipe report (part_recipe save report steps) (audit_recipe report)
-      (λ bytes said held reads no_report. begins_apart (three_apart recipe save report words.three) bytes said held reads no_report (words.apart bytes said held reads))
+      both_need_recipe Begins files refused recipe (λ said. needs_apart said report (λ _. needs_apart said save (λ _. needs_inputs said (piece_from said))))
+      (λ said. needs_apart said report (λ _. needs_inputs said (whole_from said)))
+      (λ bytes said held reads. both_need_apart Begins files refused said report (λ _. needs_apart said save (λ _. needs_inputs said (piece_from said)))
+      (λ _. needs_inputs said (whole_from said)) (λ no_report. begins_apart words bytes said held reads no_report))
 
   pub begins : AreWords recipe save report files → IsCount steps → Begins (part recipe save report steps files) (audit recipe report files)
   begins words count =

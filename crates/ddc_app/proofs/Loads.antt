@@ -1,7 +1,7 @@
 -- What a plan's loads find, and find again after another name was set.
-use Rattle.std.proofs.Common.{◌≡◌, ℕ, ◌-◌, ◌<◌, ◌≤◌, ◌&&◌, ◌||◌, not, Bool, true, false, cond, Option, Some, None, List, [], ◌∷◌, length, map, min, nat_le, le_trans, refl, ap, ◌∙◌, subst, arith}
+use Rattle.std.proofs.Common.{◌≡◌, ◌≢◌, ℕ, ◌-◌, ◌<◌, ◌≤◌, ◌&&◌, ◌||◌, not, Bool, true, false, cond, Option, Some, None, List, [], ◌∷◌, length, map, min, nat_le, le_trans, refl, ap, ◌∙◌, subst, arith}
 use Rattle.std.specs.List.{list_any}
-use Rattle.std.specs.Prelude.{All, bytes_eq}
+use Rattle.std.specs.Prelude.{All}
 use Rattle.std.specs.Cmp.Lexicographic.{nat_list_cmp_total}
 use Rattle.std.specs.FinMap as finite
 use Rattle.std.proofs.Math.Nat.{min-le_left}
@@ -16,7 +16,7 @@ use Rattle.ddc_base.proofs.StoredFiles.{others-insert}
 use Rattle.mem_files.specs.Outputs.{IsContent}
 use Rattle.command_plan.specs.declared.status.Status.TheVariants.{FileRefused}
 use Rattle.command_plan.specs.Plan.{Plan, needs, needs_all, follow, outcome}
-use Rattle.command_plan.specs.Words.{are_two_files, is_file_word}
+use Rattle.command_plan.specs.Words.{are_two_files, bare_name, is_file_word, is_one_file}
 use Rattle.ddc_app.specs.Accepting.{HoldBytes}
 use Rattle.ddc_app.specs.Holding.{AreHeld}
 
@@ -45,20 +45,24 @@ within limit (Some c) content is = by (nat_le (length c) limit) refl is where
   by true fits is = let same : c ≡ content = cc in (ap Some same, subst (λ x. length x ≤ limit) same (leb-true (length c) limit fits))
   by false fits is = absurd cc
 
+-- words that do not clash are not equal
+pub not_equal : (first second : List ℕ) → is_one_file first second ≡ false → first ≢ second
+unfolding is_one_file
+not_equal first second apart = λ same. let equal : is_one_file first second ≡ true = (bytes_eq-Decides (bare_name first) (bare_name second)).1 (ap bare_name same) in cc
+
 -- a name that was set is held, and others are as before
 pub set_held : (files : Files) (name content : List ℕ) → finite.get (finite.insert files name content) name ≡ Some content
 set_held files name content =
     finite.get-insert nat_list_cmp_total files name content name
     ∙ ap (λ b. cond b (Some content) (finite.get files name)) (is_eq-slice_cmp name name ∙ (bytes_eq-Decides name name).1 refl)
 
-pub other_held : (files : Files) (name content other : List ℕ) (limit : ℕ) → bytes_eq other name ≡ false
+pub other_held : (files : Files) (name content other : List ℕ) (limit : ℕ) → is_one_file other name ≡ false
     → loaded (finite.insert files name content) other limit ≡ loaded files other limit
-other_held files name content other limit apart =
-    ap (loaded_of limit) ((others-insert files name content).others other (λ same. let equal = (bytes_eq-Decides other name).1 same in cc))
+other_held files name content other limit apart = ap (loaded_of limit) ((others-insert files name content).others other (not_equal other name apart))
 
--- two words that name two files are not equal
-pub two_apart : (first second : List ℕ) → are_two_files first second ≡ true → bytes_eq first second ≡ false
-two_apart first second two = by (bytes_eq first second) (and_parts (is_file_word first && is_file_word second) (not (bytes_eq first second)) two).1 where
+-- two words that name two files do not clash, and so are not equal
+pub two_apart : (first second : List ℕ) → are_two_files first second ≡ true → is_one_file first second ≡ false
+two_apart first second two = by (is_one_file first second) (and_parts (is_file_word first && is_file_word second) (not (is_one_file first second)) two).1 where
   by : (b : Bool) → not b ≡ true → b ≡ false
   by true is = cc
   by false is = refl
@@ -76,7 +80,7 @@ follow_all most room files (name ∷ names) (content ∷ contents) next held =
 
 -- they are found again where none of them was set
 pub found_again : {A : Type 0} (most room : ℕ) (files : Files) (name content : List ℕ) (path : A → List ℕ) (values : List A) (contents : List (List ℕ))
-    → list_any (λ value. bytes_eq (path value) name) values ≡ false → AreHeld most room files (map path values) contents
+    → list_any (λ value. is_one_file (path value) name) values ≡ false → AreHeld most room files (map path values) contents
     → AreHeld most room (finite.insert files name content) (map path values) contents
 found_again most room files name content path [] contents apart held = none contents held where
   none : (contents : List (List ℕ)) → AreHeld most room files [] contents → AreHeld most room (finite.insert files name content) [] contents
@@ -84,11 +88,11 @@ found_again most room files name content path [] contents apart held = none cont
   none (c ∷ contents) held = held
 found_again most room files name content path (value ∷ values) [] apart held = held
 found_again most room files name content path (value ∷ values) (first ∷ contents) apart held =
-    by (bytes_eq (path value) name) refl apart (λ later. found_again most (room - length first) files name content path values contents later held.1) where
+    by (is_one_file (path value) name) refl apart (λ later. found_again most (room - length first) files name content path values contents later held.1) where
       others : Bool
-      others = list_any (λ value. bytes_eq (path value) name) values
+      others = list_any (λ value. is_one_file (path value) name) values
 
-      by : (b : Bool) → bytes_eq (path value) name ≡ b → (b || others) ≡ false
+      by : (b : Bool) → is_one_file (path value) name ≡ b → (b || others) ≡ false
           → (others ≡ false → AreHeld most (room - length first) (finite.insert files name content) (map path values) contents)
           → AreHeld most room (finite.insert files name content) (map path (value ∷ values)) (first ∷ contents)
       by true is apart later = absurd cc

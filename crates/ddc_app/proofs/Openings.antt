@@ -1,22 +1,30 @@
 -- A recipe and its inputs in files, and what a plan that needs them goes on to.
-use Rattle.std.proofs.Common.{◌≡◌, ℕ, false, cond, Ok, List, ap, ◌∙◌}
-use Rattle.std.specs.Prelude.{bytes_eq}
+use Rattle.std.proofs.Common.{◌≡◌, ℕ, Bool, false, cond, Ok, List, ap, ◌∙◌}
 use Rattle.std.specs.FinMap as finite
 use Rattle.std.proofs.lemmas.List.{length-map}
 use Rattle.ddc_base.specs.declared.outside.Loaded.TheVariants.{Bytes}
 use Rattle.ddc_base.specs.Outside.{Files, loaded}
+use Rattle.recipe.specs.declared.text.refusal.RecipeRefusal.{RecipeRefusal as Refusal}
 use Rattle.recipe.specs.Kept.{IsRecipe}
 use Rattle.recipe.specs.Reading.{recipe_of}
 use Rattle.recipe.specs.declared.contents.Said.{Said}
 use Rattle.recipe.specs.declared.parts.Input.{Input}
 use Rattle.recipe.proofs.Keeps.{reads_keep}
 use Rattle.wheeler.specs.Valid.{IsInputs}
-use Rattle.command_plan.specs.Plan.{Plan, outcome}
-use Rattle.command_plan.specs.Words.{usage}
-use Rattle.audit_commands.specs.Audit.{is_input, needs_inputs, needs_recipe, paths, with_recipe}
+use Rattle.command_plan.specs.declared.status.Status.TheVariants.{RecipeRefused}
+use Rattle.command_plan.specs.Plan.{Plan, answers, outcome, unless_refused}
+use Rattle.command_plan.specs.Words.{is_one_file, usage}
+use Rattle.recipe_plan.specs.Recipes.{is_input, needs_apart, needs_inputs, needs_recipe, paths}
+use Rattle.recipe_plan.specs.Texts.{recipe_line}
 use Rattle.ddc_app.specs.Accepting.{HoldBytes}
 use Rattle.ddc_app.specs.Holding.{AreHeld}
 use Rattle.ddc_app.proofs.Loads.{are_contents, as_many, follow_all, follows, found_again, other_held}
+
+-- a file that is none of the inputs, and one that is
+pub apart_opens : (said : Said) (file : List ℕ) (next : Unit {0} → Plan) (files : Files) (clash : Bool) → is_input said file ≡ clash
+    → outcome (needs_apart said file next) files ≡ outcome (cond clash usage (next tt)) files
+unfolding needs_apart
+apart_opens said file next files clash is = ap (λ c. outcome (cond c usage (next tt)) files) is
 
 -- the files hold a recipe that reads and its inputs
 pub record Holds (recipe : List ℕ) (said : Said) (inputs : List (List ℕ)) (files : Files) : Type 0 where
@@ -26,16 +34,17 @@ pub record Holds (recipe : List ℕ) (said : Said) (inputs : List (List ℕ)) (f
   pub inputs_held : AreHeld 268_435_456 1_073_741_824 files (paths said) inputs
 
 module _ (recipe : List ℕ) (said : Said) (inputs : List (List ℕ)) (files : Files) (h : Holds recipe said inputs files) where
-  pub recipe_opens : (report : List ℕ) (next : Said → Plan) → outcome (needs_recipe recipe report next) files ≡ outcome (cond (is_input said report) usage (next said)) files
-  recipe_opens report next =
-      follows recipe 1_048_576 (λ bytes. with_recipe report next (recipe_of bytes)) files h.bytes h.recipe_held
-      ∙ ap (λ reading. outcome (with_recipe report next reading) files) h.reads
+  pub recipe_opens : (next : Said → Plan) → outcome (needs_recipe recipe next) files ≡ outcome (next said) files
+  recipe_opens next =
+      let refuse : Refusal → Plan = λ refusal. answers RecipeRefused (recipe_line refusal) in
+      follows recipe 1_048_576 (λ bytes. unless_refused (recipe_of bytes) refuse next) files h.bytes h.recipe_held
+      ∙ ap (λ reading. outcome (unless_refused reading refuse next) files) h.reads
 
   pub inputs_open : (next : List (List ℕ) → Plan) → outcome (needs_inputs said next) files ≡ outcome (next inputs) files
   inputs_open next = follow_all 268_435_456 1_073_741_824 files (paths said) inputs next h.inputs_held
 
   -- also once another name was set
-  pub holds_again : (name content : List ℕ) → bytes_eq recipe name ≡ false → is_input said name ≡ false → Holds recipe said inputs (finite.insert files name content)
+  pub holds_again : (name content : List ℕ) → is_one_file recipe name ≡ false → is_input said name ≡ false → Holds recipe said inputs (finite.insert files name content)
   holds_again name content other apart = record {
     bytes = h.bytes;
     recipe_held = other_held files name content recipe 1_048_576 other ∙ h.recipe_held;

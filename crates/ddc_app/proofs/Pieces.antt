@@ -1,8 +1,6 @@
 -- What a piece of an audit comes to, over any files that hold the recipe and its inputs.
 use Rattle.std.proofs.Common.{◌≡◌, ℕ, false, ◌⊎◌, inl, inr, Some, List, refl, sym, ap, ◌∙◌, subst}
-use Rattle.std.specs.Prelude.{bytes_eq}
 use Rattle.std.specs.FinMap as finite
-use Rattle.std.proofs.lemmas.Slice.Eq.{bytes_eq-Decides}
 use Rattle.ddc_base.specs.Outside.{Files}
 use Rattle.ddc_base.proofs.StoredFiles.{others-insert}
 use Rattle.report.specs.Reports.{report_text}
@@ -20,12 +18,14 @@ use Rattle.wheeler.proofs.Continues.{position-bench}
 use Rattle.wheeler.proofs.Rules.{rules}
 use Rattle.command_plan.specs.declared.status.Status.TheVariants.{Paused}
 use Rattle.command_plan.specs.Plan.{Outcome, outcome}
-use Rattle.audit_commands.specs.Audit.{audited, compared_status, completed}
+use Rattle.command_plan.specs.Words.{is_one_file}
+use Rattle.recipe_plan.specs.Reports.{compared_status}
+use Rattle.audit_commands.specs.Audit.{audited, completed}
 use Rattle.audit_commands.specs.Pause.{came_to, paused}
 use Rattle.ddc_app.specs.Accepting.{audit}
 use Rattle.ddc_app.specs.Pausing.{AreSame, Pieces, is_paused}
 use Rattle.ddc_app.proofs.Beginnings.{Case}
-use Rattle.ddc_app.proofs.Loads.{set_held}
+use Rattle.ddc_app.proofs.Loads.{not_equal, set_held}
 use Rattle.ddc_app.proofs.Openings.{Holds, holds_again}
 
 -- a piece pauses behind so many steps
@@ -47,13 +47,13 @@ abbrev pub Settles : (recipe save report : List ℕ) → Case recipe save report
 Settles recipe save report c first total piece =
     Pauses recipe save report c first total piece ⊎ Ends recipe save report c first (bench c.said c.inputs) piece
 
-never_paused : (result : Compared) → is_paused (compared_status result) ≡ false
+pub never_paused : (result : Compared) → is_paused (compared_status result) ≡ false
 never_paused (Equal size) = refl
 never_paused (Differs offset made given) = refl
 
-other_stays : (files : Files) (save report content : List ℕ) → bytes_eq save report ≡ false → finite.get (finite.insert files save content) report ≡ finite.get files report
+other_stays : (files : Files) (save report content : List ℕ) → is_one_file save report ≡ false → finite.get (finite.insert files save content) report ≡ finite.get files report
 other_stays files save report content apart =
-    (others-insert files save content).others report (λ same. let equal = (bytes_eq-Decides save report).1 (sym same) in cc)
+    (others-insert files save content).others report (λ same. not_equal save report apart (sym same))
 
 module _ (recipe save report : List ℕ) (c : Case recipe save report) (first now : Files) (h : Holds recipe c.said c.inputs now)
     (same : finite.get now report ≡ finite.get first report) where

@@ -17,15 +17,18 @@ use Rattle.wheeler.specs.Valid.{IsInputs, IsPosition, IsStanding}
 use Rattle.wheeler.proofs.Forwards.{forward_from-sum}
 use Rattle.wheeler.proofs.Places.{beginning-standing, from-standing}
 use Rattle.wheeler.proofs.Rules.{rules}
-use Rattle.command_plan.specs.Plan.{Plan, needs, outcome}
+use Rattle.command_plan.specs.declared.status.Status.TheVariants.{SaveRefused}
+use Rattle.command_plan.specs.Plan.{Plan, answers, needs, outcome, unless_refused}
 use Rattle.command_plan.specs.Words.{usage}
-use Rattle.audit_commands.specs.Audit.{audit_files, audit_recipe, audited, is_input}
-use Rattle.audit_commands.specs.Pause.{are_three_files, came_to, read_as, resume_files, resume_recipe, resume_text, resumed}
+use Rattle.recipe_plan.specs.Recipes.{is_input, needs_apart, needs_inputs}
+use Rattle.audit_commands.specs.Audit.{audit_files, audited}
+use Rattle.audit_commands.specs.Pause.{are_three_files, came_to, needs_position, read_as, resume_files}
+use Rattle.audit_commands.specs.PauseTexts.{refused_line}
 use Rattle.ddc_app.specs.Accepting.{HoldBytes, audit}
 use Rattle.ddc_app.specs.Pausing.{AreWords, IsCount, Pieces, StandsAt, resume}
 use Rattle.ddc_app.proofs.Beginnings.{Case, three_apart, with_words}
 use Rattle.ddc_app.proofs.Loads.{follows, is_loaded}
-use Rattle.ddc_app.proofs.Openings.{Holds, are_inputs, inputs_open, is_recipe, recipe_opens}
+use Rattle.ddc_app.proofs.Openings.{Holds, apart_opens, are_inputs, inputs_open, is_recipe, recipe_opens}
 use Rattle.ddc_app.proofs.Pieces.{Settles, alike, piece_of, settles}
 
 -- ---- the save
@@ -52,19 +55,23 @@ reads_again said inputs p is given place =
 -- ---- the words
 
 module _ (recipe save report : List ℕ) (files : Files) (three : IsTrue (are_three_files recipe save report)) (said : Said) (inputs : List (List ℕ))
-    (h : Holds recipe said inputs files) where
+    (h : Holds recipe said inputs files) (clash : Bool) (is : is_input said report ≡ clash) where
+  -- both commands go on from the recipe, and end alike where the report is one of its inputs
   pub resume_opens : (steps : ℕ) → IsCount steps
-      → resume recipe save report steps files ≡ outcome (cond (is_input said report) usage (resume_recipe save report steps said)) files
+      → resume recipe save report steps files ≡ outcome (cond clash usage (needs_apart said save (λ _. needs save 4_294_967_296 (λ text. needs_inputs said (λ contents.
+      needs_position said contents text (λ p. came_to said contents save report (forward said contents p steps))))))) files
   unfolding resume_files
   resume_opens steps count =
       with_words recipe save report steps (resume_files recipe save report) files three count
-      ∙ recipe_opens recipe said inputs files h report (resume_recipe save report steps)
+      ∙ recipe_opens recipe said inputs files h _
+      ∙ apart_opens said report _ files clash is
 
-  pub audit_opens : audit recipe report files ≡ outcome (cond (is_input said report) usage (audit_recipe report said)) files
+  pub audit_opens : audit recipe report files ≡ outcome (cond clash usage (needs_inputs said (λ contents. audited said report (bench said contents)))) files
   unfolding audit_files
   audit_opens =
       ap (λ two. outcome (cond two (audit_files recipe report) usage) files) (three_apart recipe save report three).two
-      ∙ recipe_opens recipe said inputs files h report (audit_recipe report)
+      ∙ recipe_opens recipe said inputs files h _
+      ∙ apart_opens said report _ files clash is
 
 -- ---- the piece
 
@@ -73,38 +80,34 @@ pub resumes_at : (recipe save report : List ℕ) (c : Case recipe save report) (
     → Holds recipe c.said c.inputs files → (count : ℕ) (p : Position) → position c.said c.inputs count ≡ On p
     → finite.get files save ≡ Some (text_of (save_of c.said c.inputs p)) → (steps : ℕ) → IsCount steps
     → resume recipe save report steps files ≡ outcome (came_to c.said c.inputs save report (position c.said c.inputs (count + steps))) files
-unfolding resume_recipe resume_text
 resumes_at recipe save report c files given h count p stands held steps counted =
     let text : List ℕ = text_of (save_of c.said c.inputs p) in
     let place = is_place c.said c.inputs count p c.is given stands in
     let goes_on : forward c.said c.inputs p steps ≡ position c.said c.inputs (count + steps) =
     sym (ap (λ (o : Standing). forward_from c.said c.inputs o steps) stands)
     ∙ forward_from-sum c.said c.inputs (beginning c.said c.inputs) count steps (count + steps) refl in
-    let next : List (List ℕ) → Plan = λ inputs. resumed c.said inputs save report steps (read_as c.said inputs text) in
-    resume_opens recipe save report files c.words.three c.said c.inputs h steps counted
-    ∙ ap (λ clash. outcome (cond clash usage (resume_recipe save report steps c.said)) files) c.no_report
-    ∙ ap (λ clash. outcome (cond clash usage (needs save 4_294_967_296 (resume_text save report steps c.said))) files) c.no_save
-    ∙ follows save 4_294_967_296 (resume_text save report steps c.said) files text (is_loaded files save text 4_294_967_296 held (short c.said c.inputs p c.is given place))
-    ∙ inputs_open recipe c.said c.inputs files h next
-    ∙ ap (λ reading. outcome (resumed c.said c.inputs save report steps reading) files) (reads_again c.said c.inputs p c.is given place)
+    let last : List (List ℕ) → Position → Plan = λ contents p. came_to c.said contents save report (forward c.said contents p steps) in
+    let at : List ℕ → List (List ℕ) → Plan = λ text contents. needs_position c.said contents text (last contents) in
+    let loads : List ℕ → Plan = λ text. needs_inputs c.said (at text) in
+    let refuse : SaveRefusal → Plan = λ refusal. answers SaveRefused (refused_line refusal) in
+    resume_opens recipe save report files c.words.three c.said c.inputs h false c.no_report steps counted
+    ∙ apart_opens c.said save (λ _. needs save 4_294_967_296 loads) files false c.no_save
+    ∙ follows save 4_294_967_296 loads files text (is_loaded files save text 4_294_967_296 held (short c.said c.inputs p c.is given place))
+    ∙ inputs_open recipe c.said c.inputs files h (at text)
+    ∙ ap (λ reading. outcome (unless_refused reading refuse (last c.inputs)) files) (reads_again c.said c.inputs p c.is given place)
     ∙ ap (λ o. outcome (came_to c.said c.inputs save report o) files) goes_on
 
 pub resumes : (recipe save report : List ℕ) (count steps : ℕ) (files : Files) → AreWords recipe save report files → IsCount steps → HoldBytes files
     → StandsAt recipe save files count → Pieces recipe save report files (count + steps) (resume recipe save report steps files)
-unfolding audit_recipe
 resumes recipe save report count steps files words counted bytes at = by (is_input at.said report) refl where
   h : Holds recipe at.said at.inputs files
   h = record { bytes = at.bytes; recipe_held = at.recipe_held; reads = at.recipe_reads; inputs_held = at.inputs_held }
 
-  audits : audit recipe report files ≡ outcome (cond (is_input at.said report) usage (audit_recipe report at.said)) files
-  audits = audit_opens recipe save report files words.three at.said at.inputs h
-
   by : (clash : Bool) → is_input at.said report ≡ clash → Pieces recipe save report files (count + steps) (resume recipe save report steps files)
   by true clash =
       inr (alike report (resume recipe save report steps files) (audit recipe report files)
-      (resume_opens recipe save report files words.three at.said at.inputs h steps counted
-      ∙ ap (λ clash. outcome (cond clash usage (resume_recipe save report steps at.said)) files) clash
-      ∙ sym (audits ∙ ap (λ clash. outcome (cond clash usage (audit_recipe report at.said)) files) clash)))
+      (resume_opens recipe save report files words.three at.said at.inputs h true clash steps counted
+      ∙ sym (audit_opens recipe save report files words.three at.said at.inputs h true clash)))
   by false clash =
       let c : Case recipe save report = record {
         words = three_apart recipe save report words.three;
@@ -116,6 +119,6 @@ resumes recipe save report count steps files words counted bytes at = by (is_inp
       } in
       let comes = resumes_at recipe save report c files (are_inputs recipe at.said at.inputs files h bytes) h count at.position at.stands at.save_held steps counted in
       piece_of recipe save report c files (count + steps) (resume recipe save report steps files)
-      (audits ∙ ap (λ clash. outcome (cond clash usage (audit_recipe report at.said)) files) clash
+      (audit_opens recipe save report files words.three at.said at.inputs h false clash
       ∙ inputs_open recipe at.said at.inputs files h (λ inputs. audited at.said report (bench at.said inputs)))
       (subst (Settles recipe save report c files (count + steps)) (sym comes) (settles recipe save report c files files h refl (count + steps) (position at.said at.inputs (count + steps)) refl))

@@ -21,16 +21,18 @@ use Rattle.verifier.specs.Conclusion.Verdicts.{Shows}
 use Rattle.command_plan.specs.declared.status.Status.{Status}
 use Rattle.command_plan.specs.declared.status.Status.TheVariants as status
 use Rattle.command_plan.specs.Answered.{is_answer}
-use Rattle.command_plan.specs.Plan.{Plan, Outcome, outcome}
+use Rattle.command_plan.specs.Plan.{Plan, Outcome, answers, outcome, unless_refused}
 use Rattle.command_plan.specs.Words.{are_two_files, usage}
-use Rattle.audit_commands.specs.Audit.{compared_status, is_input, paths}
-use Rattle.verify_command.specs.Verify.{judged, verified, verify_files, verify_recipe, verify_report, with_report}
+use Rattle.recipe_plan.specs.Recipes.{needs_apart, needs_inputs, paths}
+use Rattle.recipe_plan.specs.Reports.{compared_status, needs_report}
+use Rattle.recipe_plan.specs.Texts.{report_line}
+use Rattle.verify_command.specs.Verify.{judged, verified, verify_files}
 use Rattle.ddc_app.specs.Accepting.{HoldBytes, is_compared, verify}
 use Rattle.ddc_app.specs.Verified.{ShownBy, Verified}
 use Rattle.ddc_app.specs.Holding.{AreHeld}
 use Rattle.ddc_app.proofs.Loads.{within}
 use Rattle.ddc_app.proofs.Openings.{Holds, are_inputs, is_recipe}
-use Rattle.ddc_app.proofs.Walks.{IsRefusal, both_need, both_need_all, both_need_recipe, told}
+use Rattle.ddc_app.proofs.Walks.{IsRefusal, both_need, both_need_apart, both_need_inputs, both_need_recipe, both_read, told}
 
 -- ---- a replay that comes to a comparison
 
@@ -70,27 +72,27 @@ module _ (recipe report : List ℕ) (files : Files) where
     }
     by_fault made text_reads inputs inputs_held (Some (part, place)) none compared = absurd cc
 
-    by_report : (reading : Result Report ℕ) → report_of text ≡ reading
-        → Goes (outcome (with_report (verify_report said) reading) files) (outcome (with_report (verify_report said) reading) files)
-    unfolding verify_report
-    by_report (Err number) text_reads = λ compared. absurd cc
-    by_report (Ok made) text_reads =
-        let next : List (List ℕ) → Plan = λ inputs. verified said inputs made in
-        both_need_all Goes files refused 268_435_456 1_073_741_824 (paths said) next next
-        (λ inputs inputs_held. by_fault made text_reads inputs inputs_held (first_fault said inputs made) refl)
-
-  by_recipe : (bytes : List ℕ) (said : Said) → loaded files recipe 1_048_576 ≡ Bytes bytes → recipe_of bytes ≡ Ok said → is_input said report ≡ false
-      → Goes (outcome (verify_recipe report said) files) (outcome (verify_recipe report said) files)
-  unfolding verify_recipe
-  by_recipe bytes said held reads apart =
-      let next : List ℕ → Plan = λ text. with_report (verify_report said) (report_of text) in
-      both_need Goes files refused report 1_073_741_824 next next (λ text text_held. by_report bytes said held reads text text_held (report_of text) refl)
+  by_recipe : (bytes : List ℕ) (said : Said) → loaded files recipe 1_048_576 ≡ Bytes bytes → recipe_of bytes ≡ Ok said
+      → Goes (outcome (needs_apart said report (λ _. needs_report report (λ made. needs_inputs said (λ inputs. verified said inputs made)))) files)
+      (outcome (needs_apart said report (λ _. needs_report report (λ made. needs_inputs said (λ inputs. verified said inputs made)))) files)
+  by_recipe bytes said held reads =
+      let last : Report → List (List ℕ) → Plan = λ made inputs. verified said inputs made in
+      let loads : Report → Plan = λ made. needs_inputs said (last made) in
+      let reading : List ℕ → Plan = λ text. unless_refused (report_of text) (λ number. answers status.ReportRefused (report_line number)) loads in
+      let then : Unit {0} → Plan = λ _. needs_report report loads in
+      both_need_apart Goes files refused said report then then (λ apart.
+      both_need Goes files refused report 1_073_741_824 reading reading (λ text text_held.
+      both_read Goes files refused (report_of text) status.ReportRefused report_line loads loads (refl, refl) (λ made text_reads.
+      both_need_inputs Goes files refused said (last made) (last made) (λ inputs inputs_held.
+      by_fault bytes said held reads text text_held made text_reads inputs inputs_held (first_fault said inputs made) refl))))
 
   replayed : (two : Bool) → IsTrue (is_compared (outcome (cond two (verify_files recipe report) usage) files).status)
       → Replayed recipe report files (outcome (cond two (verify_files recipe report) usage) files)
   unfolding verify_files
   replayed false compared = absurd cc
-  replayed true compared = both_need_recipe Goes files refused recipe report (verify_recipe report) (verify_recipe report) by_recipe compared
+  replayed true compared =
+      let next : Said → Plan = λ said. needs_apart said report (λ _. needs_report report (λ made. needs_inputs said (λ inputs. verified said inputs made))) in
+      both_need_recipe Goes files refused recipe next next by_recipe compared
 
 -- each input is held
 all-held : (room : ℕ) (files : Files) (names contents : List (List ℕ)) → AreHeld 268_435_456 room files names contents

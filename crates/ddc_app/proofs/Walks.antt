@@ -3,16 +3,15 @@ use Rattle.std.proofs.Common.{◌≡◌, ℕ, ◌-◌, Bool, true, false, cond, 
 use Rattle.ddc_base.specs.declared.outside.Loaded.{Loaded}
 use Rattle.ddc_base.specs.declared.outside.Loaded.TheVariants.{Bytes, Absent, TooLong}
 use Rattle.ddc_base.specs.Outside.{Files, loaded}
-use Rattle.recipe.specs.declared.text.refusal.RecipeRefusal.{RecipeRefusal as Refusal}
 use Rattle.recipe.specs.Reading.{recipe_of}
 use Rattle.recipe.specs.declared.contents.Said.{Said}
 use Rattle.command_plan.specs.declared.status.Status.{Status}
 use Rattle.command_plan.specs.declared.status.Status.TheVariants.{FileRefused, RecipeRefused, Usage}
-use Rattle.command_plan.specs.Plan.{Plan, Outcome, follow, needs, needs_all, outcome}
+use Rattle.command_plan.specs.Plan.{Plan, Outcome, answers, follow, needs, needs_all, outcome, unless_refused}
 use Rattle.command_plan.specs.Texts.{absent_line, too_long_line, usage_line}
 use Rattle.command_plan.specs.Words.{usage}
-use Rattle.audit_commands.specs.Audit.{is_input, needs_recipe, with_recipe}
-use Rattle.audit_commands.specs.Texts.{recipe_line}
+use Rattle.recipe_plan.specs.Recipes.{is_input, needs_apart, needs_inputs, needs_recipe, paths}
+use Rattle.recipe_plan.specs.Texts.{recipe_line}
 use Rattle.ddc_app.specs.Accepting.{is_compared}
 use Rattle.ddc_app.specs.Holding.{AreHeld}
 use Rattle.ddc_app.specs.Pausing.{is_paused}
@@ -47,19 +46,30 @@ module _ (Both : Outcome → Outcome → Type 0) (files : Files)
       (λ c is. both_need_all most (room - length c) names (λ contents. first (c ∷ contents)) (λ contents. second (c ∷ contents))
       (λ contents held. both (c ∷ contents) (is, held)))
 
-  pub both_need_recipe : (recipe report : List ℕ) (first second : Said → Plan)
-      → ((bytes : List ℕ) (said : Said) → loaded files recipe 1_048_576 ≡ Bytes bytes → recipe_of bytes ≡ Ok said → is_input said report ≡ false
-      → Both (outcome (first said) files) (outcome (second said) files))
-      → Both (outcome (needs_recipe recipe report first) files) (outcome (needs_recipe recipe report second) files)
-  both_need_recipe recipe report first second both =
-      both_need recipe 1_048_576 (λ bytes. with_recipe report first (recipe_of bytes)) (λ bytes. with_recipe report second (recipe_of bytes))
-      (λ bytes held. by_reading bytes held (recipe_of bytes) refl) where
-        by_clash : (bytes : List ℕ) (said : Said) → loaded files recipe 1_048_576 ≡ Bytes bytes → recipe_of bytes ≡ Ok said → (clash : Bool) → is_input said report ≡ clash
-            → Both (outcome (cond clash usage (first said)) files) (outcome (cond clash usage (second said)) files)
-        by_clash bytes said held reads true apart = refused Usage usage_line (refl, refl)
-        by_clash bytes said held reads false apart = both bytes said held reads apart
+  pub both_read : {A E : Type 0} (reading : Result A E) (status : Status) (text : E → List ℕ) (first second : A → Plan) → IsRefusal status
+      → ((value : A) → reading ≡ Ok value → Both (outcome (first value) files) (outcome (second value) files))
+      → Both (outcome (unless_refused reading (λ e. answers status (text e)) first) files) (outcome (unless_refused reading (λ e. answers status (text e)) second) files)
+  both_read (Ok value) status text first second refusal both = both value refl
+  both_read (Err e) status text first second refusal both = refused status (text e) refusal
 
-        by_reading : (bytes : List ℕ) → loaded files recipe 1_048_576 ≡ Bytes bytes → (reading : Result Said Refusal) → recipe_of bytes ≡ reading
-            → Both (outcome (with_recipe report first reading) files) (outcome (with_recipe report second reading) files)
-        by_reading bytes held (Err why) reads = refused RecipeRefused (recipe_line why) (refl, refl)
-        by_reading bytes held (Ok said) reads = by_clash bytes said held reads (is_input said report) refl
+  pub both_need_recipe : (recipe : List ℕ) (first second : Said → Plan)
+      → ((bytes : List ℕ) (said : Said) → loaded files recipe 1_048_576 ≡ Bytes bytes → recipe_of bytes ≡ Ok said → Both (outcome (first said) files) (outcome (second said) files))
+      → Both (outcome (needs_recipe recipe first) files) (outcome (needs_recipe recipe second) files)
+  both_need_recipe recipe first second both =
+      both_need recipe 1_048_576 (λ bytes. unless_refused (recipe_of bytes) (λ e. answers RecipeRefused (recipe_line e)) first)
+      (λ bytes. unless_refused (recipe_of bytes) (λ e. answers RecipeRefused (recipe_line e)) second)
+      (λ bytes held. both_read (recipe_of bytes) RecipeRefused recipe_line first second (refl, refl) (λ said reads. both bytes said held reads))
+
+  pub both_need_apart : (said : Said) (file : List ℕ) (first second : Unit {0} → Plan)
+      → (is_input said file ≡ false → Both (outcome (first tt) files) (outcome (second tt) files))
+      → Both (outcome (needs_apart said file first) files) (outcome (needs_apart said file second) files)
+  unfolding needs_apart
+  both_need_apart said file first second both = by (is_input said file) refl where
+    by : (clash : Bool) → is_input said file ≡ clash → Both (outcome (cond clash usage (first tt)) files) (outcome (cond clash usage (second tt)) files)
+    by true is = refused Usage usage_line (refl, refl)
+    by false is = both is
+
+  pub both_need_inputs : (said : Said) (first second : List (List ℕ) → Plan)
+      → ((inputs : List (List ℕ)) → AreHeld 268_435_456 1_073_741_824 files (paths said) inputs → Both (outcome (first inputs) files) (outcome (second inputs) files))
+      → Both (outcome (needs_inputs said first) files) (outcome (needs_inputs said second) files)
+  both_need_inputs said first second both = both_need_all 268_435_456 1_073_741_824 (paths said) first second both

@@ -13,7 +13,7 @@ use Rattle.wheeler.specs.Positions.{Position, On}
 use Rattle.command_plan.specs.declared.status.Status.{Status}
 use Rattle.command_plan.specs.declared.status.Status.TheVariants.{Paused}
 use Rattle.command_plan.specs.Plan.{Outcome, outcome}
-use Rattle.audit_commands.specs.Audit.{is_input, paths}
+use Rattle.recipe_plan.specs.Recipes.{is_input, paths}
 use Rattle.audit_commands.specs.Pause.{are_three_files}
 use Rattle.ddc_app.specs.Accepting.{audit}
 use Rattle.ddc_app.specs.Commands.{plan_of}
@@ -65,6 +65,11 @@ Pieces recipe save report files count piece =
 -- a command leaves every name as it was, but for these two
 abbrev pub LeavesOthers : List ℕ → List ℕ → Files → Outcome → Type 0
 LeavesOthers save report files piece = (name : List ℕ) → name ≢ save → name ≢ report → map.get piece.files name ≡ map.get files name
+
+-- a piece that pauses leaves what is held as the report, and one at which the audit is over what is held as the save
+pub record LeavesUnwritten (save report : List ℕ) (files : Files) (piece : Outcome) : Type 0 where
+  pub report_stays : piece.status ≡ Paused → map.get piece.files report ≡ map.get files report
+  pub save_stays : piece.status ≢ Paused → map.get piece.files save ≡ map.get files save
 
 abbrev pub is_paused : Status → Bool
 is_paused Paused = true

@@ -16,7 +16,8 @@ use Rattle.meaning.specs.Meaning.{Compiles, Prescribes}
 use Rattle.command_plan.specs.declared.status.Status.{Status}
 use Rattle.command_plan.specs.declared.status.Status.TheVariants.{Yes, Differs}
 use Rattle.command_plan.specs.Plan.{Outcome}
-use Rattle.audit_commands.specs.Audit.{compared_status, paths}
+use Rattle.recipe_plan.specs.Recipes.{paths}
+use Rattle.recipe_plan.specs.Reports.{compared_status}
 use Rattle.verify_command.specs.Texts.{true_text}
 
 -- what a status shows of a recipe and its inputs

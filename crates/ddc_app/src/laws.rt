@@ -1,9 +1,11 @@
 //! Laws of what commands come to. Each law is the contract of a function that does nothing.
 
 ghost use Rattle.ddc_app.specs.Accepting.{HoldBytes, audit, is_compared, verify};
-ghost use Rattle.ddc_app.specs.Pausing.{AreWords, IsCount, LeavesOthers, Pieces, StandsAt, in_pieces, part, resume};
+ghost use Rattle.ddc_app.specs.Pausing.{AreWords, IsCount, LeavesOthers, LeavesUnwritten, Pieces, StandsAt, in_pieces, part, resume};
 ghost use Rattle.ddc_app.specs.Verified.{Verified};
+ghost use Rattle.command_plan.specs.declared.status.Status.TheVariants.{Paused};
 ghost use Rattle.ddc_base.specs.Outside.{Files};
+ghost use Rattle.std.specs.FinMap as map;
 ghost use Rattle.std.specs.Prelude.{◌≡◌, ◌+◌, [], ◌∷◌, All, IsTrue, List, sum, ℕ};
 
 use meaning::Meaning;
@@ -40,10 +42,22 @@ pub fn resumes()
         → Pieces recipe save report files (count + steps) (resume recipe save report steps files) }
 {}
 
-/// Neither `part` nor `resume` changes a name but SAVE and REPORT, whatever the files hold.
+/// Neither `part` nor `resume` changes a name but SAVE and REPORT, whatever the files hold, and so no audit in pieces does.
 pub fn others_stay()
     ensures part { (recipe save report : List ℕ) (steps : ℕ) (files : Files) → LeavesOthers save report files (part recipe save report steps files) }
     ensures resume { (recipe save report : List ℕ) (steps : ℕ) (files : Files) → LeavesOthers save report files (resume recipe save report steps files) }
+    ensures pieces { (recipe save report : List ℕ) (steps : ℕ) (counts : List ℕ) (files : Files)
+        → LeavesOthers save report files (in_pieces recipe save report steps counts files) }
+{}
+
+/// Of SAVE and REPORT the one that a piece does not write is as before, whatever the files hold: REPORT where it pauses, and so as long as an
+/// audit in pieces pauses, and SAVE where the audit is over.
+pub fn unwritten_stays()
+    ensures part { (recipe save report : List ℕ) (steps : ℕ) (files : Files) → LeavesUnwritten save report files (part recipe save report steps files) }
+    ensures resume { (recipe save report : List ℕ) (steps : ℕ) (files : Files) → LeavesUnwritten save report files (resume recipe save report steps files) }
+    ensures pieces { (recipe save report : List ℕ) (steps : ℕ) (counts : List ℕ) (files : Files)
+        → (in_pieces recipe save report steps counts files).status ≡ Paused
+        → map.get (in_pieces recipe save report steps counts files).files report ≡ map.get files report }
 {}
 
 /// An audit in any pieces over files of bytes comes to the same as the undivided audit, or pauses behind all the steps that were asked for. Its

@@ -1,3 +1,4 @@
 pub mod Listing
 pub mod LeftNames
 pub mod Arguments
+pub mod Making

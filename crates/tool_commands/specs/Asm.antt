@@ -1,22 +1,20 @@
 -- `asm LANG BASE SOURCE OUT`: what a source comes to is saved. docs/reference/command-line.md says the same for people.
-use Rattle.std.specs.Prelude.{ℕ, ◌^◌, ◌&&◌, Bool, not, nat_le, Option, Some, None, Result, Ok, Err, List, [], ◌∷◌, length, bytes_eq, codes, decimal, if◌then◌else◌}
+use Rattle.std.specs.Prelude.{ℕ, ◌^◌, nat_le, Option, Some, None, List, [], ◌∷◌, length, codes, decimal, if◌then◌else◌}
 use Rattle.ddc_base.specs.Decimals.{as_decimal}
 use Rattle.ddc_base.specs.Lines.{line}
-use Rattle.hex_langs.specs.declared.items.reader.HexRefusal.{HexRefusal}
 use Rattle.hex_langs.specs.Items.Refusals.{refusal_number, refusal_place}
-use Rattle.hex_langs.specs.declared.items.item.Item.{Item}
+use Rattle.hex_langs.specs.declared.link.values.HexLanguage.{HexLanguage}
 use Rattle.hex_langs.specs.declared.link.values.HexLanguage.TheVariants as hex
 use Rattle.hex_langs.specs.Link.Values.{value_of}
 use Rattle.hex_langs.specs.Writer.Writing.{items_text}
 use Rattle.ddc_base.specs.declared.languages.Language.{Language}
 use Rattle.ddc_base.specs.declared.languages.Language.TheVariants.{Hex0, Hex1, Hex2, M1}
 use Rattle.ddc_base.specs.Languages.Words.{language_named}
-use Rattle.m1_lang.specs.declared.refusal.M1Refusal.{M1Refusal}
 use Rattle.m1_lang.specs.Expansion.{expansion_of}
 use Rattle.m1_lang.specs.Refusals.{m1_refusal_number, m1_refusal_place}
 use Rattle.command_plan.specs.declared.status.Status.TheVariants.{Yes, CheckFailed}
-use Rattle.command_plan.specs.Words.{are_two_files, usage}
-use Rattle.command_plan.specs.Plan.{Plan, answers, needs, sets}
+use Rattle.command_plan.specs.Words.{are_two_files, or_usage, usage}
+use Rattle.command_plan.specs.Plan.{Plan, answers, needs, sets, unless_refused}
 
 -- the value has this length, and is saved
 unfoldable pub made_line : ℕ → List ℕ
@@ -34,37 +32,35 @@ within_bases (Some base) = if nat_le base (2 ^ 37) then Some base else None
 unfoldable pub as_base : List ℕ → Option ℕ
 as_base word = within_bases (as_decimal word)
 
--- a content is made: it is saved
-abbrev pub made : List ℕ → List ℕ → Plan
-made out content = sets out content (answers Yes (made_line (length content)))
+-- a source's value in a language of hexadecimal digits, at a base
+abbrev pub needs_value : HexLanguage → ℕ → List ℕ → (List ℕ → Plan) → Plan
+needs_value language base source next =
+    unless_refused (value_of language base source) (λ refusal. answers CheckFailed (refused_line (refusal_number refusal) (refusal_place refusal))) next
 
--- a value is saved, a refusal is said
-abbrev pub saved : List ℕ → Result (List ℕ) HexRefusal → Plan
-saved out (Ok value) = made out value
-saved out (Err refusal) = answers CheckFailed (refused_line (refusal_number refusal) (refusal_place refusal))
-
--- of M1 the text of the items is saved, which is a source of hex2
-abbrev pub saved_items : List ℕ → Result (List Item) M1Refusal → Plan
-saved_items out (Ok items) = made out (items_text items)
-saved_items out (Err refusal) = answers CheckFailed (refused_line (m1_refusal_number refusal) (m1_refusal_place refusal))
+-- the text of the items that an M1 source expands to, which is a source of hex2
+abbrev pub needs_items : List ℕ → (List ℕ → Plan) → Plan
+needs_items source next =
+    unless_refused (expansion_of source) (λ refusal. answers CheckFailed (refused_line (m1_refusal_number refusal) (m1_refusal_place refusal)))
+    (λ items. next (items_text items))
 
 -- what a source comes to in a language, at a base, which hex0 and M1 don't know
-abbrev pub assembled : Language → ℕ → List ℕ → List ℕ → Plan
-assembled Hex0 base out source = saved out (value_of hex.Hex0 base source)
-assembled Hex1 base out source = saved out (value_of hex.Hex1 base source)
-assembled Hex2 base out source = saved out (value_of hex.Hex2 base source)
-assembled M1 base out source = saved_items out (expansion_of source)
+abbrev pub needs_made : Language → ℕ → List ℕ → (List ℕ → Plan) → Plan
+needs_made Hex0 base source = needs_value hex.Hex0 base source
+needs_made Hex1 base source = needs_value hex.Hex1 base source
+needs_made Hex2 base source = needs_value hex.Hex2 base source
+needs_made M1 base source = needs_items source
 
--- the source is needed, of at most 268,435,456 bytes
+-- the source, of at most 268,435,456 bytes, and what it comes to, which is saved
 unfoldable pub asm_files : Language → ℕ → List ℕ → List ℕ → Plan
-asm_files language base source out = needs source 268_435_456 (λ text. assembled language base out text)
-
--- in a language and at a base, if the words name them
-abbrev pub asm_in : Option Language → Option ℕ → List ℕ → List ℕ → Plan
-asm_in (Some language) (Some base) source out = if are_two_files source out then asm_files language base source out else usage
-asm_in _ _ source out = usage
+asm_files language base source out =
+    needs source 268_435_456 (λ text.
+    needs_made language base text (λ made.
+    sets out made (answers Yes (made_line (length made)))))
 
 -- the words after `asm`
 abbrev pub asm_plan : List (List ℕ) → Plan
-asm_plan (language ∷ base ∷ source ∷ out ∷ []) = asm_in (language_named language) (as_base base) source out
+asm_plan (language ∷ base ∷ source ∷ out ∷ []) =
+    or_usage (language_named language) (λ named.
+    or_usage (as_base base) (λ address.
+    if are_two_files source out then asm_files named address source out else usage))
 asm_plan _ = usage

@@ -12,12 +12,12 @@ abbrev pub comparison : List ℕ → List ℕ → Option ℕ → Plan
 comparison first second None = answers Yes (equal_line (length first))
 comparison first second (Some offset) = answers Differs (differs_line offset (length first) (length second))
 
--- the source and then the binary are needed, each of at most 268,435,456 bytes, and the source's value is compared with the binary
-unfoldable pub hex0_binary : List ℕ → List ℕ → Plan
-hex0_binary text binary = needs binary 268_435_456 (λ bytes. comparison (hex0_of text) bytes (first_difference (hex0_of text) bytes))
-
+-- the source and then the binary, each of at most 268,435,456 bytes, and then how the source's value and the binary compare
 unfoldable pub hex0_files : List ℕ → List ℕ → Plan
-hex0_files source binary = needs source 268_435_456 (λ text. hex0_binary text binary)
+hex0_files source binary =
+    needs source 268_435_456 (λ text.
+    needs binary 268_435_456 (λ bytes.
+    comparison (hex0_of text) bytes (first_difference (hex0_of text) bytes)))
 
 -- the words after `hex0`
 abbrev pub hex0_plan : List (List ℕ) → Plan

@@ -1,6 +1,6 @@
 -- `run PROGRAM STEPS ARG..`: how a program's run ends within so many steps, and what it leaves. docs/reference/command-line.md says the
 -- same for people.
-use Rattle.std.specs.Prelude.{ℕ, ◌+◌, ◌&&◌, ◌==◌, Option, Some, None, Result, Ok, Err, List, [], ◌∷◌, ◌++◌, length, unwrap_or, codes, decimal, if◌then◌else◌}
+use Rattle.std.specs.Prelude.{ℕ, ◌+◌, Bool, ◌&&◌, ◌==◌, Option, Some, None, Result, Ok, Err, List, [], ◌∷◌, ◌++◌, length, unwrap_or, codes, decimal, if◌then◌else◌}
 use Rattle.std.specs.List.{flat_map, list_all}
 use Rattle.std.specs.FinMap as map
 use Rattle.hex.specs.Hex.{encode_lower}
@@ -15,7 +15,7 @@ use Rattle.guest_run.specs.Run.{End, Exited, Trapped, UnknownCall, first_end}
 use Rattle.command_plan.specs.declared.status.Status.{Status}
 use Rattle.command_plan.specs.declared.status.Status.TheVariants.{Yes, RunFailed}
 use Rattle.command_plan.specs.Causes.Texts.{trap_text, call_text, elf_text, args_text, box_text, spent_text}
-use Rattle.command_plan.specs.Words.{as_steps, is_file_word, usage}
+use Rattle.command_plan.specs.Words.{as_steps, is_file_word, or_usage, usage}
 use Rattle.command_plan.specs.Plan.{Plan, answers, needs}
 
 -- a refused start
@@ -76,11 +76,12 @@ unfoldable pub run_file : List ℕ → List (List ℕ) → ℕ → Plan
 run_file program args most =
     needs program 268_435_456 (λ bytes. start_plan (start_of bytes (setting_of (program ∷ args))) most)
 
--- the words after `run`
-abbrev pub run_words : List ℕ → List (List ℕ) → Option ℕ → Plan
-run_words program args None = usage
-run_words program args (Some most) = if is_file_word program && list_all is_text args then run_file program args most else usage
+-- words that can name a program and its arguments
+abbrev pub are_run_words : List ℕ → List (List ℕ) → Bool
+are_run_words program args = is_file_word program && list_all is_text args
 
+-- the words after `run`
 abbrev pub run_plan : List (List ℕ) → Plan
-run_plan (program ∷ steps ∷ args) = run_words program args (as_steps steps)
+run_plan (program ∷ steps ∷ args) =
+    or_usage (as_steps steps) (λ most. if are_run_words program args then run_file program args most else usage)
 run_plan _ = usage

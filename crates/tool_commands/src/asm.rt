@@ -1,15 +1,12 @@
 //! `asm LANG BASE SOURCE OUT`: what a source comes to is saved.
 
 ghost use Rattle.std.specs.Prelude.{◌≡◌, ◌≤◌, ◌^◌, IfOk, IfSome, map};
-ghost use Rattle.ddc_base.specs.Outside.{IsFileName};
+ghost use Rattle.ddc_base.specs.Outside.{IsFileName, ShelfState};
 ghost use Rattle.command_plan.specs.declared.status.Status.TheVariants.{CheckFailed};
 ghost use Rattle.command_plan.specs.Performs.{Performs};
 ghost use Rattle.command_plan.specs.Plan.{answers};
-ghost use Rattle.command_plan.specs.Steps.{Says};
-ghost use Rattle.hex_langs.specs.Link.Values.{value_of};
-ghost use Rattle.hex_langs.specs.Writer.Writing.{items_text};
-ghost use Rattle.m1_lang.specs.Expansion.{expansion_of};
-ghost use Rattle.tool_commands.specs.Asm.{made_line, refused_line, as_base, made, saved, saved_items, assembled, asm_files, asm_plan};
+ghost use Rattle.command_plan.specs.Steps.{Obtains, Says};
+ghost use Rattle.tool_commands.specs.Asm.{made_line, refused_line, as_base, needs_items, needs_made, needs_value, asm_files, asm_plan};
 ghost use Rattle.tool_commands.specs.Inside.Refusing.{Refuses, RefusesM1};
 
 use command_plan::words::are_two_files;
@@ -25,6 +22,7 @@ use std::alloc::Global;
 const GREATEST_BASE: u64 = 137_438_953_472;
 
 /// Performs the command on the words after its name.
+#[tactic(auto, using(command_plan::proofs::Performing::performing))]
 pub fn perform<S: Shelf>(alloc: Global, words: &[&str], shelf: &mut S) -> Result<Answer, Stop>
     ensures { Performs (asm_plan (map (λ w. w.now) words.now)) (S.state shelf.old) (S.state shelf.new) result }
 {
@@ -32,12 +30,8 @@ pub fn perform<S: Shelf>(alloc: Global, words: &[&str], shelf: &mut S) -> Result
         return usage(alloc);
     };
     match (Language::named(language.as_bytes()), base_of(base)) {
-        (Some(language), Some(base)) => {
-            if are_two_files(source, out) {
-                assemble_file(alloc, language, base, source, out, shelf)
-            } else {
-                usage(alloc)
-            }
+        (Some(language), Some(base)) if are_two_files(source, out) => {
+            asm(alloc, shelf, language, base, source, out)
         }
         _ => usage(alloc),
     }
@@ -57,15 +51,15 @@ fn base_of(word: &str) -> Option<u64>
     }
 }
 
-/// Fetches the source, and goes on with it.
-#[tactic(auto, using(command_plan::proofs::Performing::performing), unfolding(crate::specs::Asm::asm_files))]
-fn assemble_file<S: Shelf>(
+/// The command on a language, a base and two files.
+#[tactic(auto, using(command_plan::proofs::Obtaining::obtaining), unfolding(crate::specs::Asm::asm_files))]
+fn asm<S: Shelf>(
     alloc: Global,
+    shelf: &mut S,
     language: Language,
     base: u64,
     source: &str,
     out: &str,
-    shelf: &mut S,
 ) -> Result<Answer, Stop>
     requires base { base ≤ 2 ^ 37 }
     requires source { IsFileName source.now }
@@ -73,94 +67,51 @@ fn assemble_file<S: Shelf>(
     ensures { Performs (asm_files language base source.now out.now) (S.state shelf.old) (S.state shelf.new) result }
 {
     let text = fetch_file(alloc, shelf, source)?;
-    assemble(alloc, language, base, text.as_slice(), out, shelf)
+    let made = make(alloc, language, base, text.as_slice())?;
+    let answer = Answer {
+        status: Status::Yes,
+        text: made_text(alloc, made.len())?,
+    };
+    keep(alloc, shelf, out, made.as_slice(), answer)
 }
 
-/// Saves what a source comes to, or says why it comes to nothing.
-fn assemble<S: Shelf>(
-    alloc: Global,
-    language: Language,
-    base: u64,
-    source: &[u8],
-    out: &str,
-    shelf: &mut S,
-) -> Result<Answer, Stop>
-    requires base { base ≤ 2 ^ 37 }
-    requires out { IsFileName out.now }
-    ensures { Performs (assembled language base out.now source.now) (S.state shelf.old) (S.state shelf.new) result }
+/// What a source comes to, or what ends the command.
+fn make(alloc: Global, language: Language, base: u64, source: &[u8]) -> Result<Bytes, Stop>
+    requires { base ≤ 2 ^ 37 }
+    ensures { (shelf : ShelfState) → Obtains (needs_made language base source.now) shelf shelf result }
 {
     match language {
-        Language::Hex0 => save_value(alloc, HexLanguage::Hex0, base, source, out, shelf),
-        Language::Hex1 => save_value(alloc, HexLanguage::Hex1, base, source, out, shelf),
-        Language::Hex2 => save_value(alloc, HexLanguage::Hex2, base, source, out, shelf),
-        Language::M1 => save_items(alloc, source, out, shelf),
+        Language::Hex0 => make_value(alloc, HexLanguage::Hex0, base, source),
+        Language::Hex1 => make_value(alloc, HexLanguage::Hex1, base, source),
+        Language::Hex2 => make_value(alloc, HexLanguage::Hex2, base, source),
+        Language::M1 => make_items(alloc, source),
     }
 }
 
-/// Saves the value of a source, or says why it has none.
-#[tactic(auto, using(command_plan::proofs::Performing::performing))]
-fn save_value<S: Shelf>(
+/// The value of a source, or what ends the command.
+fn make_value(
     alloc: Global,
     language: HexLanguage,
     base: u64,
     source: &[u8],
-    out: &str,
-    shelf: &mut S,
-) -> Result<Answer, Stop>
-    requires base { base ≤ 2 ^ 37 }
-    requires out { IsFileName out.now }
-    ensures { Performs (saved out.now (value_of language base source.now)) (S.state shelf.old) (S.state shelf.new) result }
+) -> Result<Bytes, Stop>
+    requires { base ≤ 2 ^ 37 }
+    ensures { (shelf : ShelfState) → Obtains (needs_value language base source.now) shelf shelf result }
 {
     match value(alloc, language, base, source) {
-        Ok(bytes) => save(alloc, bytes.as_slice(), out, shelf),
-        Err(refusal) => refuse(alloc, refusal),
+        Ok(bytes) => Ok(bytes),
+        Err(refusal) => Err(Stop::Answered(refuse(alloc, refusal)?)),
     }
 }
 
-/// Saves the text of the items that an M1 source expands to, or says why it does not.
-#[tactic(auto, using(command_plan::proofs::Performing::performing))]
-fn save_items<S: Shelf>(
-    alloc: Global,
-    source: &[u8],
-    out: &str,
-    shelf: &mut S,
-) -> Result<Answer, Stop>
-    requires out { IsFileName out.now }
-    ensures { Performs (saved_items out.now (expansion_of source.now)) (S.state shelf.old) (S.state shelf.new) result }
+/// The text of the items that an M1 source expands to, or what ends the command.
+fn make_items(alloc: Global, source: &[u8]) -> Result<Bytes, Stop>
+    ensures { (shelf : ShelfState) → Obtains (needs_items source.now) shelf shelf result }
 {
     match expand(alloc, source) {
-        Ok(items) => save_text(alloc, &items, out, shelf),
-        Err(refusal) => refuse_m1(alloc, refusal),
+        Ok(items) => Ok(write_items(alloc, &items)?),
+        Err(refusal) => Err(Stop::Answered(refuse_m1(alloc, refusal)?)),
     }
-}
-
-/// Saves the text of items.
-#[tactic(auto, using(command_plan::proofs::Performing::performing))]
-fn save_text<S: Shelf>(
-    alloc: Global,
-    items: &Items<'_>,
-    out: &str,
-    shelf: &mut S,
-) -> Result<Answer, Stop>
-    requires out { IsFileName out.now }
-    ensures { Performs (made out.now (items_text items.now)) (S.state shelf.old) (S.state shelf.new) result }
-{
-    let text = write_items(alloc, items)?;
-    save(alloc, text.as_slice(), out, shelf)
-}
-
-/// Saves a content that was made.
-#[tactic(auto, using(command_plan::proofs::Performing::performing))]
-fn save<S: Shelf>(alloc: Global, content: &[u8], out: &str, shelf: &mut S) -> Result<Answer, Stop>
-    requires out { IsFileName out.now }
-    ensures { Performs (made out.now content.now) (S.state shelf.old) (S.state shelf.new) result }
-{
-    let text = made_text(alloc, content.len())?;
-    let answer = Answer {
-        status: Status::Yes,
-        text,
-    };
-    keep(alloc, shelf, out, content, answer)
 }
 
 /// The answer to a source that has no value, or want of memory.

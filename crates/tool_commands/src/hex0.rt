@@ -6,7 +6,7 @@ ghost use Rattle.ddc_base.specs.Outside.{IsFileName};
 ghost use Rattle.command_plan.specs.Performs.{Performs};
 ghost use Rattle.command_plan.specs.Steps.{Says};
 ghost use Rattle.hex_langs.specs.Hex0.{hex0_of};
-ghost use Rattle.tool_commands.specs.Hex0.{comparison, hex0_binary, hex0_files, hex0_plan};
+ghost use Rattle.tool_commands.specs.Hex0.{comparison, hex0_files, hex0_plan};
 
 use command_plan::words::is_file_word;
 use command_plan::{Answer, Status, Stop, fetch_file, texts, usage};
@@ -14,46 +14,33 @@ use ddc_base::{Shelf, first_difference};
 use std::alloc::Global;
 
 /// Performs the command on the words after its name.
+#[tactic(auto, using(command_plan::proofs::Performing::performing))]
 pub fn perform<S: Shelf>(alloc: Global, words: &[&str], shelf: &mut S) -> Result<Answer, Stop>
     ensures { Performs (hex0_plan (map (λ w. w.now) words.now)) (S.state shelf.old) (S.state shelf.new) result }
 {
     match words {
         [source, binary] if is_file_word(source) && is_file_word(binary) => {
-            compare_files(alloc, source, binary, shelf)
+            hex0(alloc, shelf, source, binary)
         }
         _ => usage(alloc),
     }
 }
 
-/// Fetches the source, and goes on with it.
-#[tactic(auto, using(command_plan::proofs::Performing::performing), unfolding(crate::specs::Hex0::hex0_files))]
-fn compare_files<S: Shelf>(
+/// The command on two files.
+#[tactic(auto, using(command_plan::proofs::Obtaining::obtaining), unfolding(crate::specs::Hex0::hex0_files))]
+fn hex0<S: Shelf>(
     alloc: Global,
+    shelf: &mut S,
     source: &str,
     binary: &str,
-    shelf: &mut S,
 ) -> Result<Answer, Stop>
     requires source { IsFileName source.now }
     requires binary { IsFileName binary.now }
     ensures { Performs (hex0_files source.now binary.now) (S.state shelf.old) (S.state shelf.new) result }
 {
     let text = fetch_file(alloc, shelf, source)?;
-    compare_with(alloc, text.as_slice(), binary, shelf)
-}
-
-/// Fetches the binary, and compares it with the source's value.
-#[tactic(auto, using(command_plan::proofs::Performing::performing), unfolding(crate::specs::Hex0::hex0_binary))]
-fn compare_with<S: Shelf>(
-    alloc: Global,
-    source: &[u8],
-    binary: &str,
-    shelf: &mut S,
-) -> Result<Answer, Stop>
-    requires { IsFileName binary.now }
-    ensures { Performs (hex0_binary source.now binary.now) (S.state shelf.old) (S.state shelf.new) result }
-{
     let bytes = fetch_file(alloc, shelf, binary)?;
-    compare(alloc, source, bytes.as_slice())
+    compare(alloc, text.as_slice(), bytes.as_slice())
 }
 
 /// Says where a source's value and a binary first differ, or how long they both are.

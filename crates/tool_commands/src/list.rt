@@ -28,14 +28,14 @@ pub fn perform<S: Shelf>(alloc: Global, words: &[&str], shelf: &mut S) -> Result
     ensures { Performs (list_plan (map (λ w. w.now) words.now)) (S.state shelf.old) (S.state shelf.new) result }
 {
     match words {
-        [binary] if is_file_word(binary) => list(alloc, binary, shelf),
+        [binary] if is_file_word(binary) => list(alloc, shelf, binary),
         _ => usage(alloc),
     }
 }
 
-/// Fetches the file, and lists it.
+/// The command on a file.
 #[tactic(auto, using(command_plan::proofs::Performing::performing), unfolding(crate::specs::List::list_file))]
-fn list<S: Shelf>(alloc: Global, binary: &str, shelf: &mut S) -> Result<Answer, Stop>
+fn list<S: Shelf>(alloc: Global, shelf: &mut S, binary: &str) -> Result<Answer, Stop>
     requires { IsFileName binary.now }
     ensures { Performs (list_file binary.now) (S.state shelf.old) (S.state shelf.new) result }
 {

@@ -1,6 +1,6 @@
 //! `run PROGRAM STEPS ARG..`: how the program's run ends within so many steps, and what it leaves.
 
-ghost use Rattle.std.specs.Prelude.{◌≡◌, ◌≤◌, ◌<◌, ◌+◌, ◌^◌, ◌∷◌, IfOk, IfSome, IsTrue, map};
+ghost use Rattle.std.specs.Prelude.{◌≡◌, ◌≤◌, ◌<◌, ◌+◌, ◌^◌, ◌∷◌, IfOk, IsTrue, map};
 ghost use Rattle.std.specs.List.{list_all};
 ghost use Rattle.ddc_base.specs.Outside.{IsFileName};
 ghost use Rattle.guest_run.specs.Setting.{is_text, IsText};
@@ -10,11 +10,11 @@ ghost use Rattle.command_plan.specs.declared.status.Status.TheVariants.{RunFaile
 ghost use Rattle.command_plan.specs.Performs.{Performs};
 ghost use Rattle.command_plan.specs.Steps.{Says};
 ghost use Rattle.command_plan.specs.Plan.{answers};
-ghost use Rattle.tool_commands.specs.RunProgram.{setting_of, end_plan, start_plan, status_of, run_file, run_words, run_plan};
+ghost use Rattle.tool_commands.specs.RunProgram.{setting_of, end_plan, start_plan, status_of, run_file, run_plan};
 
 use crate::run_texts;
-use crate::words::are_texts;
-use command_plan::words::{is_file_word, steps_of};
+use crate::words::are_run_words;
+use command_plan::words::steps_of;
 use command_plan::{Answer, Status, Stop, fetch_file, usage};
 use ddc_base::{Bytes, OutOfMemory, Shelf};
 use guest_run::{Guest, RunBox, RunEnd, RunRam, StartRefusal};
@@ -28,40 +28,23 @@ const HEAP: u64 = 536_870_912;
 pub fn perform<S: Shelf>(alloc: Global, words: &[&str], shelf: &mut S) -> Result<Answer, Stop>
     ensures { Performs (run_plan (map (λ w. w.now) words.now)) (S.state shelf.old) (S.state shelf.new) result }
 {
-    match words {
-        [program, steps, args @ ..] => judge(alloc, program, steps_of(steps), args, shelf),
+    let [program, steps, args @ ..] = words else {
+        return usage(alloc);
+    };
+    match steps_of(steps) {
+        Some(most) if are_run_words(program, args) => run(alloc, shelf, program, args, most),
         _ => usage(alloc),
     }
 }
 
-/// Judges the words after the command.
-#[tactic(auto, using(command_plan::proofs::Performing::performing, crate::proofs::Arguments::texts_of_words))]
-fn judge<S: Shelf>(
-    alloc: Global,
-    program: &str,
-    most: Option<u64>,
-    args: &[&str],
-    shelf: &mut S,
-) -> Result<Answer, Stop>
-    requires { IfSome most (λ steps. (1 ≤ steps) × (steps ≤ 2 ^ 48)) }
-    ensures { Performs (run_words program.now (map (λ w. w.now) args.now) most) (S.state shelf.old) (S.state shelf.new) result }
-{
-    match most {
-        Some(most) if is_file_word(program) && are_texts(args) => {
-            run_file(alloc, program, args, most, shelf)
-        }
-        _ => usage(alloc),
-    }
-}
-
-/// Fetches the program, and runs it.
+/// The command on a program, its arguments and a number of steps.
 #[tactic(auto, using(command_plan::proofs::Performing::performing), unfolding(crate::specs::RunProgram::run_file))]
-fn run_file<S: Shelf>(
+fn run<S: Shelf>(
     alloc: Global,
+    shelf: &mut S,
     program: &str,
     args: &[&str],
     most: u64,
-    shelf: &mut S,
 ) -> Result<Answer, Stop>
     requires name { IsFileName program.now }
     requires text { IsText program.now }

@@ -7,7 +7,7 @@ use Rattle.report.specs.declared.types.Compared.{Compared}
 use Rattle.report.specs.declared.types.Compared.TheVariants.{Equal, Differs}
 use Rattle.verifier.specs.declared.part.Part.{Part}
 use Rattle.verifier.specs.Words.{part_word}
-use Rattle.audit_commands.specs.Texts.{compared_line}
+use Rattle.recipe_plan.specs.Texts.{compared_line}
 use Rattle.meaning.specs.declared.assumption.Assumption.{Assumption}
 use Rattle.meaning.specs.declared.assumption.Assumption.TheVariants.{Implements, Compiles}
 use Rattle.meaning.specs.Assumptions.{assumed}

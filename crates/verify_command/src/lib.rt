@@ -3,6 +3,5 @@
 //! Its rules for people: docs/reference/command-line.md, and docs/reference/verify.md for what a replay judges.
 #![tactic(auto)]
 
-mod fetching;
 pub mod texts;
 pub mod verify;

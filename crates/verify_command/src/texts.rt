@@ -1,14 +1,14 @@
 //! What the command prints.
 
-ghost use Rattle.audit_commands.specs.Texts.{compared_line};
+ghost use Rattle.recipe_plan.specs.Texts.{compared_line};
 ghost use Rattle.ddc_base.specs.Lines.{line};
 ghost use Rattle.std.specs.Prelude.{◌≡◌, ◌++◌, [], ◌∷◌, IfOk, OnOk, codes, flat_map};
 ghost use Rattle.verify_command.specs.Texts.{assumption_line, headline, refuted_line, true_text, yes_line};
 
-use audit_commands::texts::compared;
 use ddc_base::{Bytes, Name, OutOfMemory};
 use meaning::{Assumption, assumptions};
 use recipe::Recipe;
+use recipe_plan::texts::compared;
 use report::{CompareLine, Compared};
 use std::alloc::Global;
 use verifier::Part;

@@ -7,17 +7,16 @@ ghost use Rattle.command_plan.specs.declared.status.Status.TheVariants.{Refuted}
 ghost use Rattle.command_plan.specs.Performs.{Performs};
 ghost use Rattle.command_plan.specs.Plan.{answers};
 ghost use Rattle.command_plan.specs.Steps.{Says};
-ghost use Rattle.verify_command.specs.Verify.{judged, verified, verify_files, verify_plan, verify_recipe, verify_report};
+ghost use Rattle.verify_command.specs.Verify.{judged, verified, verify_files, verify_plan};
 ghost use Rattle.verify_command.specs.Texts.{refuted_line};
 
-use crate::fetching::fetch_report;
 use crate::texts;
-use audit_commands::inputs::{fetch_inputs, fetch_recipe};
 use command_plan::words::are_two_files;
 use command_plan::{Answer, Status, Stop, usage};
 use ddc_base::Shelf;
 use meaning::Meaning;
 use recipe::{Inputs, Recipe};
+use recipe_plan::{apart, fetch_inputs, fetch_recipe, fetch_report};
 use report::{CompareLine, Compared, Report};
 use std::alloc::Global;
 use verifier::{Part, Verdict};
@@ -33,61 +32,29 @@ pub fn perform<M: Meaning, S: Shelf>(
 {
     match words {
         [recipe, report] if are_two_files(recipe, report) => {
-            verify_files::<M, S>(alloc, recipe, report, shelf)
+            verify::<M, S>(alloc, shelf, recipe, report)
         }
         _ => usage(alloc),
     }
 }
 
-/// Fetches the recipe, and goes on with it.
-#[tactic(auto, using(command_plan::proofs::Gathering::obtaining), unfolding(crate::specs::Verify::verify_files))]
-fn verify_files<M: Meaning, S: Shelf>(
+/// The command on two files.
+#[tactic(auto, using(command_plan::proofs::Obtaining::obtaining), unfolding(crate::specs::Verify::verify_files))]
+fn verify<M: Meaning, S: Shelf>(
     alloc: Global,
+    shelf: &mut S,
     recipe: &str,
     report: &str,
-    shelf: &mut S,
 ) -> Result<Answer, Stop>
     requires recipe { IsFileName recipe.now }
     requires report { IsFileName report.now }
     ensures { Performs (verify_files recipe.now report.now) (S.state shelf.old) (S.state shelf.new) result }
 {
-    match fetch_recipe(alloc, shelf, recipe, report) {
-        Ok(recipe) => verify_recipe::<M, S>(alloc, &recipe, report, shelf),
-        Err(stop) => Err(stop),
-    }
-}
-
-/// Fetches the report, and goes on with it.
-#[tactic(auto, using(command_plan::proofs::Gathering::obtaining), unfolding(crate::specs::Verify::verify_recipe))]
-fn verify_recipe<M: Meaning, S: Shelf>(
-    alloc: Global,
-    recipe: &Recipe,
-    report: &str,
-    shelf: &mut S,
-) -> Result<Answer, Stop>
-    requires { IsFileName report.now }
-    ensures { Performs (verify_recipe report.now recipe.now) (S.state shelf.old) (S.state shelf.new) result }
-{
-    match fetch_report(alloc, shelf, report) {
-        Ok(report) => verify_report::<M, S>(alloc, recipe, &report, shelf),
-        Err(stop) => Err(stop),
-    }
-}
-
-/// Fetches the inputs, and goes on with them.
-#[tactic(auto, using(command_plan::proofs::Gathering::obtaining), unfolding(crate::specs::Verify::verify_report))]
-fn verify_report<M: Meaning, S: Shelf>(
-    alloc: Global,
-    recipe: &Recipe,
-    report: &Report,
-    shelf: &mut S,
-) -> Result<Answer, Stop>
-    ensures { Performs (verify_report recipe.now report.now) (S.state shelf.old) (S.state shelf.new) result }
-{
-    match fetch_inputs(alloc, shelf, recipe) {
-        Ok(inputs) => answer::<M>(alloc, recipe, &inputs, report),
-        Err(stop) => Err(stop),
-    }
+    let recipe = fetch_recipe(alloc, shelf, recipe)?;
+    apart(alloc, &recipe, report)?;
+    let report = fetch_report(alloc, shelf, report)?;
+    let inputs = fetch_inputs(alloc, shelf, &recipe)?;
+    answer::<M>(alloc, &recipe, &inputs, &report)
 }
 
 /// Replays the report, and says what it comes to.

@@ -1,0 +1,23 @@
+use Rattle.command_plan.proofs.Obtaining.{ends_before, ends_with, goes_on_with}
+use Rattle.wheeler.specs.Bench.{bench}
+use Rattle.audit_commands.proofs.Finishing.{carried}
+use Rattle.audit_commands.specs.Audit.{audit_files}
+use Rattle.audit_commands.proofs.audit.audit.Goals as goal
+
+pub returns-in_err-recipe : goal.returns-in_err-recipe
+unfolding audit_files
+returns-in_err-recipe g c = ends_with _ _ _ _ _ c.from_residual.ensures.1 (ends_before _ _ _ _ _ c.in_err-recipe.ensures)
+
+pub returns-in_err-apart : goal.returns-in_err-apart
+unfolding audit_files
+returns-in_err-apart g c = ends_with _ _ _ _ _ c.from_residual-in_err-apart.ensures.1 (goes_on_with _ _ _ _ _ _ _ c.in_ok-recipe.ensures (ends_before _ _ _ _ _ (c.in_err-apart.ensures _)))
+
+pub returns-in_err-inputs : goal.returns-in_err-inputs
+unfolding audit_files
+returns-in_err-inputs g c = ends_with _ _ _ _ _ c.from_residual-in_err-inputs.ensures.1 (goes_on_with _ _ _ _ _ _ _ c.in_ok-recipe.ensures (goes_on_with _ _ _ _ _ _ _ (c.in_ok-apart.ensures _) (ends_before _ _ _ _ _ c.in_err-inputs.ensures.obtained)))
+
+pub returns : goal.returns
+unfolding audit_files
+returns g c =
+    let begun = c.new-audit.result in
+    goes_on_with _ _ _ _ _ _ _ c.in_ok-recipe.ensures (goes_on_with _ _ _ _ _ _ _ (c.in_ok-apart.ensures _) (goes_on_with _ _ _ _ _ _ _ c.in_ok-inputs.ensures.obtained ((carried _ _ c.finish-progress.new.audit.recipe begun c.args.report.now _ _ _ c.finish-progress.ensures.recipe c.new-audit.ensures (c.conclude.ensures (bench begun.recipe begun.inputs) c.finish-progress.ensures.answer)))))

@@ -1,0 +1,13 @@
+use Rattle.command_plan.proofs.Obtaining.{stops_with}
+use Rattle.audit_commands.proofs.Reading.{goes_on, refuses, wants}
+use Rattle.audit_commands.proofs.resume.audit_at.Goals as goal
+
+pub returns-in-Ok : goal.returns-in-Ok
+returns-in-Ok c = λ shelf. goes_on c.args.recipe c.args.inputs c.args.text shelf c.in-Ok.audit c.in-Ok.ensures
+
+pub returns-in_err-refuse-in-Err : goal.returns-in_err-refuse-in-Err
+returns-in_err-refuse-in-Err c = λ shelf.
+    stops_with _ _ _ _ _ c.from_residual.ensures.1 (wants c.args.recipe c.args.inputs c.args.text shelf c.in-Err.refusal _ c.in_err-refuse-in-Err.ensures)
+
+pub returns-in_ok-refuse-in-Err : goal.returns-in_ok-refuse-in-Err
+returns-in_ok-refuse-in-Err c = λ shelf. refuses c.args.recipe c.args.inputs c.args.text shelf c.in-Err.refusal _ c.in-Err.ensures c.in_ok-refuse-in-Err.ensures

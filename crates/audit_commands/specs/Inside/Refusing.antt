@@ -1,0 +1,15 @@
+-- The answer to a refusal of a save, which is none of the file's where memory was wanting.
+use Rattle.std.specs.Prelude.{◌≡◌, Result, Err}
+use Rattle.audit_run.specs.declared.save.reading.SaveRefusal.{SaveRefusal}
+use Rattle.audit_run.specs.declared.save.reading.SaveRefusal.TheVariants as refusal
+use Rattle.command_plan.specs.declared.answer.Answer.{Answer}
+use Rattle.command_plan.specs.declared.status.Status.TheVariants.{SaveRefused}
+use Rattle.command_plan.specs.declared.stop.Stop.{Stop}
+use Rattle.command_plan.specs.declared.stop.Stop.TheVariants as stop
+use Rattle.command_plan.specs.Plan.{answers}
+use Rattle.command_plan.specs.Steps.{Says}
+use Rattle.audit_commands.specs.PauseTexts.{refused_line}
+
+abbrev pub Refuses : SaveRefusal → Result Answer Stop → Type 0
+Refuses refusal.OutOfMemory result = result ≡ Err stop.OutOfMemory
+Refuses why result = Says (answers SaveRefused (refused_line why)) result

@@ -1,0 +1,77 @@
+-- Steps of a command in a row. What each of them does is `Obtains`, with a shelf or without.
+use Rattle.std.proofs.Common.{◌≡◌, ℕ, Result, Ok, Err, List, sym, ap, subst, ◌∙◌}
+use Rattle.std.specs.Prelude.{IsErrAnd}
+use Rattle.ddc_base.specs.Outside.{ShelfState}
+use Rattle.command_plan.specs.declared.answer.Answer.{Answer}
+use Rattle.command_plan.specs.declared.stop.Stop.{Stop}
+use Rattle.command_plan.specs.declared.stop.Stop.TheVariants as stop
+use Rattle.command_plan.specs.Plan.{Plan, answers, needs, unless_refused}
+use Rattle.command_plan.specs.Performs.{Performs}
+use Rattle.command_plan.specs.Steps.{Fetches, Obtains}
+use Rattle.command_plan.proofs.Performing.{ends_answered, ends_at_fetch, goes_on_after_fetch, wants_memory}
+
+-- ---- what follows a step, and what `?` hands on of one that ended the command
+
+pub goes_on_with : {A : Type 0} (plan : (A → Plan) → Plan) (next : A → Plan) (old mid new : ShelfState) (value : A) (result : Result Answer Stop)
+    → Obtains plan old mid (Ok value) → Performs (next value) mid new result → Performs (plan next) old new result
+goes_on_with plan next old mid new value result o p = o.by_result next new result p
+
+pub ends_before : {A : Type 0} (plan : (A → Plan) → Plan) (next : A → Plan) (old new : ShelfState) (ending : Stop)
+    → Obtains plan old new (Err ending) → Performs (plan next) old new (Err ending)
+ends_before plan next old new ending o = o.by_result next
+
+pub ends_with : (plan : Plan) (old new : ShelfState) (ending : Stop) (result : Result Answer Stop) → IsErrAnd result (λ handed. handed ≡ ending)
+    → Performs plan old new (Err ending) → Performs plan old new result
+ends_with plan old new ending (Ok answer) handed p = absurd handed
+ends_with plan old new ending (Err given) handed p = subst (λ e. Performs plan old new (Err e)) (sym handed) p
+
+pub ruleset obtaining = (goes_on_with, ends_before)
+
+-- ---- steps
+
+-- a load
+pub loads : (name : List ℕ) (limit : ℕ) (old new : ShelfState) (result : Result (List ℕ) Stop) → Fetches name limit old new result → Obtains (needs name limit) old new result
+loads name limit old new (Ok content) f = record { by_result = λ next final result p. goes_on_after_fetch name limit next old new final content result f p }
+loads name limit old new (Err ending) f = record { by_result = λ next. ends_at_fetch name limit next old new ending f }
+
+-- a judgement, which touches no shelf: it leads to a value, or answers, or wants memory
+module _ {A : Type 0} (plan : (A → Plan) → Plan) (shelf : ShelfState) where
+  pub leads : (value : A) → ((next : A → Plan) → plan next ≡ next value) → Obtains plan shelf shelf (Ok value)
+  leads value is = record { by_result = λ next final result p. subst (λ q. Performs q shelf final result) (sym (is next)) p }
+
+  pub answers_at_once : (answer : Answer) → ((next : A → Plan) → plan next ≡ answers answer.status answer.text) → Obtains plan shelf shelf (Err (stop.Answered answer))
+  answers_at_once answer is = record { by_result = λ next. ends_answered (plan next) shelf answer (is next) }
+
+  pub wants_as : (ending : Stop) → ending ≡ stop.OutOfMemory → Obtains plan shelf shelf (Err ending)
+  wants_as ending is = subst (λ e. Obtains plan shelf shelf (Err e)) (sym is) (record { by_result = λ next. wants_memory (plan next) shelf })
+
+  pub wants_at_once : Obtains plan shelf shelf (Err stop.OutOfMemory)
+  wants_at_once = record { by_result = λ next. wants_memory (plan next) shelf }
+
+-- a judgement that reads: what was read is seen by `view`, and what was refused is answered
+module _ {A B E : Type 0} (meant : Result A E) (refuse : E → Plan) (view : A → B) (shelf : ShelfState) where
+  pub reads : (value : A) (seen : B) → meant ≡ Ok value → seen ≡ view value → Obtains (λ next. unless_refused meant refuse (λ v. next (view v))) shelf shelf (Ok seen)
+  reads value seen is same = leads (λ next. unless_refused meant refuse (λ v. next (view v))) shelf seen
+      (λ next. ap (λ m. unless_refused m refuse (λ v. next (view v))) is ∙ ap next (sym same))
+
+  pub refuses : (why : E) (answer : Answer) → meant ≡ Err why → refuse why ≡ answers answer.status answer.text
+      → Obtains (λ next. unless_refused meant refuse (λ v. next (view v))) shelf shelf (Err (stop.Answered answer))
+  refuses why answer is said = answers_at_once (λ next. unless_refused meant refuse (λ v. next (view v))) shelf answer
+      (λ next. ap (λ m. unless_refused m refuse (λ v. next (view v))) is ∙ said)
+
+-- ---- steps that make up one
+
+module _ {A B : Type 0} (first : (A → Plan) → Plan) (second : A → (B → Plan) → Plan) (old mid new : ShelfState) where
+  pub and_then : (value : A) (result : Result B Stop) → Obtains first old mid (Ok value) → Obtains (second value) mid new result
+      → Obtains (λ next. first (λ v. second v next)) old new result
+  and_then value (Ok found) f s = record { by_result = λ next final result p. f.by_result (λ v. second v next) final result (s.by_result next final result p) }
+  and_then value (Err ending) f s = record { by_result = λ next. f.by_result (λ v. second v next) new (Err ending) (s.by_result next) }
+
+module _ {A B : Type 0} (first : (A → Plan) → Plan) (second : A → (B → Plan) → Plan) (old new : ShelfState) where
+  pub stops_before : (ending : Stop) → Obtains first old new (Err ending) → Obtains (λ next. first (λ v. second v next)) old new (Err ending)
+  stops_before ending f = record { by_result = λ next. f.by_result (λ v. second v next) }
+
+pub stops_with : {A : Type 0} (plan : (A → Plan) → Plan) (old new : ShelfState) (ending : Stop) (result : Result A Stop) → IsErrAnd result (λ handed. handed ≡ ending)
+    → Obtains plan old new (Err ending) → Obtains plan old new result
+stops_with plan old new ending (Ok value) handed o = absurd handed
+stops_with plan old new ending (Err given) handed o = subst (λ e. Obtains plan old new (Err e)) (sym handed) o

@@ -1,0 +1,32 @@
+-- What the commands of a recipe begin with: the recipe, the files that are to be none of its inputs, and the inputs.
+-- docs/reference/command-line.md and docs/reference/audit.md say the same for people.
+use Rattle.std.specs.Prelude.{ℕ, Bool, List, map, if◌then◌else◌}
+use Rattle.std.specs.List.{list_any}
+use Rattle.recipe.specs.Reading.{recipe_of}
+use Rattle.recipe.specs.declared.contents.Said.{Said}
+use Rattle.recipe.specs.declared.parts.Input.{Input}
+use Rattle.command_plan.specs.declared.status.Status.TheVariants.{RecipeRefused}
+use Rattle.command_plan.specs.Words.{is_one_file, usage}
+use Rattle.command_plan.specs.Plan.{Plan, answers, needs, needs_all, unless_refused}
+use Rattle.recipe_plan.specs.Texts.{recipe_line}
+
+-- the recipe is needed, of at most 1,048,576 bytes, and read
+abbrev pub needs_recipe : List ℕ → (Said → Plan) → Plan
+needs_recipe file next =
+    needs file 1_048_576 (λ bytes. unless_refused (recipe_of bytes) (λ refusal. answers RecipeRefused (recipe_line refusal)) next)
+
+-- the paths of the inputs, in order
+abbrev pub paths : Said → List (List ℕ)
+paths recipe = map (λ (input : Input). input.path) recipe.inputs
+
+-- whether a file is one of the inputs, by its path
+abbrev pub is_input : Said → List ℕ → Bool
+is_input recipe file = list_any (λ (input : Input). is_one_file input.path file) recipe.inputs
+
+-- the file is to be none of the inputs
+unfoldable pub needs_apart : Said → List ℕ → (Unit {0} → Plan) → Plan
+needs_apart recipe file next = if is_input recipe file then usage else next tt
+
+-- the inputs are needed, each of at most 268,435,456 bytes and all of at most 1,073,741,824
+abbrev pub needs_inputs : Said → (List (List ℕ) → Plan) → Plan
+needs_inputs recipe next = needs_all 268_435_456 1_073_741_824 (paths recipe) next

@@ -1,0 +1,35 @@
+-- The printed lines on recipes and reports. docs/reference/command-line.md says the same for people.
+use Rattle.std.specs.Prelude.{ℕ, List, [], ◌∷◌, Option, Some, None, codes, decimal}
+use Rattle.ddc_base.specs.Lines.{line}
+use Rattle.recipe.specs.Text.Keys.{key_word, table_word}
+use Rattle.recipe.specs.Text.Refusals.{refusal_number, refusal_place, refusal_key}
+use Rattle.recipe.specs.declared.text.keys.Key.{Key}
+use Rattle.recipe.specs.declared.text.keys.Place.{Place}
+use Rattle.recipe.specs.declared.text.refusal.RecipeRefusal.{RecipeRefusal}
+use Rattle.report.specs.declared.types.CompareLine.{CompareLine}
+use Rattle.report.specs.declared.types.Compared.{Compared}
+use Rattle.report.specs.declared.types.Compared.TheVariants.{Equal, Differs}
+
+-- a file is no report, from this line on
+unfoldable pub report_line : ℕ → List ℕ
+report_line number = line (codes "report" ∷ codes "line" ∷ decimal number ∷ [])
+
+-- where a recipe is refused: the table and its number, and the key
+abbrev pub place_words : Option Place → Option Key → List (List ℕ)
+place_words None key = []
+place_words (Some place) None = table_word place.table ∷ decimal place.number ∷ []
+place_words (Some place) (Some key) = table_word place.table ∷ decimal place.number ∷ key_word key ∷ []
+
+-- a file is no recipe
+unfoldable pub recipe_line : RecipeRefusal → List ℕ
+recipe_line refusal =
+    line (codes "recipe" ∷ codes "refused" ∷ decimal (refusal_number refusal) ∷ place_words (refusal_place refusal) (refusal_key refusal))
+
+-- how the compared artefact and binary compare
+abbrev pub compared_words : List ℕ → List ℕ → Compared → List (List ℕ)
+compared_words stage binary (Equal size) = codes "equal" ∷ stage ∷ binary ∷ decimal size ∷ []
+compared_words stage binary (Differs offset made given) =
+    codes "differs" ∷ stage ∷ binary ∷ decimal offset ∷ decimal made ∷ decimal given ∷ []
+
+unfoldable pub compared_line : CompareLine → List ℕ
+compared_line compare = line (compared_words compare.stage compare.binary compare.result)

@@ -1,0 +1,53 @@
+//! The inputs of a recipe that are fetched.
+
+ghost use Rattle.std.specs.Prelude.{◌≡◌, ◌≤◌, IfOk, All, length, map};
+ghost use Rattle.mem_files.specs.Outputs.{IsContent};
+ghost use Rattle.recipe.specs.Kept.{IsRecipe};
+ghost use Rattle.wheeler.specs.Valid.{IsInputs};
+ghost use Rattle.command_plan.specs.Plan.{needs_all};
+ghost use Rattle.command_plan.specs.Steps.{Obtains};
+ghost use Rattle.recipe_plan.specs.Recipes.{needs_inputs};
+
+use command_plan::{Stop, fetch};
+use ddc_base::Shelf;
+use recipe::{Input, Inputs, Recipe};
+use std::alloc::Global;
+use wheeler::MAX_INPUT;
+
+/// The most bytes of all inputs together.
+const INPUTS_LIMIT: u64 = 1_073_741_824;
+
+/// Fetches the inputs of a recipe, in order.
+pub fn fetch_inputs<S: Shelf>(alloc: Global, shelf: &mut S, recipe: &Recipe) -> Result<Inputs, Stop>
+    ensures obtained { Obtains (needs_inputs recipe.now) (S.state shelf.old) (S.state shelf.new) result }
+    ensures inputs { IfOk result (IsInputs recipe.now) }
+    ensures kept { IsRecipe recipe.now }
+{
+    fetch_each(alloc, shelf, recipe.inputs().as_slice())
+}
+
+/// Fetches these inputs, in order.
+fn fetch_each<S: Shelf>(alloc: Global, shelf: &mut S, inputs: &[Input]) -> Result<Inputs, Stop>
+    ensures obtained { Obtains (needs_all 268_435_456 1_073_741_824 (map (λ input. input.path) inputs.now))
+        (S.state shelf.old) (S.state shelf.new) result }
+    ensures count { IfOk result (λ contents. length contents ≡ length inputs.now) }
+    ensures each { IfOk result (All IsContent) }
+{
+    let mut room = INPUTS_LIMIT;
+    let mut contents = Inputs::new(alloc);
+    for input in inputs {
+        let content = fetch(alloc, shelf, input.path.as_str(), MAX_INPUT.min(room))?;
+        room -= size_of(content.as_slice());
+        contents.push(content)?;
+    }
+    Ok(contents)
+}
+
+/// How many bytes an input has.
+fn size_of(content: &[u8]) -> u64
+    requires { length content.now ≤ 268_435_456 }
+    ensures size { result ≡ length content.now }
+    ensures content { IsContent content.now }
+{
+    content.len() as u64
+}

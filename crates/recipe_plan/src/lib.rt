@@ -1,0 +1,14 @@
+//! What the commands of a recipe begin with: the recipe, the files that are to be none of its inputs, the inputs, and a report; and the lines
+//! on these that several commands print.
+//!
+//! Its rules for people: docs/reference/command-line.md and docs/reference/audit.md.
+#![tactic(auto)]
+
+mod inputs;
+mod recipes;
+mod reports;
+pub mod texts;
+
+pub use inputs::fetch_inputs;
+pub use recipes::{apart, fetch_recipe};
+pub use reports::fetch_report;

@@ -1,0 +1,73 @@
+//! A recipe that is fetched and read, and files that are to be none of its inputs.
+
+ghost use Rattle.std.specs.Prelude.{◌≡◌};
+ghost use Rattle.ddc_base.specs.Outside.{IsFileName, ShelfState};
+ghost use Rattle.recipe.specs.Reading.{recipe_of};
+ghost use Rattle.command_plan.specs.declared.status.Status.TheVariants.{RecipeRefused};
+ghost use Rattle.command_plan.specs.Plan.{answers, unless_refused};
+ghost use Rattle.command_plan.specs.Steps.{Obtains, Says};
+ghost use Rattle.recipe_plan.specs.Recipes.{is_input, needs_apart, needs_recipe};
+ghost use Rattle.recipe_plan.specs.Texts.{recipe_line};
+
+use crate::texts;
+use command_plan::words::is_one_file;
+use command_plan::{Answer, Status, Stop, fetch, usage};
+use ddc_base::{Bytes, Shelf};
+use recipe::{Recipe, RecipeRefusal};
+use std::alloc::Global;
+
+/// The most bytes of a recipe that is loaded.
+const RECIPE_LIMIT: u64 = 1_048_576;
+
+/// Fetches a recipe and reads it.
+pub fn fetch_recipe<S: Shelf>(alloc: Global, shelf: &mut S, file: &str) -> Result<Recipe, Stop>
+    requires { IsFileName file.now }
+    ensures { Obtains (needs_recipe file.now) (S.state shelf.old) (S.state shelf.new) result }
+{
+    let bytes = fetch(alloc, shelf, file, RECIPE_LIMIT)?;
+    read(alloc, bytes)
+}
+
+/// Reads a recipe, and lets its text go.
+fn read(alloc: Global, bytes: Bytes) -> Result<Recipe, Stop>
+    ensures { (shelf : ShelfState) → Obtains (unless_refused (recipe_of bytes) (λ refusal. answers RecipeRefused (recipe_line refusal)))
+        shelf shelf result }
+{
+    match recipe::read(alloc, bytes.as_slice()) {
+        Ok(recipe) => Ok(recipe),
+        Err(RecipeRefusal::OutOfMemory) => Err(Stop::OutOfMemory),
+        Err(refusal) => Err(Stop::Answered(refused(alloc, refusal)?)),
+    }
+}
+
+/// The answer to a file that is no recipe.
+fn refused(alloc: Global, refusal: RecipeRefusal) -> Result<Answer, Stop>
+    ensures { Says (answers RecipeRefused (recipe_line refusal)) result }
+{
+    Ok(Answer {
+        status: Status::RecipeRefused,
+        text: texts::recipe_line(alloc, refusal)?,
+    })
+}
+
+/// Ends the command where a file is one of the recipe's inputs.
+#[tactic(auto, unfolding(crate::specs::Recipes::needs_apart))]
+pub fn apart(alloc: Global, recipe: &Recipe, file: &str) -> Result<(), Stop>
+    ensures { (shelf : ShelfState) → Obtains (needs_apart recipe.now file.now) shelf shelf result }
+{
+    if is_input(recipe, file) {
+        return Err(Stop::Answered(usage(alloc)?));
+    }
+    Ok(())
+}
+
+/// Whether a file is one of the inputs, by its path.
+fn is_input(recipe: &Recipe, file: &str) -> bool
+    ensures { result ≡ is_input recipe.now file.now }
+{
+    recipe
+        .inputs()
+        .as_slice()
+        .iter()
+        .any(|input| is_one_file(input.path.as_str(), file))
+}

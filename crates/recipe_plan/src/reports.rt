@@ -1,0 +1,53 @@
+//! A report that is fetched and read.
+
+ghost use Rattle.std.specs.Prelude.{IfOk};
+ghost use Rattle.ddc_base.specs.Outside.{IsFileName, ShelfState};
+ghost use Rattle.report.specs.Reading.{report_of};
+ghost use Rattle.report.specs.Reports.{IsReport};
+ghost use Rattle.command_plan.specs.declared.status.Status.TheVariants.{ReportRefused};
+ghost use Rattle.command_plan.specs.Plan.{answers, unless_refused};
+ghost use Rattle.command_plan.specs.Steps.{Obtains, Says};
+ghost use Rattle.recipe_plan.specs.Reports.{needs_report};
+ghost use Rattle.recipe_plan.specs.Texts.{report_line};
+
+use crate::texts;
+use command_plan::{Answer, Status, Stop, fetch};
+use ddc_base::{Bytes, Shelf};
+use report::{Report, ReportRefusal};
+use std::alloc::Global;
+
+/// The most bytes of a report that is loaded. The text of every report has fewer.
+const REPORT_LIMIT: u64 = 1_073_741_824;
+
+/// Fetches a report and reads it.
+pub fn fetch_report<S: Shelf>(alloc: Global, shelf: &mut S, file: &str) -> Result<Report, Stop>
+    requires { IsFileName file.now }
+    ensures obtained { Obtains (needs_report file.now) (S.state shelf.old) (S.state shelf.new) result }
+    ensures report { IfOk result IsReport }
+{
+    let bytes = fetch(alloc, shelf, file, REPORT_LIMIT)?;
+    read(alloc, bytes)
+}
+
+/// Reads a report, and lets its text go.
+fn read(alloc: Global, bytes: Bytes) -> Result<Report, Stop>
+    ensures obtained { (shelf : ShelfState) → Obtains (unless_refused (report_of bytes) (λ number. answers ReportRefused (report_line number)))
+        shelf shelf result }
+    ensures report { IfOk result IsReport }
+{
+    match report::read(alloc, bytes.as_slice()) {
+        Ok(report) => Ok(report),
+        Err(ReportRefusal::Form(number)) => Err(Stop::Answered(refused(alloc, number)?)),
+        Err(ReportRefusal::OutOfMemory) => Err(Stop::OutOfMemory),
+    }
+}
+
+/// The answer to a file that is no report, from this line on.
+fn refused(alloc: Global, number: u64) -> Result<Answer, Stop>
+    ensures { Says (answers ReportRefused (report_line number)) result }
+{
+    Ok(Answer {
+        status: Status::ReportRefused,
+        text: texts::report_line(alloc, number)?,
+    })
+}
