@@ -56,7 +56,7 @@ pub(crate) fn run_slice(
         }
         RunEnd::Exited(status) => {
             let step = guest.steps() + 1;
-            match exited(
+            let result = exited(
                 alloc,
                 recipe,
                 stage,
@@ -65,10 +65,8 @@ pub(crate) fn run_slice(
                 guest.files(),
                 status,
                 step,
-            ) {
-                Ok(result) => Ok((step - before, Moved::Ended(result))),
-                Err(OutOfMemory) => Err(OutOfMemory),
-            }
+            )?;
+            Ok((step - before, Moved::Ended(result)))
         }
     }
 }
