@@ -1,11 +1,11 @@
 -- Neither command of an audit in pieces changes a name but that of its save and that of its report.
 use Rattle.std.proofs.Common.{◌≡◌, ◌≢◌, ℕ, Bool, true, false, cond, Option, Some, None, List, decimal, refl}
 use Rattle.std.specs.FinMap as finite
-use Rattle.ddc_base.specs.Outside.{Files}
+use Rattle.ddc_base.specs.Outside.{NamedFiles}
 use Rattle.ddc_base.proofs.StoredFiles.{others-insert}
 use Rattle.recipe.specs.declared.contents.Said.{Said}
 use Rattle.report.specs.Reports.{report_text}
-use Rattle.save_text.specs.Spelled.{text_of}
+use Rattle.save_text.specs.Spelled.{text_of_save}
 use Rattle.audit_run.specs.Save.Saves.{save_of}
 use Rattle.wheeler.specs.Positions.{Position, Standing, On, Over, forward, position}
 use Rattle.wheeler.specs.declared.answer.Answer.TheVariants.{Completes, Fails}
@@ -17,11 +17,11 @@ use Rattle.command_plan.specs.Words.{as_steps, or_usage, usage}
 use Rattle.recipe_plan.specs.Recipes.{needs_apart, needs_inputs, needs_recipe}
 use Rattle.audit_commands.specs.Audit.{completed}
 use Rattle.audit_commands.specs.Pause.{are_three_files, came_to, needs_position, part_files, paused, read_as, resume_files}
-use Rattle.audit_commands.specs.PauseTexts.{refused_line}
+use Rattle.audit_commands.specs.PauseTexts.{save_refused_line}
 use Rattle.ddc_app.specs.Pausing.{part, resume}
 use Rattle.ddc_app.proofs.Walks.{IsRefusal, both_need, both_need_apart, both_need_inputs, both_need_recipe, both_read, told}
 
-module _ (recipe save report : List ℕ) (steps : ℕ) (files : Files) (name : List ℕ) (no_save : name ≢ save) (no_report : name ≢ report) where
+module _ (recipe save report : List ℕ) (steps : ℕ) (files : NamedFiles) (name : List ℕ) (no_save : name ≢ save) (no_report : name ≢ report) where
   -- the name is as it was; the second outcome serves walks of two plans
   abbrev Stays : Outcome → Outcome → Type 0
   Stays o _ = finite.get o.files name ≡ finite.get files name
@@ -34,7 +34,7 @@ module _ (recipe save report : List ℕ) (steps : ℕ) (files : Files) (name : L
 
   came : (said : Said) (inputs : List (List ℕ)) (stands : Standing) → Keeps (came_to said inputs save report stands)
   unfolding paused completed
-  came said inputs (On p) = (others-insert files save (text_of (save_of said inputs p))).others name no_save
+  came said inputs (On p) = (others-insert files save (text_of_save (save_of said inputs p))).others name no_save
   came said inputs (Over (Completes made)) = (others-insert files report (report_text made)).others name no_report
   came said inputs (Over (Fails number (Runs cause step))) = refl
   came said inputs (Over (Fails number (Checks cause))) = refl
@@ -57,7 +57,7 @@ module _ (recipe save report : List ℕ) (steps : ℕ) (files : Files) (name : L
   load_keeps next keeps = both_need Stays files refused save 4_294_967_296 next next (λ text held. keeps text)
 
   position_keeps : (said : Said) (inputs : List (List ℕ)) (text : List ℕ) (next : Position → Plan) → ((p : Position) → Keeps (next p)) → Keeps (needs_position said inputs text next)
-  position_keeps said inputs text next keeps = both_read Stays files refused (read_as said inputs text) SaveRefused refused_line next next (refl, refl) (λ p reads. keeps p)
+  position_keeps said inputs text next keeps = both_read Stays files refused (read_as said inputs text) SaveRefused save_refused_line next next (refl, refl) (λ p reads. keeps p)
 
   part_keeps : (n : ℕ) → Keeps (part_files recipe save report n)
   unfolding part_files
