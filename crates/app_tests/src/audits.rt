@@ -347,7 +347,15 @@ fn the_words_of_an_audit_are_judged(rt: HostRuntime) -> Result<(), Fail> {
 #[test]
 fn reports_are_saved_under_their_words(rt: HostRuntime) -> Result<(), Fail> {
     let alloc = rt.alloc();
-    for report in ["./r", "./", "././", ".//b.bin", "x/../b.bin", ".b.bin", "./../b.bin"] {
+    for report in [
+        "./r",
+        "./",
+        "././",
+        ".//b.bin",
+        "x/../b.bin",
+        ".b.bin",
+        "./../b.bin",
+    ] {
         let mut shelf = audit_shelf(alloc, "", "")?;
         let mut out = MemSink::new(alloc);
         assert_eq!(rt;

@@ -42,12 +42,7 @@ pub fn perform<S: Shelf>(alloc: Global, words: &[&str], shelf: &mut S) -> Result
 
 /// The command on two files.
 #[tactic(auto, using(command_plan::proofs::Obtaining::obtaining), unfolding(crate::specs::Audit::audit_files))]
-fn audit<S: Shelf>(
-    alloc: Global,
-    shelf: &mut S,
-    recipe: &str,
-    report: &str,
-) -> Result<Answer, Stop>
+fn audit<S: Shelf>(alloc: Global, shelf: &mut S, recipe: &str, report: &str) -> Result<Answer, Stop>
     requires recipe { IsFileName recipe.now }
     requires report { IsFileName report.now }
     ensures { Performs (audit_files recipe.now report.now) (S.state shelf.old) (S.state shelf.new) result }

@@ -24,9 +24,9 @@ abbrev pub standing : AuditState → Standing
 standing audit = standing_of audit audit.stands
 
 -- the report of an audit that is over with one
-abbrev pub report_of : Option Standing → Option Report
-report_of (Some (Over (Completes report))) = Some report
-report_of _ = None
+abbrev pub finished_report : Option Standing → Option Report
+finished_report (Some (Over (Completes report))) = Some report
+finished_report _ = None
 
 -- the present stage's number from 1 and the steps that its guest took; (0, 0) where the audit is over
 abbrev pub place_of : Option Standing → ℕ × ℕ
@@ -40,7 +40,7 @@ first_setting recipe so_far [] = None
 first_setting recipe so_far (stage ∷ stages) = Some (program_of recipe so_far stage, box_of recipe so_far stage)
 
 -- those of the present stage; none where the audit is over
-abbrev pub setting_of : Said → List (List ℕ) → Option Standing → Option (List ℕ × Setting)
-setting_of recipe inputs None = first_setting recipe (contents inputs []) recipe.stages
-setting_of recipe inputs (Some (On p)) = first_setting recipe (contents inputs p.done) (todo recipe p.done)
-setting_of recipe inputs (Some (Over answer)) = None
+abbrev pub present_setting : Said → List (List ℕ) → Option Standing → Option (List ℕ × Setting)
+present_setting recipe inputs None = first_setting recipe (contents inputs []) recipe.stages
+present_setting recipe inputs (Some (On p)) = first_setting recipe (contents inputs p.done) (todo recipe p.done)
+present_setting recipe inputs (Some (Over answer)) = None

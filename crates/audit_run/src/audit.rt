@@ -2,10 +2,10 @@
 
 ghost use Rattle.audit_run.specs.Advances.{Advances};
 ghost use Rattle.audit_run.specs.Saved.{IsOn, IsResumed, IsResumedAt, IsSave, ResumesAudit};
-ghost use Rattle.audit_run.specs.Seen.{place_of, report_of, setting_of};
+ghost use Rattle.audit_run.specs.Seen.{place_of, finished_report, present_setting};
 ghost use Rattle.audit_run.specs.Save.Saves.{save_of};
 ghost use Rattle.report.specs.Reports.{IsReport};
-ghost use Rattle.save_text.specs.Spelled.{text_of};
+ghost use Rattle.save_text.specs.Spelled.{text_of_save};
 ghost use Rattle.std.specs.Option.{option_copied};
 ghost use Rattle.std.specs.Prelude.{◌≡◌, ◌<◌, ◌≤◌, ◌+◌, length, None, Some, IsOk, IfOk, IfSome, option_map};
 ghost use Rattle.wheeler.specs.declared.answer.Answer.{Answer as AuditAnswer};
@@ -89,7 +89,7 @@ impl Audit {
 
     /// The report, exactly after `Equal` and `Differs`.
     pub fn report(&self) -> Option<&Report>
-        ensures report { option_copied result ≡ report_of self.now.stands }
+        ensures report { option_copied result ≡ finished_report self.now.stands }
         ensures form { IfSome (option_copied result) IsReport }
     {
         match &self.place {
@@ -112,7 +112,7 @@ impl Audit {
 
     /// The present stage's program and its box, which is made anew and takes memory; `None` where the audit is over, which takes none.
     pub fn setting(&self, alloc: Global) -> Result<Option<(&[u8], RunBox<'_>)>, OutOfMemory>
-        ensures value { IfOk result (λ setting. option_map (λ s. (s.0.now, s.1)) setting ≡ setting_of self.now.recipe self.now.inputs self.now.stands) }
+        ensures value { IfOk result (λ setting. option_map (λ s. (s.0.now, s.1)) setting ≡ present_setting self.now.recipe self.now.inputs self.now.stands) }
         ensures over { (answer : AuditAnswer) → self.now.stands ≡ Some (Over answer) → IsOk result }
     {
         match &self.place {
@@ -162,7 +162,7 @@ impl Audit {
         // What is resumed is an audit of this recipe and these inputs at a position, and the text is its save.
         ensures found { IfOk result (λ audit. IsResumed recipe inputs text.now audit) }
         // The save of every position of this recipe and these inputs, reached or not, is resumed there, unless memory runs out.
-        ensures only { (p : Position) → IsPosition recipe p → text.now ≡ text_of (save_of recipe inputs p) → IsResumedAt recipe inputs p result }
+        ensures only { (p : Position) → IsPosition recipe p → text.now ≡ text_of_save (save_of recipe inputs p) → IsResumedAt recipe inputs p result }
         // When each refusal comes.
         ensures exact { ResumesAudit recipe inputs text.now result }
     {

@@ -3,7 +3,7 @@
 ghost use Rattle.audit_run.specs.Inside.Parts.{IsPlace, IsStarted, later, Slices, stands, StopsIn, Stretches};
 ghost use Rattle.recipe.specs.Kept.{IsRecipe};
 ghost use Rattle.std.specs.Prelude.{◌≡◌, ◌++◌, ◌∷◌, [], ◌≤◌, OnErr, OnOk, Ok};
-ghost use Rattle.wheeler.specs.Positions.{at, closed, forward_from, todo};
+ghost use Rattle.wheeler.specs.Positions.{at, stage_closed, forward_from, todo};
 ghost use Rattle.wheeler.specs.Valid.{AreDone, IsInputs, IsPosition};
 
 use crate::entering::enter;
@@ -29,7 +29,7 @@ fn close(
     requires done { AreDone recipe.now (done.old.items ++ finished ∷ []) }
     requires left { todo recipe.now (done.old.items ++ finished ∷ []) ≡ later recipe.now done.old.items }
     ensures ok { OnOk result (stands recipe.now inputs.now done.new.items place.new
-        ≡ closed recipe.now inputs.now done.old.items (later recipe.now done.old.items) (Ok finished)) }
+        ≡ stage_closed recipe.now inputs.now done.old.items (later recipe.now done.old.items) (Ok finished)) }
     ensures started { OnOk result (IsStarted place.new) }
     ensures place { OnErr result (place.new ≡ place.old) }
     ensures done { OnErr result (done.new.items ≡ done.old.items) }

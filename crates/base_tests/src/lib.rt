@@ -4,7 +4,11 @@
 ghost use Rattle.std.specs.Prelude.{◌≡◌, ◌%◌};
 
 #[cfg(test)]
+mod hosts;
+#[cfg(test)]
 mod outside;
+#[cfg(test)]
+mod saving;
 #[cfg(test)]
 mod streams;
 #[cfg(test)]

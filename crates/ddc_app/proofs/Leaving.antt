@@ -2,12 +2,12 @@
 -- not written.
 use Rattle.std.proofs.Common.{◌≡◌, ◌≢◌, ℕ, Bool, true, false, cond, IsTrue, Option, Some, None, List, [], ◌∷◌, decimal, refl, sym, ap, ◌∙◌}
 use Rattle.std.specs.FinMap as finite
-use Rattle.ddc_base.specs.Outside.{Files}
+use Rattle.ddc_base.specs.Outside.{NamedFiles}
 use Rattle.ddc_base.proofs.StoredFiles.{others-insert}
 use Rattle.recipe.specs.declared.contents.Said.{Said}
 use Rattle.report.specs.Reports.{report_text}
 use Rattle.report.specs.declared.types.Compared.{Compared}
-use Rattle.save_text.specs.Spelled.{text_of}
+use Rattle.save_text.specs.Spelled.{text_of_save}
 use Rattle.audit_run.specs.Save.Saves.{save_of}
 use Rattle.wheeler.specs.Positions.{Position, Standing, On, Over, forward, position}
 use Rattle.wheeler.specs.declared.answer.Answer.TheVariants.{Completes, Fails}
@@ -21,8 +21,8 @@ use Rattle.recipe_plan.specs.Recipes.{needs_apart, needs_inputs, needs_recipe}
 use Rattle.recipe_plan.specs.Reports.{compared_status}
 use Rattle.audit_commands.specs.Audit.{completed}
 use Rattle.audit_commands.specs.Pause.{are_three_files, came_to, needs_position, part_files, paused, read_as, resume_files}
-use Rattle.audit_commands.specs.PauseTexts.{refused_line}
-use Rattle.ddc_app.specs.Pausing.{LeavesOthers, LeavesUnwritten, in_pieces, is_paused, part, resume, resumed}
+use Rattle.audit_commands.specs.PauseTexts.{save_refused_line}
+use Rattle.ddc_app.specs.Pausing.{LeavesOthers, LeavesUnwritten, in_pieces, is_paused, part, resume, resumed_in_turn}
 use Rattle.ddc_app.proofs.Beginnings.{three_apart}
 use Rattle.ddc_app.proofs.Loads.{not_equal}
 use Rattle.ddc_app.proofs.Pieces.{never_paused}
@@ -30,7 +30,7 @@ use Rattle.ddc_app.proofs.Walks.{IsRefusal, both_need, both_need_apart, both_nee
 
 -- ---- what holds of every answer that writes nothing, and of every place to which the audit comes, holds of both commands
 
-module _ (recipe save report : List ℕ) (files : Files) (P : Outcome → Type 0) (unwritten : (status : Status) (text : List ℕ) → P (told files status text)) where
+module _ (recipe save report : List ℕ) (files : NamedFiles) (P : Outcome → Type 0) (unwritten : (status : Status) (text : List ℕ) → P (told files status text)) where
   -- the second outcome serves walks of two plans
   abbrev First : Outcome → Outcome → Type 0
   First o _ = P o
@@ -57,7 +57,7 @@ module _ (recipe save report : List ℕ) (files : Files) (P : Outcome → Type 0
   load_keeps next keeps = both_need First files refused save 4_294_967_296 next next (λ text held. keeps text)
 
   position_keeps : (said : Said) (inputs : List (List ℕ)) (text : List ℕ) (next : Position → Plan) → ((p : Position) → Keeps (next p)) → Keeps (needs_position said inputs text next)
-  position_keeps said inputs text next keeps = both_read First files refused (read_as said inputs text) SaveRefused refused_line next next (refl, refl) (λ p reads. keeps p)
+  position_keeps said inputs text next keeps = both_read First files refused (read_as said inputs text) SaveRefused save_refused_line next next (refl, refl) (λ p reads. keeps p)
 
   part_keeps : Comes → (n : ℕ) → Keeps (part_files recipe save report n)
   unfolding part_files
@@ -88,39 +88,39 @@ module _ (recipe save report : List ℕ) (files : Files) (P : Outcome → Type 0
 
 -- ---- other names
 
-module _ (recipe save report : List ℕ) (files : Files) (name : List ℕ) (no_save : name ≢ save) (no_report : name ≢ report) where
+module _ (recipe save report : List ℕ) (files : NamedFiles) (name : List ℕ) (no_save : name ≢ save) (no_report : name ≢ report) where
   abbrev Stays : Outcome → Type 0
   Stays o = finite.get o.files name ≡ finite.get files name
 
   stays : (said : Said) (inputs : List (List ℕ)) (stands : Standing) → Stays (outcome (came_to said inputs save report stands) files)
   unfolding paused completed
-  stays said inputs (On p) = (others-insert files save (text_of (save_of said inputs p))).others name no_save
+  stays said inputs (On p) = (others-insert files save (text_of_save (save_of said inputs p))).others name no_save
   stays said inputs (Over (Completes made)) = (others-insert files report (report_text made)).others name no_report
   stays said inputs (Over (Fails number (Runs cause step))) = refl
   stays said inputs (Over (Fails number (Checks cause))) = refl
 
-pub part_stays : (recipe save report : List ℕ) (steps : ℕ) (files : Files) → LeavesOthers save report files (part recipe save report steps files)
+pub part_stays : (recipe save report : List ℕ) (steps : ℕ) (files : NamedFiles) → LeavesOthers save report files (part recipe save report steps files)
 part_stays recipe save report steps files name no_save no_report =
     part_leaves recipe save report files (Stays recipe save report files name no_save no_report) (λ status text. refl)
     (λ three. stays recipe save report files name no_save no_report) steps
 
-pub resume_stays : (recipe save report : List ℕ) (steps : ℕ) (files : Files) → LeavesOthers save report files (resume recipe save report steps files)
+pub resume_stays : (recipe save report : List ℕ) (steps : ℕ) (files : NamedFiles) → LeavesOthers save report files (resume recipe save report steps files)
 resume_stays recipe save report steps files name no_save no_report =
     resume_leaves recipe save report files (Stays recipe save report files name no_save no_report) (λ status text. refl)
     (λ three. stays recipe save report files name no_save no_report) steps
 
-resumed_stay : (recipe save report : List ℕ) (files : Files) (counts : List ℕ) (piece : Outcome) → LeavesOthers save report files piece
-    → LeavesOthers save report files (resumed recipe save report piece counts)
+resumed_stay : (recipe save report : List ℕ) (files : NamedFiles) (counts : List ℕ) (piece : Outcome) → LeavesOthers save report files piece
+    → LeavesOthers save report files (resumed_in_turn recipe save report piece counts)
 resumed_stay recipe save report files [] piece leaves = leaves
 resumed_stay recipe save report files (steps ∷ counts) piece leaves =
     by (is_paused piece.status) (resumed_stay recipe save report files counts (resume recipe save report steps piece.files)
     (λ name no_save no_report. resume_stays recipe save report steps piece.files name no_save no_report ∙ leaves name no_save no_report)) where
-      by : (b : Bool) → LeavesOthers save report files (resumed recipe save report (resume recipe save report steps piece.files) counts)
-          → LeavesOthers save report files (cond b (resumed recipe save report (resume recipe save report steps piece.files) counts) piece)
+      by : (b : Bool) → LeavesOthers save report files (resumed_in_turn recipe save report (resume recipe save report steps piece.files) counts)
+          → LeavesOthers save report files (cond b (resumed_in_turn recipe save report (resume recipe save report steps piece.files) counts) piece)
       by true later = later
       by false later = leaves
 
-pub pieces_stay : (recipe save report : List ℕ) (steps : ℕ) (counts : List ℕ) (files : Files) → LeavesOthers save report files (in_pieces recipe save report steps counts files)
+pub pieces_stay : (recipe save report : List ℕ) (steps : ℕ) (counts : List ℕ) (files : NamedFiles) → LeavesOthers save report files (in_pieces recipe save report steps counts files)
 pieces_stay recipe save report steps counts files =
     resumed_stay recipe save report files counts (part recipe save report steps files) (part_stays recipe save report steps files)
 
@@ -129,7 +129,7 @@ pieces_stay recipe save report steps counts files =
 no_pause : (line : Compared) → compared_status line ≢ Paused
 no_pause line = λ is. let both : false ≡ true = sym (never_paused line) ∙ ap is_paused is in absurd cc
 
-module _ (recipe save report : List ℕ) (files : Files) where
+module _ (recipe save report : List ℕ) (files : NamedFiles) where
   unwritten : (status : Status) (text : List ℕ) → LeavesUnwritten save report files (told files status text)
   unwritten status text = record { report_stays = λ _. refl; save_stays = λ _. refl }
 
@@ -139,7 +139,7 @@ module _ (recipe save report : List ℕ) (files : Files) where
   comes three said inputs (On p) =
       let apart = not_equal save report (three_apart recipe save report three).save_report in
       record {
-        report_stays = λ _. (others-insert files save (text_of (save_of said inputs p))).others report (λ same. apart (sym same));
+        report_stays = λ _. (others-insert files save (text_of_save (save_of said inputs p))).others report (λ same. apart (sym same));
         save_stays = λ no. absurd (no refl);
       }
   comes three said inputs (Over (Completes made)) =
@@ -161,21 +161,21 @@ is_pause : (status : Status) → is_paused status ≡ true → status ≡ Paused
 is_pause Paused is = refl
 is_pause _ is = absurd cc
 
-resumed_wait : (recipe save report : List ℕ) (files : Files) (counts : List ℕ) (piece : Outcome) → (piece.status ≡ Paused → finite.get piece.files report ≡ finite.get files report)
-    → (resumed recipe save report piece counts).status ≡ Paused → finite.get (resumed recipe save report piece counts).files report ≡ finite.get files report
+resumed_wait : (recipe save report : List ℕ) (files : NamedFiles) (counts : List ℕ) (piece : Outcome) → (piece.status ≡ Paused → finite.get piece.files report ≡ finite.get files report)
+    → (resumed_in_turn recipe save report piece counts).status ≡ Paused → finite.get (resumed_in_turn recipe save report piece counts).files report ≡ finite.get files report
 resumed_wait recipe save report files [] piece before = before
 resumed_wait recipe save report files (steps ∷ counts) piece before =
     by (is_paused piece.status) refl (λ was. resumed_wait recipe save report files counts (resume recipe save report steps piece.files)
     (λ again. (resume_writes recipe save report piece.files steps).report_stays again ∙ before was)) where
       later : Outcome
-      later = resumed recipe save report (resume recipe save report steps piece.files) counts
+      later = resumed_in_turn recipe save report (resume recipe save report steps piece.files) counts
 
       by : (b : Bool) → is_paused piece.status ≡ b → (piece.status ≡ Paused → later.status ≡ Paused → finite.get later.files report ≡ finite.get files report)
           → (cond b later piece).status ≡ Paused → finite.get (cond b later piece).files report ≡ finite.get files report
       by true is waits = waits (is_pause piece.status is)
       by false is waits = before
 
-pub pieces_wait : (recipe save report : List ℕ) (steps : ℕ) (counts : List ℕ) (files : Files) → (in_pieces recipe save report steps counts files).status ≡ Paused
+pub pieces_wait : (recipe save report : List ℕ) (steps : ℕ) (counts : List ℕ) (files : NamedFiles) → (in_pieces recipe save report steps counts files).status ≡ Paused
     → finite.get (in_pieces recipe save report steps counts files).files report ≡ finite.get files report
 pieces_wait recipe save report steps counts files =
     resumed_wait recipe save report files counts (part recipe save report steps files) (part_writes recipe save report files steps).report_stays

@@ -4,3 +4,4 @@ pub mod HexTests
 pub mod Host
 pub mod MemoryFiles
 pub mod MemoryViews
+pub mod Passing

@@ -1,6 +1,6 @@
 -- What is read of a reader and written to a writer, where these tell what they have left and what they hold (`remaining` and
--- `contents` of std's `Read` and `Write`).
-use Rattle.std.specs.Prelude.{◌≡◌, ℕ, ◌+◌, Option, None, Some, IfSome, List, length, ◌⊎◌}
+-- `contents` of std's `Read` and `Write`), and what of it has reached its destination (`delivered` of `Deliver`).
+use Rattle.std.specs.Prelude.{◌≡◌, ℕ, ◌+◌, ◌≤◌, Option, None, Some, IfSome, List, length, ◌⊎◌}
 use Rattle.std.specs.Io.KnownBytes.{Appends}
 use Rattle.ddc_base.specs.declared.outside.Loaded.{Loaded}
 use Rattle.ddc_base.specs.declared.outside.Loaded.TheVariants.{Absent}
@@ -18,8 +18,14 @@ GivesFile {R} remaining limit given = (given ≡ Absent) ⊎ ((file : R) × Give
 abbrev pub TakesAll : {W : Type 0} → (W → Option (List ℕ)) → List ℕ → Type 0
 TakesAll {W} contents content = (before : W) × ((after : W) × Appends (contents before) (contents after) content)
 
--- known bytes lose as many at their front
-abbrev pub PassesOver : Option (List ℕ) → Option (List ℕ) → ℕ → Type 0
-PassesOver None new count = Unit {0}
-PassesOver (Some old) None count = ⊥
-PassesOver (Some old) (Some new) count = length old ≡ count + length new
+-- of the known bytes that a reader has left, at most so many are gone
+abbrev pub TakesAtMost : Option (List ℕ) → Option (List ℕ) → ℕ → Type 0
+TakesAtMost None new most = Unit {0}
+TakesAtMost (Some old) None most = ⊥
+TakesAtMost (Some old) (Some new) most = length old ≤ most + length new
+
+-- all known bytes that a writer holds have reached their destination, where it tells which have
+abbrev pub HasDelivered : Option (List ℕ) → Option (List ℕ) → Type 0
+HasDelivered None delivered = Unit {0}
+HasDelivered (Some held) None = Unit {0}
+HasDelivered (Some held) (Some delivered) = delivered ≡ held

@@ -1,24 +1,79 @@
-ghost use Rattle.std.specs.Prelude.{◌≡◌, ◌≢◌, ◌+◌, ◌-◌, ◌^◌, ◌<◌, ◌++◌, IfOk, IfSome, OnOk, take};
-ghost use Rattle.std.specs.Io.KnownBytes.{Appends};
+ghost use Rattle.std.specs.Prelude.{◌≡◌, ◌≢◌, ◌+◌, ◌-◌, ◌^◌, ◌<◌, ◌≤◌, ℕ, List, None, Option, IfOk, OnOk, length};
+ghost use Rattle.std.specs.Io.KnownBytes.{Appends, Consumes, IsAtEnd, Keeps};
 ghost use Rattle.ddc_base.specs.Outside.{IsWithin};
-ghost use Rattle.ddc_base.specs.Streams.{GivesAll, PassesOver};
+ghost use Rattle.ddc_base.specs.Streams.{GivesAll, HasDelivered, TakesAtMost};
+ghost use Rattle.ddc_base.specs.Inside.Passing.{PassesOver};
 
 use crate::byte_list::Bytes;
 use crate::outside::Loaded;
 use std::alloc::Global;
 use std::io;
-use std::io::{Read, Write};
+use std::io::{ErrorKind, Read, Write};
 
-/// Adds what a reader has left to some bytes, up to one byte past the limit.
-fn read_past<R: Read + Drop>(mut reader: R, limit: u64, content: &mut Vec<u8>) -> io::Result<()>
-    ensures { OnOk result (IfSome (R.remaining reader)
-        (λ left. content.new.items ≡ content.old.items ++ take (limit + 1) left)) }
+/// A writer that may tell which of its bytes have reached their destination.
+pub trait Deliver: Write {
+    /// The bytes that have reached it, where they are known.
+    ghost delivered: { Self → Option (List ℕ) } = { λ _. None };
+
+    /// Has all that the writer holds reach its destination, as `flush` does.
+    fn deliver(&mut self) -> io::Result<()>
+        ensures keeps { Keeps (Self.contents self.old) (Self.contents self.new) }
+        ensures delivers { OnOk result (HasDelivered (Self.contents self.new) (delivered self.new)) };
+}
+
+/// A writer that delivers by its `flush`. It tells nothing of what was delivered.
+#[derive(Debug, Drop)]
+pub(crate) struct ByFlush<W> {
+    pub(crate) writer: W,
+}
+
+impl<W: Write> Write for ByFlush<W> {
+    ghost contents = { λ by. W.contents by.writer };
+
+    fn write(&mut self, buf: &[u8]) -> io::Result<usize> {
+        self.writer.write(buf)
+    }
+
+    fn flush(&mut self) -> io::Result<()> {
+        self.writer.flush()
+    }
+
+    fn write_all(&mut self, buf: &[u8]) -> io::Result<()> {
+        self.writer.write_all(buf)
+    }
+}
+
+impl<W: Write> Deliver for ByFlush<W> {
+    fn deliver(&mut self) -> io::Result<()> {
+        self.writer.flush()
+    }
+}
+
+/// The bytes that a reader gives, until it ends or one more than the limit is there.
+fn read_past<R: Read>(alloc: Global, reader: &mut R, room: usize, limit: u64) -> io::Result<Vec<u8>>
+    ensures given { IfOk result (λ content. Consumes (R.remaining reader.old) (R.remaining reader.new) content.items) }
+    ensures few { IfOk result (λ content. length content.items ≤ limit + 1) }
+    ensures end { IfOk result (λ content. length content.items ≤ limit → IsAtEnd (R.remaining reader.new)) }
 {
-    match limit.checked_add(1) {
-        Some(most) => reader.take(most).read_to_end(content)?,
-        None => reader.read_to_end(content)?,
-    };
-    Ok(())
+    let mut content = Vec::with_capacity(alloc, room)?;
+    let mut buffer = [0; 32_768];
+    for _ in 0..u64::MAX {
+        let held = content.len() as u64;
+        if held > limit {
+            return Ok(content);
+        }
+        let most = usize::try_from(limit - held).map_or(
+            buffer.len(),
+            |left| left.saturating_add(1).min(buffer.len()),
+        );
+        match reader.read(&mut buffer[..most]) {
+            Ok(0) => return Ok(content),
+            Ok(count) => content.extend_from_slice(&buffer[..count])?,
+            Err(error) if error.kind() == ErrorKind::Interrupted => {}
+            Err(error) => return Err(error),
+        }
+    }
+    Err(io::Error::from(ErrorKind::TimedOut))
 }
 
 /// Passes over so many bytes; where fewer are left, that is an error.
@@ -34,27 +89,29 @@ fn pass_over<R: Read>(reader: &mut R, count: u64) -> io::Result<()>
 }
 
 /// That a reader has more left than the limit, of which it passes over as many bytes and one, and keeps none.
-fn too_long<R: Read + Drop>(mut reader: R, limit: u64) -> io::Result<Loaded>
+fn too_long<R: Read>(reader: &mut R, limit: u64) -> io::Result<Loaded>
     requires { limit < 2 ^ 64 - 1 }
-    ensures all { IfOk result (GivesAll R.remaining reader limit) }
+    ensures all { IfOk result (GivesAll R.remaining reader.old limit) }
+    ensures asked { OnOk result (TakesAtMost (R.remaining reader.old) (R.remaining reader.new) (limit + 1)) }
     ensures too_long { IfOk result (λ given. given ≡ Loaded.TooLong) }
 {
-    pass_over(&mut reader, limit + 1)?;
+    pass_over(reader, limit + 1)?;
     Ok(Loaded::TooLong)
 }
 
 /// All that a reader has left, if that is at most `limit` bytes, and else `TooLong`.
 ///
-/// At most one byte past the limit is read. An error of the reader is this call's error. As many bytes are `expected`: where these are
-/// within the limit, there is room for one more at first, so that the end is met without growing; where they are more, none is kept, and
-/// it is an error if they are not there.
-pub fn read_within<R: Read + Drop>(
+/// An error of the reader is this call's error. As many bytes are `expected`: where these are within the limit, there is room for one
+/// more at first, so that the end is met without growing; where they are more, none is kept, and it is an error if they are not there.
+pub fn read_within<R: Read>(
     alloc: Global,
-    reader: R,
+    reader: &mut R,
     expected: u64,
     limit: u64,
 ) -> io::Result<Loaded>
-    ensures all { IfOk result (GivesAll R.remaining reader limit) }
+    ensures all { IfOk result (GivesAll R.remaining reader.old limit) }
+    // At most one byte past the limit is asked for.
+    ensures asked { OnOk result (TakesAtMost (R.remaining reader.old) (R.remaining reader.new) (limit + 1)) }
     ensures within { IfOk result (IsWithin limit) }
     ensures held { IfOk result (λ given. given ≢ Loaded.Absent) }
 {
@@ -62,18 +119,18 @@ pub fn read_within<R: Read + Drop>(
         return too_long(reader, limit);
     }
     let room = expected.saturating_add(1);
-    let mut content = Vec::with_capacity(alloc, usize::try_from(room).unwrap_or(0))?;
-    read_past(reader, limit, &mut content)?;
+    let content = read_past(alloc, reader, usize::try_from(room).unwrap_or(0), limit)?;
     if content.len() as u64 > limit {
         return Ok(Loaded::TooLong);
     }
     Ok(Loaded::Bytes(Bytes::from_vec(content)))
 }
 
-/// Writes a whole piece and flushes it. An error of the writer is this call's error.
-pub fn write_whole<W: Write>(writer: &mut W, piece: &[u8]) -> io::Result<()>
-    ensures { OnOk result (Appends (W.contents writer.old) (W.contents writer.new) piece.now) }
+/// Writes a whole piece and has it delivered. An error of the writer is this call's error.
+pub fn write_whole<W: Deliver>(writer: &mut W, piece: &[u8]) -> io::Result<()>
+    ensures whole { OnOk result (Appends (W.contents writer.old) (W.contents writer.new) piece.now) }
+    ensures delivered { OnOk result (HasDelivered (W.contents writer.new) (W.delivered writer.new)) }
 {
     writer.write_all(piece)?;
-    writer.flush()
+    writer.deliver()
 }

@@ -3,10 +3,12 @@
 //! The rules, with their public sources, are in docs/reference/linking.md.
 
 mod joining;
+mod label;
 mod labels;
 pub mod laws;
 mod number;
 mod values;
 
 pub use joining::link;
+pub use number::{i_field, modulo_word};
 pub use values::{HexLanguage, value};

@@ -1,69 +1,110 @@
 -- What one definition does to the table.
-use Rattle.std.proofs.Common.{◌≡◌, ℕ, Bool, true, cond, not, List, [], ◌∷◌, ◌++◌, sym, ap, ◌∙◌, Option, Some, None, is_some, Result, Ok, Err}
-use Rattle.indexmap.specs.IndexMap.{get, IndexMap, insert_entry}
-use Rattle.indexmap.proofs.CallerLemmas.{insert_entry-new}
+use Rattle.std.proofs.Common.{◌≡◌, ℕ, Bool, true, false, cond, not, List, [], ◌∷◌, ◌++◌, refl, sym, ap, ◌∙◌, Option, Some, None, is_some, Result, Ok, Err}
+use Rattle.std.proofs.lemmas.Cmp.{nat_list_eq_equiv}
+use Rattle.std.proofs.lemmas.Slice.Eq.{bytes_eq-Decides}
+use Rattle.std.specs.BTreeMap.{BTreeMap}
+use Rattle.std.specs.Prelude.{bytes_eq}
+use Rattle.std.specs.Cmp.Lexicographic.{slice_cmp, texts_ties}
+use Rattle.std.specs.Ordering.{is_eq, nat_cmp}
 use Rattle.m1_lang.specs.Words.Words.{Found, open_quote, Word, Words, word_list, words_of}
-use Rattle.m1_lang.specs.Words.Representation.Ahead.{words_at}
+use Rattle.m1_lang.specs.Words.Ahead.{words_at}
 use Rattle.m1_lang.specs.declared.refusal.M1Refusal.{M1Refusal}
 use Rattle.m1_lang.specs.declared.refusal.M1Refusal.TheVariants as refusal
-use Rattle.m1_lang.specs.Definitions.{with_defined, Defined, definitions, definitions_in, is_value, parts, same_text, unless_open, value_in}
-use Rattle.m1_lang.specs.Representation.Passes.{behind_define, DefinesOne, quote_or, open_at, parts_at, Tabulates}
+use Rattle.m1_lang.specs.Definitions.{Cut, Defined, Defines, definitions, definitions_in, is_value, SourcePart, parts, Plain, unless_open, value_in, with_defined}
+use Rattle.m1_lang.specs.Representation.Passes.{behind_define, DefinesOne, looked_up, open_at, or_value, parts_at, quote_or, Tabulates, unless_quoted, valued, Values, values_in, with_values}
+use Rattle.m1_lang.proofs.Moves.{look-more}
+
+-- the definitions by what they give words
+pub valued-is : (parts : List SourcePart) (seen : Defined) → looked_up (definitions seen parts) ≡ valued (value_in seen) parts
+valued-is [] seen = refl
+valued-is (Defines at name value ∷ rest) seen = by (is_value value) (is_some (value_in seen name)) (valued-is rest (seen ++ (name, value) ∷ []))
+  where
+    by : (good again : Bool) → looked_up (definitions (seen ++ (name, value) ∷ []) rest) ≡ valued (value_in (seen ++ (name, value) ∷ [])) rest
+        → looked_up (with_defined (cond (not good) (Err (refusal.BadDefine at)) (cond again (Err (refusal.DoubleDefine at)) (Ok (seen ++ (name, value) ∷ [])))) (λ m. definitions m rest))
+        ≡ with_values (cond (not good) (Err (refusal.BadDefine at)) (cond again (Err (refusal.DoubleDefine at)) (Ok (λ text. or_value (value_in seen text) (cond (bytes_eq text name) (Some value) None))))) (λ m. valued m rest)
+    by true true later = refl
+    by true false later = later ∙ (λ i. valued (λ text. look-more seen name value text i) rest)
+    by false again later = refl
+valued-is (Cut at ∷ rest) seen = refl
+valued-is (Plain word ∷ rest) seen = valued-is rest seen
+
+-- what the table gives words behind a new name
+added : (old new : BTreeMap (List ℕ) (List ℕ)) (name value : List ℕ) → values_in old name ≡ None
+    → ((text : List ℕ) → values_in new text ≡ cond (is_eq (slice_cmp nat_cmp name text)) (Some value) (values_in old text))
+    → values_in new ≡ (λ text. or_value (values_in old text) (cond (bytes_eq text name) (Some value) None))
+added old new name value none found =
+    λ i text. (found text ∙ ap (λ (t : Bool). cond t (Some value) (values_in old text)) (sym (texts_ties name text) ∙ nat_list_eq_equiv.symm name text)
+    ∙ by text (bytes_eq text name) refl (values_in old text) refl) i
+  where
+    by : (text : List ℕ) (test : Bool) → bytes_eq text name ≡ test → (before : Option (List ℕ)) → values_in old text ≡ before
+        → cond test (Some value) before ≡ or_value before (cond test (Some value) None)
+    by text test is None before = refl
+    by text false is (Some other) before = refl
+    by text true is (Some other) before =
+        let same : text ≡ name = (bytes_eq-Decides text name).0 is in
+        absurd (cc (ap (values_in old) same, none))
 
 -- behind a good value the name decides
-behind-good : (seen : Defined) (start : ℕ) (name value : Word) (rest : List Word) (before : Option (List ℕ)) → is_value value.text ≡ true
-    → value_in seen name.text ≡ before
-    → behind_define seen start (name ∷ value ∷ rest)
-    ≡ with_defined (cond (is_some before) (Err (refusal.DoubleDefine start)) (Ok (seen ++ (name.text, value.text) ∷ []))) (λ more. definitions more (parts rest))
-behind-good seen start name value rest before good is =
-    ap (λ (b : Bool). with_defined (cond (not b) (Err (refusal.BadDefine start)) (cond (is_some (value_in seen name.text)) (Err (refusal.DoubleDefine start)) (Ok (seen ++ (name.text, value.text) ∷ [])))) (λ more. definitions more (parts rest))) good
-    ∙ ap (λ (o : Option (List ℕ)). with_defined (cond (is_some o) (Err (refusal.DoubleDefine start)) (Ok (seen ++ (name.text, value.text) ∷ []))) (λ more. definitions more (parts rest))) is
+behind-good : (values : Values) (start : ℕ) (name value : Word) (rest : List Word) (before : Option (List ℕ)) → is_value value.text ≡ true
+    → values name.text ≡ before
+    → behind_define values start (name ∷ value ∷ rest)
+    ≡ with_values (cond (is_some before) (Err (refusal.DoubleDefine start)) (Ok (λ text. or_value (values text) (cond (bytes_eq text name.text) (Some value.text) None)))) (λ more. valued more (parts rest))
+behind-good values start name value rest before good is =
+    ap (λ (b : Bool). with_values (cond (not b) (Err (refusal.BadDefine start)) (cond (is_some (values name.text)) (Err (refusal.DoubleDefine start)) (Ok (λ text. or_value (values text) (cond (bytes_eq text name.text) (Some value.text) None))))) (λ more. valued more (parts rest))) good
+    ∙ ap (λ (o : Option (List ℕ)). with_values (cond (is_some o) (Err (refusal.DoubleDefine start)) (Ok (λ text. or_value (values text) (cond (bytes_eq text name.text) (Some value.text) None)))) (λ more. valued more (parts rest))) is
 
 -- the two words behind a `DEFINE`
-two-words : (seen : Defined) (source : List ℕ) (start at next after : ℕ) (name value : Word)
+two-words : (values : Values) (source : List ℕ) (start at next after : ℕ) (name value : Word)
     → words_at source at ≡ Found name (words_at source next) → words_at source next ≡ Found value (words_at source after)
-    → behind_define seen start (word_list (words_at source at)) ≡ behind_define seen start (name ∷ value ∷ word_list (words_at source after))
-two-words seen source start at next after name value first second =
-    ap (λ (w : Words). behind_define seen start (word_list w)) first ∙ ap (λ (w : Words). behind_define seen start (name ∷ word_list w)) second
+    → behind_define values start (word_list (words_at source at)) ≡ behind_define values start (name ∷ value ∷ word_list (words_at source after))
+two-words values source start at next after name value first second =
+    ap (λ (w : Words). behind_define values start (word_list w)) first ∙ ap (λ (w : Words). behind_define values start (name ∷ word_list w)) second
 
-pub defines-new : {S : Type 0} (old new : IndexMap (List ℕ) (List ℕ) S) (source : List ℕ) (start at next after : ℕ) (name value : Word)
+pub defines-new : (old new : BTreeMap (List ℕ) (List ℕ)) (source : List ℕ) (start at next after : ℕ) (name value : Word)
     → words_at source at ≡ Found name (words_at source next) → words_at source next ≡ Found value (words_at source after)
-    → is_value value.text ≡ true → get same_text old name.text ≡ None → new.entries ≡ insert_entry same_text old.entries name.text value.text
-    → (behind_define old.entries start (word_list (words_at source at)) ≡ definitions new.entries (parts_at source after))
+    → is_value value.text ≡ true → values_in old name.text ≡ None
+    → ((text : List ℕ) → values_in new text ≡ cond (is_eq (slice_cmp nat_cmp name.text text)) (Some value.text) (values_in old text))
+    → (behind_define (values_in old) start (word_list (words_at source at)) ≡ valued (values_in new) (parts_at source after))
     × (open_at source at ≡ open_at source after)
-defines-new old new source start at next after name value first second good none entries = (
-  two-words old.entries source start at next after name value first second
-      ∙ behind-good old.entries start name value (word_list (words_at source after)) None good none
-      ∙ ap (λ (d : Defined). definitions d (parts_at source after)) (sym (entries ∙ insert_entry-new same_text old name.text value.text none)),
+defines-new old new source start at next after name value first second good none found = (
+  two-words (values_in old) source start at next after name value first second
+      ∙ behind-good (values_in old) start name value (word_list (words_at source after)) None good none
+      ∙ ap (λ (v : Values). valued v (parts_at source after)) (sym (added old new name.text value.text none found)),
   ap open_quote first ∙ ap open_quote second,
 )
 
-pub defines-again : {S : Type 0} (old : IndexMap (List ℕ) (List ℕ) S) (source : List ℕ) (start at next after : ℕ) (name value : Word) (before : List ℕ)
+pub defines-again : (old : BTreeMap (List ℕ) (List ℕ)) (source : List ℕ) (start at next after : ℕ) (name value : Word) (before : List ℕ)
     → words_at source at ≡ Found name (words_at source next) → words_at source next ≡ Found value (words_at source after)
-    → is_value value.text ≡ true → get same_text old name.text ≡ Some before
-    → behind_define old.entries start (word_list (words_at source at)) ≡ Err (refusal.DoubleDefine start)
+    → is_value value.text ≡ true → values_in old name.text ≡ Some before
+    → behind_define (values_in old) start (word_list (words_at source at)) ≡ Err (refusal.DoubleDefine start)
 defines-again old source start at next after name value before first second good some =
-    two-words old.entries source start at next after name value first second
-    ∙ behind-good old.entries start name value (word_list (words_at source after)) (Some before) good some
+    two-words (values_in old) source start at next after name value first second
+    ∙ behind-good (values_in old) start name value (word_list (words_at source after)) (Some before) good some
 
 -- what the whole is, by what is left
-pub meant-by : (seen : Defined) (source : List ℕ) (at : ℕ) (words : Words) → open_at source 0 ≡ open_at source at
-    → definitions [] (parts_at source 0) ≡ definitions seen (parts_at source at) → words_at source at ≡ words
-    → definitions_in (words_of source) ≡ unless_open (open_quote words) (definitions seen (parts (word_list words)))
-meant-by seen source at words quote whole is =
-    ap (λ (o : Option ℕ). unless_open o (definitions [] (parts_at source 0))) quote
-    ∙ ap (unless_open (open_at source at)) whole
-    ∙ ap (λ (w : Words). unless_open (open_quote w) (definitions seen (parts (word_list w)))) is
+pub meant-by : (values : Values) (source : List ℕ) (at : ℕ) (words : Words) → open_at source 0 ≡ open_at source at
+    → valued (λ text. None) (parts_at source 0) ≡ valued values (parts_at source at) → words_at source at ≡ words
+    → looked_up (definitions_in (words_of source)) ≡ unless_quoted (open_quote words) (valued values (parts (word_list words)))
+meant-by values source at words quote whole is =
+    by (open_at source 0) (definitions [] (parts_at source 0))
+    ∙ ap (λ (o : Option ℕ). unless_quoted o (looked_up (definitions [] (parts_at source 0)))) quote
+    ∙ ap (unless_quoted (open_at source at)) (valued-is (parts_at source 0) [] ∙ whole)
+    ∙ ap (λ (w : Words). unless_quoted (open_quote w) (valued values (parts (word_list w)))) is
+  where
+    by : (quote : Option ℕ) (meant : Result Defined M1Refusal) → looked_up (unless_open quote meant) ≡ unless_quoted quote (looked_up meant)
+    by (Some place) meant = refl
+    by None meant = refl
 
 -- a definition is refused, unless a quote is open behind it
-pub refused : (S : Type 0) (quote : Option ℕ) (why : M1Refusal) (start at : ℕ) (source : List ℕ) (old new : IndexMap (List ℕ) (List ℕ) S)
-    (meant : Result Defined M1Refusal) → meant ≡ unless_open quote (behind_define old.entries start (word_list (words_at source at)))
-    → DefinesOne (Err why) start source at old new → Tabulates {S = S} (Err (quote_or quote why)) meant
-refused S (Some place) why start at source old new meant is one = is
-refused S None refusal.OutOfMemory start at source old new meant is one = tt
-refused S None (refusal.BadDefine place) start at source old new meant is one = is ∙ one
-refused S None (refusal.DoubleDefine place) start at source old new meant is one = is ∙ one
-refused S None (refusal.OpenString place) start at source old new meant is one = is ∙ one
-refused S None (refusal.UnknownWord place) start at source old new meant is one = is ∙ one
-refused S None (refusal.NumberRange place) start at source old new meant is one = is ∙ one
-refused S None (refusal.Dangling place) start at source old new meant is one = is ∙ one
-refused S None refusal.TooLong start at source old new meant is one = is ∙ one
+pub refused : (quote : Option ℕ) (why : M1Refusal) (start at : ℕ) (source : List ℕ) (old new : BTreeMap (List ℕ) (List ℕ))
+    (meant : Result Defined M1Refusal) → looked_up meant ≡ unless_quoted quote (behind_define (values_in old) start (word_list (words_at source at)))
+    → DefinesOne (Err why) start source at old new → Tabulates (Err (quote_or quote why)) meant
+refused (Some place) why start at source old new meant is one = is
+refused None refusal.OutOfMemory start at source old new meant is one = tt
+refused None (refusal.BadDefine place) start at source old new meant is one = is ∙ one
+refused None (refusal.DoubleDefine place) start at source old new meant is one = is ∙ one
+refused None (refusal.OpenString place) start at source old new meant is one = is ∙ one
+refused None (refusal.UnknownWord place) start at source old new meant is one = is ∙ one
+refused None (refusal.NumberRange place) start at source old new meant is one = is ∙ one
+refused None (refusal.Dangling place) start at source old new meant is one = is ∙ one
+refused None refusal.TooLong start at source old new meant is one = is ∙ one

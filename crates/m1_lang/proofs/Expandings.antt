@@ -1,20 +1,20 @@
 -- One word of a source on, and the whole.
-use Rattle.std.proofs.Common.{◌≡◌, ◌≤◌, ◌<◌, ℕ, nat_lt, true, false, List, [], length, ap, sym, subst, ◌∙◌, arith, Option, None, Result, Ok, Err}
+use Rattle.std.proofs.Common.{◌≡◌, ◌≤◌, ◌<◌, ℕ, nat_lt, true, false, List, [], length, refl, ap, sym, subst, ◌∙◌, arith, Option, None, Result, Ok, Err}
 use Rattle.std.proofs.lemmas.Bool.{cond-true, cond-false}
 use Rattle.std.proofs.lemmas.Bool.Decides.{nat_tests}
-use Rattle.indexmap.specs.IndexMap.{get, IndexMap}
+use Rattle.std.specs.BTreeMap.{BTreeMap}
 use Rattle.hex_langs.specs.declared.items.item.Item.{Item}
 use Rattle.hex_langs.specs.declared.items.words.Open.{Open}
-use Rattle.hex_langs.specs.Items.Reading.{Ends, formed, Formed, Reading, with_front, word_end}
+use Rattle.hex_langs.specs.Items.Reading.{NoToken, formed, Formed, Reading, with_front, word_end}
 use Rattle.m1_lang.specs.declared.words.meaning.WordFault.{WordFault}
 use Rattle.m1_lang.specs.Words.Words.{Found, Word, word_list, Words, words_of}
 use Rattle.m1_lang.specs.Words.Forms.{tokens_of}
-use Rattle.m1_lang.specs.Words.Representation.Ahead.{words_at}
+use Rattle.m1_lang.specs.Words.Ahead.{words_at}
 use Rattle.m1_lang.specs.declared.refusal.M1Refusal.{M1Refusal}
 use Rattle.m1_lang.specs.declared.refusal.M1Refusal.TheVariants as refusal
-use Rattle.m1_lang.specs.Definitions.{definitions_in, is_define, parts, plain_words, same_text}
-use Rattle.m1_lang.specs.Expansion.{counted_items, Expands, expansion_by, expansion_of, then_read, unless_refused, words_reading}
-use Rattle.m1_lang.specs.Representation.Passes.{plain_behind, parts_at, reading_at, Tabulates, TakesWord}
+use Rattle.m1_lang.specs.Definitions.{Defined, definitions_in, is_define, parts, plain_words, value_in}
+use Rattle.m1_lang.specs.Expansion.{counted_items, Expands, expansion_by, expansion_of, then_read, items_unless_refused, words_reading}
+use Rattle.m1_lang.specs.Representation.Passes.{looked_up, plain_behind, parts_at, reading_at, Tabulates, TakesWord, Values, values_in}
 use Rattle.m1_lang.proofs.Passing.{define-plain, parts-plain, words-end}
 use Rattle.m1_lang.proofs.Takings.{counted-end}
 
@@ -33,12 +33,12 @@ reading-define values source at after next word found define skips =
     ap (λ (w : Words). words_reading values (plain_words (parts (word_list w)))) found
     ∙ ap (words_reading values) (define-plain word (word_list (words_at source after)) define ∙ skips)
 
-pub reading-over : (values : List ℕ → Option (List ℕ)) (source : List ℕ) (at : ℕ) → word_list (words_at source at) ≡ [] → reading_at values source at ≡ Ends
+pub reading-over : (values : List ℕ → Option (List ℕ)) (source : List ℕ) (at : ℕ) → word_list (words_at source at) ≡ [] → reading_at values source at ≡ NoToken
 reading-over values source at none = ap (λ (l : List Word). words_reading values (plain_words (parts l))) none
 
 -- the last word is taken
 pub reading-done : (values : List ℕ → Option (List ℕ)) (source : List ℕ) (at : ℕ) (word : Option Open) (items : List Item) (whole : Formed WordFault) → length source ≤ at
-    → length items ≤ 33554432 → whole ≡ with_front items (formed word (reading_at values source at)) → counted_items whole ≡ unless_refused items (word_end word)
+    → length items ≤ 33554432 → whole ≡ with_front items (formed word (reading_at values source at)) → counted_items whole ≡ items_unless_refused items (word_end word)
 reading-done values source at word items whole past few is =
     ap counted_items is
     ∙ ap (λ (r : Reading WordFault). counted_items (with_front items (formed word r))) (reading-over values source at (ap word_list (words-end source at past)))
@@ -69,21 +69,35 @@ unfolding expansion_of
 expansion-short source short = let fits : nat_lt 67108864 (length source) ≡ false = grind (arith, nat_tests) in cond-false _ _ _ fits
 
 -- the definitions are refused
-pub refused-definitions : (S : Type 0) (why : M1Refusal) (source : List ℕ) → length source ≤ 67108864
-    → Tabulates {S = S} (Err why) (definitions_in (words_of source)) → Expands (expansion_of source) (Err why)
-refused-definitions S (refusal.BadDefine place) source short is = expansion-short source short ∙ ap (λ d. expansion_by d (plain_words (parts_at source 0))) is
-refused-definitions S (refusal.DoubleDefine place) source short is = expansion-short source short ∙ ap (λ d. expansion_by d (plain_words (parts_at source 0))) is
-refused-definitions S (refusal.OpenString place) source short is = expansion-short source short ∙ ap (λ d. expansion_by d (plain_words (parts_at source 0))) is
-refused-definitions S (refusal.UnknownWord place) source short is = expansion-short source short ∙ ap (λ d. expansion_by d (plain_words (parts_at source 0))) is
-refused-definitions S (refusal.NumberRange place) source short is = expansion-short source short ∙ ap (λ d. expansion_by d (plain_words (parts_at source 0))) is
-refused-definitions S (refusal.Dangling place) source short is = expansion-short source short ∙ ap (λ d. expansion_by d (plain_words (parts_at source 0))) is
-refused-definitions S refusal.TooLong source short is = expansion-short source short ∙ ap (λ d. expansion_by d (plain_words (parts_at source 0))) is
-refused-definitions S refusal.OutOfMemory source short is = tt
+refused-by : (why : M1Refusal) (source : List ℕ) (meant : Result Defined M1Refusal) → length source ≤ 67108864
+    → definitions_in (words_of source) ≡ meant → looked_up meant ≡ Err why → expansion_of source ≡ Err why
+refused-by why source (Ok defined) short is looked = absurd (cc)
+refused-by why source (Err same) short is looked =
+    let one : same ≡ why = cc in
+    expansion-short source short ∙ ap (λ d. expansion_by d (plain_words (parts_at source 0))) is ∙ ap Err one
+
+pub refused-definitions : (why : M1Refusal) (source : List ℕ) → length source ≤ 67108864
+    → Tabulates (Err why) (definitions_in (words_of source)) → Expands (expansion_of source) (Err why)
+refused-definitions (refusal.BadDefine place) source short is = refused-by _ source _ short refl is
+refused-definitions (refusal.DoubleDefine place) source short is = refused-by _ source _ short refl is
+refused-definitions (refusal.OpenString place) source short is = refused-by _ source _ short refl is
+refused-definitions (refusal.UnknownWord place) source short is = refused-by _ source _ short refl is
+refused-definitions (refusal.NumberRange place) source short is = refused-by _ source _ short refl is
+refused-definitions (refusal.Dangling place) source short is = refused-by _ source _ short refl is
+refused-definitions refusal.TooLong source short is = refused-by _ source _ short refl is
+refused-definitions refusal.OutOfMemory source short is = tt
 
 -- by the table of the definitions
-pub expanded-by : {S : Type 0} (table : IndexMap (List ℕ) (List ℕ) S) (source : List ℕ) (result : Result (List Item) M1Refusal) → length source ≤ 67108864
-    → definitions_in (words_of source) ≡ Ok table.entries
-    → Expands (counted_items (formed None (reading_at (λ name. get same_text table name) source 0))) result → Expands (expansion_of source) result
-expanded-by table source result short defined expands =
-    let is = expansion-short source short ∙ ap (λ d. expansion_by d (plain_words (parts_at source 0))) defined in
-    subst (λ (meant : Result (List Item) M1Refusal). Expands meant result) (sym is) expands
+pub expanded-by : (table : BTreeMap (List ℕ) (List ℕ)) (source : List ℕ) (result : Result (List Item) M1Refusal) → length source ≤ 67108864
+    → looked_up (definitions_in (words_of source)) ≡ Ok (values_in table)
+    → Expands (counted_items (formed None (reading_at (values_in table) source 0))) result → Expands (expansion_of source) result
+expanded-by table source result short looked expands = by (definitions_in (words_of source)) refl looked
+  where
+    by : (meant : Result Defined M1Refusal) → definitions_in (words_of source) ≡ meant → looked_up meant ≡ Ok (values_in table)
+        → Expands (expansion_of source) result
+    by (Ok defined) is looks =
+        let same : value_in defined ≡ values_in table = cc in
+        let whole = expansion-short source short ∙ ap (λ d. expansion_by d (plain_words (parts_at source 0))) is
+        ∙ ap (λ (v : Values). counted_items (formed None (reading_at v source 0))) same in
+        subst (λ (meant : Result (List Item) M1Refusal). Expands meant result) (sym whole) expands
+    by (Err why) is looks = absurd (cc)

@@ -21,13 +21,14 @@ use Rattle.m1_lang.specs.declared.words.meaning.WordFault.{WordFault}
 use Rattle.m1_lang.specs.declared.words.meaning.WordFault.TheVariants.{UnknownWord}
 use Rattle.m1_lang.specs.Words.Digits.{cons_byte, digit_bytes}
 use Rattle.m1_lang.specs.Words.Numbers.{number_in}
-use Rattle.m1_lang.specs.Words.Forms.{begins_with, between, byte_tokens, defined_tokens, FormTokens, form_or, form_tokens, immediate_field, ranged_tokens, is_within, number_behind, number_tokens, numbered_or, numbered_tokens, one_token, padded, quoted_tokens, store_field, takes_number, token_over, Tokens, tokens_of, rounded_field, value_tokens, whole_token, number_word}
+use Rattle.hex_langs.specs.Link.Link.{i_field, modulo_word}
+use Rattle.m1_lang.specs.Words.Forms.{begins_with, between, byte_tokens, defined_tokens, FormTokens, form_or, form_tokens, ranged_tokens, is_within, number_behind, number_tokens, numbered_or, numbered_tokens, one_token, padded, quoted_tokens, store_field, takes_number, token_over, Tokens, tokens_of, rounded_field, value_tokens, whole_token}
 use Rattle.m1_lang.specs.Words.Words.{Found, Unclosed, Word, word_list, word_more, Words, words_from, words_of}
 use Rattle.m1_lang.specs.declared.refusal.M1Refusal.{M1Refusal}
 use Rattle.m1_lang.specs.declared.refusal.M1Refusal.TheVariants.{TooLong}
 use Rattle.m1_lang.specs.Laws.{IsOfBytes}
 use Rattle.m1_lang.specs.Definitions.{Defined, Defines, Cut, definitions_in, is_define, parts, Plain, plain_words, value_in}
-use Rattle.m1_lang.specs.Expansion.{at_once, counted_items, expansion_by, expansion_of, then_read, unless_refused, words_reading}
+use Rattle.m1_lang.specs.Expansion.{at_once, counted_items, expansion_by, expansion_of, then_read, items_unless_refused, words_reading}
 
 abbrev AreGoodTokens : List Token → Type 0
 AreGoodTokens tokens = AllByRecursion IsGood tokens
@@ -124,7 +125,7 @@ quoted-good (quote ∷ rest) are = by (quote == 34) (quote == 39)
 
 -- ---- numbers
 
-wrapped-small : (n : ℤ) → number_word n < 4294967296
+wrapped-small : (n : ℤ) → modulo_word n < 4294967296
 wrapped-small (pos n) = omega arith
 wrapped-small (negsuc n) = omega arith
 
@@ -147,17 +148,17 @@ number-good sign n = by (sign == 33) (sign == 64) (sign == 126)
     word : Bool
     word = is_within n (neg_ℤ (pos 2147483648)) (pos 4294967296)
 
-    four : AreGoodTokens (map Byte (to_le_bytes w32 (number_word n)))
+    four : AreGoodTokens (map Byte (to_le_bytes w32 (modulo_word n)))
     four = (omega arith, (omega arith, (omega arith, (omega arith, tt))))
 
-    by : (i s u : Bool) → IsGoodResult (cond i (ranged_tokens (is_within n (neg_ℤ (pos 2048)) (pos 2048)) (Field (immediate_field (number_word n)) ∷ []))
-        (cond s (ranged_tokens (is_within n (neg_ℤ (pos 2048)) (pos 2048)) (Field (store_field (number_word n)) ∷ []))
+    by : (i s u : Bool) → IsGoodResult (cond i (ranged_tokens (is_within n (neg_ℤ (pos 2048)) (pos 2048)) (Field (i_field (modulo_word n)) ∷ []))
+        (cond s (ranged_tokens (is_within n (neg_ℤ (pos 2048)) (pos 2048)) (Field (store_field (modulo_word n)) ∷ []))
         (cond u (ranged_tokens (is_within n (neg_ℤ (pos 2147483648)) (pos 4294967296)) (Field (rounded_field n) ∷ []))
-        (ranged_tokens (is_within n (neg_ℤ (pos 2147483648)) (pos 4294967296)) (map Byte (to_le_bytes w32 (number_word n)))))))
-    by true s u = range-good _ (Field (immediate_field (number_word n)) ∷ []) (field-good (immediate_field (number_word n)) (omega arith))
-    by false true u = range-good _ (Field (store_field (number_word n)) ∷ []) (field-good (store_field (number_word n)) (s_field-small (number_word n)))
+        (ranged_tokens (is_within n (neg_ℤ (pos 2147483648)) (pos 4294967296)) (map Byte (to_le_bytes w32 (modulo_word n)))))))
+    by true s u = range-good _ (Field (i_field (modulo_word n)) ∷ []) (field-good (i_field (modulo_word n)) (omega arith))
+    by false true u = range-good _ (Field (store_field (modulo_word n)) ∷ []) (field-good (store_field (modulo_word n)) (s_field-small (modulo_word n)))
     by false false true = range-good _ (Field (rounded_field n) ∷ []) (field-good (rounded_field n) (omega (arith, wrapped-small (n +ℤ pos 2048))))
-    by false false false = range-good _ (map Byte (to_le_bytes w32 (number_word n))) four
+    by false false false = range-good _ (map Byte (to_le_bytes w32 (modulo_word n))) four
 
 numbered-good : (text : List ℕ) → IsGoodForm (numbered_tokens text)
 unfolding numbered_tokens
@@ -249,7 +250,7 @@ plain-bytes (word ∷ name ∷ value ∷ words) are = by (is_define word.text) (
 counted-ok : (whole : Formed WordFault) (items : List Item) → counted_items whole ≡ Ok items → (whole.items ≡ items) × (length whole.items ≤ 33554432)
 counted-ok whole items is = by (nat_lt 33554432 (length whole.items)) refl whole.end is
   where
-    by : (over : Bool) → nat_lt 33554432 (length whole.items) ≡ over → (end : Ending WordFault) → cond over (Err TooLong) (unless_refused whole.items end) ≡ Ok items
+    by : (over : Bool) → nat_lt 33554432 (length whole.items) ≡ over → (end : Ending WordFault) → cond over (Err TooLong) (items_unless_refused whole.items end) ≡ Ok items
         → (whole.items ≡ items) × (length whole.items ≤ 33554432)
     by true many end same = absurd (cc)
     by false few Whole same = (cc, grind (arith, nat_tests))

@@ -1,26 +1,24 @@
 -- A definition may stand elsewhere.
 use Rattle.std.proofs.Common.{◌≡◌, ℕ, Bool, true, false, cond, not, ◌||◌, List, [], ◌∷◌, ◌++◌, refl, sym, ap, subst, ◌∙◌, Option, Some, None, is_some, Ok, Err}
 use Rattle.std.proofs.Common.{true≢false}
+use Rattle.std.specs.Prelude.{bytes_eq}
 use Rattle.std.proofs.lemmas.Slice.Eq.{bytes_eq-Decides}
 use Rattle.m1_lang.specs.Words.Words.{Word}
 use Rattle.m1_lang.specs.declared.refusal.M1Refusal.TheVariants as refusal
-use Rattle.m1_lang.specs.Definitions.{with_defined, Cut, Defined, Defines, definitions, is_value, Part, Plain, plain_words, same_text, value_in}
+use Rattle.m1_lang.specs.Definitions.{with_defined, Cut, Defined, Defines, definitions, is_value, SourcePart, Plain, plain_words, value_in}
+use Rattle.m1_lang.specs.Representation.Passes.{or_value}
 use Rattle.m1_lang.proofs.Unplaced.{expansion_by_values, expansion_with, ok, parts_expansion}
 
 -- ---- look-ups
 
-abbrev or_value : Option (List ℕ) → Option (List ℕ) → Option (List ℕ)
-or_value (Some value) later = Some value
-or_value None later = later
-
 -- one definition more
-look-more : (seen : Defined) (name value text : List ℕ)
-    → value_in (seen ++ (name, value) ∷ []) text ≡ or_value (value_in seen text) (cond (same_text text name) (Some value) None)
+pub look-more : (seen : Defined) (name value text : List ℕ)
+    → value_in (seen ++ (name, value) ∷ []) text ≡ or_value (value_in seen text) (cond (bytes_eq text name) (Some value) None)
 look-more [] name value text = refl
-look-more (first ∷ seen) name value text = by (same_text text first.0) (look-more seen name value text)
+look-more (first ∷ seen) name value text = by (bytes_eq text first.0) (look-more seen name value text)
   where
-    by : (here : Bool) → value_in (seen ++ (name, value) ∷ []) text ≡ or_value (value_in seen text) (cond (same_text text name) (Some value) None)
-        → cond here (Some first.1) (value_in (seen ++ (name, value) ∷ []) text) ≡ or_value (cond here (Some first.1) (value_in seen text)) (cond (same_text text name) (Some value) None)
+    by : (here : Bool) → value_in (seen ++ (name, value) ∷ []) text ≡ or_value (value_in seen text) (cond (bytes_eq text name) (Some value) None)
+        → cond here (Some first.1) (value_in (seen ++ (name, value) ∷ []) text) ≡ or_value (cond here (Some first.1) (value_in seen text)) (cond (bytes_eq text name) (Some value) None)
     by true rest = refl
     by false rest = rest
 
@@ -30,7 +28,7 @@ SameValues one other = (text : List ℕ) → value_in one text ≡ value_in othe
 
 more-same : (one other : Defined) (name value : List ℕ) → SameValues one other → SameValues (one ++ (name, value) ∷ []) (other ++ (name, value) ∷ [])
 more-same one other name value same text =
-    look-more one name value text ∙ ap (λ (o : Option (List ℕ)). or_value o (cond (same_text text name) (Some value) None)) (same text) ∙ sym (look-more other name value text)
+    look-more one name value text ∙ ap (λ (o : Option (List ℕ)). or_value o (cond (bytes_eq text name) (Some value) None)) (same text) ∙ sym (look-more other name value text)
 
 abbrev Related : Option Defined → Option Defined → Type 0
 Related (Some one) (Some other) = SameValues one other
@@ -39,25 +37,25 @@ Related _ _ = ⊥
 
 -- ---- two definitions
 
-equal-texts : (a b : List ℕ) → same_text a b ≡ true → a ≡ b
+equal-texts : (a b : List ℕ) → bytes_eq a b ≡ true → a ≡ b
 equal-texts a b is = (bytes_eq-Decides a b).0 is
 
-same-self : (a : List ℕ) → same_text a a ≡ true
+same-self : (a : List ℕ) → bytes_eq a a ≡ true
 same-self a = (bytes_eq-Decides a a).1 refl
 
-same-other : (a b : List ℕ) → same_text a b ≡ same_text b a
-same-other a b = by (same_text a b) (same_text b a) refl refl
+same-other : (a b : List ℕ) → bytes_eq a b ≡ bytes_eq b a
+same-other a b = by (bytes_eq a b) (bytes_eq b a) refl refl
   where
-    by : (one other : Bool) → same_text a b ≡ one → same_text b a ≡ other → one ≡ other
+    by : (one other : Bool) → bytes_eq a b ≡ one → bytes_eq b a ≡ other → one ≡ other
     by true true is also = refl
     by false false is also = refl
-    by true false is also = sym (same-self a) ∙ ap (λ (t : List ℕ). same_text t a) (equal-texts a b is) ∙ also
-    by false true is also = sym is ∙ ap (λ (t : List ℕ). same_text t b) (sym (equal-texts b a also)) ∙ same-self b
+    by true false is also = sym (same-self a) ∙ ap (λ (t : List ℕ). bytes_eq t a) (equal-texts a b is) ∙ also
+    by false true is also = sym is ∙ ap (λ (t : List ℕ). bytes_eq t b) (sym (equal-texts b a also)) ∙ same-self b
 
 -- a name is defined, or defined by one definition more
 seen-more : (seen : Defined) (name value text : List ℕ)
-    → is_some (value_in (seen ++ (name, value) ∷ []) text) ≡ is_some (value_in seen text) || same_text text name
-seen-more seen name value text = ap is_some (look-more seen name value text) ∙ by (value_in seen text) (same_text text name)
+    → is_some (value_in (seen ++ (name, value) ∷ []) text) ≡ is_some (value_in seen text) || bytes_eq text name
+seen-more seen name value text = ap is_some (look-more seen name value text) ∙ by (value_in seen text) (bytes_eq text name)
   where
     by : (o : Option (List ℕ)) (same : Bool) → is_some (or_value o (cond same (Some value) None)) ≡ is_some o || same
     by (Some other) same = refl
@@ -65,16 +63,16 @@ seen-more seen name value text = ap is_some (look-more seen name value text) ∙
     by None false = refl
 
 -- two definitions of two names give the same values in both orders
-order-same : (seen : Defined) (one value other also : List ℕ) → same_text other one ≡ false
+order-same : (seen : Defined) (one value other also : List ℕ) → bytes_eq other one ≡ false
     → SameValues ((seen ++ (one, value) ∷ []) ++ (other, also) ∷ []) ((seen ++ (other, also) ∷ []) ++ (one, value) ∷ [])
 order-same seen one value other also apart text =
     look-more (seen ++ (one, value) ∷ []) other also text
-    ∙ ap (λ (o : Option (List ℕ)). or_value o (cond (same_text text other) (Some also) None)) (look-more seen one value text)
-    ∙ by (value_in seen text) (same_text text one) (same_text text other) refl refl
-    ∙ sym (ap (λ (o : Option (List ℕ)). or_value o (cond (same_text text one) (Some value) None)) (look-more seen other also text))
+    ∙ ap (λ (o : Option (List ℕ)). or_value o (cond (bytes_eq text other) (Some also) None)) (look-more seen one value text)
+    ∙ by (value_in seen text) (bytes_eq text one) (bytes_eq text other) refl refl
+    ∙ sym (ap (λ (o : Option (List ℕ)). or_value o (cond (bytes_eq text one) (Some value) None)) (look-more seen other also text))
     ∙ sym (look-more (seen ++ (other, also) ∷ []) one value text)
   where
-    by : (o : Option (List ℕ)) (first second : Bool) → same_text text one ≡ first → same_text text other ≡ second
+    by : (o : Option (List ℕ)) (first second : Bool) → bytes_eq text one ≡ first → bytes_eq text other ≡ second
         → or_value (or_value o (cond first (Some value) None)) (cond second (Some also) None) ≡ or_value (or_value o (cond second (Some also) None)) (cond first (Some value) None)
     by (Some found) first second is_one is_other = refl
     by None false second is_one is_other = right (cond second (Some also) None)
@@ -84,11 +82,11 @@ order-same seen one value other also apart text =
         right (Some found) = refl
     by None true false is_one is_other = refl
     by None true true is_one is_other =
-        absurd (true≢false (sym (same-self other) ∙ ap (same_text other) (sym (equal-texts text other is_other) ∙ equal-texts text one is_one) ∙ apart))
+        absurd (true≢false (sym (same-self other) ∙ ap (bytes_eq other) (sym (equal-texts text other is_other) ∙ equal-texts text one is_one) ∙ apart))
 
 -- ---- one definition in front
 
-ok-with : (seen : Defined) (at : ℕ) (name value : List ℕ) (ps : List Part)
+ok-with : (seen : Defined) (at : ℕ) (name value : List ℕ) (ps : List SourcePart)
     → ok (definitions seen (Defines at name value ∷ ps))
     ≡ cond (not (is_value value)) None (cond (is_some (value_in seen name)) None (ok (definitions (seen ++ (name, value) ∷ []) ps)))
 ok-with seen at name value ps = by (is_value value) (is_some (value_in seen name))
@@ -118,7 +116,7 @@ related-then (Some a) (Some b) None first second = absurd second
 related-then (Some a) (Some b) (Some c) first second = λ text. first text ∙ second text
 
 -- behind definitions that give the same values
-related-more : (one other : Defined) (ps : List Part) → SameValues one other → Related (ok (definitions one ps)) (ok (definitions other ps))
+related-more : (one other : Defined) (ps : List SourcePart) → SameValues one other → Related (ok (definitions one ps)) (ok (definitions other ps))
 related-more one other [] same = same
 related-more one other (Cut at ∷ ps) same = tt
 related-more one other (Plain word ∷ ps) same = related-more one other ps same
@@ -129,7 +127,7 @@ related-more one other (Defines at name value ∷ ps) same =
     (chosen (not (is_value value)) (is_some (value_in one name)) _ _ (related-more (one ++ (name, value) ∷ []) (other ++ (name, value) ∷ []) ps (more-same one other name value same))))
 
 -- behind one part
-behind-part : (seen : Defined) (part : Part) (ps qs : List Part) → ((more : Defined) → Related (ok (definitions more ps)) (ok (definitions more qs)))
+behind-part : (seen : Defined) (part : SourcePart) (ps qs : List SourcePart) → ((more : Defined) → Related (ok (definitions more ps)) (ok (definitions more qs)))
     → Related (ok (definitions seen (part ∷ ps))) (ok (definitions seen (part ∷ qs)))
 behind-part seen (Cut at) ps qs later = tt
 behind-part seen (Plain word) ps qs later = later seen
@@ -142,10 +140,10 @@ behind-part seen (Defines at name value) ps qs later =
 -- ---- two parts change places
 
 -- one definition and then another
-ok-two : (seen : Defined) (at place : ℕ) (one value other also : List ℕ) (ps : List Part)
+ok-two : (seen : Defined) (at place : ℕ) (one value other also : List ℕ) (ps : List SourcePart)
     → ok (definitions seen (Defines at one value ∷ Defines place other also ∷ ps))
     ≡ cond (not (is_value value)) None (cond (is_some (value_in seen one)) None
-    (cond (not (is_value also)) None (cond (is_some (value_in seen other) || same_text other one) None (ok (definitions ((seen ++ (one, value) ∷ []) ++ (other, also) ∷ []) ps)))))
+    (cond (not (is_value also)) None (cond (is_some (value_in seen other) || bytes_eq other one) None (ok (definitions ((seen ++ (one, value) ∷ []) ++ (other, also) ∷ []) ps)))))
 ok-two seen at place one value other also ps =
     ok-with seen at one value (Defines place other also ∷ ps)
     ∙ ap (λ (o : Option Defined). cond (not (is_value value)) None (cond (is_some (value_in seen one)) None o))
@@ -171,7 +169,7 @@ cut-chosen true again = tt
 cut-chosen false true = tt
 cut-chosen false false = tt
 
-swap : (seen : Defined) (one value : List ℕ) (part : Part) (ps : List Part)
+swap : (seen : Defined) (one value : List ℕ) (part : SourcePart) (ps : List SourcePart)
     → Related (ok (definitions seen (Defines 0 one value ∷ part ∷ ps))) (ok (definitions seen (part ∷ Defines 0 one value ∷ ps)))
 swap seen one value (Cut at) ps =
     subst (λ (o : Option Defined). Related o None) (sym (ok-with seen 0 one value (Cut at ∷ ps))) (cut-chosen (not (is_value value)) (is_some (value_in seen one)))
@@ -179,38 +177,38 @@ swap seen one value (Plain word) ps = related-self (ok (definitions seen (Define
 swap seen one value (Defines at other also) ps =
     subst (λ (o : Option Defined). Related o (ok (definitions seen (Defines at other also ∷ Defines 0 one value ∷ ps)))) (sym (ok-two seen 0 at one value other also ps))
     (subst (λ (o : Option Defined). Related (cond (not (is_value value)) None (cond (is_some (value_in seen one)) None
-    (cond (not (is_value also)) None (cond (is_some (value_in seen other) || same_text other one) None (ok (definitions ((seen ++ (one, value) ∷ []) ++ (other, also) ∷ []) ps)))))) o)
+    (cond (not (is_value also)) None (cond (is_some (value_in seen other) || bytes_eq other one) None (ok (definitions ((seen ++ (one, value) ∷ []) ++ (other, also) ∷ []) ps)))))) o)
     (sym (ok-two seen at 0 other also one value ps
     ∙ ap (λ (b : Bool). cond (not (is_value also)) None (cond (is_some (value_in seen other)) None
     (cond (not (is_value value)) None (cond (is_some (value_in seen one) || b) None (ok (definitions ((seen ++ (other, also) ∷ []) ++ (one, value) ∷ []) ps))))))
     (same-other one other)))
-    (swap-chosen (is_value value) (is_value also) (is_some (value_in seen one)) (is_some (value_in seen other)) (same_text other one) _ _
+    (swap-chosen (is_value value) (is_value also) (is_some (value_in seen one)) (is_some (value_in seen other)) (bytes_eq other one) _ _
     (λ apart. related-more ((seen ++ (one, value) ∷ []) ++ (other, also) ∷ []) ((seen ++ (other, also) ∷ []) ++ (one, value) ∷ []) ps
     (order-same seen one value other also apart))))
 
 -- ---- a definition behind other parts
 
-move : (seen : Defined) (one value : List ℕ) (between back : List Part)
+move : (seen : Defined) (one value : List ℕ) (between back : List SourcePart)
     → Related (ok (definitions seen (Defines 0 one value ∷ (between ++ back)))) (ok (definitions seen (between ++ Defines 0 one value ∷ back)))
 move seen one value [] back = related-self (ok (definitions seen (Defines 0 one value ∷ back)))
 move seen one value (part ∷ between) back =
     related-then _ (ok (definitions seen (part ∷ Defines 0 one value ∷ (between ++ back)))) _ (swap seen one value part (between ++ back))
     (behind-part seen part (Defines 0 one value ∷ (between ++ back)) (between ++ Defines 0 one value ∷ back) (λ more. move more one value between back))
 
-move-behind : (seen : Defined) (one value : List ℕ) (front between back : List Part)
+move-behind : (seen : Defined) (one value : List ℕ) (front between back : List SourcePart)
     → Related (ok (definitions seen (front ++ Defines 0 one value ∷ (between ++ back)))) (ok (definitions seen (front ++ (between ++ Defines 0 one value ∷ back))))
 move-behind seen one value [] between back = move seen one value between back
 move-behind seen one value (part ∷ front) between back =
     behind-part seen part (front ++ Defines 0 one value ∷ (between ++ back)) (front ++ (between ++ Defines 0 one value ∷ back))
     (λ more. move-behind more one value front between back)
 
-plain-more : (ps qs rs : List Part) → plain_words qs ≡ plain_words rs → plain_words (ps ++ qs) ≡ plain_words (ps ++ rs)
+plain-more : (ps qs rs : List SourcePart) → plain_words qs ≡ plain_words rs → plain_words (ps ++ qs) ≡ plain_words (ps ++ rs)
 plain-more [] qs rs same = same
 plain-more (Defines at name value ∷ ps) qs rs same = plain-more ps qs rs same
 plain-more (Cut at ∷ ps) qs rs same = plain-more ps qs rs same
 plain-more (Plain word ∷ ps) qs rs same = ap (λ (words : List Word). word ∷ words) (plain-more ps qs rs same)
 
-plain-moved : (one value : List ℕ) (between back : List Part) → plain_words (between ++ back) ≡ plain_words (between ++ Defines 0 one value ∷ back)
+plain-moved : (one value : List ℕ) (between back : List SourcePart) → plain_words (between ++ back) ≡ plain_words (between ++ Defines 0 one value ∷ back)
 plain-moved one value between back = plain-more between back (Defines 0 one value ∷ back) refl
 
 related-with : (one other : Option Defined) (words : List Word) → Related one other → expansion_with one words ≡ expansion_with other words
@@ -221,7 +219,7 @@ related-with (Some a) (Some b) words related =
     let values : value_in a ≡ value_in b = λ i text. related text i in
     ap (λ (v : List ℕ → Option (List ℕ)). expansion_by_values v words) values
 
-pub moved : (one value : List ℕ) (front between back : List Part)
+pub moved : (one value : List ℕ) (front between back : List SourcePart)
     → parts_expansion (front ++ Defines 0 one value ∷ (between ++ back)) ≡ parts_expansion (front ++ (between ++ Defines 0 one value ∷ back))
 moved one value front between back =
     related-with _ (ok (definitions [] (front ++ (between ++ Defines 0 one value ∷ back)))) (plain_words (front ++ Defines 0 one value ∷ (between ++ back)))

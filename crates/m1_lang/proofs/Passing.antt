@@ -2,24 +2,24 @@
 use Rattle.std.proofs.Common.{◌≡◌, ℕ, ◌≤◌, Bool, true, false, cond, List, [], ◌∷◌, length, refl, ap, arith}
 use denote.Bor.{Bor}
 use Rattle.std.proofs.lemmas.List.{drop_all}
-use Rattle.m1_lang.specs.Words.Words.{Over, Word, Words, word_list, words_from}
-use Rattle.m1_lang.specs.Words.Representation.Ahead.{FindsAhead, words_at}
+use Rattle.m1_lang.specs.Words.Words.{NoWord, Word, Words, word_list, words_from}
+use Rattle.m1_lang.specs.Words.Ahead.{FindsAhead, words_at}
 use Rattle.m1_lang.specs.declared.words.splitting.Ahead.{Ahead}
 use Rattle.m1_lang.specs.declared.words.splitting.Ahead.TheVariants as next
-use Rattle.m1_lang.specs.Definitions.{Cut, Defined, Defines, definitions, is_define, parts, Plain, plain_words}
-use Rattle.m1_lang.specs.Representation.Passes.{behind_define, parts_at, plain_behind}
+use Rattle.m1_lang.specs.Definitions.{Cut, Defines, is_define, parts, Plain, plain_words}
+use Rattle.m1_lang.specs.Representation.Passes.{behind_define, parts_at, plain_behind, valued, Values}
 
-pub words-end : (source : List ℕ) (at : ℕ) → length source ≤ at → words_at source at ≡ Over
+pub words-end : (source : List ℕ) (at : ℕ) → length source ≤ at → words_at source at ≡ NoWord
 unfolding words_from
 words-end source at past = ap (words_from at 0) (drop_all at source past)
 
 -- ---- a `DEFINE`
 
-pub define-word : (seen : Defined) (word : Word) (rest : List Word) → is_define word.text ≡ true → definitions seen (parts (word ∷ rest)) ≡ behind_define seen word.at rest
-define-word seen word [] is = ap (λ (b : Bool). definitions seen (cond b (Cut word.at ∷ []) (Plain word ∷ []))) is
-define-word seen word (name ∷ []) is = ap (λ (b : Bool). definitions seen (cond b (Cut word.at ∷ []) (Plain word ∷ parts (name ∷ [])))) is
-define-word seen word (name ∷ value ∷ rest) is =
-    ap (λ (b : Bool). definitions seen (cond b (Defines word.at name.text value.text ∷ parts rest) (Plain word ∷ parts (name ∷ value ∷ rest)))) is
+pub define-word : (values : Values) (word : Word) (rest : List Word) → is_define word.text ≡ true → valued values (parts (word ∷ rest)) ≡ behind_define values word.at rest
+define-word values word [] is = ap (λ (b : Bool). valued values (cond b (Cut word.at ∷ []) (Plain word ∷ []))) is
+define-word values word (name ∷ []) is = ap (λ (b : Bool). valued values (cond b (Cut word.at ∷ []) (Plain word ∷ parts (name ∷ [])))) is
+define-word values word (name ∷ value ∷ rest) is =
+    ap (λ (b : Bool). valued values (cond b (Defines word.at name.text value.text ∷ parts rest) (Plain word ∷ parts (name ∷ value ∷ rest)))) is
 
 pub define-plain : (word : Word) (rest : List Word) → is_define word.text ≡ true → plain_words (parts (word ∷ rest)) ≡ plain_behind rest
 define-plain word [] is = ap (λ (b : Bool). plain_words (cond b (Cut word.at ∷ []) (Plain word ∷ []))) is

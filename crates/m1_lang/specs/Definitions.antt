@@ -1,28 +1,23 @@
 -- The definitions of an M1 source. Public source: the language M1 of stage0-posix and mescc-tools, whose exact rules here are this project's
 -- profile. docs/reference/m1.md says the same for people.
-use Rattle.std.specs.Prelude.{ℕ, nat_eq, Bool, not, if◌then◌else◌, List, [], ◌∷◌, ◌++◌, codes, is_some, Option, Some, None, Result, Ok, Err}
+use Rattle.std.specs.Prelude.{ℕ, bytes_eq, Bool, not, if◌then◌else◌, List, [], ◌∷◌, ◌++◌, codes, is_some, Option, Some, None, Result, Ok, Err}
 use Rattle.std.specs.Map.{lookup}
-use Rattle.std.specs.Cmp.Lexicographic.{pointwise}
 use Rattle.m1_lang.specs.Words.Words.{Word, Words, open_quote, word_list}
 use Rattle.m1_lang.specs.Words.Forms.{value_tokens}
 use Rattle.m1_lang.specs.declared.refusal.M1Refusal.{M1Refusal}
 use Rattle.m1_lang.specs.declared.refusal.M1Refusal.TheVariants.{BadDefine, DoubleDefine, OpenString}
 
--- two texts of the same bytes
-abbrev pub same_text : List ℕ → List ℕ → Bool
-same_text = pointwise nat_eq
-
 -- a part of a source: a definition with the offset of its `DEFINE`, a `DEFINE` that fewer than two words follow, or another word
-pub data Part : Type 0 where
-  Defines : (at : ℕ) (name value : List ℕ) → Part
-  Cut : (at : ℕ) → Part
-  Plain : (word : Word) → Part
+pub data SourcePart : Type 0 where
+  Defines : (at : ℕ) (name value : List ℕ) → SourcePart
+  Cut : (at : ℕ) → SourcePart
+  Plain : (word : Word) → SourcePart
 
 abbrev pub is_define : List ℕ → Bool
-is_define text = same_text text (codes "DEFINE")
+is_define text = bytes_eq text (codes "DEFINE")
 
 -- `DEFINE` and the two words after it are one definition
-abbrev pub parts : List Word → List Part
+abbrev pub parts : List Word → List SourcePart
 parts [] = []
 parts (word ∷ []) = if is_define word.text then Cut word.at ∷ [] else Plain word ∷ []
 parts (word ∷ name ∷ []) = if is_define word.text then Cut word.at ∷ [] else Plain word ∷ parts (name ∷ [])
@@ -31,7 +26,7 @@ parts (word ∷ name ∷ value ∷ rest) =
     else Plain word ∷ parts (name ∷ value ∷ rest)
 
 -- the words that belong to no definition
-abbrev pub plain_words : List Part → List Word
+abbrev pub plain_words : List SourcePart → List Word
 plain_words [] = []
 plain_words (Plain word ∷ rest) = word ∷ plain_words rest
 plain_words (part ∷ rest) = plain_words rest
@@ -42,7 +37,7 @@ Defined = List (List ℕ × List ℕ)
 
 -- the value that a definition gives a word
 abbrev pub value_in : Defined → List ℕ → Option (List ℕ)
-value_in defined text = lookup (same_text text) defined
+value_in defined text = lookup (bytes_eq text) defined
 
 abbrev pub is_value : List ℕ → Bool
 is_value text = is_some (value_tokens text)
@@ -59,7 +54,7 @@ with_defined (Ok seen) rest = rest seen
 with_defined (Err why) rest = Err why
 
 -- the definitions of a source in order, behind those so far, or the first that is refused
-abbrev pub definitions : Defined → List Part → Result Defined M1Refusal
+abbrev pub definitions : Defined → List SourcePart → Result Defined M1Refusal
 definitions seen [] = Ok seen
 definitions seen (Defines at name value ∷ rest) = with_defined (defined_with seen at name value) (λ more. definitions more rest)
 definitions seen (Cut at ∷ rest) = Err (BadDefine at)

@@ -1,4 +1,6 @@
 pub mod Words
+pub mod Ahead
+pub mod Meanings
 pub mod Digits
 pub mod Numbers
 pub mod Forms

@@ -8,8 +8,8 @@ ghost use Rattle.m1_lang.specs.Representation.Passes.{quote_or, open_at, Defines
 use crate::refusal::M1Refusal;
 use crate::words::{Ahead, Value, next_word};
 use hex_langs::items::Name;
-use indexmap::IndexMap;
 use std::alloc::Global;
+use std::collections::BTreeMap;
 
 pub(crate) fn is_define(text: &[u8]) -> bool
     ensures { result ≡ is_define text.now }
@@ -35,7 +35,7 @@ fn open_quote(source: &[u8], from: usize) -> Option<usize>
 
 /// One definition behind its `DEFINE`; the offset behind it.
 fn define<'s>(
-    table: &mut IndexMap<Name<'s>, Value<'s>>,
+    table: &mut BTreeMap<Name<'s>, Value<'s>>,
     source: &'s [u8],
     start: usize,
     at: usize,
@@ -74,10 +74,10 @@ fn unless_open(source: &[u8], at: usize, refusal: M1Refusal) -> M1Refusal
 pub(crate) fn definitions_of<'s>(
     alloc: Global,
     source: &'s [u8],
-) -> Result<IndexMap<Name<'s>, Value<'s>>, M1Refusal>
+) -> Result<BTreeMap<Name<'s>, Value<'s>>, M1Refusal>
     ensures { Tabulates result (definitions_in (words_of source.now)) }
 {
-    let mut table = IndexMap::new(alloc);
+    let mut table = BTreeMap::new(alloc);
     let mut at = 0;
     while at < source.len() {
         match next_word(source, at) {

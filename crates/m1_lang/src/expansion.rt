@@ -1,20 +1,18 @@
 //! The items that an M1 source expands to.
 
 ghost use Rattle.std.specs.Prelude.{◌≡◌, ◌≤◌, length, None};
-ghost use Rattle.indexmap.specs.IndexMap.{get};
 ghost use Rattle.hex_langs.specs.Items.Reading.{formed};
 ghost use Rattle.m1_lang.specs.Words.Forms.{tokens_of};
-ghost use Rattle.m1_lang.specs.Definitions.{same_text};
 ghost use Rattle.m1_lang.specs.Expansion.{counted_items, Expands, expansion_of, halt_refusal, word_refusal};
-ghost use Rattle.m1_lang.specs.Representation.Passes.{reading_at, SkipsOne, TakesWord};
+ghost use Rattle.m1_lang.specs.Representation.Passes.{reading_at, SkipsOne, TakesWord, values_in};
 
 use crate::definitions::{definitions_of, is_define};
 use crate::refusal::M1Refusal;
 use crate::taking::{meaning_by, take_meaning};
 use crate::words::{Ahead, Value, WordFault, next_word};
 use hex_langs::items::{Halt, Items, LONGEST_SOURCE, Name, Open};
-use indexmap::IndexMap;
 use std::alloc::Global;
+use std::collections::BTreeMap;
 
 /// The items that an M1 source of at most 67,108,864 bytes expands to, or its first refusal: a quote that isn't closed, then the
 /// definitions in order, then the other words in order. Names lie in the source.
@@ -49,13 +47,13 @@ fn behind_definition(source: &[u8], at: usize) -> usize
 /// Takes a word at an offset.
 fn take_word<'s>(
     items: &mut Items<'s>,
-    table: &IndexMap<Name<'s>, Value<'s>>,
+    table: &BTreeMap<Name<'s>, Value<'s>>,
     word: Option<Open<'s>>,
     at: usize,
     text: &'s [u8],
 ) -> Result<Option<Open<'s>>, M1Refusal>
     requires { length items.old ≤ 33554432 }
-    ensures takes { TakesWord result word.entry at (tokens_of (λ name. get same_text table.now name) text.now) items.old items.new }
+    ensures takes { TakesWord result word.entry at (tokens_of (values_in table.now) text.now) items.old items.new }
     ensures few { length items.new ≤ 33554432 }
 {
     match meaning_by(table, text) {
@@ -70,10 +68,10 @@ fn take_word<'s>(
 /// The items of the words that belong to no definition.
 fn items_by<'s>(
     alloc: Global,
-    table: &IndexMap<Name<'s>, Value<'s>>,
+    table: &BTreeMap<Name<'s>, Value<'s>>,
     source: &'s [u8],
 ) -> Result<Items<'s>, M1Refusal>
-    ensures { Expands (counted_items (formed None (reading_at (λ name. get same_text table.now name) source.now 0))) result }
+    ensures { Expands (counted_items (formed None (reading_at (values_in table.now) source.now 0))) result }
 {
     let mut items = Items::new(alloc);
     let mut word = None;

@@ -1,16 +1,14 @@
 //! Taking what words give.
 
 ghost use Rattle.std.specs.Prelude.{◌≡◌, ◌≤◌, ℕ, [], ◌∷◌, IfSome, length, map, replicate};
-ghost use Rattle.indexmap.specs.IndexMap.{get};
 ghost use Rattle.hex_langs.specs.declared.items.token.Token.TheVariants.{Byte};
 ghost use Rattle.m1_lang.specs.Words.Forms.{defined_tokens, padded, tokens_of};
-ghost use Rattle.m1_lang.specs.Words.Representation.Meanings.{MeansResult, MeansTokens, front_bytes, meaning_tokens};
-ghost use Rattle.m1_lang.specs.Definitions.{same_text};
-ghost use Rattle.m1_lang.specs.Representation.Passes.{TakesTokens};
+ghost use Rattle.m1_lang.specs.Words.Meanings.{MeansResult, MeansTokens, front_bytes, meaning_tokens};
+ghost use Rattle.m1_lang.specs.Representation.Passes.{TakesTokens, values_in};
 
 use crate::words::{Meaning, Value, WordFault, meaning_of};
 use hex_langs::items::{Begun, Halt, Items, Name, Open, byte_of, take, take_byte, take_four};
-use indexmap::IndexMap;
+use std::collections::BTreeMap;
 
 /// Takes bytes.
 fn take_bytes<'s>(
@@ -154,8 +152,8 @@ pub(crate) fn take_meaning<'s>(
 }
 
 /// What a word gives that a definition names.
-fn defined_meaning<'s>(table: &IndexMap<Name<'s>, Value<'s>>, text: &'s [u8]) -> Option<Meaning<'s>>
-    ensures { MeansTokens result (defined_tokens (get same_text table.now text.now)) }
+fn defined_meaning<'s>(table: &BTreeMap<Name<'s>, Value<'s>>, text: &'s [u8]) -> Option<Meaning<'s>>
+    ensures { MeansTokens result (defined_tokens (values_in table.now text.now)) }
 {
     match table.get(&Name::new(text)) {
         None => None,
@@ -165,10 +163,10 @@ fn defined_meaning<'s>(table: &IndexMap<Name<'s>, Value<'s>>, text: &'s [u8]) ->
 
 /// What a word gives by the definitions.
 pub(crate) fn meaning_by<'s>(
-    table: &IndexMap<Name<'s>, Value<'s>>,
+    table: &BTreeMap<Name<'s>, Value<'s>>,
     text: &'s [u8],
 ) -> Result<Meaning<'s>, WordFault>
-    ensures { MeansResult result (tokens_of (λ name. get same_text table.now name) text.now) }
+    ensures { MeansResult result (tokens_of (values_in table.now) text.now) }
 {
     match defined_meaning(table, text) {
         Some(meaning) => Ok(meaning),

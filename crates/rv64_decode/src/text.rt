@@ -49,7 +49,7 @@ impl InstText {
         requires { length self.old + length bytes.now ≤ 48 }
         ensures { self.new ≡ self.old ++ bytes.now }
     {
-        let _ = self.bytes.try_extend_from_slice(bytes);
+        self.bytes.try_extend_from_slice(bytes).unwrap();
     }
 
     fn push_register(&mut self, before: &[u8], number: u8)

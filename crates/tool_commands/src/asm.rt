@@ -89,12 +89,7 @@ fn make(alloc: Global, language: Language, base: u64, source: &[u8]) -> Result<B
 }
 
 /// The value of a source, or what ends the command.
-fn make_value(
-    alloc: Global,
-    language: HexLanguage,
-    base: u64,
-    source: &[u8],
-) -> Result<Bytes, Stop>
+fn make_value(alloc: Global, language: HexLanguage, base: u64, source: &[u8]) -> Result<Bytes, Stop>
     requires { base ≤ 2 ^ 37 }
     ensures { (shelf : ShelfState) → Obtains (needs_value language base source.now) shelf shelf result }
 {

@@ -28,12 +28,7 @@ pub fn perform<S: Shelf>(alloc: Global, words: &[&str], shelf: &mut S) -> Result
 
 /// The command on two files.
 #[tactic(auto, using(command_plan::proofs::Obtaining::obtaining), unfolding(crate::specs::Hex0::hex0_files))]
-fn hex0<S: Shelf>(
-    alloc: Global,
-    shelf: &mut S,
-    source: &str,
-    binary: &str,
-) -> Result<Answer, Stop>
+fn hex0<S: Shelf>(alloc: Global, shelf: &mut S, source: &str, binary: &str) -> Result<Answer, Stop>
     requires source { IsFileName source.now }
     requires binary { IsFileName binary.now }
     ensures { Performs (hex0_files source.now binary.now) (S.state shelf.old) (S.state shelf.new) result }

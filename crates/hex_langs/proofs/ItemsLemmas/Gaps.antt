@@ -1,7 +1,5 @@
 -- Blanks, comments and names, a byte on.
-use Rattle.std.proofs.Common.{◌≡◌, ℕ, suc, ◌+◌, ◌<◌, ◌==◌, Bool, true, false, not, List, [], ◌∷◌, length, drop, get_or, refl, sym, ap, ◌∙◌, arith, ◌≢◌, ◌⊎◌, inl, inr}
-use Rattle.std.proofs.lemmas.Grind.{common_steps}
-use Rattle.std.proofs.lemmas.Bool.Decides.{nat_tests}
+use Rattle.std.proofs.Common.{◌≡◌, ℕ, ◌+◌, ◌==◌, true, false, not, List, ◌∷◌, refl, arith}
 use Rattle.std.specs.List.{position_or_len}
 use Rattle.hex_langs.specs.Items.Tokens.{gap_from, is_blank, ends_name}
 use Rattle.hex_langs.specs.Hex0.{begins_comment}

@@ -1,11 +1,11 @@
 -- A list of items in codes, one item longer.
-use Rattle.std.proofs.Common.{◌≡◌, ℕ, suc, ◌+◌, ◌-◌, ◌<◌, ◌≤◌, Bool, true, false, cond, List, [], ◌∷◌, ◌++◌, length, map, get_or, refl, sym, ap, subst, ◌∙◌, arith, length-append, take}
+use Rattle.std.proofs.Common.{◌≡◌, ℕ, suc, ◌+◌, ◌-◌, ◌<◌, ◌≤◌, true, false, List, [], ◌∷◌, ◌++◌, length, map, get_or, append-nil, append_assoc, refl, sym, ap, subst, ◌∙◌, arith, length-append}
 use Rattle.std.proofs.lemmas.Bool.{cond-true, cond-false, cases_lt}
 use Rattle.std.proofs.lemmas.Bool.Decides.{nat_tests}
 use Rattle.std.proofs.Math.ListN.{get_or-append}
 use Rattle.std.proofs.Math.Seq.{get_or-append_seam}
 use Rattle.std.proofs.Common.{◌⊎◌, inl, inr, nat_lt}
-use Rattle.std.proofs.Common.{Option, Some, None, option_map}
+use Rattle.std.proofs.Common.{Some, None, option_map, OnErr, OnOk, Result, Ok, Err}
 use Rattle.std.specs.List.{AllByRecursion, slice_get}
 use Rattle.std.proofs.lemmas.Option.{get_or_from_slice_get, slice_get-get_or, slice_get-map, slice_get_past}
 use Rattle.hex_langs.specs.declared.items.item.Item.{Item}
@@ -51,12 +51,41 @@ pub pushed-byte : (codes : List ℕ) (others : List Item) (byte : ℕ) → byte 
 pushed-byte codes others byte small =
     items-append codes byte others ∙ ap (λ (i : Item). items_of codes others ++ i ∷ []) (item_of-byte others byte small)
 
+-- some bytes more
+pushed-bytes : (codes : List ℕ) (others : List Item) (bytes : List ℕ) → AllByRecursion (λ byte. byte < 256) bytes
+    → items_of (codes ++ bytes) others ≡ items_of codes others ++ map Byte bytes
+pushed-bytes codes others [] small = ap (λ (l : List ℕ). items_of l others) (append-nil codes) ∙ sym (append-nil (items_of codes others))
+pushed-bytes codes others (byte ∷ bytes) small =
+    ap (λ (l : List ℕ). items_of l others) (sym (append_assoc codes (byte ∷ []) bytes))
+    ∙ pushed-bytes (codes ++ byte ∷ []) others bytes small.1
+    ∙ ap (λ (l : List Item). l ++ map Byte bytes) (pushed-byte codes others byte small.0)
+    ∙ append_assoc (items_of codes others) (Byte byte ∷ []) (map Byte bytes)
+
 pub packed-byte : (codes : List ℕ) (others : List Item) (byte : ℕ) → byte < 256 → length codes < 33554432 → ArePacked codes others → ArePacked (codes ++ byte ∷ []) others
 packed-byte codes others byte small room packed = record {
   few = omega (arith, length-append codes (byte ∷ []));
   fewer = omega (arith, packed.fewer, length-append codes (byte ∷ []));
   known = known-append (256 + length others) (256 + length others) codes byte (omega arith) (omega arith) packed.known;
 }
+
+packed-bytes : (codes : List ℕ) (others : List Item) (bytes : List ℕ) → AllByRecursion (λ byte. byte < 256) bytes
+    → length codes + length bytes ≤ 33554432 → ArePacked codes others → ArePacked (codes ++ bytes) others
+packed-bytes codes others [] small room packed = subst (λ (l : List ℕ). ArePacked l others) (sym (append-nil codes)) packed
+packed-bytes codes others (byte ∷ bytes) small room packed =
+    subst (λ (l : List ℕ). ArePacked l others) (append_assoc codes (byte ∷ []) bytes)
+    (packed-bytes (codes ++ byte ∷ []) others bytes small.1 (omega (arith, length-append codes (byte ∷ []))) (packed-byte codes others byte small.0 (omega arith) packed))
+
+-- four bytes more, or none
+pub bytes-packed : {E : Type 0} (result : Result (Unit {0}) E) (old new : List ℕ) (others : List Item) (bytes : List ℕ) → OnOk result (new ≡ old ++ bytes)
+    → OnErr result (new ≡ old) → AllByRecursion (λ byte. byte < 256) bytes → length old + length bytes ≤ 33554432 → ArePacked old others → ArePacked new others
+bytes-packed (Ok done) old new others bytes more same small room packed =
+    subst (λ (l : List ℕ). ArePacked l others) (sym more) (packed-bytes old others bytes small room packed)
+bytes-packed (Err why) old new others bytes more same small room packed = subst (λ (l : List ℕ). ArePacked l others) (sym same) packed
+
+pub bytes-pushed : {E : Type 0} (result : Result (Unit {0}) E) (old new : List ℕ) (others : List Item) (bytes : List ℕ) → OnOk result (new ≡ old ++ bytes)
+    → AllByRecursion (λ byte. byte < 256) bytes → OnOk result (items_of new others ≡ items_of old others ++ map Byte bytes)
+bytes-pushed (Ok done) old new others bytes more small = ap (λ (l : List ℕ). items_of l others) more ∙ pushed-bytes old others bytes small
+bytes-pushed (Err why) old new others bytes more small = tt
 
 -- one other item more
 pub pushed-other : (codes : List ℕ) (others : List Item) (it : Item) → ArePacked codes others

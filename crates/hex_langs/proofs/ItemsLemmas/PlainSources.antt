@@ -1,24 +1,22 @@
 -- A source of digits, blanks and comments gives in hex1 and hex2 the bytes that it gives in hex0.
-use Rattle.std.proofs.Common.{◌≡◌, ◌≢◌, ℕ, suc, ◌+◌, ◌*◌, ◌-◌, ◌%◌, ◌<◌, ◌≤◌, ◌==◌, Bool, true, false, not, cond, ◌&&◌, ◌||◌, List, [], ◌∷◌, ◌++◌, length, drop, map, Option, Some, None, is_some, Result, Ok, Err, IsTrue, refl, sym, ap, subst, ◌∙◌, arith}
-use Rattle.std.specs.List.{before_first, cons_option, list_all, onto_first}
+use Rattle.std.proofs.Common.{◌≡◌, ℕ, suc, ◌+◌, ◌*◌, ◌%◌, ◌≤◌, ◌==◌, Bool, true, false, not, ◌&&◌, ◌||◌, List, [], ◌∷◌, length, drop, map, Option, Some, None, is_some, Ok, IsTrue, refl, sym, ap, subst, ◌∙◌, arith}
+use Rattle.std.specs.List.{cons_option, list_all, onto_first}
 use Rattle.std.proofs.lemmas.Bool.Decides.{nat_tests}
 use Rattle.std.proofs.lemmas.List.{append-nil}
 use Rattle.std.proofs.lemmas.List.Splits.{slice_split-cons_no}
 use Rattle.hex.specs.Hex.{hex_digit_value, is_hex_digit}
 use Rattle.hex_langs.specs.declared.items.item.Item.{Item}
 use Rattle.hex_langs.specs.declared.items.item.Item.TheVariants as item
-use Rattle.hex_langs.specs.declared.items.reader.HexRefusal.{HexRefusal}
 use Rattle.hex_langs.specs.declared.items.token.Dialect.{Dialect}
 use Rattle.hex_langs.specs.declared.items.token.Fault.{Fault}
-use Rattle.hex_langs.specs.declared.items.token.Token.{Token}
 use Rattle.hex_langs.specs.declared.items.token.Token.TheVariants.{Byte}
 use Rattle.hex_langs.specs.Hex0.{begins_comment, digits_of, HasEvenDigits, hex0_of, line_feed, lines_of, pairs}
 use Rattle.hex_langs.specs.Items.Plain.{is_plain, is_plain_line}
-use Rattle.hex_langs.specs.Items.Reading.{answer, Formed, formed, items_of, judged, reading, Then, Whole, with_front}
-use Rattle.hex_langs.specs.Items.Tokens.{byte_of, gap_from, gap_length, is_blank, low_digit, opens_gap, pair_at, pair_with, token_at}
+use Rattle.hex_langs.specs.Items.Reading.{Formed, formed, items_of, reading, Whole, with_front}
+use Rattle.hex_langs.specs.Items.Tokens.{gap_from, gap_length, is_blank, low_digit, opens_gap, pair_at, token_at}
 use Rattle.hex_langs.proofs.ItemsLemmas.Gaps.{gap_from-blank, gap_from-comment, gap_from-other, gap_from-sign}
 use Rattle.hex_langs.proofs.Hex0Lemmas.{ahead, ahead-code, ahead-comment, ahead-in_comment, ahead-line_feed, before_first-no, before_first-yes, digit-is_code, drop_onto}
-use Rattle.hex_langs.proofs.ItemsLemmas.Readings.{gap_length-some, items_of-judged, judged-end, reading-end, reading-gap, reading-inside, reading-token}
+use Rattle.hex_langs.proofs.ItemsLemmas.Readings.{gap_length-some, items_of-judged, judged-end, reading-end, reading-gap, reading-token}
 
 -- ---- which sources are plain, a byte on
 

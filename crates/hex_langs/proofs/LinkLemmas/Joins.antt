@@ -1,16 +1,16 @@
 -- What putting one item's bytes does to what is left.
 use Rattle.std.proofs.Common.{◌≡◌, ℕ, ◌+◌, ◌≤◌, List, [], ◌∷◌, ◌++◌, length, append_assoc, length-append, Option, Result, Ok, Err, refl, sym, ap, subst, ◌∙◌, arith}
 use Rattle.std.proofs.lemmas.List.{length-replicate}
-use Rattle.std.specs.Prelude.{replicate}
+use Rattle.std.specs.Prelude.{IsErrAnd, replicate}
 use Rattle.std.specs.Int.{w32, to_le_bytes}
 use Rattle.hex_langs.specs.declared.items.item.Item.{Item}
 use Rattle.hex_langs.specs.declared.items.item.Item.TheVariants.{Byte, Label, Word, Rel, Gap, Abs, Pad}
 use Rattle.hex_langs.specs.declared.items.reader.HexRefusal.{HexRefusal}
 use Rattle.hex_langs.specs.declared.items.reader.HexRefusal.TheVariants as refusal
+use Rattle.hex_langs.specs.declared.link.label.Label as placed
 use Rattle.hex_langs.specs.declared.link.number.Miss.{Miss}
-use Rattle.indexmap.specs.IndexMap.{get, IndexMap}
-use Rattle.hex_langs.specs.Link.Link.{address_of, behind, item_bytes, four, bytes_from, Labels, link_of, Links, onto, pad_size, refused, same_name, size_at, unless_repeat}
-use Rattle.hex_langs.specs.Link.Representation.Tables.{Puts, Tables}
+use Rattle.hex_langs.specs.Link.Link.{address_of, behind, item_bytes, four, bytes_from, Labels, link_of, Links, onto, pad_size, refused, size_at, unless_repeat}
+use Rattle.hex_langs.specs.Link.Representation.Tables.{address_in, Puts, Tables}
 
 pub puts-ok : (meant : Result (List ℕ) Miss) (old new : List ℕ) → Puts (Ok tt) meant old new
     → (bytes : List ℕ) × (meant ≡ Ok bytes) × (new ≡ old ++ bytes)
@@ -34,7 +34,7 @@ onto-twice : (front more : List ℕ) (later : Result (List ℕ) HexRefusal) → 
 onto-twice front more (Ok bytes) = ap Ok (sym (append_assoc front more bytes))
 onto-twice front more (Err why) = refl
 
-size-small : (place : ℕ) (it : Item) → size_at place it ≤ 4
+pub size-small : (place : ℕ) (it : Item) → size_at place it ≤ 4
 size-small place (Byte byte) = omega arith
 size-small place (Label name) = omega arith
 size-small place Pad = omega arith
@@ -71,25 +71,30 @@ joined-refused labels base index it left old miss whole is none =
 -- ---- the whole
 
 -- where the labels fail, linking does
-pub links-refused : (S : Type 0) (why : HexRefusal) (items : List Item) (base : ℕ) → Tables {S = S} (Err why) items base → Links (Err why) (link_of items base)
+pub links-refused : (why : HexRefusal) (items : List Item) (base : ℕ) → Tables (Err why) items base → Links (Err why) (link_of items base)
 unfolding link_of
-links-refused S refusal.OutOfMemory items base tables = tt
-links-refused S (refusal.DoubleLabel index) items base tables = sym (ap (λ (o : Option ℕ). unless_repeat o (bytes_from (address_of base items) base 0 items)) tables)
-links-refused S (refusal.OddDigits at) items base tables = absurd tables
-links-refused S (refusal.BadField at) items base tables = absurd tables
-links-refused S (refusal.Dangling at) items base tables = absurd tables
-links-refused S (refusal.NoLabel at) items base tables = absurd tables
-links-refused S (refusal.OutOfReach at) items base tables = absurd tables
-links-refused S refusal.TooLong items base tables = absurd tables
+links-refused refusal.OutOfMemory items base tables = tt
+links-refused (refusal.DoubleLabel index) items base tables = sym (ap (λ (o : Option ℕ). unless_repeat o (bytes_from (address_of base items) base 0 items)) tables)
+links-refused (refusal.OddDigits at) items base tables = absurd tables
+links-refused (refusal.BadField at) items base tables = absurd tables
+links-refused (refusal.Dangling at) items base tables = absurd tables
+links-refused (refusal.NoLabel at) items base tables = absurd tables
+links-refused (refusal.OutOfReach at) items base tables = absurd tables
+links-refused refusal.TooLong items base tables = absurd tables
 
 -- by the labels of the table as by those of the items
-pub links-joined : {S : Type 0} (table : IndexMap (List ℕ) ℕ S) (items : List Item) (base : ℕ) → Tables (Ok table) items base
-    → bytes_from (λ name. get same_name table name) base 0 items ≡ link_of items base
+pub links-joined : (table : List placed.Label) (items : List Item) (base : ℕ) → Tables (Ok table) items base
+    → bytes_from (address_in table) base 0 items ≡ link_of items base
 unfolding link_of
 links-joined table items base tables =
-    let labels : (λ (name : List ℕ). get same_name table name) ≡ address_of base items = λ i name. tables.1 name i in
+    let labels : address_in table ≡ address_of base items = λ i name. tables.1 name i in
     ap (λ (l : Labels). bytes_from l base 0 items) labels
     ∙ sym (ap (λ (o : Option ℕ). unless_repeat o (bytes_from (address_of base items) base 0 items)) tables.0)
+
+-- a refusal that `?` hands on
+pub links-passed : (why : HexRefusal) (result meant : Result (List ℕ) HexRefusal) → IsErrAnd result (λ e. e ≡ why) → Links (Err why) meant → Links result meant
+links-passed why (Ok bytes) meant is links = absurd is
+links-passed why (Err same) meant is links = subst (λ (w : HexRefusal). Links (Err w) meant) (sym is) links
 
 pub links-by : (result meant same : Result (List ℕ) HexRefusal) → Links result meant → meant ≡ same → Links result same
 links-by result meant same links is = subst (λ (m : Result (List ℕ) HexRefusal). Links result m) is links

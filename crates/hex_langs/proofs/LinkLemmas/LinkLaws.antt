@@ -14,7 +14,8 @@ use Rattle.hex_langs.specs.declared.link.values.HexLanguage.{HexLanguage}
 use Rattle.hex_langs.specs.declared.link.values.HexLanguage.TheVariants.{Hex0, Hex1, Hex2}
 use Rattle.hex_langs.specs.Link.Values.{linked, value_of}
 use Rattle.hex_langs.specs.Link.Laws.{address_behind, is_fixed, KeepsApart, renamed}
-use Rattle.hex_langs.specs.Link.Link.{address_of, behind, item_bytes, defines, first_repeat, bytes_from, label_in, Labels, link_of, onto, repeats, same_name, size_at, unless_repeat}
+use Rattle.std.specs.Prelude.{bytes_eq}
+use Rattle.hex_langs.specs.Link.Link.{address_of, behind, item_bytes, defines, first_repeat, bytes_from, label_in, Labels, link_of, onto, repeats, size_at, unless_repeat}
 use Rattle.hex_langs.proofs.LinkLemmas.Joins.{bytes-size}
 
 -- ---- bases
@@ -75,9 +76,9 @@ bool-same true b to from = sym (to refl)
 bool-same false true to from = from refl
 bool-same false false to from = refl
 
-same_name-renamed : (rename : List ℕ → List ℕ) → KeepsApart rename → (a b : List ℕ) → same_name (rename a) (rename b) ≡ same_name a b
-same_name-renamed rename apart a b =
-    bool-same (same_name (rename a) (rename b)) (same_name a b)
+bytes_eq-renamed : (rename : List ℕ → List ℕ) → KeepsApart rename → (a b : List ℕ) → bytes_eq (rename a) (rename b) ≡ bytes_eq a b
+bytes_eq-renamed rename apart a b =
+    bool-same (bytes_eq (rename a) (rename b)) (bytes_eq a b)
     (λ is. (bytes_eq-Decides a b).1 (apart a b ((bytes_eq-Decides (rename a) (rename b)).0 is)))
     (λ is. (bytes_eq-Decides (rename a) (rename b)).1 (ap rename ((bytes_eq-Decides a b).0 is)))
 
@@ -93,7 +94,7 @@ size-renamed rename address Pad = refl
 defines-renamed : (rename : List ℕ → List ℕ) → KeepsApart rename → (name : List ℕ) (it : Item)
     → defines (rename name) (renamed rename it) ≡ defines name it
 defines-renamed rename apart name (Byte byte) = refl
-defines-renamed rename apart name (Label other) = same_name-renamed rename apart other name
+defines-renamed rename apart name (Label other) = bytes_eq-renamed rename apart other name
 defines-renamed rename apart name (Word value kind other) = refl
 defines-renamed rename apart name (Rel other) = refl
 defines-renamed rename apart name (Gap other second) = refl
@@ -110,10 +111,10 @@ address-renamed rename apart address (it ∷ items) name =
     ∙ ap (cond (defines name it) (Some address)) (address-renamed rename apart (address + size_at address it) items name)
 
 any-renamed : (rename : List ℕ → List ℕ) → KeepsApart rename → (name : List ℕ) (seen : List (List ℕ))
-    → list_any (same_name (rename name)) (map rename seen) ≡ list_any (same_name name) seen
+    → list_any (bytes_eq (rename name)) (map rename seen) ≡ list_any (bytes_eq name) seen
 any-renamed rename apart name [] = refl
 any-renamed rename apart name (other ∷ seen) =
-    rw (same_name-renamed rename apart name other) (rw (any-renamed rename apart name seen) refl)
+    rw (bytes_eq-renamed rename apart name other) (rw (any-renamed rename apart name seen) refl)
 
 repeats-renamed : (rename : List ℕ → List ℕ) → KeepsApart rename → (seen : List (List ℕ)) (it : Item)
     → repeats (map rename seen) (renamed rename it) ≡ repeats seen it

@@ -1,4 +1,4 @@
--- Sources of hexadecimal digits, blanks and comments alone, which hex0, hex1 and hex2 have in common.
+-- Sources of hexadecimal digits, blanks and comments alone, which hex0, hex1 and hex2 of stage0-posix and mescc-tools have in common.
 use Rattle.std.specs.Prelude.{ℕ, Bool, ◌||◌, List}
 use Rattle.std.specs.List.{before_first, list_all}
 use Rattle.hex.specs.Hex.{is_hex_digit}

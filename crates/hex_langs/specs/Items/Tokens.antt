@@ -1,13 +1,11 @@
 -- The tokens of hex1 and hex2. Public source: the languages of these names of stage0-posix and mescc-tools, whose exact rules here are
 -- this project's profile. docs/reference/hex1.md and hex2.md say the same for people.
-use Rattle.std.specs.Prelude.{◌≡◌, ℕ, zero, suc, ◌+◌, ◌*◌, ◌-◌, ◌==◌, nat_lt, Bool, true, false, not, ◌||◌, ◌&&◌, if◌then◌else◌, List, [], ◌∷◌, ◌++◌, length, take, drop, slice_index, slice_get, Option, Some, None, is_some, Result, Ok, Err}
+use Rattle.std.specs.Prelude.{◌≡◌, ℕ, suc, ◌+◌, ◌*◌, ◌==◌, nat_lt, Bool, true, false, not, ◌||◌, ◌&&◌, if◌then◌else◌, List, [], ◌∷◌, length, take, drop, slice_index, Option, Some, None, Result, Ok, Err}
 use Rattle.std.specs.List.{position_or_len}
 use Rattle.std.specs.Int.{w32, from_le_bytes}
 use Rattle.hex.specs.Hex.{hex_digit_value, is_hex_digit}
 use Rattle.hex_langs.specs.Hex0.{begins_comment}
-use Rattle.hex_langs.specs.declared.items.item.Kind.{Kind}
 use Rattle.hex_langs.specs.declared.items.item.Kind.TheVariants.{I, B, J, U}
-use Rattle.hex_langs.specs.declared.items.item.Item.{Item}
 use Rattle.hex_langs.specs.declared.items.item.Item.TheVariants as item
 use Rattle.hex_langs.specs.declared.items.token.Dialect.{Dialect}
 use Rattle.hex_langs.specs.declared.items.token.Dialect.TheVariants.{Hex1, Hex2}

@@ -1,10 +1,9 @@
 -- Linking: where items lie, where their labels stand, and what bytes they give. Public source: the languages hex1 and hex2 of stage0-posix
 -- and mescc-tools, whose exact rules here are this project's profile; the fields are those of the RISC-V Unprivileged ISA, "Immediate
 -- Encoding Variants". docs/reference/linking.md says the same for people.
-use Rattle.std.specs.Prelude.{◌≡◌, ℕ, ◌+◌, ◌-◌, ◌*◌, ◌/◌, ◌%◌, ◌==◌, nat_eq, nat_lt, Bool, false, not, ◌&&◌, if◌then◌else◌, List, [], ◌∷◌, ◌++◌, replicate, Option, Some, None, Result, Ok, Err, bit_xor, ℤ, pos, neg_ℤ, ◌+ℤ◌, ◌-ℤ◌, int_lt, unsigned_abs}
+use Rattle.std.specs.Prelude.{◌≡◌, ℕ, ◌+◌, ◌-◌, ◌*◌, ◌/◌, ◌%◌, ◌==◌, bytes_eq, nat_lt, Bool, false, not, ◌&&◌, if◌then◌else◌, List, [], ◌∷◌, ◌++◌, replicate, Option, Some, None, Result, Ok, Err, bit_xor, ℤ, pos, neg_ℤ, ◌+ℤ◌, ◌-ℤ◌, int_lt, unsigned_abs}
 use Rattle.std.specs.Int.{w32, to_le_bytes, int_rem_euclid}
 use Rattle.std.specs.List.{list_any}
-use Rattle.std.specs.Cmp.Lexicographic.{pointwise}
 use Rattle.hex_langs.specs.declared.items.item.Kind.{Kind}
 use Rattle.hex_langs.specs.declared.items.item.Kind.TheVariants.{I, B, J, U}
 use Rattle.hex_langs.specs.declared.items.item.Item.{Item}
@@ -28,13 +27,9 @@ size_at address (Label name) = 0
 size_at address Pad = pad_size address
 size_at address it = 4
 
--- two names of the same bytes
-abbrev pub same_name : List ℕ → List ℕ → Bool
-same_name = pointwise nat_eq
-
 -- an item defines a name
 abbrev pub defines : List ℕ → Item → Bool
-defines name (Label other) = same_name other name
+defines name (Label other) = bytes_eq other name
 defines name it = false
 
 -- the address of the first of these items that defines a name
@@ -51,7 +46,7 @@ label_in it = []
 
 -- whether an item defines a label that was seen
 abbrev pub repeats : List (List ℕ) → Item → Bool
-repeats seen (Label name) = list_any (same_name name) seen
+repeats seen (Label name) = list_any (bytes_eq name) seen
 repeats seen it = false
 
 -- the number of the first item that defines a label again; the labels seen are those of the items before

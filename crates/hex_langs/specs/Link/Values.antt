@@ -1,4 +1,5 @@
--- The value of a source: the bytes that it stands for in its language. docs/reference/linking.md says the same for people.
+-- The value of a source: the bytes that it stands for in its language, hex0, hex1 or hex2 of stage0-posix and mescc-tools.
+-- docs/reference/linking.md says the same for people.
 use Rattle.std.specs.Prelude.{ℕ, List, Result, Ok, Err}
 use Rattle.hex_langs.specs.declared.items.item.Item.{Item}
 use Rattle.hex_langs.specs.declared.items.reader.HexRefusal.{HexRefusal}

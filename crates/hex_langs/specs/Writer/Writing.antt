@@ -1,4 +1,4 @@
--- Items as a text of hex2, one line for each. docs/reference/m1.md says the same for people.
+-- Items as a text of hex2 (of stage0-posix and mescc-tools), one line for each. docs/reference/m1.md says the same for people.
 use Rattle.std.specs.Prelude.{ℕ, List, [], ◌∷◌, ◌++◌}
 use Rattle.std.specs.List.{flat_map}
 use Rattle.std.specs.Int.{w32, to_le_bytes}

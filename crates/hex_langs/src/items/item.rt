@@ -2,15 +2,14 @@
 
 ghost use Rattle.std.specs.Prelude.{◌≡◌, ◌<◌, ◌≤◌, ℕ, List, [], ◌∷◌, ◌++◌, length, slice_get, OnOk, OnErr};
 ghost use Rattle.std.specs.Option.{option_copied};
-ghost use Rattle.std.specs.Prelude.{nat_eq};
-ghost use Rattle.std.specs.Cmp.{on_equiv, on_per, partial_equiv_from_equiv};
-ghost use Rattle.std.specs.Cmp.Lexicographic.{pointwise, nat_list_eq_equiv};
-ghost use Rattle.std.specs.Cmp.Rules.{hashing};
-ghost use Rattle.std.specs.Hash as fed;
-ghost use Rattle.std.proofs.Common.{rules};
+ghost use Rattle.std.specs.Prelude.{nat_eq, Some};
+ghost use Rattle.std.specs.Ordering.{nat_cmp};
+ghost use Rattle.std.specs.Cmp.{on_equiv, on_per, on_po, on_total, partial_equiv_from_equiv};
+ghost use Rattle.std.specs.Cmp.Lexicographic.{pointwise, slice_cmp, nat_list_cmp_total, nat_list_eq_equiv, texts_po, texts_ties};
+ghost use Rattle.std.proofs.Common.{refl};
 ghost use Rattle.std.specs.Prelude.{◌+◌};
 
-use std::hash::{Hash, Hasher};
+use std::cmp::Ordering;
 use std::marker::Model;
 
 /// The kind of a reference inside a word: the immediate of the instruction format of this name that the label's distance goes to
@@ -69,14 +68,27 @@ impl<'s> Eq for Name<'s> {
     ghost laws = { on_equiv (λ n. n) nat_list_eq_equiv };
 }
 
-impl<'s> Hash for Name<'s> {
-    ghost hash_input = { λ n. fed.str n };
+impl<'s> PartialOrd for Name<'s> {
+    ghost partial_cmp = { λ a b. Some (slice_cmp nat_cmp a b) };
 
-    ghost respects_eq = { Prim.search (hashing, rules) };
+    ghost laws = { on_po (λ n. n) texts_po };
 
-    fn hash<H: Hasher>(&self, state: &mut H) {
-        state.write(self.bytes);
-        state.write_u8(0xff);
+    fn partial_cmp(&self, other: &Self) -> Option<Ordering> {
+        Some(self.cmp(other))
+    }
+}
+
+impl<'s> Ord for Name<'s> {
+    ghost cmp = { λ a b. slice_cmp nat_cmp a b };
+
+    ghost total = { on_total (λ n. n) nat_list_cmp_total };
+
+    ghost matches_partial_cmp = { λ a b. refl };
+
+    ghost matches_eq = { λ a b. texts_ties a b };
+
+    fn cmp(&self, other: &Self) -> Ordering {
+        self.bytes.cmp(other.bytes)
     }
 }
 

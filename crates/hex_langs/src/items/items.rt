@@ -1,6 +1,7 @@
 //! Items in little memory.
 
-ghost use Rattle.std.specs.Prelude.{◌≡◌, ◌<◌, ◌≤◌, ◌+◌, ℕ, List, [], ◌∷◌, ◌++◌, length, slice_get, OnOk, OnErr};
+ghost use Rattle.std.specs.Prelude.{◌≡◌, ◌<◌, ◌≤◌, ◌+◌, ℕ, List, [], ◌∷◌, ◌++◌, length, map, slice_get, OnOk, OnErr};
+ghost use Rattle.std.specs.List.{AllByRecursion};
 ghost use Rattle.std.specs.Option.{option_copied};
 ghost use Rattle.hex_langs.specs.Items.Representation.Packed.{items_of, ArePacked};
 ghost use Rattle.hex_langs.specs.declared.items.item.Item.TheVariants.{Byte};
@@ -40,6 +41,29 @@ fn add_byte(codes: &mut Vec<u32>, byte: u8) -> Result<(), OutOfMemory>
 {
     codes.push(u32::from(byte))?;
     Ok(())
+}
+
+/// Adds four bytes, or none.
+fn add_four(codes: &mut Vec<u32>, bytes: [u8; 4]) -> Result<(), OutOfMemory>
+    ensures ok { OnOk result (codes.new.items ≡ codes.old.items ++ bytes) }
+    ensures err { OnErr result (codes.new.items ≡ codes.old.items) }
+    ensures four { length bytes ≡ 4 }
+    ensures small { AllByRecursion (λ byte. byte < 256) bytes }
+{
+    let [a, b, c, d] = bytes;
+    codes.extend_from_slice(&[u32::from(a), u32::from(b), u32::from(c), u32::from(d)])?;
+    Ok(())
+}
+
+/// Adds four bytes as items, or none.
+fn add_bytes(codes: &mut Vec<u32>, others: &[Item<'_>], bytes: [u8; 4]) -> Result<(), OutOfMemory>
+    requires packed { ArePacked codes.old.items others.now }
+    requires room { length codes.old.items + 4 ≤ 33554432 }
+    ensures packed { ArePacked codes.new.items others.now }
+    ensures ok { OnOk result (items_of codes.new.items others.now ≡ items_of codes.old.items others.now ++ map Byte bytes) }
+    ensures err { OnErr result (items_of codes.new.items others.now ≡ items_of codes.old.items others.now) }
+{
+    add_four(codes, bytes)
 }
 
 /// Adds another item.
@@ -92,6 +116,17 @@ impl<'s> Items<'s> {
         ensures err { OnErr result (self.new ≡ self.old) }
     {
         add_item(&mut self.codes, &mut self.others, item)
+    }
+}
+
+impl<'s> Items<'s> {
+    /// Adds four bytes at the end; want of memory leaves the items as they were.
+    pub fn push_bytes(&mut self, bytes: [u8; 4]) -> Result<(), OutOfMemory>
+        requires { length self.old + 4 ≤ 33554432 }
+        ensures ok { OnOk result (self.new ≡ self.old ++ map Byte bytes) }
+        ensures err { OnErr result (self.new ≡ self.old) }
+    {
+        add_bytes(&mut self.codes, self.others.as_slice(), bytes)
     }
 }
 

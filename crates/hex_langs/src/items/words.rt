@@ -5,7 +5,7 @@ ghost use Rattle.hex_langs.specs.declared.items.item.Item.TheVariants.{Byte};
 ghost use Rattle.hex_langs.specs.declared.items.token.Token.TheVariants as token;
 ghost use Rattle.std.specs.Prelude.{ℕ, bit_xor};
 ghost use Rattle.std.specs.Int.{w32, from_le_bytes, to_le_bytes};
-ghost use Rattle.std.specs.Prelude.{◌≡◌, [], ◌∷◌, ◌++◌, ◌≤◌, ◌<◌, length, map};
+ghost use Rattle.std.specs.Prelude.{◌≡◌, [], ◌∷◌, ◌++◌, ◌≤◌, ◌<◌, length, map, OnErr};
 
 use crate::items::item::{Item, Kind, Name};
 use crate::items::items::{Items, MOST_ITEMS};
@@ -54,7 +54,7 @@ impl From<OutOfMemory> for Halt {
     }
 }
 
-/// Takes one token behind an open word, or behind none.
+/// Takes one token behind an open word, or behind none. An error leaves the items as they were.
 pub fn take<'s>(
     items: &mut Items<'s>,
     word: Option<Open<'s>>,
@@ -64,6 +64,7 @@ pub fn take<'s>(
     requires { length items.old ≤ 33554432 }
     ensures takes { Takes result (taken word.entry at token.entry) items.old items.new }
     ensures few { length items.new ≤ 33554432 }
+    ensures kept { OnErr result (items.new ≡ items.old) }
 {
     match (word, token) {
         (None, Token::Byte(byte)) => {
@@ -110,7 +111,7 @@ pub fn take<'s>(
     }
 }
 
-/// Takes a byte behind an open word, or behind none.
+/// Takes a byte behind an open word, or behind none. An error leaves the items as they were.
 pub fn take_byte<'s>(
     items: &mut Items<'s>,
     word: Option<Open<'s>>,
@@ -119,6 +120,7 @@ pub fn take_byte<'s>(
     requires { length items.old ≤ 33554432 }
     ensures takes { (at : ℕ) → Takes result (taken word.entry at (token.Byte byte)) items.old items.new }
     ensures few { length items.new ≤ 33554432 }
+    ensures kept { OnErr result (items.new ≡ items.old) }
 {
     match word {
         None => {
@@ -138,6 +140,7 @@ fn byte_of_word<'s>(
     requires { length items.old ≤ 33554432 }
     ensures takes { Takes result (byte_taken word.entry byte) items.old items.new }
     ensures few { length items.new ≤ 33554432 }
+    ensures kept { OnErr result (items.new ≡ items.old) }
 {
     let begun = match word.begun {
         Begun::Nothing => Begun::One(byte),
@@ -156,11 +159,12 @@ fn byte_of_word<'s>(
     }))
 }
 
-/// Takes all four bytes of an open word at once.
+/// Takes all four bytes of an open word at once. An error leaves the items as they were.
 pub fn take_four<'s>(items: &mut Items<'s>, word: Open<'s>, bytes: [u8; 4]) -> Result<(), Halt>
     requires { length items.old ≤ 33554432 }
     ensures adds { Adds (word_items word.entry.reference (bit_xor word.entry.mask (from_le_bytes w32 bytes))) result items.old items.new }
     ensures few { length items.new ≤ 33554432 }
+    ensures kept { OnErr result (items.new ≡ items.old) }
 {
     let value = word.mask ^ u32::from_le_bytes(bytes);
     match word.reference {
@@ -174,6 +178,7 @@ fn add<'s>(items: &mut Items<'s>, item: Item<'s>) -> Result<(), Halt>
     requires { length items.old ≤ 33554432 }
     ensures adds { Adds (item.entry ∷ []) result items.old items.new }
     ensures few { length items.new ≤ 33554432 }
+    ensures kept { OnErr result (items.new ≡ items.old) }
 {
     if items.len() == MOST_ITEMS {
         return Err(Halt::TooLong);
@@ -187,14 +192,11 @@ fn add_bytes<'s>(items: &mut Items<'s>, value: u32) -> Result<(), Halt>
     requires { length items.old ≤ 33554432 }
     ensures adds { Adds (map Byte (to_le_bytes w32 value)) result items.old items.new }
     ensures few { length items.new ≤ 33554432 }
+    ensures kept { OnErr result (items.new ≡ items.old) }
 {
     if items.len() > MOST_ITEMS - 4 {
         return Err(Halt::TooLong);
     }
-    let [a, b, c, d] = value.to_le_bytes();
-    items.push(Item::Byte(a))?;
-    items.push(Item::Byte(b))?;
-    items.push(Item::Byte(c))?;
-    items.push(Item::Byte(d))?;
+    items.push_bytes(value.to_le_bytes())?;
     Ok(())
 }

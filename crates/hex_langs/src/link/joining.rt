@@ -1,26 +1,22 @@
 //! The bytes of all items.
 
 ghost use Rattle.std.specs.Prelude.{◌≡◌, ◌<◌, ◌≤◌, ◌^◌, ◌++◌, ℕ, List, length, OnOk, OnErr, replicate};
-ghost use Rattle.indexmap.specs.IndexMap.{get};
-ghost use Rattle.hex_langs.specs.Link.Link.{bytes_from, Links, link_of, same_name, item_bytes};
-ghost use Rattle.hex_langs.specs.Link.Representation.Tables.{AreSmall, Puts};
+ghost use Rattle.hex_langs.specs.Link.Link.{bytes_from, Links, link_of, item_bytes};
+ghost use Rattle.hex_langs.specs.Link.Representation.Tables.{address_in, AreSmall, Puts};
 
 use crate::items::{HexRefusal, Item, Items, Name};
-use crate::link::labels::{item_at, labels_of};
+use crate::link::labels::{LabelTable, item_at, labels_of};
 use crate::link::number::{Miss, number_of};
 use ddc_base::{Bytes, OutOfMemory};
-use indexmap::IndexMap;
 use std::alloc::Global;
 
-/// The bytes of items at a base.
+/// The bytes of items at a base. It takes n log n steps in the length of the items' names, and as many as there are items.
 pub fn link(alloc: Global, items: &Items<'_>, base: u64) -> Result<Bytes, HexRefusal>
     requires { base ≤ 2 ^ 37 }
     ensures { Links result (link_of items.now base) }
 {
-    match labels_of(alloc, items, base) {
-        Err(refusal) => Err(refusal),
-        Ok(table) => joined(alloc, &table, items, base),
-    }
+    let table = labels_of(alloc, items, base)?;
+    joined(alloc, &table, items, base)
 }
 
 /// Why an item is not put.
@@ -42,13 +38,13 @@ impl From<OutOfMemory> for PutFail {
 /// Puts the bytes of one item.
 fn put<'s>(
     out: &mut Bytes,
-    table: &IndexMap<Name<'s>, u64>,
+    table: &LabelTable<'s>,
     place: u64,
     item: &Item<'s>,
 ) -> Result<(), PutFail>
     requires place { place < 2 ^ 40 }
-    requires small { AreSmall (λ name. get same_name table.now name) }
-    ensures { Puts result (item_bytes (λ name. get same_name table.now name) place item.now) out.old out.new }
+    requires small { AreSmall (address_in table.now) }
+    ensures { Puts result (item_bytes (address_in table.now) place item.now) out.old out.new }
 {
     match item {
         Item::Byte(byte) => out.push(*byte)?,
@@ -75,13 +71,13 @@ fn put_zeros(out: &mut Bytes, count: u64) -> Result<(), OutOfMemory>
 /// The bytes of all items.
 fn joined<'s>(
     alloc: Global,
-    table: &IndexMap<Name<'s>, u64>,
+    table: &LabelTable<'s>,
     items: &Items<'s>,
     base: u64,
 ) -> Result<Bytes, HexRefusal>
     requires base { base ≤ 2 ^ 37 }
-    requires small { AreSmall (λ name. get same_name table.now name) }
-    ensures { Links result (bytes_from (λ name. get same_name table.now name) base 0 items.now) }
+    requires small { AreSmall (address_in table.now) }
+    ensures { Links result (bytes_from (address_in table.now) base 0 items.now) }
 {
     let mut out = Bytes::new(alloc);
     for index in 0..items.len() {

@@ -2,14 +2,13 @@
 
 ghost use Rattle.std.specs.Prelude.{◌≡◌, ◌<◌, ◌≤◌, ◌-ℤ◌, ◌+ℤ◌, pos, nat_eq, List, ℕ, IfSome};
 ghost use Rattle.hex_langs.specs.declared.items.item.Kind.TheVariants.{U};
-ghost use Rattle.indexmap.specs.IndexMap.{get};
 ghost use Rattle.std.specs.Cmp.Lexicographic.{pointwise};
-ghost use Rattle.hex_langs.specs.Link.Link.{distance_number, word_number, written_number, i_field, b_field, j_field, modulo_word, fits_even, same_name};
-ghost use Rattle.hex_langs.specs.Link.Representation.Tables.{AreSmall};
+ghost use Rattle.hex_langs.specs.Link.Link.{distance_number, word_number, written_number, i_field, b_field, j_field, modulo_word, fits_even};
+ghost use Rattle.hex_langs.specs.Link.Representation.Tables.{address_in, AreSmall};
 ghost use Rattle.std.specs.Prelude.{◌≤ℤ◌, ◌^◌, neg_ℤ, unsigned_abs};
 
-use crate::items::{Item, Kind, Name};
-use indexmap::IndexMap;
+use crate::items::{Item, Kind};
+use crate::link::labels::LabelTable;
 
 /// Why an item has no number.
 #[derive(Clone, Copy, Debug)]
@@ -28,8 +27,9 @@ fn distance_number(distance: i64) -> Result<u32, Miss>
     Ok((distance as i32).cast_unsigned())
 }
 
-/// The I field of a distance.
-fn i_field(distance: u32) -> u32
+/// Bits 11..0 of a number in bits 31..20: the immediate of an instruction of format I (RISC-V Unprivileged ISA, "Immediate Encoding
+/// Variants").
+pub fn i_field(distance: u32) -> u32
     ensures { result ≡ i_field distance }
 {
     distance % 4096 * 1_048_576
@@ -53,8 +53,8 @@ fn j_field(distance: u32) -> u32
         + distance / 4096 % 256 * 4096
 }
 
-/// The low 32 bits.
-fn wrapped(distance: i64) -> u32
+/// A number modulo 2^32.
+pub fn modulo_word(distance: i64) -> u32
     ensures { result ≡ modulo_word distance }
 {
     distance.rem_euclid(4_294_967_296) as u32
@@ -64,7 +64,7 @@ fn is_even_within(distance: i64, half: i64) -> bool
     requires { pos 0 ≤ℤ half }
     ensures { result ≡ fits_even distance (unsigned_abs half) }
 {
-    wrapped(distance) % 2 == 0 && distance >= -half && distance < half
+    modulo_word(distance) % 2 == 0 && distance >= -half && distance < half
 }
 
 /// The number of a word whose label lies at a distance.
@@ -74,36 +74,26 @@ fn word_number(value: u32, kind: Kind, distance: i64) -> Result<u32, Miss>
     ensures { result ≡ word_number value kind distance }
 {
     match kind {
-        Kind::I => Ok(value ^ i_field(wrapped(distance + 4))),
+        Kind::I => Ok(value ^ i_field(modulo_word(distance + 4))),
         Kind::B => {
             if !is_even_within(distance, 4096) {
                 return Err(Miss::OutOfReach);
             }
-            Ok(value ^ b_field(wrapped(distance)))
+            Ok(value ^ b_field(modulo_word(distance)))
         }
         Kind::J => {
             if !is_even_within(distance, 1_048_576) {
                 return Err(Miss::OutOfReach);
             }
-            Ok(value ^ j_field(wrapped(distance)))
+            Ok(value ^ j_field(modulo_word(distance)))
         }
         Kind::U => {
             let shifted = distance + 2048;
             if shifted < -2_147_483_648 || shifted >= 2_147_483_648 {
                 return Err(Miss::OutOfReach);
             }
-            Ok(value ^ (wrapped(shifted) / 4096 * 4096))
+            Ok(value ^ (modulo_word(shifted) / 4096 * 4096))
         }
-    }
-}
-
-/// The address of a label.
-fn address<'s>(table: &IndexMap<Name<'s>, u64>, name: &Name<'s>) -> Option<u64>
-    ensures { result ≡ get same_name table.now name.now }
-{
-    match table.get(name) {
-        None => None,
-        Some(at) => Some(*at),
     }
 }
 
@@ -120,31 +110,31 @@ fn distance(at: u64, from: u64) -> i64
 
 /// The number of an item of four bytes.
 pub(crate) fn number_of<'s>(
-    table: &IndexMap<Name<'s>, u64>,
+    table: &LabelTable<'s>,
     place: u64,
     item: &Item<'s>,
 ) -> Result<u32, Miss>
     requires place { place < 2 ^ 40 }
-    requires small { AreSmall (λ name. get same_name table.now name) }
-    ensures { result ≡ written_number (λ name. get same_name table.now name) place item.now }
+    requires small { AreSmall (address_in table.now) }
+    ensures { result ≡ written_number (address_in table.now) place item.now }
 {
     match item {
-        Item::Word(value, kind, name) => match address(table, name) {
+        Item::Word(value, kind, name) => match table.get(name) {
             None => Err(Miss::NoLabel),
             Some(at) => word_number(*value, *kind, distance(at, place)),
         },
-        Item::Rel(name) => match address(table, name) {
+        Item::Rel(name) => match table.get(name) {
             None => Err(Miss::NoLabel),
             Some(at) => distance_number(distance(at, place) - 4),
         },
-        Item::Gap(name, other) => match address(table, name) {
+        Item::Gap(name, other) => match table.get(name) {
             None => Err(Miss::NoLabel),
-            Some(at) => match address(table, other) {
+            Some(at) => match table.get(other) {
                 None => Err(Miss::NoLabel),
                 Some(from) => distance_number(distance(at, from)),
             },
         },
-        Item::Abs(name) => match address(table, name) {
+        Item::Abs(name) => match table.get(name) {
             None => Err(Miss::NoLabel),
             Some(at) => {
                 if at < 4_294_967_296 {

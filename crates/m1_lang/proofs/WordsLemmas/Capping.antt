@@ -6,8 +6,10 @@ use Rattle.hex_langs.specs.declared.items.token.Token.TheVariants.{Byte, Field}
 use Rattle.m1_lang.specs.declared.words.meaning.WordFault.TheVariants.{NumberRange}
 use Rattle.m1_lang.specs.declared.words.meaning.Meaning.{Meaning}
 use Rattle.m1_lang.specs.declared.words.meaning.WordFault.{WordFault}
-use Rattle.m1_lang.specs.Words.Representation.Meanings.{MeansForm, MeansResult}
-use Rattle.m1_lang.specs.Words.Forms.{Tokens, immediate_field, ranged_tokens, is_within, number_behind, number_tokens, store_field, rounded_field, number_word}
+use Rattle.m1_lang.specs.Words.Meanings.{MeansResult}
+use Rattle.m1_lang.specs.Words.Representation.Meanings.{MeansForm}
+use Rattle.hex_langs.specs.Link.Link.{i_field, modulo_word}
+use Rattle.m1_lang.specs.Words.Forms.{Tokens, ranged_tokens, is_within, number_behind, number_tokens, store_field, rounded_field}
 use Rattle.std.proofs.Common.{Bool, true, false, cond, ◌==◌, map, Result, Ok, Err, zero, ◌≡◌, ℕ, suc, ◌+◌, ◌*◌, ◌-◌, ◌<◌, ◌≤◌, List, [], ◌∷◌, Option, Some, None, refl, sym, ap, subst, ◌∙◌, arith, drop, ◌⊎◌, inl, inr}
 use Rattle.std.proofs.lemmas.Bool.{cases_lt}
 use Rattle.std.proofs.Math.Nat.{add-mul}
@@ -53,14 +55,14 @@ tokens-far : (sign : ℕ) (n : ℤ) → is_within n (neg_ℤ (pos 2048)) (pos 20
     → number_tokens sign n ≡ Err NumberRange
 tokens-far sign n short word = by (sign == 33) (sign == 64) (sign == 126)
   where
-    by : (i s u : Bool) → cond i (ranged_tokens (is_within n (neg_ℤ (pos 2048)) (pos 2048)) (Field (immediate_field (number_word n)) ∷ []))
-        (cond s (ranged_tokens (is_within n (neg_ℤ (pos 2048)) (pos 2048)) (Field (store_field (number_word n)) ∷ []))
+    by : (i s u : Bool) → cond i (ranged_tokens (is_within n (neg_ℤ (pos 2048)) (pos 2048)) (Field (i_field (modulo_word n)) ∷ []))
+        (cond s (ranged_tokens (is_within n (neg_ℤ (pos 2048)) (pos 2048)) (Field (store_field (modulo_word n)) ∷ []))
         (cond u (ranged_tokens (is_within n (neg_ℤ (pos 2147483648)) (pos 4294967296)) (Field (rounded_field n) ∷ []))
-        (ranged_tokens (is_within n (neg_ℤ (pos 2147483648)) (pos 4294967296)) (map Byte (to_le_bytes w32 (number_word n)))))) ≡ Err NumberRange
-    by true s u = ap (λ (b : Bool). ranged_tokens b (Field (immediate_field (number_word n)) ∷ [])) short
-    by false true u = ap (λ (b : Bool). ranged_tokens b (Field (store_field (number_word n)) ∷ [])) short
+        (ranged_tokens (is_within n (neg_ℤ (pos 2147483648)) (pos 4294967296)) (map Byte (to_le_bytes w32 (modulo_word n)))))) ≡ Err NumberRange
+    by true s u = ap (λ (b : Bool). ranged_tokens b (Field (i_field (modulo_word n)) ∷ [])) short
+    by false true u = ap (λ (b : Bool). ranged_tokens b (Field (store_field (modulo_word n)) ∷ [])) short
     by false false true = ap (λ (b : Bool). ranged_tokens b (Field (rounded_field n) ∷ [])) word
-    by false false false = ap (λ (b : Bool). ranged_tokens b (map Byte (to_le_bytes w32 (number_word n)))) word
+    by false false false = ap (λ (b : Bool). ranged_tokens b (map Byte (to_le_bytes w32 (modulo_word n)))) word
 
 far-pos : (sign n : ℕ) → 1099511627776 ≤ n → number_tokens sign (pos n) ≡ Err NumberRange
 far-pos sign n far = tokens-far sign (pos n) (grind (arith, nat_tests)) (grind (arith, nat_tests))

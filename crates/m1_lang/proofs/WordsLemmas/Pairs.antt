@@ -4,7 +4,7 @@ use Rattle.hex.specs.Hex.{hex_digit_value}
 use Rattle.hex_langs.specs.Items.Tokens.{byte_of}
 use Rattle.hex_langs.specs.declared.items.token.Token.TheVariants.{Byte}
 use Rattle.m1_lang.specs.Words.Forms.{byte_tokens}
-use Rattle.m1_lang.specs.Words.Representation.Meanings.{before_bytes, front_bytes}
+use Rattle.m1_lang.specs.Words.Meanings.{before_bytes, front_bytes}
 use Rattle.m1_lang.specs.Words.Digits.{cons_byte, digit_bytes}
 
 pub pairs-more : (a b : ℕ) (left : List ℕ) (value : ℕ) → Some value ≡ byte_of (hex_digit_value a) (hex_digit_value b)

@@ -5,7 +5,7 @@ use Rattle.hex_langs.specs.Items.Tokens.{gap_from, gap_length, is_blank, opens_g
 use Rattle.hex_langs.specs.Hex0.{begins_comment}
 use Rattle.hex_langs.proofs.ItemsLemmas.Readings.{front_is, gap_length-some}
 use Rattle.m1_lang.specs.Words.Words.{Found, Unclosed, word_more, words_from}
-use Rattle.m1_lang.specs.Words.Representation.Ahead.{words_at}
+use Rattle.m1_lang.specs.Words.Ahead.{words_at}
 
 pub split-inside : (at inside : ℕ) (left : List ℕ) → words_from at inside left ≡ words_from (at + inside) 0 (drop inside left)
 unfolding words_from

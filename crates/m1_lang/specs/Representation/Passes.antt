@@ -1,6 +1,8 @@
 -- What the code's passes over a source do. No promise rests on its being read.
-use Rattle.std.specs.Prelude.{◌≡◌, ℕ, ◌<◌, ◌≤◌, List, [], ◌∷◌, length, Option, Some, None, Result, Ok, Err}
-use Rattle.indexmap.specs.IndexMap.{IndexMap}
+use Rattle.std.specs.Prelude.{◌≡◌, ℕ, ◌<◌, ◌≤◌, bytes_eq, not, if◌then◌else◌, is_some, List, [], ◌∷◌, length, Option, Some, None, Result, Ok, Err}
+use Rattle.std.specs.BTreeMap.{BTreeMap, get}
+use Rattle.std.specs.Ordering.{nat_cmp}
+use Rattle.std.specs.Cmp.Lexicographic.{slice_cmp}
 use Rattle.hex_langs.specs.declared.items.item.Item.{Item}
 use Rattle.hex_langs.specs.declared.items.token.Token.{Token}
 use Rattle.hex_langs.specs.declared.items.words.Open.{Open}
@@ -9,40 +11,80 @@ use Rattle.hex_langs.specs.declared.items.words.Halt.TheVariants as halt
 use Rattle.hex_langs.specs.Items.Reading.{formed, Reading, with_front}
 use Rattle.m1_lang.specs.declared.words.meaning.WordFault.{WordFault}
 use Rattle.m1_lang.specs.Words.Words.{open_quote, Word, word_list}
-use Rattle.m1_lang.specs.Words.Representation.Ahead.{words_at}
+use Rattle.m1_lang.specs.Words.Ahead.{words_at}
 use Rattle.m1_lang.specs.Words.Forms.{Tokens}
 use Rattle.m1_lang.specs.declared.refusal.M1Refusal.{M1Refusal}
 use Rattle.m1_lang.specs.declared.refusal.M1Refusal.TheVariants as refusal
-use Rattle.m1_lang.specs.Definitions.{Defined, defined_with, definitions, with_defined, parts, plain_words, Part}
+use Rattle.m1_lang.specs.Definitions.{Cut, Defined, Defines, is_value, parts, SourcePart, Plain, plain_words, value_in}
 use Rattle.m1_lang.specs.Expansion.{at_once, counted_items, halt_refusal, then_read, words_reading}
 
 -- the parts of a source from an offset on
-abbrev pub parts_at : List ℕ → ℕ → List Part
+abbrev pub parts_at : List ℕ → ℕ → List SourcePart
 parts_at source at = parts (word_list (words_at source at))
 
 -- where a quote is open from an offset on
 abbrev pub open_at : List ℕ → ℕ → Option ℕ
 open_at source at = open_quote (words_at source at)
 
+-- what definitions give words
+abbrev pub Values : Type 0
+Values = List ℕ → Option (List ℕ)
+
+-- what the table of definitions gives words
+abbrev pub values_in : BTreeMap (List ℕ) (List ℕ) → Values
+values_in table text = get (slice_cmp nat_cmp) table text
+
+abbrev pub or_value : Option (List ℕ) → Option (List ℕ) → Option (List ℕ)
+or_value (Some value) later = Some value
+or_value None later = later
+
+-- what definitions give words, one definition on
+abbrev pub valued_with : Values → ℕ → List ℕ → List ℕ → Result Values M1Refusal
+valued_with values at name value =
+    if not (is_value value) then Err (refusal.BadDefine at)
+    else if is_some (values name) then Err (refusal.DoubleDefine at)
+    else Ok (λ text. or_value (values text) (if bytes_eq text name then Some value else None))
+
+abbrev pub with_values : Result Values M1Refusal → (Values → Result Values M1Refusal) → Result Values M1Refusal
+with_values (Ok values) rest = rest values
+with_values (Err why) rest = Err why
+
+-- what the definitions give words that are among parts, behind those so far, or the first that is refused
+abbrev pub valued : Values → List SourcePart → Result Values M1Refusal
+valued values [] = Ok values
+valued values (Defines at name value ∷ rest) = with_values (valued_with values at name value) (λ more. valued more rest)
+valued values (Cut at ∷ rest) = Err (refusal.BadDefine at)
+valued values (Plain word ∷ rest) = valued values rest
+
+-- definitions by what they give words
+abbrev pub looked_up : Result Defined M1Refusal → Result Values M1Refusal
+looked_up (Ok defined) = Ok (value_in defined)
+looked_up (Err why) = Err why
+
+-- a quote that isn't closed comes before every definition
+abbrev pub unless_quoted : Option ℕ → Result Values M1Refusal → Result Values M1Refusal
+unless_quoted (Some at) later = Err (refusal.OpenString at)
+unless_quoted None later = later
+
 -- what the table of definitions is
-abbrev pub Tabulates : {S : Type 0} → Result (IndexMap (List ℕ) (List ℕ) S) M1Refusal → Result Defined M1Refusal → Type 0
-Tabulates (Ok table) meant = meant ≡ Ok table.entries
+abbrev pub Tabulates : Result (BTreeMap (List ℕ) (List ℕ)) M1Refusal → Result Defined M1Refusal → Type 0
+Tabulates (Ok table) meant = looked_up meant ≡ Ok (values_in table)
 Tabulates (Err refusal.OutOfMemory) meant = Unit {0}
-Tabulates (Err why) meant = meant ≡ Err why
+Tabulates (Err why) meant = looked_up meant ≡ Err why
 
 -- the definitions behind a `DEFINE` at an offset
-abbrev pub behind_define : Defined → ℕ → List Word → Result Defined M1Refusal
-behind_define seen at [] = Err (refusal.BadDefine at)
-behind_define seen at (name ∷ []) = Err (refusal.BadDefine at)
-behind_define seen at (name ∷ value ∷ rest) = with_defined (defined_with seen at name.text value.text) (λ more. definitions more (parts rest))
+abbrev pub behind_define : Values → ℕ → List Word → Result Values M1Refusal
+behind_define values at [] = Err (refusal.BadDefine at)
+behind_define values at (name ∷ []) = Err (refusal.BadDefine at)
+behind_define values at (name ∷ value ∷ rest) = with_values (valued_with values at name.text value.text) (λ more. valued more (parts rest))
 
 -- what one definition does: `DEFINE` stood at start, and its name and value stand from at on
-abbrev pub DefinesOne : {S : Type 0} → Result ℕ M1Refusal → ℕ → List ℕ → ℕ → IndexMap (List ℕ) (List ℕ) S → IndexMap (List ℕ) (List ℕ) S → Type 0
+abbrev pub DefinesOne : Result ℕ M1Refusal → ℕ → List ℕ → ℕ → BTreeMap (List ℕ) (List ℕ) → BTreeMap (List ℕ) (List ℕ) → Type 0
 DefinesOne (Ok after) start source at old new =
-    (behind_define old.entries start (word_list (words_at source at)) ≡ definitions new.entries (parts_at source after))
+    (behind_define (values_in old) start (word_list (words_at source at)) ≡ valued (values_in new) (parts_at source after))
     × (open_at source at ≡ open_at source after) × (at < after) × (after ≤ length source)
 DefinesOne (Err refusal.OutOfMemory) start source at old new = Unit {0}
-DefinesOne (Err why) start source at old new = behind_define old.entries start (word_list (words_at source at)) ≡ Err why
+DefinesOne (Err why) start source at old new = behind_define (values_in old) start (word_list (words_at source at)) ≡ Err why
 
 -- a refusal of a definition, unless a quote is open
 abbrev pub quote_or : Option ℕ → M1Refusal → M1Refusal
@@ -61,7 +103,7 @@ SkipsOne after source at =
     (plain_behind (word_list (words_at source at)) ≡ plain_words (parts_at source after)) × (at ≤ after) × (after ≤ length source)
 
 -- what the words from an offset on read, by what definitions give words
-abbrev pub reading_at : (List ℕ → Option (List ℕ)) → List ℕ → ℕ → Reading WordFault
+abbrev pub reading_at : Values → List ℕ → ℕ → Reading WordFault
 reading_at values source at = words_reading values (plain_words (parts_at source at))
 
 -- taking tokens one after the other: the items so far and what is formed later are the whole; or it is refused

@@ -1,4 +1,4 @@
--- Hexadecimal digits two by two. docs/reference/m1.md says the same for people.
+-- Hexadecimal digits two by two, as in the language M1 of stage0-posix and mescc-tools. docs/reference/m1.md says the same for people.
 use Rattle.std.specs.Prelude.{ℕ, List, [], ◌∷◌, Option, Some, None}
 use Rattle.hex.specs.Hex.{hex_digit_value}
 use Rattle.hex_langs.specs.Items.Tokens.{byte_of}

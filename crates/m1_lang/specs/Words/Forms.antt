@@ -1,13 +1,14 @@
 -- The forms of an M1 word, and the tokens that it gives. Public source: the language M1 of stage0-posix and mescc-tools, whose exact rules
 -- here are this project's profile; the fields are those of the RISC-V Unprivileged ISA, "Immediate Encoding Variants".
 -- docs/reference/m1.md says the same for people.
-use Rattle.std.specs.Prelude.{ℕ, ◌+◌, ◌-◌, ◌*◌, ◌/◌, ◌%◌, ◌==◌, Bool, false, ◌&&◌, ◌||◌, if◌then◌else◌, List, [], ◌∷◌, ◌++◌, length, take, map, replicate, Option, Some, None, Result, Ok, Err, ℤ, pos, neg_ℤ, ◌+ℤ◌, int_le, int_lt, unsigned_abs}
-use Rattle.std.specs.Int.{w32, to_le_bytes, int_rem_euclid}
+use Rattle.std.specs.Prelude.{ℕ, ◌+◌, ◌-◌, ◌*◌, ◌/◌, ◌%◌, ◌==◌, Bool, false, ◌&&◌, ◌||◌, if◌then◌else◌, List, [], ◌∷◌, ◌++◌, length, take, map, replicate, Option, Some, None, Result, Ok, Err, ℤ, pos, neg_ℤ, ◌+ℤ◌, int_le, int_lt}
+use Rattle.std.specs.Int.{w32, to_le_bytes}
 use Rattle.hex_langs.specs.declared.items.token.Dialect.TheVariants.{Hex2}
 use Rattle.hex_langs.specs.declared.items.token.Fault.{Fault}
 use Rattle.hex_langs.specs.declared.items.token.Token.{Token}
 use Rattle.hex_langs.specs.declared.items.token.Token.TheVariants.{Byte, Field}
 use Rattle.hex_langs.specs.Items.Tokens.{token_at}
+use Rattle.hex_langs.specs.Link.Link.{i_field, modulo_word, upper_field}
 use Rattle.m1_lang.specs.declared.words.meaning.WordFault.{WordFault}
 use Rattle.m1_lang.specs.declared.words.meaning.WordFault.TheVariants.{UnknownWord, NumberRange}
 use Rattle.m1_lang.specs.Words.Digits.{digit_bytes}
@@ -71,21 +72,13 @@ quoted_tokens (quote ∷ rest) =
 
 -- ---- numbers behind a sign
 
--- modulo 2^32
-abbrev pub number_word : ℤ → ℕ
-number_word n = unsigned_abs (int_rem_euclid n (pos 4294967296))
-
--- bits 11..0 of a number in bits 31..20
-abbrev pub immediate_field : ℕ → ℕ
-immediate_field n = n % 4096 * 1048576
-
 -- bits 11..5 of a number in bits 31..25, and bits 4..0 in 11..7
 abbrev pub store_field : ℕ → ℕ
 store_field n = n / 32 % 128 * 33554432 + n % 32 * 128
 
 -- bits 31..12 of a number stay, rounded, since a signed lower part is added to it
 abbrev pub rounded_field : ℤ → ℕ
-rounded_field n = number_word (n +ℤ pos 2048) / 4096 * 4096
+rounded_field n = upper_field (modulo_word (n +ℤ pos 2048))
 
 -- low <= n < high
 abbrev pub is_within : ℤ → ℤ → ℤ → Bool
@@ -106,10 +99,10 @@ as_word n = ranged_tokens (is_within n (neg_ℤ (pos 2147483648)) (pos 429496729
 -- `!` the I field, `@` the S field, `~` the upper field, `%` four bytes, the low one first
 abbrev pub number_tokens : ℕ → ℤ → Tokens
 number_tokens sign n =
-    if sign == 33 then as_short n (Field (immediate_field (number_word n)) ∷ [])
-    else if sign == 64 then as_short n (Field (store_field (number_word n)) ∷ [])
+    if sign == 33 then as_short n (Field (i_field (modulo_word n)) ∷ [])
+    else if sign == 64 then as_short n (Field (store_field (modulo_word n)) ∷ [])
     else if sign == 126 then as_word n (Field (rounded_field n) ∷ [])
-    else as_word n (map Byte (to_le_bytes w32 (number_word n)))
+    else as_word n (map Byte (to_le_bytes w32 (modulo_word n)))
 
 abbrev pub takes_number : ℕ → Bool
 takes_number sign = sign == 33 || sign == 64 || sign == 126 || sign == 37

@@ -1,4 +1,3 @@
 -- What serves the split of the code. No promise rests on its being read.
-pub mod Ahead
 pub mod Meanings
 pub mod Capped

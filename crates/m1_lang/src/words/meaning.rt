@@ -2,12 +2,14 @@
 
 ghost use Rattle.std.specs.Prelude.{◌≡◌, ◌≤◌, is_some, pos, neg_ℤ, ◌≤ℤ◌};
 ghost use Rattle.m1_lang.specs.Words.Digits.{digit_bytes};
-ghost use Rattle.m1_lang.specs.Words.Forms.{between, byte_tokens, immediate_field, store_field, rounded_field, number_word, ranged_tokens, is_within, whole_token, value_tokens, quoted_tokens, number_tokens, number_behind, numbered_tokens, takes_number, form_tokens};
+ghost use Rattle.m1_lang.specs.Words.Forms.{between, byte_tokens, store_field, rounded_field, ranged_tokens, is_within, whole_token, value_tokens, quoted_tokens, number_tokens, number_behind, numbered_tokens, takes_number, form_tokens};
 ghost use Rattle.m1_lang.specs.Words.Numbers.{number_in};
-ghost use Rattle.m1_lang.specs.Words.Representation.Meanings.{MeansTokens, MeansResult, MeansForm, meaning_tokens};
+ghost use Rattle.m1_lang.specs.Words.Meanings.{MeansTokens, MeansResult, meaning_tokens};
+ghost use Rattle.m1_lang.specs.Words.Representation.Meanings.{MeansForm};
 
 use crate::words::numbers::number_in;
 use hex_langs::items::{Dialect, Token, byte_of, token_at};
+use hex_langs::link::{i_field, modulo_word};
 
 /// What a word gives, as text of the source where it gives many bytes.
 #[derive(Debug, Drop)]
@@ -105,20 +107,6 @@ fn quoted<'s>(text: &'s [u8]) -> Option<Meaning<'s>>
     }
 }
 
-/// A number modulo 2^32.
-fn number_word(n: i64) -> u32
-    ensures { result ≡ number_word n }
-{
-    n.rem_euclid(4_294_967_296) as u32
-}
-
-/// Bits 11..0 of a number in bits 31..20.
-fn immediate_field(n: u32) -> u32
-    ensures { result ≡ immediate_field n }
-{
-    n % 4096 * 1_048_576
-}
-
 /// Bits 11..5 of a number in bits 31..25, and bits 4..0 in 11..7.
 fn store_field(n: u32) -> u32
     ensures { result ≡ store_field n }
@@ -132,7 +120,7 @@ fn rounded_field(n: i64) -> u32
     requires high { n ≤ℤ pos 1099511627776 }
     ensures { result ≡ rounded_field n }
 {
-    number_word(n + 2048) / 4096 * 4096
+    modulo_word(n + 2048) / 4096 * 4096
 }
 
 /// low <= n < high
@@ -164,17 +152,17 @@ fn number_behind<'s>(sign: u8, n: i64) -> Result<Meaning<'s>, WordFault>
     if sign == b'!' {
         ranged(
             is_short,
-            Meaning::One(Token::Field(immediate_field(number_word(n)))),
+            Meaning::One(Token::Field(i_field(modulo_word(n)))),
         )
     } else if sign == b'@' {
         ranged(
             is_short,
-            Meaning::One(Token::Field(store_field(number_word(n)))),
+            Meaning::One(Token::Field(store_field(modulo_word(n)))),
         )
     } else if sign == b'~' {
         ranged(is_word, Meaning::One(Token::Field(rounded_field(n))))
     } else {
-        ranged(is_word, Meaning::Number(number_word(n)))
+        ranged(is_word, Meaning::Number(modulo_word(n)))
     }
 }
 

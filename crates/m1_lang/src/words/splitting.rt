@@ -4,7 +4,7 @@ ghost use Rattle.std.specs.Prelude.{◌≡◌, ◌≤◌, ◌==◌, length, IfSo
 ghost use Rattle.std.specs.List.{position_or_len};
 ghost use Rattle.hex_langs.specs.Items.Tokens.{is_blank};
 ghost use Rattle.m1_lang.specs.Words.Words.{word_more};
-ghost use Rattle.m1_lang.specs.Words.Representation.Ahead.{FindsAhead};
+ghost use Rattle.m1_lang.specs.Words.Ahead.{FindsAhead};
 
 use hex_langs::items::{gap_length, is_blank};
 

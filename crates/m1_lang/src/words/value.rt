@@ -2,7 +2,7 @@
 
 ghost use Rattle.std.specs.Prelude.{◌≡◌, IfSome, is_some};
 ghost use Rattle.m1_lang.specs.Words.Forms.{value_tokens};
-ghost use Rattle.m1_lang.specs.Words.Representation.Meanings.{MeansTokens};
+ghost use Rattle.m1_lang.specs.Words.Meanings.{MeansTokens};
 
 use crate::words::meaning::{Meaning, value_meaning};
 use hex_langs::items::Token;

@@ -1,5 +1,5 @@
 use Rattle.std.proofs.Common.{◌*◌}
-use Rattle.ddc_base.specs.Streams.{PassesOver}
+use Rattle.ddc_base.specs.Inside.Passing.{PassesOver}
 use Rattle.ddc_base.proofs.streams.pass_over.Given as goal
 
 -- a block in each turn

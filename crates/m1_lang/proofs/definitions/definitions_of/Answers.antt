@@ -1,8 +1,8 @@
-use Rattle.std.proofs.Common.{arith, ap, sym, ◌∙◌, BuildHasherDefault, FoldHasher}
-use Rattle.m1_lang.specs.Words.Words.{open_quote, Over, Word, word_list, Words}
-use Rattle.m1_lang.specs.Words.Representation.Ahead.{words_at}
-use Rattle.m1_lang.specs.Definitions.{definitions, parts, unless_open}
-use Rattle.m1_lang.specs.Representation.Passes.{open_at}
+use Rattle.std.proofs.Common.{arith, ap, sym, ◌∙◌}
+use Rattle.m1_lang.specs.Words.Words.{open_quote, NoWord, Word, word_list, Words}
+use Rattle.m1_lang.specs.Words.Ahead.{words_at}
+use Rattle.m1_lang.specs.Definitions.{parts}
+use Rattle.m1_lang.specs.Representation.Passes.{open_at, unless_quoted, valued, values_in}
 use Rattle.m1_lang.proofs.Definings.{meant-by, refused}
 use Rattle.m1_lang.proofs.Passing.{define-word, parts-plain, words-end}
 use Rattle.m1_lang.proofs.definitions.definitions_of.Goals as goal
@@ -10,22 +10,22 @@ use Rattle.m1_lang.proofs.definitions.definitions_of.Goals as goal
 pub loop-at-preserved : goal.loop-at-preserved
 loop-at-preserved c =
     let word : Word = record { at = c.in-Word.start; text = c.in-Word.text.now } in
-    let seen = c.loop-at.table.entries in
+    let values = values_in c.loop-at.table in
     record {
       quote = c.loop-at.invariant.quote ∙ ap open_quote c.in-Word.ensures.0;
-      whole = c.loop-at.invariant.whole ∙ ap (λ (w : Words). definitions seen (parts (word_list w))) c.in-Word.ensures.0
-          ∙ ap (definitions seen) (parts-plain word (word_list (words_at c.args.source.now c.in-Word.after)) (sym c.if-is_define.ensures));
+      whole = c.loop-at.invariant.whole ∙ ap (λ (w : Words). valued values (parts (word_list w))) c.in-Word.ensures.0
+          ∙ ap (valued values) (parts-plain word (word_list (words_at c.args.source.now c.in-Word.after)) (sym c.if-is_define.ensures));
       within = c.in-Word.ensures.2;
     }
 
 pub loop-at-preserved-in-Ok : goal.loop-at-preserved-in-Ok
 loop-at-preserved-in-Ok c =
     let word : Word = record { at = c.in-Word.start; text = c.in-Word.text.now } in
-    let seen = c.loop-at.table.entries in
+    let values = values_in c.loop-at.table in
     record {
       quote = c.loop-at.invariant.quote ∙ ap open_quote c.in-Word.ensures.0 ∙ c.in-Ok.ensures.1;
-      whole = c.loop-at.invariant.whole ∙ ap (λ (w : Words). definitions seen (parts (word_list w))) c.in-Word.ensures.0
-          ∙ define-word seen word (word_list (words_at c.args.source.now c.in-Word.after)) (sym c.if-is_define.ensures) ∙ c.in-Ok.ensures.0;
+      whole = c.loop-at.invariant.whole ∙ ap (λ (w : Words). valued values (parts (word_list w))) c.in-Word.ensures.0
+          ∙ define-word values word (word_list (words_at c.args.source.now c.in-Word.after)) (sym c.if-is_define.ensures) ∙ c.in-Ok.ensures.0;
       within = c.in-Ok.ensures.3;
     }
 
@@ -33,12 +33,16 @@ pub returns-in-Err : goal.returns-in-Err
 returns-in-Err c =
     let word : Word = record { at = c.in-Word.start; text = c.in-Word.text.now } in
     let source = c.args.source.now in
-    let seen = c.loop-at.table.entries in
+    let values = values_in c.loop-at.table in
     let left = word_list (words_at source c.in-Word.after) in
-    let meant = meant-by seen source c.loop-at.at _ c.loop-at.invariant.quote c.loop-at.invariant.whole c.in-Word.ensures.0
-    ∙ ap (unless_open (open_at source c.in-Word.after)) (define-word seen word left (sym c.if-is_define.ensures)) in
-    rw c.unless_open.ensures (refused (BuildHasherDefault FoldHasher) (open_at source c.in-Word.after) c.in-Err.why c.in-Word.start c.in-Word.after source
+    let meant = meant-by values source c.loop-at.at _ c.loop-at.invariant.quote c.loop-at.invariant.whole c.in-Word.ensures.0
+    ∙ ap (unless_quoted (open_at source c.in-Word.after)) (define-word values word left (sym c.if-is_define.ensures)) in
+    rw c.unless_open.ensures (refused (open_at source c.in-Word.after) c.in-Err.why c.in-Word.start c.in-Word.after source
     c.loop-at.table c.define.new.table _ meant c.in-Err.ensures)
 
 pub returns : goal.returns
-returns c = meant-by c.loop-at.table.entries c.args.source.now c.loop-at.at Over c.loop-at.invariant.quote c.loop-at.invariant.whole (words-end c.args.source.now c.loop-at.at (omega arith))
+returns c = meant-by (values_in c.loop-at.table) c.args.source.now c.loop-at.at NoWord c.loop-at.invariant.quote c.loop-at.invariant.whole (words-end c.args.source.now c.loop-at.at (omega arith))
+
+pub returns-in-End : goal.returns-in-End
+returns-in-End c =
+    meant-by (values_in c.loop-at.table) c.args.source.now c.loop-at.at NoWord c.loop-at.invariant.quote c.loop-at.invariant.whole c.in-End.ensures

@@ -1,12 +1,11 @@
-use Rattle.std.proofs.Common.{◌≡◌, ◌≤◌, ◌-◌, length, []}
-use Rattle.m1_lang.specs.Definitions.{definitions}
-use Rattle.m1_lang.specs.Representation.Passes.{open_at, parts_at}
+use Rattle.std.proofs.Common.{◌≡◌, ◌≤◌, ◌-◌, length, None}
+use Rattle.m1_lang.specs.Representation.Passes.{open_at, parts_at, valued, values_in}
 use Rattle.m1_lang.proofs.definitions.definitions_of.Given as goal
 
 abbrev pub invariant-loop-at : goal.invariant-loop-at
 invariant-loop-at l = record {
   quote : open_at l.source 0 ≡ open_at l.source l.at;
-  whole : definitions [] (parts_at l.source 0) ≡ definitions l.table.entries (parts_at l.source l.at);
+  whole : valued (λ text. None) (parts_at l.source 0) ≡ valued (values_in l.table) (parts_at l.source l.at);
   within : l.at ≤ length l.source;
 }
 

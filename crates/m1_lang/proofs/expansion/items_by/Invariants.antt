@@ -1,15 +1,13 @@
 use Rattle.std.proofs.Common.{◌≡◌, ◌≤◌, ◌-◌, length, None}
-use Rattle.indexmap.specs.IndexMap.{get}
 use Rattle.hex_langs.specs.Items.Reading.{formed, with_front}
-use Rattle.m1_lang.specs.Definitions.{same_text}
-use Rattle.m1_lang.specs.Representation.Passes.{reading_at}
+use Rattle.m1_lang.specs.Representation.Passes.{reading_at, values_in}
 use Rattle.m1_lang.proofs.expansion.items_by.Given as goal
 
 -- the items so far, and those of what is left behind the word that is open, make up the whole
 abbrev pub invariant-loop-at : goal.invariant-loop-at
 invariant-loop-at l = record {
-  whole : formed None (reading_at (λ name. get same_text l.table name) l.source 0)
-      ≡ with_front l.items (formed l.word (reading_at (λ name. get same_text l.table name) l.source l.at));
+  whole : formed None (reading_at (values_in l.table) l.source 0)
+      ≡ with_front l.items (formed l.word (reading_at (values_in l.table) l.source l.at));
   few : length l.items ≤ 33554432;
   within : l.at ≤ length l.source;
 }

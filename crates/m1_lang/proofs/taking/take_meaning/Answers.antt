@@ -1,6 +1,6 @@
 use Rattle.std.proofs.Common.{sym, subst}
 use Rattle.m1_lang.specs.declared.words.meaning.Meaning.{Meaning}
-use Rattle.m1_lang.specs.Words.Representation.Meanings.{meaning_tokens}
+use Rattle.m1_lang.specs.Words.Meanings.{meaning_tokens}
 use Rattle.m1_lang.specs.Representation.Passes.{TakesTokens}
 use Rattle.m1_lang.proofs.Takings.{takes-one}
 use Rattle.m1_lang.proofs.taking.take_meaning.Goals as goal

@@ -1,6 +1,6 @@
 use Rattle.std.proofs.Common.{◌≤◌, ◌-◌, length, map, drop}
 use Rattle.hex_langs.specs.declared.items.token.Token.TheVariants.{Byte}
-use Rattle.m1_lang.specs.Words.Representation.Meanings.{front_bytes}
+use Rattle.m1_lang.specs.Words.Meanings.{front_bytes}
 use Rattle.m1_lang.proofs.Takings.{Left}
 use Rattle.m1_lang.proofs.taking.take_pairs.Given as goal
 

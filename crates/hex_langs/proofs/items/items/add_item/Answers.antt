@@ -1,6 +1,6 @@
-use Rattle.std.proofs.Common.{arith, ap, sym, subst, ◌∙◌, ◌≡◌, ◌++◌, ◌∷◌, [], List, ℕ, ◌+◌, length}
+use Rattle.std.proofs.Common.{ap, sym, ◌∙◌, ◌++◌, ◌∷◌, [], List, ℕ}
 use Rattle.hex_langs.specs.declared.items.item.Item.{Item}
-use Rattle.hex_langs.specs.Items.Representation.Packed.{ArePacked, items_of}
+use Rattle.hex_langs.specs.Items.Representation.Packed.{items_of}
 use Rattle.hex_langs.proofs.ItemsLemmas.Packing.{packed-other, pushed-byte, pushed-other}
 use Rattle.hex_langs.proofs.items.items.add_item.Goals as goal
 

@@ -1,4 +1,4 @@
-use Rattle.std.proofs.Common.{arith, ap, sym, ◌∙◌, Some}
+use Rattle.std.proofs.Common.{arith, ap, ◌∙◌, Some}
 use Rattle.hex_langs.proofs.ItemsLemmas.Packing.{item-byte, item-other, item-past}
 use Rattle.hex_langs.proofs.items.items.item_at.Goals as goal
 

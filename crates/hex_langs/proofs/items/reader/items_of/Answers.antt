@@ -1,12 +1,9 @@
-use Rattle.std.proofs.Common.{arith, ◌≡◌, ◌++◌, ◌≤◌, ◌<◌, ◌+◌, ◌-◌, ◌∷◌, length, ℕ, drop, take, get_or, List, None, Some, Ok, Err, refl, sym, ap, ◌∙◌, false, true, Option, length-append}
+use Rattle.std.proofs.Common.{arith, ◌≡◌, ◌+◌, length, drop, get_or, None, Some, Ok, Err, sym, ap, ◌∙◌}
 use Rattle.std.proofs.lemmas.List.{at_drop_all, length-drop}
-use Rattle.hex_langs.specs.declared.items.item.Item.{Item}
 use Rattle.hex_langs.specs.Items.Tokens.{gap_length, token_at}
 use Rattle.hex_langs.specs.declared.items.token.Token.TheVariants.{Byte}
-use Rattle.hex_langs.specs.Items.Words.{taken, Takes}
-use Rattle.hex_langs.specs.Items.Reading.{answer, word_end, Ends, Faulted, formed, items_of, judged, reading, Reads, Then, with_front, fault_at, halted}
-use Rattle.hex_langs.proofs.ItemsLemmas.Packing.{length-packed}
-use Rattle.hex_langs.proofs.ItemsLemmas.Readings.{front_is, items_of-judged, items_of-long, judged-end, moves-fault, moves-gap, moves-token, formed-token, reading-end, reads-by, reads-fault, refuses, rest_is, takes-ok, token-digit, with_front-twice}
+use Rattle.hex_langs.specs.Items.Reading.{word_end, NoToken, Faulted, formed, reading, with_front, halted}
+use Rattle.hex_langs.proofs.ItemsLemmas.Readings.{items_of-judged, items_of-long, judged-end, moves-fault, moves-gap, moves-token, formed-token, reading-end, reads-by, reads-fault, refuses, rest_is, takes-ok, token-digit, with_front-twice}
 use Rattle.hex_langs.proofs.items.reader.items_of.Goals as goal
 
 pub returns-then-source-gt-LONGEST_SOURCE : goal.returns-then-source-gt-LONGEST_SOURCE
@@ -108,7 +105,7 @@ returns-in-None c =
     let source = c.args.source.now in
     let done = at_drop_all (reading c.args.dialect c.loop-at.at 0) source c.loop-at.at (omega arith) ∙ reading-end c.args.dialect c.loop-at.at in
     let whole = c.loop-at.invariant.whole ∙ ap (λ l. with_front c.loop-at.items (formed c.loop-at.word l)) done
-    ∙ ap (λ word. with_front c.loop-at.items (formed word Ends)) c.in-None.is in
+    ∙ ap (λ word. with_front c.loop-at.items (formed word NoToken)) c.in-None.is in
     items_of-judged c.args.dialect source (omega arith) ∙ judged-end _ c.loop-at.items (word_end None) whole c.loop-at.invariant.few
 
 pub returns : goal.returns
@@ -116,5 +113,5 @@ returns c =
     let source = c.args.source.now in
     let done = at_drop_all (reading c.args.dialect c.loop-at.at 0) source c.loop-at.at (omega arith) ∙ reading-end c.args.dialect c.loop-at.at in
     let whole = c.loop-at.invariant.whole ∙ ap (λ l. with_front c.loop-at.items (formed c.loop-at.word l)) done
-    ∙ ap (λ word. with_front c.loop-at.items (formed word Ends)) c.in-Some.is in
+    ∙ ap (λ word. with_front c.loop-at.items (formed word NoToken)) c.in-Some.is in
     items_of-judged c.args.dialect source (omega arith) ∙ judged-end _ c.loop-at.items (word_end (Some c.in-Some.word)) whole c.loop-at.invariant.few

@@ -1,4 +1,4 @@
-use Rattle.std.proofs.Common.{length, ◌-◌, ◌≡◌, ◌++◌, ◌≤◌, drop, None}
+use Rattle.std.proofs.Common.{length, ◌-◌, ◌≡◌, ◌≤◌, drop, None}
 use Rattle.hex_langs.specs.Items.Reading.{formed, reading, with_front}
 use Rattle.hex_langs.proofs.items.reader.items_of.Given as goal
 

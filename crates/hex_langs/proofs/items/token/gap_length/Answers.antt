@@ -1,4 +1,4 @@
-use Rattle.std.proofs.Common.{◌≡◌, arith, get_or, drop, ◌+◌, sym}
+use Rattle.std.proofs.Common.{arith, get_or, drop, ◌+◌, sym}
 use Rattle.std.proofs.lemmas.List.{at_drop_all, at_drop_more}
 use Rattle.hex_langs.specs.Items.Tokens.{gap_from, gap_length}
 use Rattle.hex_langs.proofs.ItemsLemmas.Gaps.{gap_from-other}

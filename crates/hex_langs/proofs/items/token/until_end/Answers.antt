@@ -1,5 +1,5 @@
-use Rattle.std.proofs.Common.{◌≡◌, arith, get_or, drop, ◌+◌, sym}
-use Rattle.std.proofs.lemmas.List.{at_drop_all, at_drop_more}
+use Rattle.std.proofs.Common.{arith, get_or, drop, ◌+◌, sym}
+use Rattle.std.proofs.lemmas.List.{at_drop_more}
 use Rattle.std.specs.List.{position_or_len}
 use Rattle.hex_langs.specs.Items.Tokens.{ends_name}
 use Rattle.hex_langs.proofs.ItemsLemmas.Gaps.{name-done}

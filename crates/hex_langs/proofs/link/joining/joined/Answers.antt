@@ -1,14 +1,13 @@
-use Rattle.std.proofs.Common.{arith, sym, ap, subst, ◌∙◌, ◌+◌, ◌∷◌, drop, List, ℕ, length, Ok}
+use Rattle.std.proofs.Common.{arith, sym, ap, subst, ◌∙◌, ◌+◌, ◌∷◌, drop, ℕ, length, Ok}
 use Rattle.std.proofs.lemmas.List.{at_drop_more}
-use Rattle.indexmap.specs.IndexMap.{get}
-use Rattle.hex_langs.specs.Link.Link.{item_bytes, bytes_from, onto, same_name}
-use Rattle.hex_langs.specs.Link.Representation.Tables.{Puts}
+use Rattle.hex_langs.specs.Link.Link.{item_bytes, bytes_from, onto}
+use Rattle.hex_langs.specs.Link.Representation.Tables.{address_in, Puts}
 use Rattle.hex_langs.proofs.LinkLemmas.Joins.{joined-more}
 use Rattle.hex_langs.proofs.link.joining.joined.Goals as goal
 
 pub loop-index-preserved : goal.loop-index-preserved
 loop-index-preserved c =
-    let labels = λ (name : List ℕ). get same_name c.args.table.now name in
+    let labels = address_in c.args.table.now in
     let place = c.args.base + length c.loop-index.out in
     let left = drop (c.loop-index.index + 1) c.args.items.now in
     let turn = at_drop_more (bytes_from labels place c.loop-index.index) c.args.items.now c.loop-index.index c.item_at-item.result (omega arith)

@@ -4,7 +4,8 @@ use Rattle.std.specs.Int.{w64}
 use Rattle.std.proofs.lemmas.Int.{to_z-of_z}
 use Rattle.m1_lang.specs.Words.Forms.{FormTokens, number_behind, number_tokens}
 use Rattle.m1_lang.specs.Words.Numbers.{number_in}
-use Rattle.m1_lang.specs.Words.Representation.Meanings.{MeansForm, MeansResult}
+use Rattle.m1_lang.specs.Words.Meanings.{MeansResult}
+use Rattle.m1_lang.specs.Words.Representation.Meanings.{MeansForm}
 use Rattle.m1_lang.proofs.WordsLemmas.Capping.{number_behind-capped, fits-given}
 use Rattle.m1_lang.proofs.words.meaning.signed.Goals as goal
 

@@ -1,5 +1,5 @@
 use Rattle.std.proofs.Common.{arith, ap, sym, ◌∙◌, ◌≡◌, ◌+◌, ◌-◌, ◌∷◌, drop, take, get_or, length, ℕ, refl, None, Some, suc}
-use Rattle.std.proofs.lemmas.List.{drop_all, length-drop}
+use Rattle.std.proofs.lemmas.List.{drop_all, length-drop, length-take}
 use Rattle.hex_langs.specs.Items.Tokens.{gap_length}
 use Rattle.hex_langs.proofs.ItemsLemmas.Readings.{front_is, rest_is}
 use Rattle.m1_lang.specs.Words.Words.{word_more, words_from}
@@ -37,4 +37,5 @@ returns-in-Some c =
           ∙ split-word source (take (start + 1 + more - start) (drop start source)) start more (start + 1 + more) (omega arith) (no-gap-behind source c.args.at c.gap_length.result size (omega arith)) found refl text,
       omega arith,
       omega (arith, c.in-Some.ensures.within, ap length (rest_is source (start + 1)), length-drop (start + 1) source),
+      omega (arith, ap length text, length-take more (drop (start + 1) source), c.in-Some.ensures.within, ap length (rest_is source (start + 1))),
     )

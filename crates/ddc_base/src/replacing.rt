@@ -1,0 +1,138 @@
+//! How a file of the host is set, so that what it held is lost only once all of the new content is written.
+
+ghost use Rattle.std.specs.Prelude.{OnOk};
+ghost use Rattle.ddc_base.specs.Streams.{TakesAll};
+
+use crate::streams::{ByFlush, write_whole};
+use arrayvec::ArrayString;
+use std::fs::{File, OpenFile, OpenOptions, Permissions};
+use std::io::{ErrorKind, Write};
+use std::rt::Files;
+use std::{fs, io};
+
+/// What stands under a path.
+#[derive(Drop)]
+enum Standing {
+    Nothing,
+    /// A plain file that may be written.
+    PlainFile(Permissions),
+    /// A folder, a symbolic link, a device or a pipe.
+    Other,
+}
+
+/// What stands under a path; that a plain file may not be written is an error.
+fn look_at<R: Files>(rt: &R, path: &str) -> io::Result<Standing> {
+    match fs::symlink_metadata(rt, path) {
+        Ok(metadata) if metadata.is_file() => {
+            OpenOptions::new().write(true).open(rt, path)?;
+            Ok(Standing::PlainFile(metadata.permissions()))
+        }
+        Ok(_) => Ok(Standing::Other),
+        Err(error) if error.kind() == ErrorKind::NotFound => Ok(Standing::Nothing),
+        Err(error) => Err(error),
+    }
+}
+
+/// A path with one of the ten endings `.ddc-0` to `.ddc-9` behind it.
+fn path_beside(path: &str, ending: char) -> io::Result<ArrayString<261>> {
+    let mut beside = ArrayString::new();
+    let fits = beside.try_push_str(path).is_ok()
+        && beside.try_push_str(".ddc-").is_ok()
+        && beside.try_push(ending).is_ok();
+    if fits {
+        Ok(beside)
+    } else {
+        Err(io::Error::from(ErrorKind::InvalidFilename))
+    }
+}
+
+/// Makes a file beside the one of a path, under a name that was not there, which is given back with it.
+fn make_beside<R: Files>(rt: &R, path: &str) -> io::Result<(ArrayString<261>, R::File)> {
+    for ending in '0'..='9' {
+        let beside = path_beside(path, ending)?;
+        match File::create_new(rt, beside.as_str()) {
+            Ok(file) => return Ok((beside, file)),
+            Err(error) if error.kind() == ErrorKind::AlreadyExists => {}
+            Err(error) => return Err(error),
+        }
+    }
+    Err(io::Error::from(ErrorKind::AlreadyExists))
+}
+
+/// Gives a new file the permissions of the one that it is to replace, fills it, and has the host keep it.
+fn fill<F: OpenFile + Write + Drop>(
+    file: F,
+    permissions: Option<Permissions>,
+    content: &[u8],
+) -> io::Result<()>
+    ensures { OnOk result (TakesAll F.contents content.now) }
+{
+    if let Some(permissions) = permissions {
+        file.set_permissions(permissions)?;
+    }
+    let mut file = ByFlush { writer: file };
+    write_whole(&mut file, content)?;
+    file.writer.sync_all()
+}
+
+/// Writes a file beside the one of a path and gives it that path. After an error the path has what it had, and nothing stands beside it
+/// but what the host does not let go.
+fn replace_file<R: Files>(
+    rt: &R,
+    path: &str,
+    permissions: Option<Permissions>,
+    content: &[u8],
+) -> io::Result<()>
+    ensures { OnOk result (TakesAll R.File.contents content.now) }
+{
+    let (beside, file) = make_beside(rt, path)?;
+    let filled = fill(file, permissions, content);
+    match filled.and_then(|()| fs::rename(rt, beside.as_str(), path)) {
+        Ok(()) => Ok(()),
+        Err(error) => {
+            fs::remove_file(rt, beside.as_str()).ok();
+            Err(error)
+        }
+    }
+}
+
+/// Makes or empties a file and writes it.
+fn write_in_place<R: Files>(rt: &R, path: &str, content: &[u8]) -> io::Result<()>
+    ensures { OnOk result (TakesAll R.File.contents content.now) }
+{
+    let mut file = ByFlush {
+        writer: fs::create(rt, path)?,
+    };
+    write_whole(&mut file, content)
+}
+
+/// Whether an error says that the host lets no file be made beside, or take the path, so that only the place itself is left.
+fn leaves_the_place(kind: ErrorKind) -> bool {
+    matches!(
+        kind,
+        ErrorKind::NotFound
+            | ErrorKind::PermissionDenied
+            | ErrorKind::AlreadyExists
+            | ErrorKind::ReadOnlyFilesystem
+            | ErrorKind::ResourceBusy
+            | ErrorKind::CrossesDevices
+            | ErrorKind::InvalidFilename
+            | ErrorKind::Unsupported
+    )
+}
+
+/// Sets the content of a path. docs/reference/outside.md says where a file beside takes the path, and where it is written in place.
+pub(crate) fn set_file<R: Files>(rt: &R, path: &str, content: &[u8]) -> io::Result<()>
+    ensures { OnOk result (TakesAll R.File.contents content.now) }
+{
+    let permissions = match look_at(rt, path)? {
+        Standing::Nothing => None,
+        Standing::PlainFile(permissions) => Some(permissions),
+        Standing::Other => return write_in_place(rt, path, content),
+    };
+    match replace_file(rt, path, permissions, content) {
+        Ok(()) => Ok(()),
+        Err(error) if leaves_the_place(error.kind()) => write_in_place(rt, path, content),
+        Err(error) => Err(error),
+    }
+}

@@ -1,0 +1,40 @@
+-- The tokens that the meaning of a word stands for, which gives many bytes as a text of the source. docs/reference/m1.md says the same for
+-- people.
+use Rattle.std.specs.Prelude.{◌≡◌, ℕ, List, [], ◌∷◌, map, Option, Some, None, Result, Ok, Err}
+use Rattle.std.specs.Int.{w32, to_le_bytes}
+use Rattle.hex.specs.Hex.{hex_digit_value}
+use Rattle.hex_langs.specs.Items.Tokens.{byte_of}
+use Rattle.hex_langs.specs.declared.items.token.Token.{Token}
+use Rattle.hex_langs.specs.declared.items.token.Token.TheVariants.{Byte}
+use Rattle.m1_lang.specs.declared.words.meaning.Meaning.{Meaning}
+use Rattle.m1_lang.specs.declared.words.meaning.Meaning.TheVariants.{Digits, Text, Number, One}
+use Rattle.m1_lang.specs.declared.words.meaning.WordFault.{WordFault}
+use Rattle.m1_lang.specs.Words.Forms.{Tokens, padded}
+
+-- in front of bytes; where it is none, nothing follows
+abbrev pub before_bytes : Option ℕ → List ℕ → List ℕ
+before_bytes (Some byte) bytes = byte ∷ bytes
+before_bytes None bytes = []
+
+-- the bytes of digits two by two, up to the first two that are none
+abbrev pub front_bytes : List ℕ → List ℕ
+front_bytes [] = []
+front_bytes (alone ∷ []) = []
+front_bytes (high ∷ low ∷ rest) = before_bytes (byte_of (hex_digit_value high) (hex_digit_value low)) (front_bytes rest)
+
+-- what a meaning stands for
+abbrev pub meaning_tokens : Meaning → List Token
+meaning_tokens (Digits digits) = map Byte (front_bytes digits.now)
+meaning_tokens (Text text) = map Byte (padded text.now)
+meaning_tokens (Number n) = map Byte (to_le_bytes w32 n)
+meaning_tokens (One token) = token ∷ []
+
+-- a meaning of these tokens, or none
+abbrev pub MeansTokens : Option Meaning → Option (List Token) → Type 0
+MeansTokens (Some meaning) tokens = tokens ≡ Some (meaning_tokens meaning)
+MeansTokens None tokens = tokens ≡ None
+
+-- a meaning of these tokens, or the same refusal
+abbrev pub MeansResult : Result Meaning WordFault → Tokens → Type 0
+MeansResult (Ok meaning) tokens = tokens ≡ Ok (meaning_tokens meaning)
+MeansResult (Err why) tokens = tokens ≡ Err why
