@@ -16,7 +16,7 @@ use Rattle.command_plan.specs.Steps.{Obtains, Says}
 use Rattle.command_plan.proofs.Obtaining as step
 use Rattle.audit_commands.specs.Inside.Refusing.{Refuses}
 use Rattle.audit_commands.specs.Pause.{needs_position, read_as}
-use Rattle.audit_commands.specs.PauseTexts.{refused_line}
+use Rattle.audit_commands.specs.PauseTexts.{save_refused_line}
 
 module _ (recipe : Said) (inputs : List (List ℕ)) (text : List ℕ) (shelf : ShelfState) where
   -- the plan of a save that is read, as one over audits
@@ -24,7 +24,7 @@ module _ (recipe : Said) (inputs : List (List ℕ)) (text : List ℕ) (shelf : S
   needs_audit next = needs_position recipe inputs text (λ p. next (standing_at recipe inputs p))
 
   abbrev refuse : SaveRefusal → Plan
-  refuse refusal = answers SaveRefused (refused_line refusal)
+  refuse refusal = answers SaveRefused (save_refused_line refusal)
 
   -- the audit goes on from the position that was read
   pub goes_on : (audit : AuditState) → ResumesAudit recipe inputs text (Ok audit) → Obtains needs_audit shelf shelf (Ok audit)

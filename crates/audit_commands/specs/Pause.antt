@@ -3,7 +3,7 @@
 use Rattle.std.specs.Prelude.{ℕ, ◌+◌, Bool, ◌&&◌, Result, List, [], ◌∷◌, length, if◌then◌else◌}
 use Rattle.recipe.specs.declared.contents.Said.{Said}
 use Rattle.wheeler.specs.Positions.{Position, Standing, On, Over, forward, position}
-use Rattle.save_text.specs.Spelled.{text_of}
+use Rattle.save_text.specs.Spelled.{text_of_save}
 use Rattle.audit_run.specs.Save.Saves.{save_of}
 use Rattle.audit_run.specs.declared.save.reading.SaveRefusal.{SaveRefusal}
 use Rattle.audit_run.proofs.SaveLemmas.Answered.{answered}
@@ -13,14 +13,14 @@ use Rattle.command_plan.specs.Plan.{Plan, answers, needs, sets, unless_refused}
 use Rattle.recipe_plan.specs.Recipes.{needs_apart, needs_inputs, needs_recipe}
 use Rattle.audit_commands.specs.Audit.{audited}
 use Rattle.audit_commands.specs.Texts.{stage_name}
-use Rattle.audit_commands.specs.PauseTexts.{paused_line, refused_line}
+use Rattle.audit_commands.specs.PauseTexts.{paused_line, save_refused_line}
 
 -- ---- where an audit came to
 
 -- it stands at a position: the save is set, and the present stage is said, with the steps that were taken in it
 unfoldable pub paused : Said → List (List ℕ) → List ℕ → Position → Plan
 paused recipe inputs save p =
-    sets save (text_of (save_of recipe inputs p)) (answers Paused (paused_line (stage_name recipe.stages (length p.done + 1)) p.at.steps))
+    sets save (text_of_save (save_of recipe inputs p)) (answers Paused (paused_line (stage_name recipe.stages (length p.done + 1)) p.at.steps))
 
 -- it is over, which is told as `audit` tells it, or it stands at a position
 abbrev pub came_to : Said → List (List ℕ) → List ℕ → List ℕ → Standing → Plan
@@ -47,7 +47,7 @@ read_as recipe inputs text = (answered recipe inputs text).result
 -- the position that a save says, reached or not; or the save is refused
 abbrev pub needs_position : Said → List (List ℕ) → List ℕ → (Position → Plan) → Plan
 needs_position recipe inputs text next =
-    unless_refused (read_as recipe inputs text) (λ refusal. answers SaveRefused (refused_line refusal)) next
+    unless_refused (read_as recipe inputs text) (λ refusal. answers SaveRefused (save_refused_line refusal)) next
 
 -- the recipe, a report and a save that are none of its inputs, the save, of at most 4,294,967,296 bytes, the inputs, the position that the
 -- save says, and then the audit from there

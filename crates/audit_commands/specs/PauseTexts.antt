@@ -9,5 +9,5 @@ unfoldable pub paused_line : List ℕ → ℕ → List ℕ
 paused_line stage steps = line (codes "paused" ∷ stage ∷ decimal steps ∷ [])
 
 -- a file is no save of the recipe and its inputs
-unfoldable pub refused_line : SaveRefusal → List ℕ
-refused_line refusal = line (codes "save" ∷ codes "refused" ∷ decimal (save_refusal_number refusal) ∷ [])
+unfoldable pub save_refused_line : SaveRefusal → List ℕ
+save_refused_line refusal = line (codes "save" ∷ codes "refused" ∷ decimal (save_refusal_number refusal) ∷ [])

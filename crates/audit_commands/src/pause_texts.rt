@@ -1,7 +1,7 @@
 //! What the commands print beside the lines of `audit`.
 
 ghost use Rattle.std.specs.Prelude.{◌≡◌, IfOk};
-ghost use Rattle.audit_commands.specs.PauseTexts.{paused_line, refused_line};
+ghost use Rattle.audit_commands.specs.PauseTexts.{paused_line, save_refused_line};
 
 use audit_run::save::SaveRefusal;
 use ddc_base::{Bytes, OutOfMemory};
@@ -19,9 +19,9 @@ pub fn paused(alloc: Global, stage: &[u8], steps: u64) -> Result<Bytes, OutOfMem
 }
 
 /// A file is no save of the recipe and its inputs.
-#[tactic(auto, unfolding(crate::specs::PauseTexts::refused_line))]
+#[tactic(auto, unfolding(crate::specs::PauseTexts::save_refused_line))]
 pub fn refused(alloc: Global, refusal: SaveRefusal) -> Result<Bytes, OutOfMemory>
-    ensures { IfOk result (λ text. text ≡ refused_line refusal) }
+    ensures { IfOk result (λ text. text ≡ save_refused_line refusal) }
 {
     let number = refusal.number();
     Ok(Bytes::from_vec(format!(in alloc; "save refused {number}\n")?.into_bytes()))

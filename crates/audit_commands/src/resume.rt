@@ -10,7 +10,7 @@ ghost use Rattle.command_plan.specs.Plan.{answers};
 ghost use Rattle.command_plan.specs.Steps.{Obtains, Says};
 ghost use Rattle.audit_commands.specs.Inside.Refusing.{Refuses};
 ghost use Rattle.audit_commands.specs.Pause.{needs_position, resume_files, resume_plan};
-ghost use Rattle.audit_commands.specs.PauseTexts.{refused_line};
+ghost use Rattle.audit_commands.specs.PauseTexts.{save_refused_line};
 
 use crate::going::go_on;
 use crate::pause_texts;
@@ -100,7 +100,7 @@ fn refuse(alloc: Global, refusal: SaveRefusal) -> Result<Answer, Stop>
 
 /// The answer to a file that is no save of the recipe and its inputs.
 fn refused(alloc: Global, refusal: SaveRefusal) -> Result<Answer, Stop>
-    ensures { Says (answers SaveRefused (refused_line refusal)) result }
+    ensures { Says (answers SaveRefused (save_refused_line refusal)) result }
 {
     Ok(Answer {
         status: Status::SaveRefused,

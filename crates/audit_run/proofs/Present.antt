@@ -11,7 +11,7 @@ use Rattle.wheeler.specs.Positions.{Position, Standing, forward, todo}
 use Rattle.wheeler.specs.Valid.{AreDone, AreFinished, IsAt, IsInputs, IsPosition, IsStanding}
 use Rattle.wheeler.proofs.Places.{all-made, forward-standing}
 use Rattle.wheeler.proofs.Rules.{rules}
-use Rattle.audit_run.specs.Stage.Rules.{AreMade, IsStage}
+use Rattle.audit_run.specs.Stage.Rules.{AreMade, IsStageOf}
 use Rattle.audit_run.specs.Inside.Parts.{later}
 
 -- a list from an index on
@@ -52,12 +52,12 @@ stage-there recipe done stage is = at-index recipe.stages (length done) stage is
 pub no-stage : (recipe : Said) (done : List Finished) → slice_get recipe.stages (length done) ≡ None → todo recipe done ≡ []
 no-stage recipe done is = past-index recipe.stages (length done) is
 
-pub stage-rules : (recipe : Said) (index : ℕ) (stage : Stage) → kept.IsRecipe recipe → slice_get recipe.stages index ≡ Some stage → IsStage recipe stage
+pub stage-rules : (recipe : Said) (index : ℕ) (stage : Stage) → kept.IsRecipe recipe → slice_get recipe.stages index ≡ Some stage → IsStageOf recipe stage
 stage-rules recipe index stage is there = (take index recipe.stages, is.stages index stage there)
 
 -- of a stage that was looked up among them
 pub found-rules : (recipe : Said) (items : List Stage) (index : ℕ) (stage : Stage) → kept.IsRecipe recipe → items ≡ recipe.stages → true ≡ ltb index (length items)
-    → stage ≡ get_or items index stage → IsStage recipe stage
+    → stage ≡ get_or items index stage → IsStageOf recipe stage
 found-rules recipe items index stage is same inside there =
     stage-rules recipe index stage is
     (subst (λ list. slice_get list index ≡ Some stage) same

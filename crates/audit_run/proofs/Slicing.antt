@@ -4,7 +4,7 @@ use Rattle.std.proofs.lemmas.Bool.{false≢true}
 use Rattle.ddc_base.specs.declared.byte_list.OutOfMemory.{OutOfMemory}
 use Rattle.guest_run.specs.State.{GuestState}
 use Rattle.guest_run.specs.declared.run.RunEnd.TheVariants as answer
-use Rattle.guest_run.specs.Run.{End, Exited, Next, Goes, Ends, StepTakesMemory, first_end, goes, next, Runs as RunsBy, steps_between}
+use Rattle.guest_run.specs.Run.{End, Exited, Next, Goes, Ends, StepTakesMemory, first_end, step_goes_on, next, Runs as RunsBy, steps_between}
 use Rattle.guest_run.proofs.Running.{after-counted}
 use Rattle.recipe.specs.declared.contents.Said.{Said}
 use Rattle.recipe.specs.declared.parts.Stage.{Stage}
@@ -14,7 +14,7 @@ use Rattle.wheeler.specs.declared.answer.Fault.TheVariants.{Runs}
 use Rattle.wheeler.specs.declared.answer.Finished.{Finished}
 use Rattle.wheeler.specs.declared.cause.RunCause.TheVariants as run
 use Rattle.wheeler.specs.Stages.{ending}
-use Rattle.wheeler.specs.Positions.{Position, On, at, closed, forward}
+use Rattle.wheeler.specs.Positions.{Position, On, at, stage_closed, forward}
 use Rattle.wheeler.specs.Valid.{IsAt, IsInputs}
 use Rattle.wheeler.proofs.Endings.{ended}
 use Rattle.wheeler.proofs.Places.{done-more}
@@ -30,9 +30,9 @@ use Rattle.audit_run.proofs.Present.{same-stage, stays}
 wants-by : (recipe : Said) (p : Position) (stage : Stage) (stages : List Stage) (n : Next) → IsAt recipe p stage stages → next p.at ≡ n → WantsBy stage p n → Wants recipe p
 wants-by recipe p stage stages n ok is wants = (stage, stages, ok.left, subst (WantsBy stage p) (sym is) wants)
 
-wants-step : (recipe : Said) (p : Position) (stage : Stage) (stages : List Stage) → IsAt recipe p stage stages → IsTrue (goes (next p.at)) → StepTakesMemory p.at → Wants recipe p
+wants-step : (recipe : Said) (p : Position) (stage : Stage) (stages : List Stage) → IsAt recipe p stage stages → IsTrue (step_goes_on (next p.at)) → StepTakesMemory p.at → Wants recipe p
 wants-step recipe p stage stages ok on takes = by_next (next p.at) refl on where
-  by_next : (n : Next) → next p.at ≡ n → goes n ≡ true → Wants recipe p
+  by_next : (n : Next) → next p.at ≡ n → step_goes_on n ≡ true → Wants recipe p
   by_next (Goes to) is on = wants-by recipe p stage stages (Goes to) ok is takes
   by_next (Ends end) is on = absurd (false≢true on)
 
@@ -88,11 +88,11 @@ module _ (recipe : Said) (inputs : List (List ℕ)) (done : List Finished) (stag
     same : taken ≡ suc (new.steps - old.steps)
     same = omega (arith, counts, there.counted)
 
-    whole : (r : Result Finished Fault) → r ≡ ending recipe inputs done stage end new → forward recipe inputs (at done old) taken ≡ closed recipe inputs done stages r
+    whole : (r : Result Finished Fault) → r ≡ ending recipe inputs done stage end new → forward recipe inputs (at done old) taken ≡ stage_closed recipe inputs done stages r
     whole r meant =
         ap (forward recipe inputs (at done old)) same
         ∙ slice-end recipe inputs done stage stages ok.left old new slice end is fits
-        ∙ ap (closed recipe inputs done stages) (sym meant)
+        ∙ ap (stage_closed recipe inputs done stages) (sym meant)
 
     by_result : (r : Result Finished Fault) → r ≡ ending recipe inputs done stage end new → Slices recipe inputs done stages old most (Ok (taken, moved.Ended r)) new
     by_result (Err fault) meant = (whole (Err fault) meant, omega (arith, same), omega (arith, same, there.fewer, there.counted))

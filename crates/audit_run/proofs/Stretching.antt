@@ -5,7 +5,7 @@ use Rattle.recipe.specs.declared.contents.Said.{Said}
 use Rattle.recipe.specs.Kept as kept
 use Rattle.wheeler.specs.declared.answer.Fault.{Fault}
 use Rattle.wheeler.specs.declared.answer.Finished.{Finished}
-use Rattle.wheeler.specs.Positions.{Standing, On, Over, at, closed, enter, forward, forward_from, todo}
+use Rattle.wheeler.specs.Positions.{Standing, On, Over, at, stage_closed, enter, forward, forward_from, todo}
 use Rattle.wheeler.specs.Valid.{AreDone, IsInputs, IsPosition, IsStanding}
 use Rattle.wheeler.proofs.Forwards.{forward_from-sum}
 use Rattle.wheeler.proofs.Places.{enter-standing}
@@ -67,11 +67,11 @@ module _ (recipe : Said) (inputs : List (List ℕ)) (is : kept.IsRecipe recipe) 
 
   pub closed-stands : (taken : ℕ) (step : Moved) (r : Result Finished Fault) (f : Finished) (done' : List Finished) (place' : Place) → step ≡ moved.Ended r → r ≡ Ok f
       → SlicesBy recipe inputs shown (later recipe shown) guest taken step new
-      → stands recipe inputs done' place' ≡ closed recipe inputs done (later recipe done) (Ok f) → IsStarted place' → IsPlace recipe done' place'
+      → stands recipe inputs done' place' ≡ stage_closed recipe inputs done (later recipe done) (Ok f) → IsStarted place' → IsPlace recipe done' place'
   closed-stands taken step r f done' place' ends good slices stood started =
       let by = ended-by taken step r f ends good slices in
       place-of recipe inputs done' place' started
-      (subst (IsStanding recipe) (sym stood) (stays recipe inputs (at done guest) taken (closed recipe inputs done (later recipe done) (Ok f)) is given here by.0))
+      (subst (IsStanding recipe) (sym stood) (stays recipe inputs (at done guest) taken (stage_closed recipe inputs done (later recipe done) (Ok f)) is given here by.0))
 
   pub closing-stops : (most taken : ℕ) (step : Moved) (r : Result Finished Fault) (f : Finished) (done' : List Finished) (place' : Place) → step ≡ moved.Ended r → r ≡ Ok f
       → SlicesBy recipe inputs shown (later recipe shown) guest taken step new → 1 ≤ taken → taken ≤ most → done' ≡ done → place' ≡ place.Running new

@@ -47,14 +47,14 @@ pub record StopsAt (recipe : Said) (inputs : List (List ℕ)) (from : Standing) 
   pub wants : Wants recipe to
 
 -- or where the first stage had still to be started, which leaves the audit as it was
-abbrev pub Stops : AuditState → ℕ → Option Standing → Type 0
-Stops old most None = old.stands ≡ None
-Stops old most (Some (On p)) = StopsAt old.recipe old.inputs (standing old) most p
-Stops old most (Some (Over answer)) = ⊥
+abbrev pub StopsAudit : AuditState → ℕ → Option Standing → Type 0
+StopsAudit old most None = old.stands ≡ None
+StopsAudit old most (Some (On p)) = StopsAt old.recipe old.inputs (standing old) most p
+StopsAudit old most (Some (Over answer)) = ⊥
 
 -- an advance by at most so many steps goes on by so many, and says where the audit stands then; or memory is wanting
 abbrev pub Advances : AuditState → ℕ → Progress → Option Standing → Type 0
-Advances old most said.OutOfMemory new = Stops old most new
+Advances old most said.OutOfMemory new = StopsAudit old most new
 Advances old most answer new =
     (new ≡ Some (forward_from old.recipe old.inputs (standing old) most))
     × (answer ≡ said_of (forward_from old.recipe old.inputs (standing old) most))

@@ -1,2 +1,3 @@
 -- What serves the code's split. No promise rests on these files being read.
+pub mod Codes
 pub mod Parts

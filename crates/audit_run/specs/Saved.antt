@@ -4,7 +4,7 @@ use Rattle.audit_run.specs.Save.Saves.{Resumes, save_of}
 use Rattle.audit_run.specs.declared.save.reading.SaveRefusal.{SaveRefusal}
 use Rattle.audit_run.specs.declared.save.reading.SaveRefusal.TheVariants.{Form, OtherRecipe, State, OutOfMemory}
 use Rattle.recipe.specs.declared.contents.Said.{Said}
-use Rattle.save_text.specs.Spelled.{text_of}
+use Rattle.save_text.specs.Spelled.{text_of_save}
 use Rattle.wheeler.specs.Positions.{Position, Standing, On, Over}
 use Rattle.wheeler.specs.Valid.{IsPosition}
 use Rattle.audit_run.specs.Seen.{AuditState}
@@ -18,7 +18,7 @@ IsOn (Some (Over answer)) = ⊥
 -- the text of the position's save
 abbrev pub IsSave : Said → List (List ℕ) → Option Standing → List ℕ → Type 0
 IsSave recipe inputs None text = ⊥
-IsSave recipe inputs (Some (On p)) text = text ≡ text_of (save_of recipe inputs p)
+IsSave recipe inputs (Some (On p)) text = text ≡ text_of_save (save_of recipe inputs p)
 IsSave recipe inputs (Some (Over answer)) text = ⊥
 
 -- the audit of a recipe and its inputs at a position
@@ -27,7 +27,7 @@ standing_at recipe inputs p = record { recipe = recipe; inputs = inputs; stands 
 
 -- an audit that was resumed of a text stands at a position whose save is the text
 abbrev pub IsResumed : Said → List (List ℕ) → List ℕ → AuditState → Type 0
-IsResumed recipe inputs text audit = (p : Position) × (audit ≡ standing_at recipe inputs p) × IsPosition recipe p × (text ≡ text_of (save_of recipe inputs p))
+IsResumed recipe inputs text audit = (p : Position) × (audit ≡ standing_at recipe inputs p) × IsPosition recipe p × (text ≡ text_of_save (save_of recipe inputs p))
 
 -- what is resumed of the save of a position
 abbrev pub IsResumedAt : Said → List (List ℕ) → Position → Result AuditState SaveRefusal → Type 0

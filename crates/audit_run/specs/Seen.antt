@@ -1,20 +1,12 @@
 -- An audit as contracts see it, and what its calls tell of it. docs/reference/audit.md says the same for people.
-use Rattle.std.specs.Prelude.{◌≡◌, ℕ, ◌+◌, List, [], ◌∷◌, length, Option, None, Some, refl, ◌⊎◌}
-use Rattle.std.specs.Coded.{Coded, code_by, coded×, coded⊎, coded_ℕ, coded_list, coded_option}
-use Rattle.std.proofs.Common.{inl, inr}
+use Rattle.std.specs.Prelude.{ℕ, ◌+◌, List, [], ◌∷◌, length, Option, None, Some}
 use Rattle.guest_run.specs.Setting.{Setting}
-use Rattle.guest_run.specs.State.{GuestState, guest_code}
-use Rattle.recipe.specs.contracts.contents.Said as said
 use Rattle.recipe.specs.declared.contents.Said.{Said}
 use Rattle.recipe.specs.declared.parts.Stage.{Stage}
 use Rattle.report.specs.declared.types.Report.{Report}
-use Rattle.wheeler.specs.contracts.answer.Answer as answers
-use Rattle.wheeler.specs.contracts.answer.Finished as finished
-use Rattle.wheeler.specs.declared.answer.Answer.{Answer}
 use Rattle.wheeler.specs.declared.answer.Answer.TheVariants.{Completes}
-use Rattle.wheeler.specs.declared.answer.Finished.{Finished}
 use Rattle.wheeler.specs.Contents.{Contents, box_of, program_of}
-use Rattle.wheeler.specs.Positions.{Standing, On, Over, at, beginning, todo}
+use Rattle.wheeler.specs.Positions.{Standing, On, Over, beginning, todo}
 use Rattle.wheeler.specs.Stages.{contents}
 
 -- a recipe, its inputs, and where the audit stands; None: no advance was made
@@ -32,9 +24,9 @@ abbrev pub standing : AuditState → Standing
 standing audit = standing_of audit audit.stands
 
 -- the report of an audit that is over with one
-abbrev pub report_of : Option Standing → Option Report
-report_of (Some (Over (Completes report))) = Some report
-report_of _ = None
+abbrev pub finished_report : Option Standing → Option Report
+finished_report (Some (Over (Completes report))) = Some report
+finished_report _ = None
 
 -- the present stage's number from 1 and the steps that its guest took; (0, 0) where the audit is over
 abbrev pub place_of : Option Standing → ℕ × ℕ
@@ -48,29 +40,7 @@ first_setting recipe so_far [] = None
 first_setting recipe so_far (stage ∷ stages) = Some (program_of recipe so_far stage, box_of recipe so_far stage)
 
 -- those of the present stage; none where the audit is over
-abbrev pub setting_of : Said → List (List ℕ) → Option Standing → Option (List ℕ × Setting)
-setting_of recipe inputs None = first_setting recipe (contents inputs []) recipe.stages
-setting_of recipe inputs (Some (On p)) = first_setting recipe (contents inputs p.done) (todo recipe p.done)
-setting_of recipe inputs (Some (Over answer)) = None
-
--- an audit is stored as its parts
-abbrev split : Standing → (List Finished × GuestState) ⊎ Answer
-split (On p) = inl (p.done, p.at)
-split (Over answer) = inr answer
-
-abbrev join : (List Finished × GuestState) ⊎ Answer → Standing
-join (inl parts) = On (at parts.0 parts.1)
-join (inr answer) = Over answer
-
-pub join-split : (s : Standing) → join (split s) ≡ s
-join-split (On p) = refl
-join-split (Over answer) = refl
-
-abbrev pub standing_code : Coded Standing
-standing_code =
-    code_by ((List Finished × GuestState) ⊎ Answer) (coded⊎ (coded× (coded_list finished.the_row.coded) guest_code) answers.the_row.coded) split join join-split
-
-abbrev pub audit_code : Coded AuditState
-audit_code =
-    code_by (Said × (List (List ℕ) × Option Standing)) (coded× said.the_row.coded (coded× (coded_list (coded_list coded_ℕ)) (coded_option standing_code)))
-    (λ a. (a.recipe, (a.inputs, a.stands))) (λ p. record { recipe = p.0; inputs = p.1.0; stands = p.1.1 }) (λ _. refl)
+abbrev pub present_setting : Said → List (List ℕ) → Option Standing → Option (List ℕ × Setting)
+present_setting recipe inputs None = first_setting recipe (contents inputs []) recipe.stages
+present_setting recipe inputs (Some (On p)) = first_setting recipe (contents inputs p.done) (todo recipe p.done)
+present_setting recipe inputs (Some (Over answer)) = None

@@ -59,16 +59,15 @@ fn begin(
     match place {
         Place::Running(_) => Ok(()),
         Place::Over(_) => Ok(()),
-        Place::Ready => match enter(alloc, recipe, inputs, done) {
-            Ok(Entry::Started(guest)) => {
+        Place::Ready => match enter(alloc, recipe, inputs, done)? {
+            Entry::Started(guest) => {
                 *place = Place::Running(guest);
                 Ok(())
             }
-            Ok(Entry::Over(answer)) => {
+            Entry::Over(answer) => {
                 *place = Place::Over(answer);
                 Ok(())
             }
-            Err(OutOfMemory) => Err(OutOfMemory),
         },
     }
 }

@@ -2,13 +2,14 @@
 
 ghost use Rattle.audit_run.specs.Advances.{Advances};
 ghost use Rattle.audit_run.specs.Saved.{IsOn, IsResumed, IsResumedAt, IsSave, ResumesAudit};
-ghost use Rattle.audit_run.specs.Seen.{place_of, report_of, setting_of};
+ghost use Rattle.audit_run.specs.Seen.{place_of, finished_report, present_setting};
 ghost use Rattle.audit_run.specs.Save.Saves.{save_of};
 ghost use Rattle.report.specs.Reports.{IsReport};
-ghost use Rattle.save_text.specs.Spelled.{text_of};
+ghost use Rattle.save_text.specs.Spelled.{text_of_save};
 ghost use Rattle.std.specs.Option.{option_copied};
-ghost use Rattle.std.specs.Prelude.{◌≡◌, ◌<◌, ◌≤◌, ◌+◌, length, None, IfOk, IfSome, option_map};
-ghost use Rattle.wheeler.specs.Positions.{Position};
+ghost use Rattle.std.specs.Prelude.{◌≡◌, ◌<◌, ◌≤◌, ◌+◌, length, None, Some, IsOk, IfOk, IfSome, option_map};
+ghost use Rattle.wheeler.specs.declared.answer.Answer.{Answer as AuditAnswer};
+ghost use Rattle.wheeler.specs.Positions.{Position, Over};
 ghost use Rattle.wheeler.specs.Valid.{IsInputs, IsPosition};
 
 use crate::advance::advance_parts;
@@ -38,7 +39,8 @@ pub struct Audit {
 
 impl Model for Audit {
     ghost use Rattle.audit_run.specs.Inside.Parts.{IsAtRest, seen};
-    ghost use Rattle.audit_run.specs.Seen.{AuditState, audit_code};
+    ghost use Rattle.audit_run.specs.Inside.Codes.{audit_code};
+    ghost use Rattle.audit_run.specs.Seen.{AuditState};
 
     ghost Value = { AuditState };
 
@@ -87,7 +89,7 @@ impl Audit {
 
     /// The report, exactly after `Equal` and `Differs`.
     pub fn report(&self) -> Option<&Report>
-        ensures report { option_copied result ≡ report_of self.now.stands }
+        ensures report { option_copied result ≡ finished_report self.now.stands }
         ensures form { IfSome (option_copied result) IsReport }
     {
         match &self.place {
@@ -108,9 +110,10 @@ impl Audit {
         }
     }
 
-    /// The present stage's program and its box, which is made anew; `None` where the audit is over.
+    /// The present stage's program and its box, which is made anew and takes memory; `None` where the audit is over, which takes none.
     pub fn setting(&self, alloc: Global) -> Result<Option<(&[u8], RunBox<'_>)>, OutOfMemory>
-        ensures { IfOk result (λ setting. option_map (λ s. (s.0.now, s.1)) setting ≡ setting_of self.now.recipe self.now.inputs self.now.stands) }
+        ensures value { IfOk result (λ setting. option_map (λ s. (s.0.now, s.1)) setting ≡ present_setting self.now.recipe self.now.inputs self.now.stands) }
+        ensures over { (answer : AuditAnswer) → self.now.stands ≡ Some (Over answer) → IsOk result }
     {
         match &self.place {
             Place::Over(_) => Ok(None),
@@ -159,24 +162,19 @@ impl Audit {
         // What is resumed is an audit of this recipe and these inputs at a position, and the text is its save.
         ensures found { IfOk result (λ audit. IsResumed recipe inputs text.now audit) }
         // The save of every position of this recipe and these inputs, reached or not, is resumed there, unless memory runs out.
-        ensures only { (p : Position) → IsPosition recipe p → text.now ≡ text_of (save_of recipe inputs p) → IsResumedAt recipe inputs p result }
+        ensures only { (p : Position) → IsPosition recipe p → text.now ≡ text_of_save (save_of recipe inputs p) → IsResumedAt recipe inputs p result }
         // When each refusal comes.
         ensures exact { ResumesAudit recipe inputs text.now result }
     {
-        match crate::save::read(alloc, &recipe, inputs.as_slice(), text) {
-            Ok(place) => {
-                let (done, guest) = place.into_parts();
-                let place = Place::Running(guest);
-                Ok(Audit {
-                    recipe,
-                    inputs,
-                    done,
-                    place,
-                    alloc,
-                })
-            }
-            Err(refusal) => Err(refusal),
-        }
+        let place = crate::save::read(alloc, &recipe, inputs.as_slice(), text)?;
+        let (done, guest) = place.into_parts();
+        Ok(Audit {
+            recipe,
+            inputs,
+            done,
+            place: Place::Running(guest),
+            alloc,
+        })
     }
 
     /// The recipe.

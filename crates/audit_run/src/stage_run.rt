@@ -1,7 +1,7 @@
 //! A slice of a stage's run, and its end.
 
 ghost use Rattle.audit_run.specs.Inside.Parts.{later, Slices};
-ghost use Rattle.audit_run.specs.Stage.Rules.{IsStage};
+ghost use Rattle.audit_run.specs.Stage.Rules.{IsStageOf};
 ghost use Rattle.recipe.specs.Kept.{IsRecipe};
 ghost use Rattle.std.specs.Prelude.{◌≡◌, ◌≤◌};
 ghost use Rattle.wheeler.specs.Positions.{at};
@@ -28,7 +28,7 @@ pub(crate) fn run_slice(
     requires some { 1 ≤ most }
     requires recipe { IsRecipe recipe.now }
     requires given { IsInputs recipe.now inputs.now }
-    requires stage { IsStage recipe.now stage.now }
+    requires stage { IsStageOf recipe.now stage.now }
     requires stands { IsAt recipe.now (at done.now guest.old) stage.now (later recipe.now done.now) }
     ensures { Slices recipe.now inputs.now done.now (later recipe.now done.now) guest.old most result guest.new }
 {
@@ -56,7 +56,7 @@ pub(crate) fn run_slice(
         }
         RunEnd::Exited(status) => {
             let step = guest.steps() + 1;
-            match exited(
+            let result = exited(
                 alloc,
                 recipe,
                 stage,
@@ -65,10 +65,8 @@ pub(crate) fn run_slice(
                 guest.files(),
                 status,
                 step,
-            ) {
-                Ok(result) => Ok((step - before, Moved::Ended(result))),
-                Err(OutOfMemory) => Err(OutOfMemory),
-            }
+            )?;
+            Ok((step - before, Moved::Ended(result)))
         }
     }
 }

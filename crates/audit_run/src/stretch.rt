@@ -3,7 +3,7 @@
 ghost use Rattle.audit_run.specs.Inside.Parts.{IsPlace, IsStarted, later, Slices, stands, StopsIn, Stretches};
 ghost use Rattle.recipe.specs.Kept.{IsRecipe};
 ghost use Rattle.std.specs.Prelude.{◌≡◌, ◌++◌, ◌∷◌, [], ◌≤◌, OnErr, OnOk, Ok};
-ghost use Rattle.wheeler.specs.Positions.{at, closed, forward_from, todo};
+ghost use Rattle.wheeler.specs.Positions.{at, stage_closed, forward_from, todo};
 ghost use Rattle.wheeler.specs.Valid.{AreDone, IsInputs, IsPosition};
 
 use crate::entering::enter;
@@ -29,7 +29,7 @@ fn close(
     requires done { AreDone recipe.now (done.old.items ++ finished ∷ []) }
     requires left { todo recipe.now (done.old.items ++ finished ∷ []) ≡ later recipe.now done.old.items }
     ensures ok { OnOk result (stands recipe.now inputs.now done.new.items place.new
-        ≡ closed recipe.now inputs.now done.old.items (later recipe.now done.old.items) (Ok finished)) }
+        ≡ stage_closed recipe.now inputs.now done.old.items (later recipe.now done.old.items) (Ok finished)) }
     ensures started { OnOk result (IsStarted place.new) }
     ensures place { OnErr result (place.new ≡ place.old) }
     ensures done { OnErr result (done.new.items ≡ done.old.items) }
@@ -88,25 +88,20 @@ fn stretch(
     ensures started { IsStarted place.new }
     ensures stands { IsPlace recipe.now done.new.items place.new }
 {
-    let step = match place {
-        Place::Running(guest) => run_present(alloc, recipe, inputs, done.as_slice(), guest, most),
+    let (taken, moved) = match place {
+        Place::Running(guest) => run_present(alloc, recipe, inputs, done.as_slice(), guest, most)?,
         Place::Ready | Place::Over(_) => return Ok(most),
     };
-    match step {
-        Ok((taken, moved)) => match moved {
-            Moved::Goes => Ok(taken),
-            Moved::Ended(result) => match result {
-                Ok(finished) => match close(alloc, recipe, inputs, done, place, finished) {
-                    Ok(()) => Ok(taken),
-                    Err(OutOfMemory) => Err(OutOfMemory),
-                },
-                Err(fault) => {
-                    *place = Place::Over(Answer::Fails(done.len() as u32 + 1, fault));
-                    Ok(taken)
-                }
-            },
-        },
-        Err(OutOfMemory) => Err(OutOfMemory),
+    match moved {
+        Moved::Goes => Ok(taken),
+        Moved::Ended(Ok(finished)) => {
+            close(alloc, recipe, inputs, done, place, finished)?;
+            Ok(taken)
+        }
+        Moved::Ended(Err(fault)) => {
+            *place = Place::Over(Answer::Fails(done.len() as u32 + 1, fault));
+            Ok(taken)
+        }
     }
 }
 
@@ -131,10 +126,7 @@ pub(crate) fn advance_started(
 {
     let mut left = most;
     while left > 0 {
-        match stretch(alloc, recipe, inputs, done, place, left) {
-            Ok(taken) => left -= taken,
-            Err(OutOfMemory) => return Err(OutOfMemory),
-        }
+        left -= stretch(alloc, recipe, inputs, done, place, left)?;
     }
     Ok(())
 }

@@ -12,13 +12,13 @@ use Rattle.std.proofs.lemmas.List.Elements.{All-head, All-tail}
 use Rattle.save_text.specs.ByteFields.Spelling.{InTurn}
 use Rattle.mem_files.specs.declared.slot.Slot.{Slot}
 use Rattle.mem_files.specs.declared.slot.Slot.TheVariants.{Input, Stream1, Stream2, File}
-use Rattle.mem_files.specs.Lists.{AreInRange, AreJoined, AreOrdered, FileLists, ListedFile, contents, is_listed, named, with_name}
+use Rattle.mem_files.specs.Lists.{AreInRange, AreJoined, AreOrdered, FileLists, ListedFile, numbered_contents, is_listed, named, with_name}
 use Rattle.mem_files.specs.Lists as lists
 use Rattle.mem_files.specs.Names.{begins_with_dot_slash, is_file_name, is_stripped_name}
 use Rattle.mem_files.specs.Outputs.{IsContent}
 use Rattle.mem_files.specs.Sound.{IsSlotAt}
 use Rattle.save_text.specs.StateText.StateText.{after_descriptor, after_file}
-use Rattle.save_text.specs.StateText.Spelled.{IsDescriptor, IsFile, IsName, IsSlot}
+use Rattle.save_text.specs.StateText.Spelled.{IsDescriptor, IsFile, IsNameText, IsSlot}
 
 first_two : (a b : Bool) → (a && b) ≡ true → (a ≡ true) × (b ≡ true)
 first_two true b e = (refl, e)
@@ -51,17 +51,17 @@ short_name name e =
     (leb-true 1 (length name) c.0, leb-true (length name) 255 c.1)
 
 abbrev pub Named : List ℕ × ℕ → Type 0
-Named e = lists.IsName e.0
+Named e = lists.IsHeldName e.0
 
-name_here : (name : Option (List ℕ)) (number : ℕ) (others : List (List ℕ × ℕ)) → All Named (with_name name number others) → IsName name × All Named others
+name_here : (name : Option (List ℕ)) (number : ℕ) (others : List (List ℕ × ℕ)) → All Named (with_name name number others) → IsNameText name × All Named others
 name_here None number others all = (tt, all)
 name_here (Some name) number others all = let short = short_name name (All-head Named (name, number) others all).0 in let most = short.1 in ((short.0, omega arith), All-tail Named (name, number) others all)
 
-file_turn : (files : List ListedFile) (least : ℕ) → finite.is_sorted nat_cmp (contents files) ≡ true → All (λ f. least ≤ f.number) files → All (λ f. f.number < 5120) files → All (λ f. IsContent f.content) files → All Named (named files)
+file_turn : (files : List ListedFile) (least : ℕ) → finite.is_sorted nat_cmp (numbered_contents files) ≡ true → All (λ f. least ≤ f.number) files → All (λ f. f.number < 5120) files → All (λ f. IsContent f.content) files → All Named (named files)
     → InTurn IsFile after_file least files
 file_turn [] least sorted from low good names = tt
 file_turn (f ∷ files) least sorted from low good names =
-    let parts = first_two (below_all nat_cmp f.number (contents files)) (finite.is_sorted nat_cmp (contents files)) sorted in
+    let parts = first_two (below_all nat_cmp f.number (numbered_contents files)) (finite.is_sorted nat_cmp (numbered_contents files)) sorted in
     let name = name_here f.name f.number (named files) names in
     let number = All-head (λ (f : ListedFile). f.number < 5120) f files low in
     let size = (All-head (λ (f : ListedFile). IsContent f.content) f files good).small in (

@@ -5,12 +5,12 @@ use Rattle.std.specs.FinMap as finite
 use Rattle.std.proofs.lemmas.List.Elements.{All-from_recursion, All-head, All-tail}
 use Rattle.save_text.specs.ByteFields.Spelling.{InTurn}
 use Rattle.paged_mem.specs.Memory.{IsWhole, Memory, bytes_at, maps, prepended}
-use Rattle.checkpoints.specs.MemoryParts.Canonical.{AreShown, ArePlaced, filled, filled_on}
+use Rattle.checkpoints.specs.MemoryParts.Canonical.{AreShown, ArePlaced, with_pages, filled_on}
 use Rattle.checkpoints.proofs.MemoryPartsLemmas.Filling.{any_order}
 use Rattle.save_text.specs.declared.state_text.parts.Page.{Page}
 use Rattle.save_text.specs.declared.state_text.parts.Run.{Run}
 use Rattle.save_text.specs.StateText.StateText.{PageText, StateText, after_page, after_run}
-use Rattle.save_text.specs.StateText.Spelled.{IsPage, IsRun, IsText}
+use Rattle.save_text.specs.StateText.Spelled.{IsPage, IsSavedRun, IsStateText}
 use Rattle.save_text.specs.StateText.Seen.{page_view}
 use Rattle.checkpoints.specs.Checkpoint.{mapped_of, memory_of}
 
@@ -20,7 +20,7 @@ EndsWithin run = run.first + run.pages ≤ 2 ^ 26
 abbrev pub IsMappedIn : Memory → PageText → Type 0
 IsMappedIn m page = IsTrue (maps m (4096 * page.number) 4096)
 
-pub placed : (runs : List Run) (least : ℕ) → InTurn IsRun after_run least runs → All EndsWithin runs → ArePlaced least runs
+pub placed : (runs : List Run) (least : ℕ) → InTurn IsSavedRun after_run least runs → All EndsWithin runs → ArePlaced least runs
 placed [] least turn within = tt
 placed (run ∷ runs) least turn within =
     (record { from = turn.0.from; some = turn.0.some; low = All-head EndsWithin run runs within }, placed runs (after_run run) turn.1 (All-tail EndsWithin run runs within))
@@ -63,6 +63,6 @@ shown m (page ∷ pages) least whole turn mapped = (
 )
 
 -- the memory into which the pages were written
-pub is_made : (s : StateText) (made filled_in : Memory) → IsText s → IsWhole made → made ≡ mapped_of s → All (IsMappedIn made) s.pages → filled_in ≡ filled_on made s.pages → filled_in ≡ memory_of s
+pub is_made : (s : StateText) (made filled_in : Memory) → IsStateText s → IsWhole made → made ≡ mapped_of s → All (IsMappedIn made) s.pages → filled_in ≡ filled_on made s.pages → filled_in ≡ memory_of s
 is_made s made filled_in text whole is mapped written =
-    written ∙ any_order made s.pages 0 (shown made s.pages 0 whole text.pages.1 mapped) ∙ ap (λ (m : Memory). filled m s.pages) is
+    written ∙ any_order made s.pages 0 (shown made s.pages 0 whole text.pages.1 mapped) ∙ ap (λ (m : Memory). with_pages m s.pages) is

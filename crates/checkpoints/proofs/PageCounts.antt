@@ -8,7 +8,7 @@ use Rattle.paged_mem.specs.Memory.{Memory, bytes_at, page_up, prepended}
 use Rattle.linux_calls.specs.declared.Heap.{Heap}
 use Rattle.linux_calls.specs.HeapOf.{is_beside_heap}
 use Rattle.guest_run.specs.Valid.{Fits, pages_beside, pages_from}
-use Rattle.checkpoints.specs.MemoryParts.Canonical.{ArePlaced, is_mapped, listed, pages_from as listed_from, runs_from, runs_of, with_page}
+use Rattle.checkpoints.specs.MemoryParts.Canonical.{ArePlaced, is_mapped, listed_page, page_texts_from as listed_from, runs_from, runs_of, with_page}
 use Rattle.save_text.specs.declared.state_text.parts.Run.{Run}
 use Rattle.save_text.specs.StateText.StateText.{PageText, after_run, is_page}
 
@@ -102,7 +102,7 @@ runs_few least [] turn = omega arith
 runs_few least (run ∷ runs) turn = let some = turn.0.some in let rest = runs_few (after_run run) runs turn.1 in omega (arith, cons-pages run runs)
 
 -- a page is listed only where its first byte is mapped
-listed_few : (m : Memory) (page count : ℕ) → length (listed page (bytes_at m (4096 * page) (suc count))) ≤ cond (is_mapped m page) 1 0
+listed_few : (m : Memory) (page count : ℕ) → length (listed_page page (bytes_at m (4096 * page) (suc count))) ≤ cond (is_mapped m page) 1 0
 unfolding bytes_at
 listed_few m page count = first (finite.get m (4096 * page)) (bytes_at m (suc (4096 * page)) count)
   where
@@ -110,7 +110,7 @@ listed_few m page count = first (finite.get m (4096 * page)) (bytes_at m (suc (4
     shown bytes true = omega arith
     shown bytes false = omega arith
 
-    first : (o : Option ℕ) (later : Option (List ℕ)) → length (listed page (prepended o later)) ≤ cond (is_some o) 1 0
+    first : (o : Option ℕ) (later : Option (List ℕ)) → length (listed_page page (prepended o later)) ≤ cond (is_some o) 1 0
     first None later = omega arith
     first (Some byte) None = omega arith
     first (Some byte) (Some bytes) = shown (byte ∷ bytes) (is_page (byte ∷ bytes))
@@ -124,7 +124,7 @@ pub pages_few : (m : Memory) (page count : ℕ) → length (listed_from m page c
 unfolding listed_from runs_from
 pages_few m page zero = omega arith
 pages_few m page (suc count) =
-    let here = listed page (bytes_at m (4096 * page) 4096) in
+    let here = listed_page page (bytes_at m (4096 * page) 4096) in
     let later = listed_from m (page + 1) count in
     let few = by_page page (length here) (length later) (runs_from (is_mapped m) (page + 1) count) (is_mapped m page) (listed_few m page 4095) (pages_few m (page + 1) count) in
     omega (arith, length-append here later)

@@ -15,12 +15,12 @@ use Rattle.paged_mem.proofs.Wholes.{same_after_write, whole-mapped}
 use Rattle.mem_files.specs.declared.slot.Slot.{Slot}
 use Rattle.mem_files.specs.Lists.{AreOrdered, ListedFile, lists_of, world_of}
 use Rattle.checkpoints.proofs.FilePartsLemmas.SameLists.{same_lists}
-use Rattle.checkpoints.specs.MemoryParts.Canonical.{ArePlaced, AreShown, filled, in_runs, mapped_runs, pages_of, runs_from, runs_of}
+use Rattle.checkpoints.specs.MemoryParts.Canonical.{ArePlaced, AreShown, with_pages, in_runs, mapped_runs, pages_of, runs_from, runs_of}
 use Rattle.checkpoints.proofs.MemoryPartsLemmas.PagesAgain.{IsZeroed, pages_again}
 use Rattle.checkpoints.proofs.MemoryPartsLemmas.RunsAgain.{get-mapped_runs, same_runs_again}
 use Rattle.save_text.specs.declared.state_text.parts.Run.{Run}
 use Rattle.save_text.specs.StateText.StateText.{PageText, StateText, after_page, after_run}
-use Rattle.save_text.specs.StateText.Spelled.{IsDescriptor, IsFile, IsPage, IsText}
+use Rattle.save_text.specs.StateText.Spelled.{IsDescriptor, IsFile, IsPage, IsStateText}
 use Rattle.checkpoints.specs.Checkpoint.{IsInRange, guest_of, lists_in, mapped_of, memory_of, state_of}
 use Rattle.checkpoints.proofs.FileTurns.{paired}
 use Rattle.checkpoints.proofs.MemoryPartsLemmas.Filled.{Alike, maps-alike}
@@ -30,14 +30,14 @@ use Rattle.guest_run.specs.Valid.{Fits}
 
 -- ---- memory
 
-filled_alike : (m : Memory) (pages : List PageText) (least : ℕ) → InTurn IsPage after_page least pages → All (IsMappedIn m) pages → Alike (filled m pages) m
-unfolding filled
+filled_alike : (m : Memory) (pages : List PageText) (least : ℕ) → InTurn IsPage after_page least pages → All (IsMappedIn m) pages → Alike (with_pages m pages) m
+unfolding with_pages
 filled_alike m [] least turn mapped q = refl
 filled_alike m (page ∷ pages) least turn mapped q =
     let rest = filled_alike m pages (after_page page) turn.1 (All-tail (IsMappedIn m) page pages mapped) in
-    let here : maps (filled m pages) (4096 * page.number) (length page.bytes) ≡ true =
-    ap (maps (filled m pages) (4096 * page.number)) turn.0.full ∙ maps-alike (filled m pages) m rest (4096 * page.number) 4096 ∙ All-head (IsMappedIn m) page pages mapped in
-    same_after_write (filled m pages) (4096 * page.number) page.bytes here q ∙ rest q
+    let here : maps (with_pages m pages) (4096 * page.number) (length page.bytes) ≡ true =
+    ap (maps (with_pages m pages) (4096 * page.number)) turn.0.full ∙ maps-alike (with_pages m pages) m rest (4096 * page.number) 4096 ∙ All-head (IsMappedIn m) page pages mapped in
+    same_after_write (with_pages m pages) (4096 * page.number) page.bytes here q ∙ rest q
 
 runs_same : (m n : Memory) → Alike m n → runs_of m ≡ runs_of n
 runs_same m n same = ap (λ (mapped : ℕ → Bool). runs_from mapped 0 (2 ^ 26)) (λ i page. same (4096 * page) i)
@@ -58,7 +58,7 @@ sorted_turn number value Fits from least [] turn = refl
 sorted_turn number value Fits from least (x ∷ xs) turn =
     rw (below_turn number value Fits from (number x) (number x + 1) xs (omega arith) turn.1) (sorted_turn number value Fits from (number x + 1) xs turn.1)
 
-pub ordered : (s : StateText) → IsText s → AreOrdered (lists_in s)
+pub ordered : (s : StateText) → IsStateText s → AreOrdered (lists_in s)
 ordered s text = record {
   files_rise = sorted_turn (λ (f : ListedFile). f.number) (λ f. f.content) IsFile (λ least f fits. fits.from) 0 s.files text.files.1;
   slots_rise = ap (finite.is_sorted nat_cmp) (sym (paired s.descriptors)) ∙ sorted_turn (λ (d : ℕ × Slot). d.0) (λ d. d.1) IsDescriptor (λ least d fits. fits.from) 0 s.descriptors text.descriptors.1;
@@ -74,7 +74,7 @@ zeroed runs a = both (in_runs runs (a / 4096)) (finite.get (mapped_runs finite.e
     both true o e = inr e
     both false o e = inl e
 
-same_pages_again : (runs : List Run) (pages : List PageText) → AreShown 0 pages → pages_of (filled (mapped_runs finite.empty runs) pages) ≡ pages
+same_pages_again : (runs : List Run) (pages : List PageText) → AreShown 0 pages → pages_of (with_pages (mapped_runs finite.empty runs) pages) ≡ pages
 same_pages_again runs pages shown = pages_again (mapped_runs finite.empty runs) pages 0 0 (2 ^ 26) (zeroed runs) shown (omega arith) refl
 
 no_memory : IsWhole finite.empty
@@ -98,11 +98,11 @@ whole_runs m (run ∷ runs) least whole turn =
     (whole-mapped m (4096 * run.first) (zeros (4096 * run.pages)) whole (omega arith) (omega arith) (omega arith) (zero_bytes (4096 * run.pages))) turn.1
 
 -- the runs are those of the memory that the text says
-said_runs : (s : StateText) → IsText s → All EndsWithin s.runs → All (IsMappedIn (mapped_of s)) s.pages → runs_of (memory_of s) ≡ s.runs
+said_runs : (s : StateText) → IsStateText s → All EndsWithin s.runs → All (IsMappedIn (mapped_of s)) s.pages → runs_of (memory_of s) ≡ s.runs
 said_runs s text within listed =
     runs_same (memory_of s) (mapped_of s) (filled_alike (mapped_of s) s.pages 0 text.pages.1 listed) ∙ same_runs_again s.runs (placed s.runs 0 text.runs.1 within)
 
-pub same_text : (s : StateText) → IsText s → IsInRange s → state_of (guest_of s) ≡ s
+pub same_text : (s : StateText) → IsStateText s → IsInRange s → state_of (guest_of s) ≡ s
 unfolding state_of guest_of
 same_text s text range =
     let turn = placed s.runs 0 text.runs.1 range.memory.within in
@@ -123,6 +123,6 @@ same_text s text range =
       stream2 = s.stream2;
     }
 
-pub few_in_text : (s : StateText) → IsText s → All EndsWithin s.runs → All (IsMappedIn (mapped_of s)) s.pages → Fits (memory_of s) s.heap → sum_by (λ (run : Run). run.pages) s.runs ≤ 329_728
+pub few_in_text : (s : StateText) → IsStateText s → All EndsWithin s.runs → All (IsMappedIn (mapped_of s)) s.pages → Fits (memory_of s) s.heap → sum_by (λ (run : Run). run.pages) s.runs ≤ 329_728
 few_in_text s text within listed fits =
     subst (λ (runs : List Run). sum_by (λ (run : Run). run.pages) runs ≤ 329_728) (said_runs s text within listed) (few_pages (memory_of s) s.heap fits)

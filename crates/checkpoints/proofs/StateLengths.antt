@@ -14,8 +14,8 @@ use Rattle.guest_run.specs.State.{GuestState}
 use Rattle.guest_run.specs.Valid.{IsValid}
 use Rattle.checkpoints.specs.MemoryParts.Canonical.{AreShown, runs_of}
 use Rattle.save_text.specs.declared.state_text.parts.Run.{Run}
-use Rattle.save_text.specs.StateText.StateText.{PageText, StateText, after_page, magic}
-use Rattle.save_text.specs.StateText.Spelled.{body_text, descriptor_text, file_text, flags_of, heap_text, name_bytes, page_text, run_text, slot_text, text_of}
+use Rattle.save_text.specs.StateText.StateText.{PageText, StateText, after_page, state_magic}
+use Rattle.save_text.specs.StateText.Spelled.{body_text, descriptor_text, file_text, flags_of, heap_text, name_bytes, page_text, run_text, slot_text, text_of_state}
 use Rattle.checkpoints.specs.Checkpoint.{state_of}
 use Rattle.checkpoints.proofs.FileTurns.{Named, have_text, short_name}
 use Rattle.checkpoints.proofs.PageCounts.{few_pages, pages_few, runs_few}
@@ -114,5 +114,5 @@ is_small g valid =
 pub body_short : (g : GuestState) → IsValid g → length (body_text (state_of g)) ≤ 1_892_769_080
 body_short g valid = (body_most (state_of g) (is_small g valid)).long
 
-pub short : (g : GuestState) → IsValid g → length (text_of (state_of g)) ≤ 1_892_769_088
-short g valid = omega (arith, body_short g valid, length-append magic (body_text (state_of g)))
+pub short : (g : GuestState) → IsValid g → length (text_of_state (state_of g)) ≤ 1_892_769_088
+short g valid = omega (arith, body_short g valid, length-append state_magic (body_text (state_of g)))

@@ -11,12 +11,12 @@ use Rattle.checkpoints.proofs.FilePartsLemmas.GoodLists.{good_join, good_order, 
 use Rattle.checkpoints.proofs.FilePartsLemmas.SameWorld.{same_world}
 use Rattle.guest_run.specs.State.{GuestState}
 use Rattle.guest_run.specs.Valid.{Fits, IsValid}
-use Rattle.checkpoints.specs.MemoryParts.Canonical.{ArePlaced, AreShown, filled, mapped_runs, pages_of, runs_of}
+use Rattle.checkpoints.specs.MemoryParts.Canonical.{ArePlaced, AreShown, with_pages, mapped_runs, pages_of, runs_of}
 use Rattle.checkpoints.proofs.MemoryPartsLemmas.Again.{same_again}
 use Rattle.checkpoints.proofs.MemoryPartsLemmas.RunsAgain.{zero_runs_mapped}
 use Rattle.save_text.specs.declared.state_text.parts.Run.{Run}
 use Rattle.save_text.specs.StateText.StateText.{PageText, StateText, after_page, after_run}
-use Rattle.save_text.specs.StateText.Spelled.{IsPage, IsRun, IsText}
+use Rattle.save_text.specs.StateText.Spelled.{IsPage, IsSavedRun, IsStateText}
 use Rattle.checkpoints.specs.Checkpoint.{IsInRange, IsJoined, guest_of, state_of}
 use Rattle.checkpoints.proofs.FileTurns.{have_text}
 use Rattle.checkpoints.proofs.MemoryPartsLemmas.Filled.{maps-alike}
@@ -28,7 +28,7 @@ alike_of : (P : ℕ → Type 0) (xs : List ℕ) → All P xs → Alike P xs
 alike_of P [] all = tt
 alike_of P (x ∷ xs) all = (All-head P x xs all, alike_of P xs (All-tail P x xs all))
 
-run_turn : (least : ℕ) (runs : List Run) → ArePlaced least runs → InTurn IsRun after_run least runs
+run_turn : (least : ℕ) (runs : List Run) → ArePlaced least runs → InTurn IsSavedRun after_run least runs
 run_turn least [] turn = tt
 run_turn least (run ∷ runs) turn =
     let low = turn.0.low in
@@ -45,7 +45,7 @@ page_turn least (page ∷ pages) turn =
     let low = turn.0.low in
     (record { from = turn.0.from; number = omega arith; full = turn.0.full; some = turn.0.some }, page_turn (after_page page) pages turn.1)
 
-pub is_text : (g : GuestState) → IsValid g → g.steps < 2 ^ 64 → IsText (state_of g)
+pub is_text : (g : GuestState) → IsValid g → g.steps < 2 ^ 64 → IsStateText (state_of g)
 unfolding state_of
 is_text g valid steps =
     let l = lists_of g.world in
@@ -71,8 +71,8 @@ is_text g valid steps =
       stream2 = record { short = omega arith };
     }
 
-said_memory : (m : Memory) → IsWhole m → filled (mapped_runs finite.empty (runs_of m)) (pages_of m) ≡ m
-said_memory m whole = ap (λ z. filled z (pages_of m)) (sym (zero_runs_mapped (runs_of m))) ∙ same_again m whole
+said_memory : (m : Memory) → IsWhole m → with_pages (mapped_runs finite.empty (runs_of m)) (pages_of m) ≡ m
+said_memory m whole = ap (λ z. with_pages z (pages_of m)) (sym (zero_runs_mapped (runs_of m))) ∙ same_again m whole
 
 listed_in : (m n : Memory) (pages : List PageText) → ((page : PageText) → IsMappedIn m page → IsMappedIn n page) → All (IsMappedIn m) pages → All (IsMappedIn n) pages
 listed_in m n [] same all = All-nil (IsMappedIn n)

@@ -4,7 +4,7 @@ use Rattle.std.specs.FinMap as finite
 use Rattle.std.proofs.lemmas.List.Elements.{All-cons, All-nil}
 use Rattle.paged_mem.specs.Memory.{IsWhole, Memory, bytes_at}
 use Rattle.paged_mem.proofs.Maps.{length_of_bytes_at}
-use Rattle.checkpoints.specs.MemoryParts.Canonical.{ArePlaced, AreShown, is_mapped, listed, mapped_runs, pages_from, pages_of, runs_from, runs_of, with_page}
+use Rattle.checkpoints.specs.MemoryParts.Canonical.{ArePlaced, AreShown, is_mapped, listed_page, mapped_runs, page_texts_from, pages_of, runs_from, runs_of, with_page}
 use Rattle.checkpoints.specs.MemoryParts.Inside.Zeros.{zero_runs}
 use Rattle.checkpoints.proofs.MemoryPartsLemmas.Again.{runs_in, runs_out}
 use Rattle.checkpoints.proofs.MemoryPartsLemmas.RunsAgain.{zero_runs_mapped}
@@ -88,14 +88,14 @@ shown_by m page count bytes pages true low is some rest = record {
 }
 shown_by m page count bytes pages false low is some rest = record { shown = weaker_pages (page + 1) page pages (omega arith) rest.shown; mapped = rest.mapped; few = (let few = rest.few in omega arith) }
 
-shown_more : (m : Memory) (page count : ℕ) (o : Option (List ℕ)) (pages : List PageText) → page + 1 ≤ 2 ^ 26 → bytes_at m (4096 * page) 4096 ≡ o → ArePages m (page + 1) count pages → ArePages m page (suc count) (listed page o ++ pages)
+shown_more : (m : Memory) (page count : ℕ) (o : Option (List ℕ)) (pages : List PageText) → page + 1 ≤ 2 ^ 26 → bytes_at m (4096 * page) 4096 ≡ o → ArePages m (page + 1) count pages → ArePages m page (suc count) (listed_page page o ++ pages)
 shown_more m page count None pages low is rest = record { shown = weaker_pages (page + 1) page pages (omega arith) rest.shown; mapped = rest.mapped; few = (let few = rest.few in omega arith) }
 shown_more m page count (Some bytes) pages low is rest = shown_by m page count bytes pages (is_page bytes) low is refl rest
 
-pages_turn : (m : Memory) (page count : ℕ) → page + count ≤ 2 ^ 26 → ArePages m page count (pages_from m page count)
-unfolding pages_from
+pages_turn : (m : Memory) (page count : ℕ) → page + count ≤ 2 ^ 26 → ArePages m page count (page_texts_from m page count)
+unfolding page_texts_from
 pages_turn m page zero low = record { shown = tt; mapped = All-nil (IsMappedIn m); few = omega arith }
-pages_turn m page (suc count) low = shown_more m page count (bytes_at m (4096 * page) 4096) (pages_from m (page + 1) count) (omega arith) refl (pages_turn m (page + 1) count (omega arith))
+pages_turn m page (suc count) low = shown_more m page count (bytes_at m (4096 * page) 4096) (page_texts_from m (page + 1) count) (omega arith) refl (pages_turn m (page + 1) count (omega arith))
 
 whole_turn : (m : Memory) → ArePages m 0 (2 ^ 26) (pages_of m)
 whole_turn m = pages_turn m 0 (2 ^ 26) (omega arith)

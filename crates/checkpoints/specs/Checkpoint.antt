@@ -5,8 +5,8 @@ use Rattle.paged_mem.specs.Memory.{Memory, maps}
 use Rattle.mem_files.specs.Lists.{AreInRange, AreJoined, FileLists, lists_of, world_of}
 use Rattle.guest_run.specs.State.{GuestState}
 use Rattle.guest_run.specs.Valid.{Fits}
-use Rattle.checkpoints.specs.MemoryParts.Canonical.{filled, mapped_runs, pages_of, runs_of}
-use Rattle.save_text.specs.StateText.StateText.{StateText, formed}
+use Rattle.checkpoints.specs.MemoryParts.Canonical.{with_pages, mapped_runs, pages_of, runs_of}
+use Rattle.save_text.specs.StateText.StateText.{StateText, parsed_state}
 use Rattle.mem_files.specs.World.{World}
 use Rattle.checkpoints.specs.declared.file_parts.restoring.RestoreRefusal.{RestoreRefusal}
 use Rattle.checkpoints.specs.declared.file_parts.restoring.RestoreRefusal.TheVariants as restored
@@ -35,7 +35,7 @@ abbrev pub mapped_of : StateText → Memory
 mapped_of s = mapped_runs finite.empty s.runs
 
 abbrev pub memory_of : StateText → Memory
-memory_of s = filled (mapped_of s) s.pages
+memory_of s = with_pages (mapped_of s) s.pages
 
 -- the files that a text says
 abbrev pub lists_in : StateText → FileLists
@@ -89,10 +89,10 @@ Becomes s (Err restored.OutOfMemory) = Unit {0}
 
 -- what a text becomes: its form is judged first, then counts and ranges, then references
 abbrev pub ReadsState : List ℕ → Result GuestState StateRefusal → Type 0
-ReadsState text (Ok guest) = (s : StateText) × (formed text ≡ Ok s) × IsInRange s × IsJoined s × (guest ≡ guest_of s)
-ReadsState text (Err (state.Form offset)) = formed text ≡ Err offset
-ReadsState text (Err state.Range) = (s : StateText) × (formed text ≡ Ok s) × ¬ (IsInRange s)
-ReadsState text (Err state.FileRef) = (s : StateText) × (formed text ≡ Ok s) × IsInRange s × ¬ (IsJoined s)
+ReadsState text (Ok guest) = (s : StateText) × (parsed_state text ≡ Ok s) × IsInRange s × IsJoined s × (guest ≡ guest_of s)
+ReadsState text (Err (state.Form offset)) = parsed_state text ≡ Err offset
+ReadsState text (Err state.Range) = (s : StateText) × (parsed_state text ≡ Ok s) × ¬ (IsInRange s)
+ReadsState text (Err state.FileRef) = (s : StateText) × (parsed_state text ≡ Ok s) × IsInRange s × ¬ (IsJoined s)
 ReadsState text (Err state.OutOfMemory) = Unit {0}
 
 -- what is read of the text of this state

@@ -4,12 +4,12 @@ ghost use Rattle.std.specs.Prelude.{◌+◌, ◌*◌, ◌^◌, ◌≤◌, All, I
 ghost use Rattle.guest_run.specs.Valid.{Fits};
 ghost use Rattle.paged_mem.specs.Memory.{maps};
 ghost use Rattle.save_text.specs.StateText.StateText.{StateText};
-ghost use Rattle.save_text.specs.StateText.Spelled.{IsText};
+ghost use Rattle.save_text.specs.StateText.Spelled.{IsStateText};
 ghost use Rattle.checkpoints.specs.Checkpoint.{mapped_of, memory_of};
 
 /// That runs have no more pages than a guest can have follows from the other rules, so that to count them first refuses nothing else.
 pub fn few_pages()
-    ensures { (s : StateText) → IsText s → All (λ run. run.first + run.pages ≤ 2 ^ 26) s.runs
+    ensures { (s : StateText) → IsStateText s → All (λ run. run.first + run.pages ≤ 2 ^ 26) s.runs
         → All (λ page. IsTrue (maps (mapped_of s) (4096 * page.number) 4096)) s.pages → Fits (memory_of s) s.heap
         → sum_by (λ run. run.pages) s.runs ≤ 329_728 }
 {}

@@ -1,8 +1,8 @@
 //! The memory that a text says.
 
 ghost use Rattle.std.specs.Prelude.{◌≡◌, ◌+◌, ◌-◌, ◌^◌, ◌≤◌, ◌↔◌, All, IsTrue, MatchResult, SomeIff, sum_by};
-ghost use Rattle.save_text.specs.StateText.Spelled.{IsText};
-ghost use Rattle.save_text.specs.StateText.Seen.{view};
+ghost use Rattle.save_text.specs.StateText.Spelled.{IsStateText};
+ghost use Rattle.save_text.specs.StateText.Seen.{state_view};
 ghost use Rattle.checkpoints.specs.Checkpoint.{IsInMemory, RefusesMemory, memory_of};
 
 use crate::memory_parts::{are_mapped, fill_pages, map_runs};
@@ -34,10 +34,10 @@ impl From<OutOfMemory> for MemoryRefusal {
 
 /// The memory that a text says. Its runs are judged before anything is mapped, so that a short text asks for little memory.
 pub fn memory_of<R: Ram>(alloc: Global, parts: &Parts<'_>) -> Result<R, MemoryRefusal>
-    requires { IsText (view parts.now) }
+    requires { IsStateText (state_view parts.now) }
     ensures { MatchResult result
-        (λ ram. IsInMemory (view parts.now) × (R.bytes ram ≡ memory_of (view parts.now)))
-        (RefusesMemory (view parts.now)) }
+        (λ ram. IsInMemory (state_view parts.now) × (R.bytes ram ≡ memory_of (state_view parts.now)))
+        (RefusesMemory (state_view parts.now)) }
 {
     if !are_within(&parts.runs) {
         return Err(MemoryRefusal::Range);

@@ -3,7 +3,7 @@
 ghost use Rattle.std.specs.Prelude.{◌≡◌, ◌<◌, ◌^◌, IfOk};
 ghost use Rattle.guest_run.specs.State.{GuestState};
 ghost use Rattle.guest_run.specs.Valid.{IsValid};
-ghost use Rattle.save_text.specs.StateText.Spelled.{text_of};
+ghost use Rattle.save_text.specs.StateText.Spelled.{text_of_state};
 ghost use Rattle.checkpoints.specs.Checkpoint.{IsReadAs, ReadsState, state_of, state_refusal_number};
 
 use crate::file_parts::RestoreRefusal;
@@ -42,9 +42,9 @@ impl StateRefusal {
 /// The guest whose state the text says.
 pub fn read_state<R: Ram>(alloc: Global, text: &[u8]) -> Result<Guest<R>, StateRefusal>
     // What is read has this text.
-    ensures found { IfOk result (λ guest. text.now ≡ text_of (state_of guest)) }
+    ensures found { IfOk result (λ guest. text.now ≡ text_of_state (state_of guest)) }
     // The text of a valid state is read as the guest in that state, unless memory runs out.
-    ensures only { (g : GuestState) → IsValid g → g.steps < 2 ^ 64 → text.now ≡ text_of (state_of g) → IsReadAs g result }
+    ensures only { (g : GuestState) → IsValid g → g.steps < 2 ^ 64 → text.now ≡ text_of_state (state_of g) → IsReadAs g result }
     // When each refusal comes.
     ensures exact { ReadsState text.now result }
 {

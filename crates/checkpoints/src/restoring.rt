@@ -3,8 +3,8 @@
 ghost use Rattle.std.specs.Prelude.{◌≡◌, ◌∷◌, [], ◌%◌, OnOk, map};
 ghost use Rattle.save_text.specs.ByteFields.Spelling.{InTurn};
 ghost use Rattle.save_text.specs.StateText.StateText.{after_descriptor, after_file};
-ghost use Rattle.save_text.specs.StateText.Spelled.{IsDescriptor, IsFile, IsText};
-ghost use Rattle.save_text.specs.StateText.Seen.{descriptor_view, file_view, view};
+ghost use Rattle.save_text.specs.StateText.Spelled.{IsDescriptor, IsFile, IsStateText};
+ghost use Rattle.save_text.specs.StateText.Seen.{descriptor_view, file_view, state_view};
 ghost use Rattle.checkpoints.specs.Checkpoint.{Becomes, MakesFiles, lists_in};
 
 use crate::file_parts::{FileParts, RestoreRefusal, restore};
@@ -19,8 +19,8 @@ use std::alloc::Global;
 
 /// The guest that a text says: `Range` where a count or a range is that of no guest, and only then `FileRef`, where a reference is.
 pub fn guest_of<R: Ram>(alloc: Global, parts: &Parts<'_>) -> Result<Guest<R>, RestoreRefusal>
-    requires { IsText (view parts.now) }
-    ensures { Becomes (view parts.now) result }
+    requires { IsStateText (state_view parts.now) }
+    ensures { Becomes (state_view parts.now) result }
 {
     if parts.pc % 4 != 0 {
         return Err(RestoreRefusal::Range);
@@ -56,8 +56,8 @@ fn hart_of<R: Ram>(ram: R, pc: u64, registers: &[u64; 31]) -> Hart<R>
 
 /// The files that a text says.
 fn files_of(alloc: Global, parts: &Parts<'_>) -> Result<Files, RestoreRefusal>
-    requires { IsText (view parts.now) }
-    ensures { MakesFiles (lists_in (view parts.now)) result }
+    requires { IsStateText (state_view parts.now) }
+    ensures { MakesFiles (lists_in (state_view parts.now)) result }
 {
     let mut list = FileParts::new(alloc);
     match push_all(&mut list, parts) {
@@ -69,8 +69,8 @@ fn files_of(alloc: Global, parts: &Parts<'_>) -> Result<Files, RestoreRefusal>
 
 fn push_all<'a>(list: &mut FileParts<'a>, parts: &Parts<'a>) -> Result<(), OutOfMemory>
     requires empty { list.old ≡ record { files = []; slots = []; streams = [] } }
-    requires text { IsText (view parts.now) }
-    ensures { OnOk result (list.new ≡ lists_in (view parts.now)) }
+    requires text { IsStateText (state_view parts.now) }
+    ensures { OnOk result (list.new ≡ lists_in (state_view parts.now)) }
 {
     push_files(list, parts.files.as_slice())?;
     push_descriptors(list, parts.descriptors.as_slice())?;

@@ -1,8 +1,8 @@
 //! The text of a guest.
 
 ghost use Rattle.std.specs.Prelude.{◌≡◌, ◌++◌, IfOk, OnOk, drop};
-ghost use Rattle.save_text.specs.StateText.Spelled.{IsText, text_of};
-ghost use Rattle.save_text.specs.StateText.Seen.{view};
+ghost use Rattle.save_text.specs.StateText.Spelled.{IsStateText, text_of_state};
+ghost use Rattle.save_text.specs.StateText.Seen.{state_view};
 ghost use Rattle.checkpoints.specs.Checkpoint.{state_of};
 
 use crate::memory_parts::{pages, runs};
@@ -15,7 +15,7 @@ use std::alloc::Global;
 
 /// The one text of a guest's state.
 pub fn write_state<R: Ram>(alloc: Global, guest: &Guest<R>) -> Result<Bytes, OutOfMemory>
-    ensures { IfOk result (λ text. text ≡ text_of (state_of guest.now)) }
+    ensures { IfOk result (λ text. text ≡ text_of_state (state_of guest.now)) }
 {
     let mut out = Bytes::new(alloc);
     put_state(alloc, &mut out, guest)?;
@@ -28,7 +28,7 @@ pub fn put_state<R: Ram>(
     out: &mut Bytes,
     guest: &Guest<R>,
 ) -> Result<(), OutOfMemory>
-    ensures { OnOk result (out.new ≡ out.old ++ text_of (state_of guest.now)) }
+    ensures { OnOk result (out.new ≡ out.old ++ text_of_state (state_of guest.now)) }
 {
     let parts = parts_of(alloc, guest)?;
     put_parts(out, &parts)
@@ -36,8 +36,8 @@ pub fn put_state<R: Ram>(
 
 /// What a guest's state says. Contents are lent.
 fn parts_of<R: Ram>(alloc: Global, guest: &Guest<R>) -> Result<Parts<'_>, OutOfMemory>
-    ensures seen { IfOk result (λ parts. view parts ≡ state_of guest.now) }
-    ensures text { IfOk result (λ parts. IsText (view parts)) }
+    ensures seen { IfOk result (λ parts. state_view parts ≡ state_of guest.now) }
+    ensures text { IfOk result (λ parts. IsStateText (state_view parts)) }
 {
     let steps = guest.steps();
     let hart = guest.hart();

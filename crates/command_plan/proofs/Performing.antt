@@ -8,7 +8,7 @@ use Rattle.ddc_base.specs.declared.outside.Operation.TheVariants as operation
 use Rattle.ddc_base.specs.declared.outside.Call.{Call}
 use Rattle.ddc_base.specs.declared.outside.Call.TheVariants.{Load, Save}
 use Rattle.ddc_base.specs.declared.outside.Loaded.TheVariants as content
-use Rattle.ddc_base.specs.Outside.{Files, ShelfState, SaveFails, after_call, after_fault, after_setting, loaded, one_more}
+use Rattle.ddc_base.specs.Outside.{NamedFiles, ShelfState, SaveFails, after_call, after_fault, after_setting, loaded, one_more}
 use Rattle.command_plan.specs.declared.status.Status.TheVariants.{FileRefused}
 use Rattle.command_plan.specs.declared.answer.Answer.{Answer}
 use Rattle.command_plan.specs.declared.stop.Stop.{Stop}
@@ -34,13 +34,13 @@ settled_by_telling (needs name limit next) tells told = told
 settled_by_telling (sets name content next) tells told = told
 
 -- no call leaves the files, whatever the plan
-at_start : (plan : Plan) (files : Files) → files_after plan files 0 ≡ files
+at_start : (plan : Plan) (files : NamedFiles) → files_after plan files 0 ≡ files
 at_start (answers status text) files = refl
 at_start (needs name limit next) files = refl
 at_start (sets name content next) files = refl
 
 -- the first call of a plan that needs a name leaves the files, whatever was loaded
-after_load : (name : List ℕ) (limit : ℕ) (next : List ℕ → Plan) (files : Files) → files_after (needs name limit next) files 1 ≡ files
+after_load : (name : List ℕ) (limit : ℕ) (next : List ℕ → Plan) (files : NamedFiles) → files_after (needs name limit next) files 1 ≡ files
 after_load name limit next files =
     elim (loaded files name limit) as (λ l. follow l (λ c. files_after (next c) files 0) (λ _. files) name ≡ files) [
       | content.Bytes c ↦ at_start (next c) files
@@ -49,7 +49,7 @@ after_load name limit next files =
     ]
 
 -- all calls lead to the outcome's files
-at_end : (plan : Plan) (files : Files) → files_after plan files (length (asked plan files)) ≡ (outcome plan files).files
+at_end : (plan : Plan) (files : NamedFiles) → files_after plan files (length (asked plan files)) ≡ (outcome plan files).files
 at_end (answers status text) files = refl
 at_end (needs name limit next) files =
     elim (loaded files name limit) as (λ l.

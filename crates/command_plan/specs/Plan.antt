@@ -6,7 +6,7 @@ use Rattle.ddc_base.specs.declared.outside.Loaded.{Loaded}
 use Rattle.ddc_base.specs.declared.outside.Loaded.TheVariants.{Bytes, Absent, TooLong}
 use Rattle.ddc_base.specs.declared.outside.Call.{Call}
 use Rattle.ddc_base.specs.declared.outside.Call.TheVariants.{Load, Save}
-use Rattle.ddc_base.specs.Outside.{Files, loaded}
+use Rattle.ddc_base.specs.Outside.{NamedFiles, loaded}
 use Rattle.command_plan.specs.declared.status.Status.{Status}
 use Rattle.command_plan.specs.declared.status.Status.TheVariants.{FileRefused}
 use Rattle.command_plan.specs.Texts.{absent_line, too_long_line}
@@ -34,7 +34,7 @@ unless_refused (Err refusal) refuse next = refuse refusal
 pub record Outcome : Type 0 where
   pub status : Status
   pub text : List ℕ
-  pub files : Files
+  pub files : NamedFiles
 
 -- what follows what was loaded of a name: a content leads on, its lack is refused
 abbrev pub follow : {A : Type 0} → Loaded → (List ℕ → A) → (List ℕ → A) → List ℕ → A
@@ -43,20 +43,20 @@ follow Absent next refuse name = refuse (absent_line name)
 follow TooLong next refuse name = refuse (too_long_line name)
 
 -- the outcome of a plan over the files that are held
-abbrev pub outcome : Plan → Files → Outcome
+abbrev pub outcome : Plan → NamedFiles → Outcome
 outcome (answers status text) files = record { status = status; text = text; files = files }
 outcome (needs name limit next) files =
     follow (loaded files name limit) (λ content. outcome (next content) files) (λ text. record { status = FileRefused; text = text; files = files }) name
 outcome (sets name content next) files = outcome next (map.insert files name content)
 
 -- the calls of a shelf that the plan asks for, in order
-abbrev pub asked : Plan → Files → List Call
+abbrev pub asked : Plan → NamedFiles → List Call
 asked (answers status text) files = []
 asked (needs name limit next) files = Load name limit ∷ follow (loaded files name limit) (λ content. asked (next content) files) (λ _. []) name
 asked (sets name content next) files = Save name content ∷ asked next (map.insert files name content)
 
 -- the files after the first so many of these calls
-abbrev pub files_after : Plan → Files → ℕ → Files
+abbrev pub files_after : Plan → NamedFiles → ℕ → NamedFiles
 files_after (answers status text) files count = files
 files_after (needs name limit next) files zero = files
 files_after (needs name limit next) files (suc count) = follow (loaded files name limit) (λ content. files_after (next content) files count) (λ _. files) name

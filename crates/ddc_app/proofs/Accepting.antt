@@ -2,7 +2,7 @@
 use Rattle.std.proofs.Common.{◌≡◌, ℕ, Bool, true, false, cond, IsTrue, Some, None, Ok, List, refl, sym, ap, ◌∙◌, subst}
 use Rattle.std.specs.FinMap as finite
 use Rattle.ddc_base.specs.declared.outside.Loaded.TheVariants.{Bytes}
-use Rattle.ddc_base.specs.Outside.{Files, loaded}
+use Rattle.ddc_base.specs.Outside.{NamedFiles, loaded}
 use Rattle.recipe.specs.Reading.{recipe_of}
 use Rattle.recipe.specs.declared.contents.Said.{Said}
 use Rattle.report.specs.declared.types.Report.{Report}
@@ -26,7 +26,7 @@ use Rattle.recipe_plan.specs.Recipes.{is_input, needs_apart, needs_inputs}
 use Rattle.recipe_plan.specs.Reports.{needs_report}
 use Rattle.recipe_plan.specs.Texts.{report_line}
 use Rattle.audit_commands.specs.Audit.{audit_files, audited, completed}
-use Rattle.verify_command.specs.Verify.{judged, verified, verify_files}
+use Rattle.verify_command.specs.Verify.{judged_report, verified, verify_files}
 use Rattle.ddc_app.specs.Accepting.{HoldBytes, audit, is_compared, verify}
 use Rattle.ddc_app.proofs.Loads.{follows, is_loaded, set_held, two_apart}
 use Rattle.ddc_app.proofs.Openings.{Holds, apart_opens, are_inputs, holds_again, inputs_open, is_recipe, recipe_opens}
@@ -34,7 +34,7 @@ use Rattle.ddc_app.proofs.Walks.{IsRefusal, both_need_apart, both_need_inputs, b
 
 -- ---- an audit that comes to a comparison
 
-record Went (recipe report : List ℕ) (files : Files) (answer : Outcome) : Type 0 where
+record Went (recipe report : List ℕ) (files : NamedFiles) (answer : Outcome) : Type 0 where
   said : Said
   inputs : List (List ℕ)
   holds : Holds recipe said inputs files
@@ -43,7 +43,7 @@ record Went (recipe report : List ℕ) (files : Files) (answer : Outcome) : Type
   comes : bench said inputs ≡ Completes made
   leads : answer ≡ outcome (completed report made) files
 
-module _ (recipe report : List ℕ) (files : Files) where
+module _ (recipe report : List ℕ) (files : NamedFiles) where
   abbrev Goes : Outcome → Outcome → Type 0
   Goes answer _ = IsTrue (is_compared answer.status) → Went recipe report files answer
 
@@ -77,7 +77,7 @@ module _ (recipe report : List ℕ) (files : Files) where
 -- ---- a replay of its report
 
 -- files that hold a recipe, its inputs and the bench's report
-pub record Replays (recipe report : List ℕ) (files : Files) : Type 0 where
+pub record Replays (recipe report : List ℕ) (files : NamedFiles) : Type 0 where
   pub two : are_two_files recipe report ≡ true
   pub said : Said
   pub inputs : List (List ℕ)
@@ -88,12 +88,12 @@ pub record Replays (recipe report : List ℕ) (files : Files) : Type 0 where
   pub comes : bench said inputs ≡ Completes made
   pub report_held : finite.get files report ≡ Some (report_text made)
 
-module _ (recipe report : List ℕ) (files : Files) (r : Replays recipe report files) where
+module _ (recipe report : List ℕ) (files : NamedFiles) (r : Replays recipe report files) where
   is_report : IsReport r.made
   is_report = bench-report r.said r.inputs r.made (rules r.said (is_recipe recipe r.said r.inputs files r.holds)) r.given r.comes
 
   -- the same loads lead to its verdict
-  pub judges : verify recipe report files ≡ outcome (judged r.said r.made.compare None) files
+  pub judges : verify recipe report files ≡ outcome (judged_report r.said r.made.compare None) files
   unfolding verify_files
   judges =
       let last : Report → Plan = λ made. needs_inputs r.said (λ inputs. verified r.said inputs made) in
@@ -106,15 +106,15 @@ module _ (recipe report : List ℕ) (files : Files) (r : Replays recipe report f
       (is_loaded files report (report_text r.made) 1_073_741_824 r.report_held (short r.made is_report))
       ∙ ap (λ reading. outcome (unless_refused reading refuse last) files) (read_text (report_text r.made) r.made is_report refl)
       ∙ inputs_open recipe r.said r.inputs files r.holds (λ inputs. verified r.said inputs r.made)
-      ∙ ap (λ fault. outcome (judged r.said r.made.compare fault) files) (none-fault r.said r.inputs r.made r.given.count r.comes)
+      ∙ ap (λ fault. outcome (judged_report r.said r.made.compare fault) files) (none-fault r.said r.inputs r.made r.given.count r.comes)
 
-pub accepts : (recipe report : List ℕ) (files : Files) → HoldBytes files → IsTrue (is_compared (audit recipe report files).status)
+pub accepts : (recipe report : List ℕ) (files : NamedFiles) → HoldBytes files → IsTrue (is_compared (audit recipe report files).status)
     → (verify recipe report (audit recipe report files).files).status ≡ (audit recipe report files).status
 unfolding completed
 accepts recipe report files bytes compared =
     let (two, w) = went recipe report files (are_two_files recipe report) compared in
     let text : List ℕ = report_text w.made in
-    let after : Files = finite.insert files report text in
+    let after : NamedFiles = finite.insert files report text in
     let r : Replays recipe report after = record {
       two = two;
       said = w.said;

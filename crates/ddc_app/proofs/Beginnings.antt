@@ -2,7 +2,7 @@
 use Rattle.std.proofs.Common.{◌≡◌, ℕ, true, false, cond, IsTrue, ◌&&◌, ◌⊎◌, inl, inr, Ok, List, decimal, refl, sym, ap, ◌∙◌, subst}
 use Rattle.std.proofs.lemmas.Bool.{and_parts}
 use Rattle.ddc_base.specs.declared.outside.Loaded.TheVariants.{Bytes}
-use Rattle.ddc_base.specs.Outside.{Files, loaded}
+use Rattle.ddc_base.specs.Outside.{NamedFiles, loaded}
 use Rattle.recipe.proofs.Keeps.{reads_keep}
 use Rattle.recipe.specs.Kept.{IsRecipe}
 use Rattle.recipe.specs.Reading.{recipe_of}
@@ -16,7 +16,7 @@ use Rattle.recipe_plan.specs.Recipes.{is_input, needs_apart, needs_inputs}
 use Rattle.audit_commands.specs.Audit.{audit_files, audited}
 use Rattle.audit_commands.specs.Pause.{are_three_files, came_to, part_files}
 use Rattle.ddc_app.specs.Accepting.{audit}
-use Rattle.ddc_app.specs.Pausing.{AreWords, IsCount, part}
+use Rattle.ddc_app.specs.Pausing.{AreWords, IsStepCount, part}
 use Rattle.ddc_app.proofs.CountWords.{count-again}
 use Rattle.ddc_app.proofs.Loads.{two_apart}
 use Rattle.ddc_app.proofs.Openings.{Holds, apart_opens}
@@ -45,7 +45,7 @@ three_apart recipe save report three =
     }
 
 -- the words of either command lead to its plan
-pub with_words : (recipe save report : List ℕ) (steps : ℕ) (next : ℕ → Plan) (files : Files) → IsTrue (are_three_files recipe save report) → IsCount steps
+pub with_words : (recipe save report : List ℕ) (steps : ℕ) (next : ℕ → Plan) (files : NamedFiles) → IsTrue (are_three_files recipe save report) → IsStepCount steps
     → outcome (or_usage (as_steps (decimal steps)) (λ count. cond (are_three_files recipe save report) (next count) usage)) files ≡ outcome (next steps) files
 with_words recipe save report steps next files three count =
     ap (λ n. outcome (or_usage n (λ count. cond (are_three_files recipe save report) (next count) usage)) files) (count-again steps count)
@@ -66,13 +66,13 @@ pub record Refused (piece whole : Outcome) : Type 0 where
   pub same : piece ≡ whole
   pub refusal : IsRefusal piece.status
 
-pub record Begun (recipe save report : List ℕ) (files : Files) (steps : ℕ) (piece whole : Outcome) : Type 0 where
+pub record Begun (recipe save report : List ℕ) (files : NamedFiles) (steps : ℕ) (piece whole : Outcome) : Type 0 where
   pub c : Case recipe save report
   pub holds : Holds recipe c.said c.inputs files
   pub comes : piece ≡ outcome (came_to c.said c.inputs save report (position c.said c.inputs steps)) files
   pub answers : whole ≡ outcome (audited c.said report (bench c.said c.inputs)) files
 
-module _ (recipe save report : List ℕ) (steps : ℕ) (files : Files) where
+module _ (recipe save report : List ℕ) (steps : ℕ) (files : NamedFiles) where
   abbrev pub Begins : Outcome → Outcome → Type 0
   Begins piece whole = Refused piece whole ⊎ Begun recipe save report files steps piece whole
 
@@ -107,7 +107,7 @@ module _ (recipe save report : List ℕ) (steps : ℕ) (files : Files) where
       (λ bytes said held reads. both_need_apart Begins files refused said report (λ _. needs_apart said save (λ _. needs_inputs said (piece_from said)))
       (λ _. needs_inputs said (whole_from said)) (λ no_report. begins_apart words bytes said held reads no_report))
 
-  pub begins : AreWords recipe save report files → IsCount steps → Begins (part recipe save report steps files) (audit recipe report files)
+  pub begins : AreWords recipe save report files → IsStepCount steps → Begins (part recipe save report steps files) (audit recipe report files)
   begins words count =
       let two : outcome (cond (are_two_files recipe report) (audit_files recipe report) usage) files ≡ outcome (audit_files recipe report) files =
       ap (λ two. outcome (cond two (audit_files recipe report) usage) files) (three_apart recipe save report words.three).two in

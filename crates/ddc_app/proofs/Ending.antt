@@ -12,7 +12,7 @@ use Rattle.command_plan.specs.Endings.{Completes}
 use Rattle.command_plan.specs.Performs.{Answers, Faults, WantsMemory, Performs}
 use Rattle.command_plan.proofs.Performing.{stops_complete}
 use Rattle.ddc_app.specs.Run.{TakesOne, NamesFault, LosesText}
-use Rattle.ddc_app.specs.Inside.Concluding.{PutEnds, Concludes}
+use Rattle.ddc_app.specs.Inside.Concluding.{PutEnds, SaysEnding}
 
 -- the five ways in which the top call ends: an answer or a fault that was said, either of them lost in the put, or want of memory
 pub data Ends (plan : Plan) (old new : ShelfState) (before after : SinkState) (result : Status) : Type 0 where
@@ -41,7 +41,7 @@ module _ (plan : Plan) (old new : ShelfState) (before after : SinkState) (result
     ]
   ]
 
-  pub ends : (ending : Result Answer Stop) → Performs plan old new ending → Concludes before ending after result → Ends plan old new before after result
+  pub ends : (ending : Result Answer Stop) → Performs plan old new ending → SaysEnding before ending after result → Ends plan old new before after result
   ends (Ok answer) p c = answer_ends answer p.by_result c.by_ending
   ends (Err (stop.Answered answer)) p c = answer_ends answer p.by_result c.by_ending
   ends (Err (stop.ShelfFault text)) p c = fault_ends text p.by_result c.by_ending

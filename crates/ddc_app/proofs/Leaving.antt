@@ -1,79 +1,181 @@
--- Neither command of an audit in pieces changes a name but that of its save and that of its report.
-use Rattle.std.proofs.Common.{◌≡◌, ◌≢◌, ℕ, Bool, true, false, cond, Option, Some, None, List, decimal, refl}
+-- What the commands of an audit in pieces leave as it was: every name but that of the save and that of the report, and of these two the one that is
+-- not written.
+use Rattle.std.proofs.Common.{◌≡◌, ◌≢◌, ℕ, Bool, true, false, cond, IsTrue, Option, Some, None, List, [], ◌∷◌, decimal, refl, sym, ap, ◌∙◌}
 use Rattle.std.specs.FinMap as finite
-use Rattle.ddc_base.specs.Outside.{Files}
+use Rattle.ddc_base.specs.Outside.{NamedFiles}
 use Rattle.ddc_base.proofs.StoredFiles.{others-insert}
 use Rattle.recipe.specs.declared.contents.Said.{Said}
 use Rattle.report.specs.Reports.{report_text}
-use Rattle.save_text.specs.Spelled.{text_of}
+use Rattle.report.specs.declared.types.Compared.{Compared}
+use Rattle.save_text.specs.Spelled.{text_of_save}
 use Rattle.audit_run.specs.Save.Saves.{save_of}
 use Rattle.wheeler.specs.Positions.{Position, Standing, On, Over, forward, position}
 use Rattle.wheeler.specs.declared.answer.Answer.TheVariants.{Completes, Fails}
 use Rattle.wheeler.specs.declared.answer.Fault.TheVariants.{Runs, Checks}
 use Rattle.command_plan.specs.declared.status.Status.{Status}
-use Rattle.command_plan.specs.declared.status.Status.TheVariants.{SaveRefused}
+use Rattle.command_plan.specs.declared.status.Status.TheVariants.{Paused, SaveRefused, Usage}
 use Rattle.command_plan.specs.Plan.{Plan, Outcome, needs, outcome}
+use Rattle.command_plan.specs.Texts.{usage_line}
 use Rattle.command_plan.specs.Words.{as_steps, or_usage, usage}
 use Rattle.recipe_plan.specs.Recipes.{needs_apart, needs_inputs, needs_recipe}
+use Rattle.recipe_plan.specs.Reports.{compared_status}
 use Rattle.audit_commands.specs.Audit.{completed}
 use Rattle.audit_commands.specs.Pause.{are_three_files, came_to, needs_position, part_files, paused, read_as, resume_files}
-use Rattle.audit_commands.specs.PauseTexts.{refused_line}
-use Rattle.ddc_app.specs.Pausing.{part, resume}
+use Rattle.audit_commands.specs.PauseTexts.{save_refused_line}
+use Rattle.ddc_app.specs.Pausing.{LeavesOthers, LeavesUnwritten, in_pieces, is_paused, part, resume, resumed_in_turn}
+use Rattle.ddc_app.proofs.Beginnings.{three_apart}
+use Rattle.ddc_app.proofs.Loads.{not_equal}
+use Rattle.ddc_app.proofs.Pieces.{never_paused}
 use Rattle.ddc_app.proofs.Walks.{IsRefusal, both_need, both_need_apart, both_need_inputs, both_need_recipe, both_read, told}
 
-module _ (recipe save report : List ℕ) (steps : ℕ) (files : Files) (name : List ℕ) (no_save : name ≢ save) (no_report : name ≢ report) where
-  -- the name is as it was; the second outcome serves walks of two plans
-  abbrev Stays : Outcome → Outcome → Type 0
-  Stays o _ = finite.get o.files name ≡ finite.get files name
+-- ---- what holds of every answer that writes nothing, and of every place to which the audit comes, holds of both commands
 
-  refused : (status : Status) (text : List ℕ) → IsRefusal status → Stays (told files status text) (told files status text)
-  refused status text refusal = refl
+module _ (recipe save report : List ℕ) (files : NamedFiles) (P : Outcome → Type 0) (unwritten : (status : Status) (text : List ℕ) → P (told files status text)) where
+  -- the second outcome serves walks of two plans
+  abbrev First : Outcome → Outcome → Type 0
+  First o _ = P o
+
+  refused : (status : Status) (text : List ℕ) → IsRefusal status → First (told files status text) (told files status text)
+  refused status text refusal = unwritten status text
 
   abbrev Keeps : Plan → Type 0
-  Keeps plan = Stays (outcome plan files) (outcome plan files)
+  Keeps plan = P (outcome plan files)
 
-  came : (said : Said) (inputs : List (List ℕ)) (stands : Standing) → Keeps (came_to said inputs save report stands)
-  unfolding paused completed
-  came said inputs (On p) = (others-insert files save (text_of (save_of said inputs p))).others name no_save
-  came said inputs (Over (Completes made)) = (others-insert files report (report_text made)).others name no_report
-  came said inputs (Over (Fails number (Runs cause step))) = refl
-  came said inputs (Over (Fails number (Checks cause))) = refl
-
-  worded : (next : ℕ → Plan) → ((n : ℕ) → Keeps (next n)) → (three : Bool) (word : Option ℕ) → Keeps (or_usage word (λ n. cond three (next n) usage))
-  worded next keeps three None = refl
-  worded next keeps false (Some n) = refl
-  worded next keeps true (Some n) = keeps n
+  abbrev Comes : Type 0
+  Comes = (said : Said) (inputs : List (List ℕ)) (stands : Standing) → Keeps (came_to said inputs save report stands)
 
   recipe_keeps : (next : Said → Plan) → ((said : Said) → Keeps (next said)) → Keeps (needs_recipe recipe next)
-  recipe_keeps next keeps = both_need_recipe Stays files refused recipe next next (λ bytes said held reads. keeps said)
+  recipe_keeps next keeps = both_need_recipe First files refused recipe next next (λ bytes said held reads. keeps said)
 
   apart_keeps : (said : Said) (file : List ℕ) (next : Unit {0} → Plan) → Keeps (next tt) → Keeps (needs_apart said file next)
-  apart_keeps said file next keeps = both_need_apart Stays files refused said file next next (λ apart. keeps)
+  apart_keeps said file next keeps = both_need_apart First files refused said file next next (λ apart. keeps)
 
   inputs_keep : (said : Said) (next : List (List ℕ) → Plan) → ((inputs : List (List ℕ)) → Keeps (next inputs)) → Keeps (needs_inputs said next)
-  inputs_keep said next keeps = both_need_inputs Stays files refused said next next (λ inputs held. keeps inputs)
+  inputs_keep said next keeps = both_need_inputs First files refused said next next (λ inputs held. keeps inputs)
 
   load_keeps : (next : List ℕ → Plan) → ((text : List ℕ) → Keeps (next text)) → Keeps (needs save 4_294_967_296 next)
-  load_keeps next keeps = both_need Stays files refused save 4_294_967_296 next next (λ text held. keeps text)
+  load_keeps next keeps = both_need First files refused save 4_294_967_296 next next (λ text held. keeps text)
 
   position_keeps : (said : Said) (inputs : List (List ℕ)) (text : List ℕ) (next : Position → Plan) → ((p : Position) → Keeps (next p)) → Keeps (needs_position said inputs text next)
-  position_keeps said inputs text next keeps = both_read Stays files refused (read_as said inputs text) SaveRefused refused_line next next (refl, refl) (λ p reads. keeps p)
+  position_keeps said inputs text next keeps = both_read First files refused (read_as said inputs text) SaveRefused save_refused_line next next (refl, refl) (λ p reads. keeps p)
 
-  part_keeps : (n : ℕ) → Keeps (part_files recipe save report n)
+  part_keeps : Comes → (n : ℕ) → Keeps (part_files recipe save report n)
   unfolding part_files
-  part_keeps n = recipe_keeps _ (λ said. apart_keeps said report _ (apart_keeps said save _ (inputs_keep said _ (λ inputs. came said inputs (position said inputs n)))))
+  part_keeps came n = recipe_keeps _ (λ said. apart_keeps said report _ (apart_keeps said save _ (inputs_keep said _ (λ inputs. came said inputs (position said inputs n)))))
 
-  resume_keeps : (n : ℕ) → Keeps (resume_files recipe save report n)
+  resume_keeps : Comes → (n : ℕ) → Keeps (resume_files recipe save report n)
   unfolding resume_files
-  resume_keeps n = recipe_keeps _ (λ said.
-      let last : List (List ℕ) → Position → Plan = λ inputs p. came_to said inputs save report (forward said inputs p n) in
-      let at : List ℕ → List (List ℕ) → Plan = λ text inputs. needs_position said inputs text (last inputs) in
-      let loads : List ℕ → Plan = λ text. needs_inputs said (at text) in
-      apart_keeps said report _ (apart_keeps said save (λ _. needs save 4_294_967_296 loads)
-      (load_keeps loads (λ text. inputs_keep said (at text) (λ inputs. position_keeps said inputs text (last inputs) (λ p. came said inputs (forward said inputs p n)))))))
+  resume_keeps came n =
+      let last : Said → List (List ℕ) → Position → Plan = λ said inputs p. came_to said inputs save report (forward said inputs p n) in
+      let placed : Said → List ℕ → List (List ℕ) → Plan = λ said text inputs. needs_position said inputs text (last said inputs) in
+      let found : Said → List ℕ → Plan = λ said text. needs_inputs said (placed said text) in
+      recipe_keeps _ (λ said. apart_keeps said report _ (apart_keeps said save _ (load_keeps (found said) (λ text. inputs_keep said (placed said text) (λ inputs.
+      position_keeps said inputs text (last said inputs) (λ p. came said inputs (forward said inputs p n)))))))
 
-  pub part_stays : finite.get (part recipe save report steps files).files name ≡ finite.get files name
-  part_stays = worded (part_files recipe save report) part_keeps (are_three_files recipe save report) (as_steps (decimal steps))
+  worded : (next : ℕ → Plan) (word : Option ℕ) (three : Bool) → are_three_files recipe save report ≡ three → (IsTrue (are_three_files recipe save report) → (n : ℕ) → Keeps (next n))
+      → Keeps (or_usage word (λ n. cond three (next n) usage))
+  worded next None three is keeps = unwritten Usage usage_line
+  worded next (Some n) false is keeps = unwritten Usage usage_line
+  worded next (Some n) true is keeps = keeps is n
 
-  pub resume_stays : finite.get (resume recipe save report steps files).files name ≡ finite.get files name
-  resume_stays = worded (resume_files recipe save report) resume_keeps (are_three_files recipe save report) (as_steps (decimal steps))
+  part_leaves : (IsTrue (are_three_files recipe save report) → Comes) → (steps : ℕ) → P (part recipe save report steps files)
+  part_leaves came steps =
+      worded (part_files recipe save report) (as_steps (decimal steps)) (are_three_files recipe save report) refl (λ three. part_keeps (came three))
+
+  resume_leaves : (IsTrue (are_three_files recipe save report) → Comes) → (steps : ℕ) → P (resume recipe save report steps files)
+  resume_leaves came steps =
+      worded (resume_files recipe save report) (as_steps (decimal steps)) (are_three_files recipe save report) refl (λ three. resume_keeps (came three))
+
+-- ---- other names
+
+module _ (recipe save report : List ℕ) (files : NamedFiles) (name : List ℕ) (no_save : name ≢ save) (no_report : name ≢ report) where
+  abbrev Stays : Outcome → Type 0
+  Stays o = finite.get o.files name ≡ finite.get files name
+
+  stays : (said : Said) (inputs : List (List ℕ)) (stands : Standing) → Stays (outcome (came_to said inputs save report stands) files)
+  unfolding paused completed
+  stays said inputs (On p) = (others-insert files save (text_of_save (save_of said inputs p))).others name no_save
+  stays said inputs (Over (Completes made)) = (others-insert files report (report_text made)).others name no_report
+  stays said inputs (Over (Fails number (Runs cause step))) = refl
+  stays said inputs (Over (Fails number (Checks cause))) = refl
+
+pub part_stays : (recipe save report : List ℕ) (steps : ℕ) (files : NamedFiles) → LeavesOthers save report files (part recipe save report steps files)
+part_stays recipe save report steps files name no_save no_report =
+    part_leaves recipe save report files (Stays recipe save report files name no_save no_report) (λ status text. refl)
+    (λ three. stays recipe save report files name no_save no_report) steps
+
+pub resume_stays : (recipe save report : List ℕ) (steps : ℕ) (files : NamedFiles) → LeavesOthers save report files (resume recipe save report steps files)
+resume_stays recipe save report steps files name no_save no_report =
+    resume_leaves recipe save report files (Stays recipe save report files name no_save no_report) (λ status text. refl)
+    (λ three. stays recipe save report files name no_save no_report) steps
+
+resumed_stay : (recipe save report : List ℕ) (files : NamedFiles) (counts : List ℕ) (piece : Outcome) → LeavesOthers save report files piece
+    → LeavesOthers save report files (resumed_in_turn recipe save report piece counts)
+resumed_stay recipe save report files [] piece leaves = leaves
+resumed_stay recipe save report files (steps ∷ counts) piece leaves =
+    by (is_paused piece.status) (resumed_stay recipe save report files counts (resume recipe save report steps piece.files)
+    (λ name no_save no_report. resume_stays recipe save report steps piece.files name no_save no_report ∙ leaves name no_save no_report)) where
+      by : (b : Bool) → LeavesOthers save report files (resumed_in_turn recipe save report (resume recipe save report steps piece.files) counts)
+          → LeavesOthers save report files (cond b (resumed_in_turn recipe save report (resume recipe save report steps piece.files) counts) piece)
+      by true later = later
+      by false later = leaves
+
+pub pieces_stay : (recipe save report : List ℕ) (steps : ℕ) (counts : List ℕ) (files : NamedFiles) → LeavesOthers save report files (in_pieces recipe save report steps counts files)
+pieces_stay recipe save report steps counts files =
+    resumed_stay recipe save report files counts (part recipe save report steps files) (part_stays recipe save report steps files)
+
+-- ---- the one that is not written
+
+no_pause : (line : Compared) → compared_status line ≢ Paused
+no_pause line = λ is. let both : false ≡ true = sym (never_paused line) ∙ ap is_paused is in absurd cc
+
+module _ (recipe save report : List ℕ) (files : NamedFiles) where
+  unwritten : (status : Status) (text : List ℕ) → LeavesUnwritten save report files (told files status text)
+  unwritten status text = record { report_stays = λ _. refl; save_stays = λ _. refl }
+
+  comes : IsTrue (are_three_files recipe save report) → (said : Said) (inputs : List (List ℕ)) (stands : Standing)
+      → LeavesUnwritten save report files (outcome (came_to said inputs save report stands) files)
+  unfolding paused completed
+  comes three said inputs (On p) =
+      let apart = not_equal save report (three_apart recipe save report three).save_report in
+      record {
+        report_stays = λ _. (others-insert files save (text_of_save (save_of said inputs p))).others report (λ same. apart (sym same));
+        save_stays = λ no. absurd (no refl);
+      }
+  comes three said inputs (Over (Completes made)) =
+      let apart = not_equal save report (three_apart recipe save report three).save_report in
+      record {
+        report_stays = λ is. absurd (no_pause made.compare.result is);
+        save_stays = λ _. (others-insert files report (report_text made)).others save apart;
+      }
+  comes three said inputs (Over (Fails number (Runs cause step))) = record { report_stays = λ _. refl; save_stays = λ _. refl }
+  comes three said inputs (Over (Fails number (Checks cause))) = record { report_stays = λ _. refl; save_stays = λ _. refl }
+
+  pub part_writes : (steps : ℕ) → LeavesUnwritten save report files (part recipe save report steps files)
+  part_writes steps = part_leaves recipe save report files (LeavesUnwritten save report files) unwritten comes steps
+
+  pub resume_writes : (steps : ℕ) → LeavesUnwritten save report files (resume recipe save report steps files)
+  resume_writes steps = resume_leaves recipe save report files (LeavesUnwritten save report files) unwritten comes steps
+
+is_pause : (status : Status) → is_paused status ≡ true → status ≡ Paused
+is_pause Paused is = refl
+is_pause _ is = absurd cc
+
+resumed_wait : (recipe save report : List ℕ) (files : NamedFiles) (counts : List ℕ) (piece : Outcome) → (piece.status ≡ Paused → finite.get piece.files report ≡ finite.get files report)
+    → (resumed_in_turn recipe save report piece counts).status ≡ Paused → finite.get (resumed_in_turn recipe save report piece counts).files report ≡ finite.get files report
+resumed_wait recipe save report files [] piece before = before
+resumed_wait recipe save report files (steps ∷ counts) piece before =
+    by (is_paused piece.status) refl (λ was. resumed_wait recipe save report files counts (resume recipe save report steps piece.files)
+    (λ again. (resume_writes recipe save report piece.files steps).report_stays again ∙ before was)) where
+      later : Outcome
+      later = resumed_in_turn recipe save report (resume recipe save report steps piece.files) counts
+
+      by : (b : Bool) → is_paused piece.status ≡ b → (piece.status ≡ Paused → later.status ≡ Paused → finite.get later.files report ≡ finite.get files report)
+          → (cond b later piece).status ≡ Paused → finite.get (cond b later piece).files report ≡ finite.get files report
+      by true is waits = waits (is_pause piece.status is)
+      by false is waits = before
+
+pub pieces_wait : (recipe save report : List ℕ) (steps : ℕ) (counts : List ℕ) (files : NamedFiles) → (in_pieces recipe save report steps counts files).status ≡ Paused
+    → finite.get (in_pieces recipe save report steps counts files).files report ≡ finite.get files report
+pieces_wait recipe save report steps counts files =
+    resumed_wait recipe save report files counts (part recipe save report steps files) (part_writes recipe save report files steps).report_stays

@@ -11,7 +11,7 @@ use Rattle.std.proofs.lemmas.List.Elements.{All-cons, All-nil}
 use Rattle.std.proofs.lemmas.Map.Text.{is_eq-slice_cmp}
 use Rattle.std.proofs.lemmas.Slice.Eq.{bytes_eq-Decides}
 use Rattle.ddc_base.specs.declared.outside.Loaded.TheVariants.{Bytes, TooLong}
-use Rattle.ddc_base.specs.Outside.{Files, loaded, loaded_of}
+use Rattle.ddc_base.specs.Outside.{NamedFiles, loaded, loaded_of}
 use Rattle.ddc_base.proofs.StoredFiles.{others-insert}
 use Rattle.mem_files.specs.Outputs.{IsContent}
 use Rattle.command_plan.specs.declared.status.Status.TheVariants.{FileRefused}
@@ -23,7 +23,7 @@ use Rattle.ddc_app.specs.Holding.{AreHeld}
 -- ---- one load
 
 -- what a plan comes to that needs what is held is what it goes on to
-pub follows : (name : List ℕ) (limit : ℕ) (next : List ℕ → Plan) (files : Files) (content : List ℕ) → loaded files name limit ≡ Bytes content
+pub follows : (name : List ℕ) (limit : ℕ) (next : List ℕ → Plan) (files : NamedFiles) (content : List ℕ) → loaded files name limit ≡ Bytes content
     → outcome (needs name limit next) files ≡ outcome (next content) files
 follows name limit next files content held =
     ap (λ l. follow l (λ c. outcome (next c) files) (λ text. record { status = FileRefused; text = text; files = files }) name) held
@@ -32,7 +32,7 @@ fits : (size limit : ℕ) → size < limit → nat_le size limit ≡ true
 fits size limit below = grind (arith, nat_tests)
 
 -- what is held below the limit is loaded
-pub is_loaded : (files : Files) (name content : List ℕ) (limit : ℕ) → finite.get files name ≡ Some content → length content < limit
+pub is_loaded : (files : NamedFiles) (name content : List ℕ) (limit : ℕ) → finite.get files name ≡ Some content → length content < limit
     → loaded files name limit ≡ Bytes content
 is_loaded files name content limit held below =
     ap (loaded_of limit) held ∙ ap (λ b. cond b (Bytes content) TooLong) (fits (length content) limit below)
@@ -51,12 +51,12 @@ unfolding is_one_file
 not_equal first second apart = λ same. let equal : is_one_file first second ≡ true = (bytes_eq-Decides (bare_name first) (bare_name second)).1 (ap bare_name same) in cc
 
 -- a name that was set is held, and others are as before
-pub set_held : (files : Files) (name content : List ℕ) → finite.get (finite.insert files name content) name ≡ Some content
+pub set_held : (files : NamedFiles) (name content : List ℕ) → finite.get (finite.insert files name content) name ≡ Some content
 set_held files name content =
     finite.get-insert nat_list_cmp_total files name content name
     ∙ ap (λ b. cond b (Some content) (finite.get files name)) (is_eq-slice_cmp name name ∙ (bytes_eq-Decides name name).1 refl)
 
-pub other_held : (files : Files) (name content other : List ℕ) (limit : ℕ) → is_one_file other name ≡ false
+pub other_held : (files : NamedFiles) (name content other : List ℕ) (limit : ℕ) → is_one_file other name ≡ false
     → loaded (finite.insert files name content) other limit ≡ loaded files other limit
 other_held files name content other limit apart = ap (loaded_of limit) ((others-insert files name content).others other (not_equal other name apart))
 
@@ -69,7 +69,7 @@ two_apart first second two = by (is_one_file first second) (and_parts (is_file_w
 
 -- ---- loads in a row
 
-pub follow_all : (most room : ℕ) (files : Files) (names contents : List (List ℕ)) (next : List (List ℕ) → Plan) → AreHeld most room files names contents
+pub follow_all : (most room : ℕ) (files : NamedFiles) (names contents : List (List ℕ)) (next : List (List ℕ) → Plan) → AreHeld most room files names contents
     → outcome (needs_all most room names next) files ≡ outcome (next contents) files
 follow_all most room files [] [] next held = refl
 follow_all most room files (name ∷ names) [] next held = absurd held
@@ -79,7 +79,7 @@ follow_all most room files (name ∷ names) (content ∷ contents) next held =
     ∙ follow_all most (room - length content) files names contents (λ contents. next (content ∷ contents)) held.1
 
 -- they are found again where none of them was set
-pub found_again : {A : Type 0} (most room : ℕ) (files : Files) (name content : List ℕ) (path : A → List ℕ) (values : List A) (contents : List (List ℕ))
+pub found_again : {A : Type 0} (most room : ℕ) (files : NamedFiles) (name content : List ℕ) (path : A → List ℕ) (values : List A) (contents : List (List ℕ))
     → list_any (λ value. is_one_file (path value) name) values ≡ false → AreHeld most room files (map path values) contents
     → AreHeld most room (finite.insert files name content) (map path values) contents
 found_again most room files name content path [] contents apart held = none contents held where
@@ -99,13 +99,13 @@ found_again most room files name content path (value ∷ values) (first ∷ cont
       by false is apart later = (other_held files name content (path value) (min most room) is ∙ held.0, later apart)
 
 -- as many contents as names, each small and of bytes
-pub as_many : (most room : ℕ) (files : Files) (names contents : List (List ℕ)) → AreHeld most room files names contents → length contents ≡ length names
+pub as_many : (most room : ℕ) (files : NamedFiles) (names contents : List (List ℕ)) → AreHeld most room files names contents → length contents ≡ length names
 as_many most room files [] [] held = refl
 as_many most room files (name ∷ names) [] held = absurd held
 as_many most room files [] (content ∷ contents) held = absurd held
 as_many most room files (name ∷ names) (content ∷ contents) held = omega (arith, as_many most (room - length content) files names contents held.1)
 
-pub are_contents : (room : ℕ) (files : Files) (names contents : List (List ℕ)) → HoldBytes files → AreHeld 268_435_456 room files names contents → All IsContent contents
+pub are_contents : (room : ℕ) (files : NamedFiles) (names contents : List (List ℕ)) → HoldBytes files → AreHeld 268_435_456 room files names contents → All IsContent contents
 are_contents room files names [] bytes held = All-nil IsContent
 are_contents room files [] (content ∷ contents) bytes held = absurd held
 are_contents room files (name ∷ names) (content ∷ contents) bytes held =

@@ -1,14 +1,14 @@
 -- A recipe and its inputs in files, and what a plan that needs them goes on to.
-use Rattle.std.proofs.Common.{◌≡◌, ℕ, Bool, false, cond, Result, Ok, Err, List, refl, ap, ◌∙◌, subst}
+use Rattle.std.proofs.Common.{◌≡◌, ℕ, Bool, false, cond, Ok, List, ap, ◌∙◌}
 use Rattle.std.specs.FinMap as finite
 use Rattle.std.proofs.lemmas.List.{length-map}
 use Rattle.ddc_base.specs.declared.outside.Loaded.TheVariants.{Bytes}
-use Rattle.ddc_base.specs.Outside.{Files, loaded}
+use Rattle.ddc_base.specs.Outside.{NamedFiles, loaded}
+use Rattle.recipe.specs.declared.text.refusal.RecipeRefusal.{RecipeRefusal as Refusal}
 use Rattle.recipe.specs.Kept.{IsRecipe}
 use Rattle.recipe.specs.Reading.{recipe_of}
 use Rattle.recipe.specs.declared.contents.Said.{Said}
 use Rattle.recipe.specs.declared.parts.Input.{Input}
-use Rattle.recipe.specs.declared.text.refusal.RecipeRefusal.{RecipeRefusal as Refusal}
 use Rattle.recipe.proofs.Keeps.{reads_keep}
 use Rattle.wheeler.specs.Valid.{IsInputs}
 use Rattle.command_plan.specs.declared.status.Status.TheVariants.{RecipeRefused}
@@ -21,19 +21,19 @@ use Rattle.ddc_app.specs.Holding.{AreHeld}
 use Rattle.ddc_app.proofs.Loads.{are_contents, as_many, follow_all, follows, found_again, other_held}
 
 -- a file that is none of the inputs, and one that is
-pub apart_opens : (said : Said) (file : List ℕ) (next : Unit {0} → Plan) (files : Files) (clash : Bool) → is_input said file ≡ clash
+pub apart_opens : (said : Said) (file : List ℕ) (next : Unit {0} → Plan) (files : NamedFiles) (clash : Bool) → is_input said file ≡ clash
     → outcome (needs_apart said file next) files ≡ outcome (cond clash usage (next tt)) files
 unfolding needs_apart
 apart_opens said file next files clash is = ap (λ c. outcome (cond c usage (next tt)) files) is
 
 -- the files hold a recipe that reads and its inputs
-pub record Holds (recipe : List ℕ) (said : Said) (inputs : List (List ℕ)) (files : Files) : Type 0 where
+pub record Holds (recipe : List ℕ) (said : Said) (inputs : List (List ℕ)) (files : NamedFiles) : Type 0 where
   pub bytes : List ℕ
   pub recipe_held : loaded files recipe 1_048_576 ≡ Bytes bytes
   pub reads : recipe_of bytes ≡ Ok said
   pub inputs_held : AreHeld 268_435_456 1_073_741_824 files (paths said) inputs
 
-module _ (recipe : List ℕ) (said : Said) (inputs : List (List ℕ)) (files : Files) (h : Holds recipe said inputs files) where
+module _ (recipe : List ℕ) (said : Said) (inputs : List (List ℕ)) (files : NamedFiles) (h : Holds recipe said inputs files) where
   pub recipe_opens : (next : Said → Plan) → outcome (needs_recipe recipe next) files ≡ outcome (next said) files
   recipe_opens next =
       let refuse : Refusal → Plan = λ refusal. answers RecipeRefused (recipe_line refusal) in

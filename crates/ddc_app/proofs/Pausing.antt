@@ -2,7 +2,7 @@
 use Rattle.std.proofs.Common.{◌≡◌, ℕ, ◌+◌, false, cond, IsTrue, ◌⊎◌, inl, inr, List, [], ◌∷◌, refl, sym, ap, ◌∙◌, subst, arith, All}
 use Rattle.std.specs.List.{fold, sum}
 use Rattle.std.proofs.lemmas.List.Elements.{All-head, All-tail}
-use Rattle.ddc_base.specs.Outside.{Files}
+use Rattle.ddc_base.specs.Outside.{NamedFiles}
 use Rattle.report.specs.Reports.{report_text}
 use Rattle.wheeler.specs.Bench.{bench}
 use Rattle.wheeler.specs.Positions.{position}
@@ -14,7 +14,7 @@ use Rattle.command_plan.specs.declared.status.Status.{Status}
 use Rattle.command_plan.specs.Plan.{Outcome, outcome}
 use Rattle.audit_commands.specs.Audit.{audited, completed}
 use Rattle.ddc_app.specs.Accepting.{HoldBytes, audit, is_compared, verify}
-use Rattle.ddc_app.specs.Pausing.{AreSame, AreWords, IsCount, Pieces, in_pieces, is_paused, part, resume, resumed}
+use Rattle.ddc_app.specs.Pausing.{AreSame, AreWords, IsStepCount, Pieces, in_pieces, is_paused, part, resume, resumed_in_turn}
 use Rattle.ddc_app.proofs.Accepting.{judges}
 use Rattle.ddc_app.proofs.Beginnings.{Begun, Case, Refused, begins}
 use Rattle.ddc_app.proofs.Loads.{set_held}
@@ -24,13 +24,13 @@ use Rattle.ddc_app.proofs.Resuming.{resumes_at}
 
 -- ---- the first piece
 
-first_settles : (recipe save report : List ℕ) (steps : ℕ) (files : Files) (piece whole : Outcome) (b : Begun recipe save report files steps piece whole)
+first_settles : (recipe save report : List ℕ) (steps : ℕ) (files : NamedFiles) (piece whole : Outcome) (b : Begun recipe save report files steps piece whole)
     → Settles recipe save report b.c files steps piece
 first_settles recipe save report steps files piece whole b =
     subst (Settles recipe save report b.c files steps) (sym b.comes)
     (settles recipe save report b.c files files b.holds refl steps (position b.c.said b.c.inputs steps) refl)
 
-pub parts : (recipe save report : List ℕ) (steps : ℕ) (files : Files) → AreWords recipe save report files → IsCount steps
+pub parts : (recipe save report : List ℕ) (steps : ℕ) (files : NamedFiles) → AreWords recipe save report files → IsStepCount steps
     → Pieces recipe save report files steps (part recipe save report steps files)
 parts recipe save report steps files words count = by (begins recipe save report steps files words count) where
   piece : Outcome
@@ -44,53 +44,53 @@ parts recipe save report steps files words count = by (begins recipe save report
 -- ---- the pieces after it
 
 -- an audit that is over is not resumed
-stays_over : (recipe save report : List ℕ) (piece : Outcome) (counts : List ℕ) → is_paused piece.status ≡ false → resumed recipe save report piece counts ≡ piece
+stays_over : (recipe save report : List ℕ) (piece : Outcome) (counts : List ℕ) → is_paused piece.status ≡ false → resumed_in_turn recipe save report piece counts ≡ piece
 stays_over recipe save report piece [] over = refl
 stays_over recipe save report piece (steps ∷ counts) over =
-    ap (λ b. cond b (resumed recipe save report (resume recipe save report steps piece.files) counts) piece) over
+    ap (λ b. cond b (resumed_in_turn recipe save report (resume recipe save report steps piece.files) counts) piece) over
 
-module _ (recipe save report : List ℕ) (c : Case recipe save report) (first : Files) (given : IsInputs c.said c.inputs) where
-  further : (counts : List ℕ) → All IsCount counts → (total : ℕ) (piece : Outcome) → Settles recipe save report c first total piece
-      → Settles recipe save report c first (fold (λ a x. a + x) total counts) (resumed recipe save report piece counts)
+module _ (recipe save report : List ℕ) (c : Case recipe save report) (first : NamedFiles) (given : IsInputs c.said c.inputs) where
+  further : (counts : List ℕ) → All IsStepCount counts → (total : ℕ) (piece : Outcome) → Settles recipe save report c first total piece
+      → Settles recipe save report c first (fold (λ a x. a + x) total counts) (resumed_in_turn recipe save report piece counts)
   further [] are total piece settled = settled
   further (steps ∷ counts) are total piece (inr e) =
       subst (Settles recipe save report c first (fold (λ a x. a + x) (total + steps) counts)) (sym (stays_over recipe save report piece (steps ∷ counts) e.not_paused)) (inr e)
   further (steps ∷ counts) are total piece (inl p) =
       let next : Outcome = resume recipe save report steps piece.files in
-      let counted = All-head IsCount steps counts are in
+      let counted = All-head IsStepCount steps counts are in
       let comes = resumes_at recipe save report c piece.files given p.holds total p.place p.stands p.save_held steps counted in
-      subst (λ (s : Status). Settles recipe save report c first (fold (λ a x. a + x) (total + steps) counts) (cond (is_paused s) (resumed recipe save report next counts) piece)) (sym p.status)
-      (further counts (All-tail IsCount steps counts are) (total + steps) next
+      subst (λ (s : Status). Settles recipe save report c first (fold (λ a x. a + x) (total + steps) counts) (cond (is_paused s) (resumed_in_turn recipe save report next counts) piece)) (sym p.status)
+      (further counts (All-tail IsStepCount steps counts are) (total + steps) next
       (subst (Settles recipe save report c first (total + steps)) (sym comes)
       (settles recipe save report c first piece.files p.holds p.same_report (total + steps) (position c.said c.inputs (total + steps)) refl)))
 
-all_settle : (recipe save report : List ℕ) (steps : ℕ) (counts : List ℕ) (files : Files) (piece whole : Outcome) → All IsCount (steps ∷ counts)
+all_settle : (recipe save report : List ℕ) (steps : ℕ) (counts : List ℕ) (files : NamedFiles) (piece whole : Outcome) → All IsStepCount (steps ∷ counts)
     → HoldBytes files → (b : Begun recipe save report files steps piece whole)
-    → Settles recipe save report b.c files (sum (steps ∷ counts)) (resumed recipe save report piece counts)
+    → Settles recipe save report b.c files (sum (steps ∷ counts)) (resumed_in_turn recipe save report piece counts)
 all_settle recipe save report steps counts files piece whole are bytes b =
     let none : steps ≡ 0 + steps = omega arith in
-    further recipe save report b.c files (are_inputs recipe b.c.said b.c.inputs files b.holds bytes) counts (All-tail IsCount steps counts are) (0 + steps) piece
+    further recipe save report b.c files (are_inputs recipe b.c.said b.c.inputs files b.holds bytes) counts (All-tail IsStepCount steps counts are) (0 + steps) piece
     (subst (λ n. Settles recipe save report b.c files n piece) none (first_settles recipe save report steps files piece whole b))
 
-pub same : (recipe save report : List ℕ) (steps : ℕ) (counts : List ℕ) (files : Files) → AreWords recipe save report files → All IsCount (steps ∷ counts) → HoldBytes files
+pub same : (recipe save report : List ℕ) (steps : ℕ) (counts : List ℕ) (files : NamedFiles) → AreWords recipe save report files → All IsStepCount (steps ∷ counts) → HoldBytes files
     → Pieces recipe save report files (sum (steps ∷ counts)) (in_pieces recipe save report steps counts files)
-same recipe save report steps counts files words are bytes = by (begins recipe save report steps files words (All-head IsCount steps counts are)) where
+same recipe save report steps counts files words are bytes = by (begins recipe save report steps files words (All-head IsStepCount steps counts are)) where
   piece : Outcome
   piece = part recipe save report steps files
 
   whole : Outcome
   whole = audit recipe report files
 
-  by : Refused piece whole ⊎ Begun recipe save report files steps piece whole → Pieces recipe save report files (sum (steps ∷ counts)) (resumed recipe save report piece counts)
-  by (inl r) = inr (alike report (resumed recipe save report piece counts) whole (stays_over recipe save report piece counts r.refusal.0 ∙ r.same))
+  by : Refused piece whole ⊎ Begun recipe save report files steps piece whole → Pieces recipe save report files (sum (steps ∷ counts)) (resumed_in_turn recipe save report piece counts)
+  by (inl r) = inr (alike report (resumed_in_turn recipe save report piece counts) whole (stays_over recipe save report piece counts r.refusal.0 ∙ r.same))
   by (inr b) =
-      piece_of recipe save report b.c files (sum (steps ∷ counts)) (resumed recipe save report piece counts) b.answers
+      piece_of recipe save report b.c files (sum (steps ∷ counts)) (resumed_in_turn recipe save report piece counts) b.answers
       (all_settle recipe save report steps counts files piece whole are bytes b)
 
 -- ---- its report
 
 -- a piece that compares leaves the bench's report
-compared : (recipe save report : List ℕ) (c : Case recipe save report) (first : Files) (piece : Outcome) → IsInputs c.said c.inputs → Ends recipe save report c first (bench c.said c.inputs) piece
+compared : (recipe save report : List ℕ) (c : Case recipe save report) (first : NamedFiles) (piece : Outcome) → IsInputs c.said c.inputs → Ends recipe save report c first (bench c.said c.inputs) piece
     → IsTrue (is_compared piece.status) → (verify recipe report piece.files).status ≡ piece.status
 unfolding completed
 compared recipe save report c first piece given e over = by (bench c.said c.inputs) refl e.same where
@@ -112,10 +112,10 @@ compared recipe save report c first piece given e over = by (bench c.said c.inpu
   by (Fails number (Runs cause step)) comes same = let never = sym (ap is_compared same.status) ∙ over in absurd cc
   by (Fails number (Checks cause)) comes same = let never = sym (ap is_compared same.status) ∙ over in absurd cc
 
-pub accepted : (recipe save report : List ℕ) (steps : ℕ) (counts : List ℕ) (files : Files) → AreWords recipe save report files → All IsCount (steps ∷ counts) → HoldBytes files
+pub accepted : (recipe save report : List ℕ) (steps : ℕ) (counts : List ℕ) (files : NamedFiles) → AreWords recipe save report files → All IsStepCount (steps ∷ counts) → HoldBytes files
     → IsTrue (is_compared (in_pieces recipe save report steps counts files).status)
     → (verify recipe report (in_pieces recipe save report steps counts files).files).status ≡ (in_pieces recipe save report steps counts files).status
-accepted recipe save report steps counts files words are bytes over = by (begins recipe save report steps files words (All-head IsCount steps counts are)) where
+accepted recipe save report steps counts files words are bytes over = by (begins recipe save report steps files words (All-head IsStepCount steps counts are)) where
   piece : Outcome
   piece = part recipe save report steps files
 
@@ -123,7 +123,7 @@ accepted recipe save report steps counts files words are bytes over = by (begins
   whole = audit recipe report files
 
   last : Outcome
-  last = resumed recipe save report piece counts
+  last = resumed_in_turn recipe save report piece counts
 
   settled : (b : Begun recipe save report files steps piece whole)
       → Settles recipe save report b.c files (sum (steps ∷ counts)) last → (verify recipe report last.files).status ≡ last.status

@@ -1,12 +1,12 @@
 -- What a piece of an audit comes to, over any files that hold the recipe and its inputs.
 use Rattle.std.proofs.Common.{◌≡◌, ℕ, false, ◌⊎◌, inl, inr, Some, List, refl, sym, ap, ◌∙◌, subst}
 use Rattle.std.specs.FinMap as finite
-use Rattle.ddc_base.specs.Outside.{Files}
+use Rattle.ddc_base.specs.Outside.{NamedFiles}
 use Rattle.ddc_base.proofs.StoredFiles.{others-insert}
 use Rattle.report.specs.Reports.{report_text}
 use Rattle.report.specs.declared.types.Compared.{Compared}
 use Rattle.report.specs.declared.types.Compared.TheVariants.{Equal, Differs}
-use Rattle.save_text.specs.Spelled.{text_of}
+use Rattle.save_text.specs.Spelled.{text_of_save}
 use Rattle.audit_run.specs.Save.Saves.{save_of}
 use Rattle.wheeler.specs.Bench.{bench}
 use Rattle.wheeler.specs.Positions.{Position, Standing, On, Over, finish, position}
@@ -29,33 +29,33 @@ use Rattle.ddc_app.proofs.Loads.{not_equal, set_held}
 use Rattle.ddc_app.proofs.Openings.{Holds, holds_again}
 
 -- a piece pauses behind so many steps
-pub record Pauses (recipe save report : List ℕ) (c : Case recipe save report) (first : Files) (total : ℕ) (piece : Outcome) : Type 0 where
+pub record Pauses (recipe save report : List ℕ) (c : Case recipe save report) (first : NamedFiles) (total : ℕ) (piece : Outcome) : Type 0 where
   pub status : piece.status ≡ Paused
   pub holds : Holds recipe c.said c.inputs piece.files
   pub same_report : finite.get piece.files report ≡ finite.get first report
   pub place : Position
   pub stands : position c.said c.inputs total ≡ On place
-  pub save_held : finite.get piece.files save ≡ Some (text_of (save_of c.said c.inputs place))
+  pub save_held : finite.get piece.files save ≡ Some (text_of_save (save_of c.said c.inputs place))
 
 -- a piece comes to an answer
-pub record Ends (recipe save report : List ℕ) (c : Case recipe save report) (first : Files) (answer : Answer) (piece : Outcome) : Type 0 where
+pub record Ends (recipe save report : List ℕ) (c : Case recipe save report) (first : NamedFiles) (answer : Answer) (piece : Outcome) : Type 0 where
   pub not_paused : is_paused piece.status ≡ false
   pub holds : Holds recipe c.said c.inputs piece.files
   pub same : AreSame report piece (outcome (audited c.said report answer) first)
 
-abbrev pub Settles : (recipe save report : List ℕ) → Case recipe save report → Files → ℕ → Outcome → Type 0
+abbrev pub Settles : (recipe save report : List ℕ) → Case recipe save report → NamedFiles → ℕ → Outcome → Type 0
 Settles recipe save report c first total piece =
     Pauses recipe save report c first total piece ⊎ Ends recipe save report c first (bench c.said c.inputs) piece
 
-never_paused : (result : Compared) → is_paused (compared_status result) ≡ false
+pub never_paused : (result : Compared) → is_paused (compared_status result) ≡ false
 never_paused (Equal size) = refl
 never_paused (Differs offset made given) = refl
 
-other_stays : (files : Files) (save report content : List ℕ) → is_one_file save report ≡ false → finite.get (finite.insert files save content) report ≡ finite.get files report
+other_stays : (files : NamedFiles) (save report content : List ℕ) → is_one_file save report ≡ false → finite.get (finite.insert files save content) report ≡ finite.get files report
 other_stays files save report content apart =
     (others-insert files save content).others report (λ same. not_equal save report apart (sym same))
 
-module _ (recipe save report : List ℕ) (c : Case recipe save report) (first now : Files) (h : Holds recipe c.said c.inputs now)
+module _ (recipe save report : List ℕ) (c : Case recipe save report) (first now : NamedFiles) (h : Holds recipe c.said c.inputs now)
     (same : finite.get now report ≡ finite.get first report) where
   ends : (answer : Answer) → Ends recipe save report c first answer (outcome (audited c.said report answer) now)
   unfolding completed
@@ -73,7 +73,7 @@ module _ (recipe save report : List ℕ) (c : Case recipe save report) (first no
       → Settles recipe save report c first total (outcome (came_to c.said c.inputs save report stands) now)
   unfolding paused
   settles total (On place) stands =
-      let text : List ℕ = text_of (save_of c.said c.inputs place) in
+      let text : List ℕ = text_of_save (save_of c.said c.inputs place) in
       inl (record {
         status = refl;
         holds = holds_again recipe c.said c.inputs now h save text c.words.recipe_save c.no_save;
@@ -93,7 +93,7 @@ alike report piece whole same =
     record { status = ap (λ (o : Outcome). o.status) same; text = ap (λ (o : Outcome). o.text) same; held = ap (λ (o : Outcome). finite.get o.files report) same }
 
 -- what was settled, in the words of the laws
-pub piece_of : (recipe save report : List ℕ) (c : Case recipe save report) (first : Files) (total : ℕ) (piece : Outcome)
+pub piece_of : (recipe save report : List ℕ) (c : Case recipe save report) (first : NamedFiles) (total : ℕ) (piece : Outcome)
     → audit recipe report first ≡ outcome (audited c.said report (bench c.said c.inputs)) first → Settles recipe save report c first total piece
     → Pieces recipe save report first total piece
 piece_of recipe save report c first total piece answers (inl p) =

@@ -1,10 +1,10 @@
 -- From the save of a position an audit goes on as it would have without a pause.
 use Rattle.std.proofs.Common.{◌≡◌, ◌≢◌, ℕ, ◌+◌, Bool, true, false, cond, IsTrue, inr, Some, Result, Ok, Err, List, refl, sym, ap, ◌∙◌, subst}
 use Rattle.std.specs.FinMap as finite
-use Rattle.ddc_base.specs.Outside.{Files}
+use Rattle.ddc_base.specs.Outside.{NamedFiles}
 use Rattle.recipe.specs.Kept.{IsRecipe}
 use Rattle.recipe.specs.declared.contents.Said.{Said}
-use Rattle.save_text.specs.Spelled.{text_of}
+use Rattle.save_text.specs.Spelled.{text_of_save}
 use Rattle.audit_run.specs.declared.save.reading.SaveRefusal.{SaveRefusal}
 use Rattle.audit_run.specs.declared.save.reading.SaveRefusal.TheVariants.{Form, OtherRecipe, State, OutOfMemory}
 use Rattle.audit_run.specs.Save.Saves.{IsResumedAs, save_of}
@@ -23,9 +23,9 @@ use Rattle.command_plan.specs.Words.{usage}
 use Rattle.recipe_plan.specs.Recipes.{is_input, needs_apart, needs_inputs}
 use Rattle.audit_commands.specs.Audit.{audit_files, audited}
 use Rattle.audit_commands.specs.Pause.{are_three_files, came_to, needs_position, read_as, resume_files}
-use Rattle.audit_commands.specs.PauseTexts.{refused_line}
+use Rattle.audit_commands.specs.PauseTexts.{save_refused_line}
 use Rattle.ddc_app.specs.Accepting.{HoldBytes, audit}
-use Rattle.ddc_app.specs.Pausing.{AreWords, IsCount, Pieces, StandsAt, resume}
+use Rattle.ddc_app.specs.Pausing.{AreWords, IsStepCount, Pieces, IsSavedAt, resume}
 use Rattle.ddc_app.proofs.Beginnings.{Case, three_apart, with_words}
 use Rattle.ddc_app.proofs.Loads.{follows, is_loaded}
 use Rattle.ddc_app.proofs.Openings.{Holds, apart_opens, are_inputs, inputs_open, is_recipe, recipe_opens}
@@ -40,11 +40,11 @@ is_place said inputs count p is given stands =
 
 -- the text of a position is read as it
 reads_again : (said : Said) (inputs : List (List ℕ)) (p : Position) → IsRecipe said → IsInputs said inputs → IsPosition said p
-    → read_as said inputs (text_of (save_of said inputs p)) ≡ Ok p
+    → read_as said inputs (text_of_save (save_of said inputs p)) ≡ Ok p
 unfolding read_as
 reads_again said inputs p is given place =
-    let a = answered said inputs (text_of (save_of said inputs p)) in
-    by a.result (is_only said inputs (text_of (save_of said inputs p)) a.result is given a.resumes p place refl) a.settled where
+    let a = answered said inputs (text_of_save (save_of said inputs p)) in
+    by a.result (is_only said inputs (text_of_save (save_of said inputs p)) a.result is given a.resumes p place refl) a.settled where
       by : (result : Result Position SaveRefusal) → IsResumedAs p result → result ≢ Err OutOfMemory → result ≡ Ok p
       by (Ok found) same settled = ap Ok same
       by (Err OutOfMemory) same settled = absurd (settled refl)
@@ -54,10 +54,10 @@ reads_again said inputs p is given place =
 
 -- ---- the words
 
-module _ (recipe save report : List ℕ) (files : Files) (three : IsTrue (are_three_files recipe save report)) (said : Said) (inputs : List (List ℕ))
+module _ (recipe save report : List ℕ) (files : NamedFiles) (three : IsTrue (are_three_files recipe save report)) (said : Said) (inputs : List (List ℕ))
     (h : Holds recipe said inputs files) (clash : Bool) (is : is_input said report ≡ clash) where
   -- both commands go on from the recipe, and end alike where the report is one of its inputs
-  pub resume_opens : (steps : ℕ) → IsCount steps
+  pub resume_opens : (steps : ℕ) → IsStepCount steps
       → resume recipe save report steps files ≡ outcome (cond clash usage (needs_apart said save (λ _. needs save 4_294_967_296 (λ text. needs_inputs said (λ contents.
       needs_position said contents text (λ p. came_to said contents save report (forward said contents p steps))))))) files
   unfolding resume_files
@@ -76,12 +76,12 @@ module _ (recipe save report : List ℕ) (files : Files) (three : IsTrue (are_th
 -- ---- the piece
 
 -- the save of the position behind so many steps leads on to the one behind more
-pub resumes_at : (recipe save report : List ℕ) (c : Case recipe save report) (files : Files) → IsInputs c.said c.inputs
+pub resumes_at : (recipe save report : List ℕ) (c : Case recipe save report) (files : NamedFiles) → IsInputs c.said c.inputs
     → Holds recipe c.said c.inputs files → (count : ℕ) (p : Position) → position c.said c.inputs count ≡ On p
-    → finite.get files save ≡ Some (text_of (save_of c.said c.inputs p)) → (steps : ℕ) → IsCount steps
+    → finite.get files save ≡ Some (text_of_save (save_of c.said c.inputs p)) → (steps : ℕ) → IsStepCount steps
     → resume recipe save report steps files ≡ outcome (came_to c.said c.inputs save report (position c.said c.inputs (count + steps))) files
 resumes_at recipe save report c files given h count p stands held steps counted =
-    let text : List ℕ = text_of (save_of c.said c.inputs p) in
+    let text : List ℕ = text_of_save (save_of c.said c.inputs p) in
     let place = is_place c.said c.inputs count p c.is given stands in
     let goes_on : forward c.said c.inputs p steps ≡ position c.said c.inputs (count + steps) =
     sym (ap (λ (o : Standing). forward_from c.said c.inputs o steps) stands)
@@ -89,7 +89,7 @@ resumes_at recipe save report c files given h count p stands held steps counted 
     let last : List (List ℕ) → Position → Plan = λ contents p. came_to c.said contents save report (forward c.said contents p steps) in
     let at : List ℕ → List (List ℕ) → Plan = λ text contents. needs_position c.said contents text (last contents) in
     let loads : List ℕ → Plan = λ text. needs_inputs c.said (at text) in
-    let refuse : SaveRefusal → Plan = λ refusal. answers SaveRefused (refused_line refusal) in
+    let refuse : SaveRefusal → Plan = λ refusal. answers SaveRefused (save_refused_line refusal) in
     resume_opens recipe save report files c.words.three c.said c.inputs h false c.no_report steps counted
     ∙ apart_opens c.said save (λ _. needs save 4_294_967_296 loads) files false c.no_save
     ∙ follows save 4_294_967_296 loads files text (is_loaded files save text 4_294_967_296 held (short c.said c.inputs p c.is given place))
@@ -97,8 +97,8 @@ resumes_at recipe save report c files given h count p stands held steps counted 
     ∙ ap (λ reading. outcome (unless_refused reading refuse (last c.inputs)) files) (reads_again c.said c.inputs p c.is given place)
     ∙ ap (λ o. outcome (came_to c.said c.inputs save report o) files) goes_on
 
-pub resumes : (recipe save report : List ℕ) (count steps : ℕ) (files : Files) → AreWords recipe save report files → IsCount steps → HoldBytes files
-    → StandsAt recipe save files count → Pieces recipe save report files (count + steps) (resume recipe save report steps files)
+pub resumes : (recipe save report : List ℕ) (count steps : ℕ) (files : NamedFiles) → AreWords recipe save report files → IsStepCount steps → HoldBytes files
+    → IsSavedAt recipe save files count → Pieces recipe save report files (count + steps) (resume recipe save report steps files)
 resumes recipe save report count steps files words counted bytes at = by (is_input at.said report) refl where
   h : Holds recipe at.said at.inputs files
   h = record { bytes = at.bytes; recipe_held = at.recipe_held; reads = at.recipe_reads; inputs_held = at.inputs_held }

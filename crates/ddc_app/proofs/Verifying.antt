@@ -3,7 +3,7 @@ use Rattle.std.proofs.Common.{◌≡◌, ℕ, ◌-◌, Bool, true, false, cond, 
 use Rattle.std.specs.FinMap as finite
 use Rattle.std.specs.List.{AllZip}
 use Rattle.ddc_base.specs.declared.outside.Loaded.TheVariants.{Bytes}
-use Rattle.ddc_base.specs.Outside.{Files, loaded}
+use Rattle.ddc_base.specs.Outside.{NamedFiles, loaded}
 use Rattle.recipe.specs.Kept.{IsRecipe}
 use Rattle.recipe.specs.Reading.{recipe_of}
 use Rattle.recipe.specs.declared.contents.Said.{Said}
@@ -26,7 +26,7 @@ use Rattle.command_plan.specs.Words.{are_two_files, usage}
 use Rattle.recipe_plan.specs.Recipes.{needs_apart, needs_inputs, paths}
 use Rattle.recipe_plan.specs.Reports.{compared_status, needs_report}
 use Rattle.recipe_plan.specs.Texts.{report_line}
-use Rattle.verify_command.specs.Verify.{judged, verified, verify_files}
+use Rattle.verify_command.specs.Verify.{judged_report, verified, verify_files}
 use Rattle.ddc_app.specs.Accepting.{HoldBytes, is_compared, verify}
 use Rattle.ddc_app.specs.Verified.{ShownBy, Verified}
 use Rattle.ddc_app.specs.Holding.{AreHeld}
@@ -36,7 +36,7 @@ use Rattle.ddc_app.proofs.Walks.{IsRefusal, both_need, both_need_apart, both_nee
 
 -- ---- a replay that comes to a comparison
 
-record Replayed (recipe report : List ℕ) (files : Files) (answer : Outcome) : Type 0 where
+record Replayed (recipe report : List ℕ) (files : NamedFiles) (answer : Outcome) : Type 0 where
   said : Said
   inputs : List (List ℕ)
   holds : Holds recipe said inputs files
@@ -45,9 +45,9 @@ record Replayed (recipe report : List ℕ) (files : Files) (answer : Outcome) : 
   made : Report
   text_reads : report_of text ≡ Ok made
   none : first_fault said inputs made ≡ None
-  leads : answer ≡ outcome (judged said made.compare None) files
+  leads : answer ≡ outcome (judged_report said made.compare None) files
 
-module _ (recipe report : List ℕ) (files : Files) where
+module _ (recipe report : List ℕ) (files : NamedFiles) where
   abbrev Goes : Outcome → Outcome → Type 0
   Goes answer _ = IsTrue (is_compared answer.status) → Replayed recipe report files answer
 
@@ -58,7 +58,7 @@ module _ (recipe report : List ℕ) (files : Files) where
       (text : List ℕ) (text_held : loaded files report 1_073_741_824 ≡ Bytes text) where
     by_fault : (made : Report) → report_of text ≡ Ok made → (inputs : List (List ℕ)) → AreHeld 268_435_456 1_073_741_824 files (paths said) inputs
         → (fault : Option (Part × ℕ)) → first_fault said inputs made ≡ fault
-        → Goes (outcome (judged said made.compare fault) files) (outcome (judged said made.compare fault) files)
+        → Goes (outcome (judged_report said made.compare fault) files) (outcome (judged_report said made.compare fault) files)
     by_fault made text_reads inputs inputs_held None none compared = record {
       said = said;
       inputs = inputs;
@@ -95,7 +95,7 @@ module _ (recipe report : List ℕ) (files : Files) where
       both_need_recipe Goes files refused recipe next next by_recipe compared
 
 -- each input is held
-all-held : (room : ℕ) (files : Files) (names contents : List (List ℕ)) → AreHeld 268_435_456 room files names contents
+all-held : (room : ℕ) (files : NamedFiles) (names contents : List (List ℕ)) → AreHeld 268_435_456 room files names contents
     → AllZip (λ name content. finite.get files name ≡ Some content) names contents
 all-held room files [] [] held = tt
 all-held room files (name ∷ names) [] held = absurd held
@@ -111,7 +111,7 @@ module _ (prescribes : Prescribes) (compiles : Compiles) where
 
   pub verifies : ((said : Said) (inputs : List (List ℕ)) (made : Report) → IsRecipe said → IsInputs said inputs → first_fault said inputs made ≡ None
       → Shows prescribes compiles said inputs (true_verdict made.compare.result))
-      → (recipe report : List ℕ) (files : Files) → HoldBytes files → IsTrue (is_compared (verify recipe report files).status)
+      → (recipe report : List ℕ) (files : NamedFiles) → HoldBytes files → IsTrue (is_compared (verify recipe report files).status)
       → Verified prescribes compiles recipe report files (verify recipe report files)
   verifies shows recipe report files bytes compared =
       let r = replayed recipe report files (are_two_files recipe report) compared in

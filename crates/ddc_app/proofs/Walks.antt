@@ -2,7 +2,7 @@
 use Rattle.std.proofs.Common.{◌≡◌, ℕ, ◌-◌, Bool, true, false, cond, Result, Ok, Err, List, [], ◌∷◌, length, min, refl}
 use Rattle.ddc_base.specs.declared.outside.Loaded.{Loaded}
 use Rattle.ddc_base.specs.declared.outside.Loaded.TheVariants.{Bytes, Absent, TooLong}
-use Rattle.ddc_base.specs.Outside.{Files, loaded}
+use Rattle.ddc_base.specs.Outside.{NamedFiles, loaded}
 use Rattle.recipe.specs.Reading.{recipe_of}
 use Rattle.recipe.specs.declared.contents.Said.{Said}
 use Rattle.command_plan.specs.declared.status.Status.{Status}
@@ -17,14 +17,14 @@ use Rattle.ddc_app.specs.Holding.{AreHeld}
 use Rattle.ddc_app.specs.Pausing.{is_paused}
 
 -- an answer over the files
-abbrev pub told : Files → Status → List ℕ → Outcome
+abbrev pub told : NamedFiles → Status → List ℕ → Outcome
 told files status text = record { status = status; text = text; files = files }
 
 -- an answer that compares nothing and leaves nothing to resume
 abbrev pub IsRefusal : Status → Type 0
 IsRefusal status = (is_paused status ≡ false) × (is_compared status ≡ false)
 
-module _ (Both : Outcome → Outcome → Type 0) (files : Files)
+module _ (Both : Outcome → Outcome → Type 0) (files : NamedFiles)
     (refused : (status : Status) (text : List ℕ) → IsRefusal status → Both (told files status text) (told files status text)) where
   pub both_need : (name : List ℕ) (limit : ℕ) (first second : List ℕ → Plan)
       → ((content : List ℕ) → loaded files name limit ≡ Bytes content → Both (outcome (first content) files) (outcome (second content) files))

@@ -1,17 +1,17 @@
 -- What an audit and a replay of its report come to over files. docs/reference/command-line.md says the same for people.
 use Rattle.std.specs.Prelude.{◌≡◌, ◌<◌, ℕ, Bool, true, false, All, List, [], ◌∷◌, Some, codes}
 use Rattle.std.specs.FinMap as map
-use Rattle.ddc_base.specs.Outside.{Files}
+use Rattle.ddc_base.specs.Outside.{NamedFiles}
 use Rattle.command_plan.specs.declared.status.Status.{Status}
 use Rattle.command_plan.specs.declared.status.Status.TheVariants.{Yes, Differs}
 use Rattle.command_plan.specs.Plan.{Outcome, outcome}
 use Rattle.ddc_app.specs.Commands.{plan_of}
 
 -- what `audit RECIPE REPORT` and `verify RECIPE REPORT` come to over files
-abbrev pub audit : List ℕ → List ℕ → Files → Outcome
+abbrev pub audit : List ℕ → List ℕ → NamedFiles → Outcome
 audit recipe report files = outcome (plan_of (codes "audit" ∷ recipe ∷ report ∷ [])) files
 
-abbrev pub verify : List ℕ → List ℕ → Files → Outcome
+abbrev pub verify : List ℕ → List ℕ → NamedFiles → Outcome
 verify recipe report files = outcome (plan_of (codes "verify" ∷ recipe ∷ report ∷ [])) files
 
 -- the artefact and the binary were compared: they are equal, or they differ
@@ -21,5 +21,5 @@ is_compared Differs = true
 is_compared _ = false
 
 -- what is held are bytes
-abbrev pub HoldBytes : Files → Type 0
+abbrev pub HoldBytes : NamedFiles → Type 0
 HoldBytes files = (name content : List ℕ) → map.get files name ≡ Some content → All (λ byte. byte < 256) content

@@ -1,10 +1,10 @@
 -- Files that hold what a command needs. docs/reference/command-line.md says the same for people.
 use Rattle.std.specs.Prelude.{◌≡◌, ℕ, ◌-◌, List, [], ◌∷◌, length, min}
 use Rattle.ddc_base.specs.declared.outside.Loaded.TheVariants.{Bytes}
-use Rattle.ddc_base.specs.Outside.{Files, loaded}
+use Rattle.ddc_base.specs.Outside.{NamedFiles, loaded}
 
 -- these names have these contents, each of at most `most` bytes and all of at most `room` together
-abbrev pub AreHeld : ℕ → ℕ → Files → List (List ℕ) → List (List ℕ) → Type 0
+abbrev pub AreHeld : ℕ → ℕ → NamedFiles → List (List ℕ) → List (List ℕ) → Type 0
 AreHeld most room files [] [] = Unit {0}
 AreHeld most room files (name ∷ names) (content ∷ contents) =
     (loaded files name (min most room) ≡ Bytes content) × AreHeld most (room - length content) files names contents

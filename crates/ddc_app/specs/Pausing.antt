@@ -3,10 +3,10 @@
 use Rattle.std.specs.Prelude.{◌≡◌, ◌≢◌, ℕ, ◌^◌, ◌≤◌, ◌⊎◌, Bool, true, false, IsTrue, List, [], ◌∷◌, Ok, Some, codes, decimal, if◌then◌else◌}
 use Rattle.std.specs.FinMap as map
 use Rattle.ddc_base.specs.declared.outside.Loaded.TheVariants.{Bytes}
-use Rattle.ddc_base.specs.Outside.{Files, loaded}
+use Rattle.ddc_base.specs.Outside.{NamedFiles, loaded}
 use Rattle.recipe.specs.Reading.{recipe_of}
 use Rattle.recipe.specs.declared.contents.Said.{Said}
-use Rattle.save_text.specs.Spelled.{text_of}
+use Rattle.save_text.specs.Spelled.{text_of_save}
 use Rattle.audit_run.specs.Save.Saves.{save_of}
 use Rattle.wheeler.specs.Positions as positions
 use Rattle.wheeler.specs.Positions.{Position, On}
@@ -20,25 +20,25 @@ use Rattle.ddc_app.specs.Commands.{plan_of}
 use Rattle.ddc_app.specs.Holding.{AreHeld}
 
 -- what `part RECIPE SAVE REPORT STEPS` and `resume RECIPE SAVE REPORT STEPS` come to over files
-abbrev pub part : List ℕ → List ℕ → List ℕ → ℕ → Files → Outcome
+abbrev pub part : List ℕ → List ℕ → List ℕ → ℕ → NamedFiles → Outcome
 part recipe save report steps files = outcome (plan_of (codes "part" ∷ recipe ∷ save ∷ report ∷ decimal steps ∷ [])) files
 
-abbrev pub resume : List ℕ → List ℕ → List ℕ → ℕ → Files → Outcome
+abbrev pub resume : List ℕ → List ℕ → List ℕ → ℕ → NamedFiles → Outcome
 resume recipe save report steps files = outcome (plan_of (codes "resume" ∷ recipe ∷ save ∷ report ∷ decimal steps ∷ [])) files
 
 -- ---- what is asked of words and files
 
 -- a number of steps that a command takes
-abbrev pub IsCount : ℕ → Type 0
-IsCount steps = (1 ≤ steps) × (steps ≤ 2 ^ 48)
+abbrev pub IsStepCount : ℕ → Type 0
+IsStepCount steps = (1 ≤ steps) × (steps ≤ 2 ^ 48)
 
 -- words that are no usage: they can name three files, and the save is no input of a recipe that the files hold
-pub record AreWords (recipe save report : List ℕ) (files : Files) : Type 0 where
+pub record AreWords (recipe save report : List ℕ) (files : NamedFiles) : Type 0 where
   pub three : IsTrue (are_three_files recipe save report)
   pub apart : (bytes : List ℕ) (said : Said) → loaded files recipe 1_048_576 ≡ Bytes bytes → recipe_of bytes ≡ Ok said → is_input said save ≡ false
 
 -- the files hold a recipe that reads, its inputs within their limits, and the save of the position behind so many steps of their audit
-pub record StandsAt (recipe save : List ℕ) (files : Files) (count : ℕ) : Type 0 where
+pub record IsSavedAt (recipe save : List ℕ) (files : NamedFiles) (count : ℕ) : Type 0 where
   pub bytes : List ℕ
   pub recipe_held : loaded files recipe 1_048_576 ≡ Bytes bytes
   pub said : Said
@@ -47,7 +47,7 @@ pub record StandsAt (recipe save : List ℕ) (files : Files) (count : ℕ) : Typ
   pub inputs_held : AreHeld 268_435_456 1_073_741_824 files (paths said) inputs
   pub position : Position
   pub stands : positions.position said inputs count ≡ On position
-  pub save_held : map.get files save ≡ Some (text_of (save_of said inputs position))
+  pub save_held : map.get files save ≡ Some (text_of_save (save_of said inputs position))
 
 -- ---- what the pieces come to
 
@@ -58,24 +58,29 @@ pub record AreSame (report : List ℕ) (first second : Outcome) : Type 0 where
   pub held : map.get first.files report ≡ map.get second.files report
 
 -- a piece of the audit over files pauses behind so many steps in all, or comes to the same as the undivided audit
-abbrev pub Pieces : List ℕ → List ℕ → List ℕ → Files → ℕ → Outcome → Type 0
+abbrev pub Pieces : List ℕ → List ℕ → List ℕ → NamedFiles → ℕ → Outcome → Type 0
 Pieces recipe save report files count piece =
-    ((piece.status ≡ Paused) × StandsAt recipe save piece.files count) ⊎ AreSame report piece (audit recipe report files)
+    ((piece.status ≡ Paused) × IsSavedAt recipe save piece.files count) ⊎ AreSame report piece (audit recipe report files)
 
 -- a command leaves every name as it was, but for these two
-abbrev pub LeavesOthers : List ℕ → List ℕ → Files → Outcome → Type 0
+abbrev pub LeavesOthers : List ℕ → List ℕ → NamedFiles → Outcome → Type 0
 LeavesOthers save report files piece = (name : List ℕ) → name ≢ save → name ≢ report → map.get piece.files name ≡ map.get files name
+
+-- a piece that pauses leaves what is held as the report, and one at which the audit is over what is held as the save
+pub record LeavesUnwritten (save report : List ℕ) (files : Files) (piece : Outcome) : Type 0 where
+  pub report_stays : piece.status ≡ Paused → map.get piece.files report ≡ map.get files report
+  pub save_stays : piece.status ≢ Paused → map.get piece.files save ≡ map.get files save
 
 abbrev pub is_paused : Status → Bool
 is_paused Paused = true
 is_paused _ = false
 
 -- one `resume` after the other, as long as the audit pauses, each over the files that the command before it left
-abbrev pub resumed : List ℕ → List ℕ → List ℕ → Outcome → List ℕ → Outcome
-resumed recipe save report piece [] = piece
-resumed recipe save report piece (steps ∷ counts) =
-    if is_paused piece.status then resumed recipe save report (resume recipe save report steps piece.files) counts else piece
+abbrev pub resumed_in_turn : List ℕ → List ℕ → List ℕ → Outcome → List ℕ → Outcome
+resumed_in_turn recipe save report piece [] = piece
+resumed_in_turn recipe save report piece (steps ∷ counts) =
+    if is_paused piece.status then resumed_in_turn recipe save report (resume recipe save report steps piece.files) counts else piece
 
 -- an audit in pieces: `part`, and then `resume`
-abbrev pub in_pieces : List ℕ → List ℕ → List ℕ → ℕ → List ℕ → Files → Outcome
-in_pieces recipe save report steps counts files = resumed recipe save report (part recipe save report steps files) counts
+abbrev pub in_pieces : List ℕ → List ℕ → List ℕ → ℕ → List ℕ → NamedFiles → Outcome
+in_pieces recipe save report steps counts files = resumed_in_turn recipe save report (part recipe save report steps files) counts

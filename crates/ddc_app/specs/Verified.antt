@@ -2,7 +2,7 @@
 use Rattle.std.specs.Prelude.{◌≡◌, ℕ, None, Some, Ok, List}
 use Rattle.std.specs.List.{AllZip}
 use Rattle.std.specs.FinMap as map
-use Rattle.ddc_base.specs.Outside.{Files}
+use Rattle.ddc_base.specs.Outside.{NamedFiles}
 use Rattle.recipe.specs.declared.contents.Said.{Said}
 use Rattle.recipe.specs.Kept.{IsRecipe}
 use Rattle.recipe.specs.Reading.{recipe_of}
@@ -29,7 +29,7 @@ ShownBy prescribes compiles said inputs _ = Unit {0}
 -- the files hold a recipe, which keeps its rules and has a compared stage, the contents of its inputs, within their limits, and a report
 -- without a fault; the text is the report's comparison with exactly the lines of what is assumed; and the status shows the conclusion that
 -- belongs to it
-pub record Verified (prescribes : Prescribes) (compiles : Compiles) (recipe report : List ℕ) (files : Files) (answer : Outcome) : Type 0 where
+pub record Verified (prescribes : Prescribes) (compiles : Compiles) (recipe report : List ℕ) (files : NamedFiles) (answer : Outcome) : Type 0 where
   pub recipe_bytes : List ℕ
   pub recipe_held : map.get files recipe ≡ Some recipe_bytes
   pub said : Said

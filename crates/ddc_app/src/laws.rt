@@ -1,9 +1,11 @@
 //! Laws of what commands come to. Each law is the contract of a function that does nothing.
 
 ghost use Rattle.ddc_app.specs.Accepting.{HoldBytes, audit, is_compared, verify};
-ghost use Rattle.ddc_app.specs.Pausing.{AreWords, IsCount, LeavesOthers, Pieces, StandsAt, in_pieces, part, resume};
+ghost use Rattle.ddc_app.specs.Pausing.{AreWords, IsStepCount, LeavesOthers, LeavesUnwritten, Pieces, IsSavedAt, in_pieces, part, resume};
 ghost use Rattle.ddc_app.specs.Verified.{Verified};
-ghost use Rattle.ddc_base.specs.Outside.{Files};
+ghost use Rattle.command_plan.specs.declared.status.Status.TheVariants.{Paused};
+ghost use Rattle.ddc_base.specs.Outside.{NamedFiles};
+ghost use Rattle.std.specs.FinMap as map;
 ghost use Rattle.std.specs.Prelude.{◌≡◌, ◌+◌, [], ◌∷◌, All, IsTrue, List, sum, ℕ};
 
 use meaning::Meaning;
@@ -12,14 +14,14 @@ use verifier::conclusion::laws::a_true_report_shows;
 /// An audit's own report is accepted: where `audit RECIPE REPORT` over files of bytes comes to 0 or 3, `verify RECIPE REPORT` over the
 /// files afterwards comes to the same.
 pub fn accepted()
-    ensures { (recipe report : List ℕ) (files : Files) → HoldBytes files → IsTrue (is_compared (audit recipe report files).status)
+    ensures { (recipe report : List ℕ) (files : NamedFiles) → HoldBytes files → IsTrue (is_compared (audit recipe report files).status)
         → (verify recipe report (audit recipe report files).files).status ≡ (audit recipe report files).status }
 {}
 
 /// Wheeler's argument on the answer of `verify`, whatever sources mean: where `verify RECIPE REPORT` over files of bytes comes to 0 or 3, the
 /// report is true, the text ends in exactly the lines of what is assumed, and the status shows the conclusion that belongs to it.
 pub fn verified<M: Meaning>()
-    ensures { (recipe report : List ℕ) (files : Files) → HoldBytes files → IsTrue (is_compared (verify recipe report files).status)
+    ensures { (recipe report : List ℕ) (files : NamedFiles) → HoldBytes files → IsTrue (is_compared (verify recipe report files).status)
         → Verified M.prescribes M.compiles recipe report files (verify recipe report files) }
 {
     a_true_report_shows::<M>();
@@ -28,32 +30,44 @@ pub fn verified<M: Meaning>()
 /// A piece of an audit: `part` by some steps over files pauses behind as many and leaves the save of that position, or it comes to the same
 /// as `audit`.
 pub fn parts()
-    ensures { (recipe save report : List ℕ) (steps : ℕ) (files : Files) → AreWords recipe save report files → IsCount steps
+    ensures { (recipe save report : List ℕ) (steps : ℕ) (files : NamedFiles) → AreWords recipe save report files → IsStepCount steps
         → Pieces recipe save report files steps (part recipe save report steps files) }
 {}
 
 /// A further piece: over files of bytes that hold the save of the position behind `count` steps, `resume` by some steps pauses behind as many
 /// more, or it comes to the same as `audit` over these files.
 pub fn resumes()
-    ensures { (recipe save report : List ℕ) (count steps : ℕ) (files : Files) → AreWords recipe save report files → IsCount steps → HoldBytes files
-        → StandsAt recipe save files count
+    ensures { (recipe save report : List ℕ) (count steps : ℕ) (files : NamedFiles) → AreWords recipe save report files → IsStepCount steps → HoldBytes files
+        → IsSavedAt recipe save files count
         → Pieces recipe save report files (count + steps) (resume recipe save report steps files) }
 {}
 
-/// Neither `part` nor `resume` changes a name but SAVE and REPORT, whatever the files hold.
+/// Neither `part` nor `resume` changes a name but SAVE and REPORT, whatever the files hold, and so no audit in pieces does.
 pub fn others_stay()
-    ensures part { (recipe save report : List ℕ) (steps : ℕ) (files : Files) → LeavesOthers save report files (part recipe save report steps files) }
-    ensures resume { (recipe save report : List ℕ) (steps : ℕ) (files : Files) → LeavesOthers save report files (resume recipe save report steps files) }
+    ensures part { (recipe save report : List ℕ) (steps : ℕ) (files : NamedFiles) → LeavesOthers save report files (part recipe save report steps files) }
+    ensures resume { (recipe save report : List ℕ) (steps : ℕ) (files : NamedFiles) → LeavesOthers save report files (resume recipe save report steps files) }
+    ensures pieces { (recipe save report : List ℕ) (steps : ℕ) (counts : List ℕ) (files : NamedFiles)
+        → LeavesOthers save report files (in_pieces recipe save report steps counts files) }
+{}
+
+/// Of SAVE and REPORT the one that a piece does not write is as before, whatever the files hold: REPORT where it pauses, and so as long as an
+/// audit in pieces pauses, and SAVE where the audit is over.
+pub fn unwritten_stays()
+    ensures part { (recipe save report : List ℕ) (steps : ℕ) (files : NamedFiles) → LeavesUnwritten save report files (part recipe save report steps files) }
+    ensures resume { (recipe save report : List ℕ) (steps : ℕ) (files : NamedFiles) → LeavesUnwritten save report files (resume recipe save report steps files) }
+    ensures pieces { (recipe save report : List ℕ) (steps : ℕ) (counts : List ℕ) (files : NamedFiles)
+        → (in_pieces recipe save report steps counts files).status ≡ Paused
+        → map.get (in_pieces recipe save report steps counts files).files report ≡ map.get files report }
 {}
 
 /// An audit in any pieces over files of bytes comes to the same as the undivided audit, or pauses behind all the steps that were asked for. Its
 /// report is accepted: where it comes to 0 or 3, so does `verify` over the files afterwards.
 pub fn pauses()
-    ensures same { (recipe save report : List ℕ) (steps : ℕ) (counts : List ℕ) (files : Files) → AreWords recipe save report files
-        → All IsCount (steps ∷ counts) → HoldBytes files
+    ensures same { (recipe save report : List ℕ) (steps : ℕ) (counts : List ℕ) (files : NamedFiles) → AreWords recipe save report files
+        → All IsStepCount (steps ∷ counts) → HoldBytes files
         → Pieces recipe save report files (sum (steps ∷ counts)) (in_pieces recipe save report steps counts files) }
-    ensures accepted { (recipe save report : List ℕ) (steps : ℕ) (counts : List ℕ) (files : Files) → AreWords recipe save report files
-        → All IsCount (steps ∷ counts) → HoldBytes files → IsTrue (is_compared (in_pieces recipe save report steps counts files).status)
+    ensures accepted { (recipe save report : List ℕ) (steps : ℕ) (counts : List ℕ) (files : NamedFiles) → AreWords recipe save report files
+        → All IsStepCount (steps ∷ counts) → HoldBytes files → IsTrue (is_compared (in_pieces recipe save report steps counts files).status)
         → (verify recipe report (in_pieces recipe save report steps counts files).files).status
         ≡ (in_pieces recipe save report steps counts files).status }
 {}

@@ -6,7 +6,7 @@ ghost use Rattle.command_plan.specs.Performs.{Performs, WantsMemory};
 ghost use Rattle.ddc_app.specs.Accepting.{HoldBytes, is_compared};
 ghost use Rattle.ddc_app.specs.Verified.{Verified};
 ghost use Rattle.ddc_app.specs.Run.{plan_for, due, IsDue, TakesOne, NamesFault, LosesText};
-ghost use Rattle.ddc_app.specs.Inside.Concluding.{PutEnds, Concludes};
+ghost use Rattle.ddc_app.specs.Inside.Concluding.{PutEnds, SaysEnding};
 
 use crate::laws::verified;
 use audit_commands::{audit, part, resume, show};
@@ -92,7 +92,7 @@ fn perform<M: Meaning, S: Shelf>(
 
 /// Says how the command ended.
 fn conclude<K: Sink>(out: &mut K, ending: Result<Answer, Stop>) -> Status
-    ensures { Concludes (K.state out.old) ending (K.state out.new) result }
+    ensures { SaysEnding (K.state out.old) ending (K.state out.new) result }
 {
     match ending {
         Ok(answer) => put(out, answer.text.as_slice(), answer.status),

@@ -9,8 +9,8 @@ unfoldable pub field : List ℕ → ℕ → ℕ → ℕ
 field file offset width = little_number width (drop offset file)
 
 -- gABI, "ELF Identification": the first four bytes of every ELF file, 7F and the letters ELF
-abbrev pub magic : List ℕ
-magic = 0x7f ∷ 0x45 ∷ 0x4c ∷ 0x46 ∷ []
+abbrev pub elf_magic : List ℕ
+elf_magic = 0x7f ∷ 0x45 ∷ 0x4c ∷ 0x46 ∷ []
 
 -- gABI, "ELF Identification": EI_CLASS and EI_DATA
 abbrev pub ei_class : List ℕ → ℕ

@@ -6,7 +6,7 @@ use Rattle.elf_load.specs.declared.Segment.{Segment}
 use Rattle.elf_load.specs.declared.Image.{Image}
 use Rattle.elf_load.specs.declared.refusal.ElfRefusal.{ElfRefusal}
 use Rattle.elf_load.specs.declared.refusal.ElfRefusal.TheVariants.{Short, Magic, Class, Machine, Kind, HeaderRange, Interpreter, NoLoad, TooMany, SegmentRange, Overlap, EntryOutside}
-use Rattle.elf_load.specs.Fields.{magic, ei_class, ei_data, e_type, e_machine, e_entry, e_phoff, e_phentsize, e_phnum, headers}
+use Rattle.elf_load.specs.Fields.{elf_magic, ei_class, ei_data, e_type, e_machine, e_entry, e_phoff, e_phentsize, e_phnum, headers}
 use Rattle.elf_load.specs.Segments.{is_interpreter, segments_of, is_out_of_range, paged_size, page_end, any_share, holds_address, break_after, IsPlaced, AreApart}
 
 -- a rule: where its test is true, its refusal fits
@@ -22,7 +22,7 @@ first_refusal (rule ∷ rest) = cond rule.0 (Some rule.1) (first_refusal rest)
 unfoldable pub header_rules : List ℕ → List Rule
 header_rules file =
     (nat_lt (length file) 64, Short)
-    ∷ (not (starts_with nat_eq file magic), Magic)
+    ∷ (not (starts_with nat_eq file elf_magic), Magic)
     ∷ (not (ei_class file == 2 && ei_data file == 1), Class)
     ∷ (not (e_machine file == 243), Machine)
     ∷ (not (e_type file == 2), Kind)

@@ -19,7 +19,7 @@ use Rattle.elf_load.specs.declared.Segment.{Segment}
 use Rattle.elf_load.specs.declared.Image.{Image}
 use Rattle.elf_load.specs.Segments.{first_page, page_end, paged_size, IsPlaced}
 use Rattle.elf_load.specs.Image.{IsLoadable}
-use Rattle.guest_run.specs.Stack.{addresses, gap, ended_texts, stack_bytes, stack_end, stack_pointer, stack_size, start_size, texts_at, word_count, words}
+use Rattle.guest_run.specs.Stack.{addresses, gap, ended_texts, stack_bytes, stack_end, stack_pointer, stack_size, start_size, texts_at, word_count, stack_words}
 use Rattle.guest_run.specs.Placed.{with_segments, with_stack}
 use Rattle.guest_run.specs.Valid.{Fits, pages_beside, pages_from}
 use Rattle.elf_load.proofs.Pages.{none_at}
@@ -38,7 +38,7 @@ length-words8 (w ∷ ws) =
     let rest = length-words8 ws in
     omega (arith, one, eight, rest)
 
-length-words : (args env : List (List ℕ)) → length (words args env) ≡ word_count args env
+length-words : (args env : List (List ℕ)) → length (stack_words args env) ≡ word_count args env
 length-words args env =
     let a = length-addresses (texts_at args env) args in
     let e = length-addresses (texts_at args env + length (ended_texts args)) env in
@@ -50,10 +50,10 @@ pub stack_length : (args env : List (List ℕ)) → start_size args env ≤ 1310
     → stack_pointer args env + length (stack_bytes args env) ≡ stack_end
 unfolding stack_bytes
 stack_length args env fits =
-    let one = length-append (flat_map (bytes_of 8) (words args env) ++ zeros (gap args env) ++ ended_texts args) (ended_texts env) in
-    let two = length-append (flat_map (bytes_of 8) (words args env) ++ zeros (gap args env)) (ended_texts args) in
-    let three = length-append (flat_map (bytes_of 8) (words args env)) (zeros (gap args env)) in
-    let eight = length-words8 (words args env) in
+    let one = length-append (flat_map (bytes_of 8) (stack_words args env) ++ zeros (gap args env) ++ ended_texts args) (ended_texts env) in
+    let two = length-append (flat_map (bytes_of 8) (stack_words args env) ++ zeros (gap args env)) (ended_texts args) in
+    let three = length-append (flat_map (bytes_of 8) (stack_words args env)) (zeros (gap args env)) in
+    let eight = length-words8 (stack_words args env) in
     let count = length-words args env in
     let nothing = length-zeros (gap args env) in
     omega (arith, one, two, three, eight, count, nothing)

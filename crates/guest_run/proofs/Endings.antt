@@ -8,7 +8,7 @@ use Rattle.guest_run.specs.declared.run.RunEnd.{RunEnd}
 use Rattle.guest_run.specs.Setting.{IsBox, Setting}
 use Rattle.guest_run.specs.State.{GuestState}
 use Rattle.guest_run.specs.Run.{End, Exited, end_at, Runs}
-use Rattle.guest_run.specs.Program.{Run}
+use Rattle.guest_run.specs.Program.{ProgramRun}
 use Rattle.guest_run.specs.Valid.{IsValid}
 use Rattle.guest_run.proofs.Running.{after-counted}
 use Rattle.guest_run.proofs.RunLaws.{ends_after, no_end_at-zero, some_steps}
@@ -37,17 +37,17 @@ runs-valid guest to most why valid is =
     after-valid guest to reached.0 valid reached.2
 
 pub run-sound : (program : List ℕ) (setting : Setting) (n s : ℕ) (world : World) → AreBytes program → IsBox setting
-    → Run program setting n s world → IsSound world
+    → ProgramRun program setting n s world → IsSound world
 run-sound program setting n s world bytes box run =
     let start = starts-valid program setting run.start bytes box run.starts in
     subst IsSound run.leaves (end-valid run.start run.last n (Exited s) start.0 run.ends).files
 
 pub run-left : (program : List ℕ) (setting : Setting) (n s : ℕ) (world : World) → AreBytes program → IsBox setting
-    → Run program setting n s world → AreLeft (left world)
+    → ProgramRun program setting n s world → AreLeft (left world)
 run-left program setting n s world bytes box run = left-are world (run-sound program setting n s world bytes box run)
 
 pub run-numbers : (program : List ℕ) (setting : Setting) (n s : ℕ) (world : World) → AreBytes program → IsBox setting
-    → Run program setting n s world → (1 ≤ n) × (s < 256)
+    → ProgramRun program setting n s world → (1 ≤ n) × (s < 256)
 run-numbers program setting n s world bytes box run =
     let start = starts-valid program setting run.start bytes box run.starts in
     (omega (arith, start.1, end-counted run.start run.last n (Exited s) run.ends), status-byte run.start run.last n s start.0 run.ends)

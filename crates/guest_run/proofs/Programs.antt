@@ -5,7 +5,7 @@ use Rattle.guest_run.specs.Setting.{Setting}
 use Rattle.guest_run.specs.State.{GuestState}
 use Rattle.guest_run.specs.Start.{Refusal, start_of}
 use Rattle.guest_run.specs.Run.{End, Exited, end_at, first_end}
-use Rattle.guest_run.specs.Program.{Run}
+use Rattle.guest_run.specs.Program.{ProgramRun}
 use Rattle.guest_run.proofs.Running.{after-counted}
 use Rattle.guest_run.proofs.RunLaws.{ends_after, first_end-at, no_end_at-zero, one_end-law}
 use Rattle.guest_run.proofs.Starting.{starts_are}
@@ -20,7 +20,7 @@ same_status s t one other e = status (ap (λ (p : End × GuestState). p.0) e)
     status e = cc
 
 pub one-run : (program : List ℕ) (setting : Setting) (n m s t : ℕ) (world other : World)
-    → Run program setting n s world → Run program setting m t other → (n ≡ m) × (s ≡ t) × (world ≡ other)
+    → ProgramRun program setting n s world → ProgramRun program setting m t other → (n ≡ m) × (s ≡ t) × (world ≡ other)
 one-run program setting n m s t world other one two =
     let start = same_ok one.start two.start (sym one.starts ∙ two.starts) in
     let both = one_end-law two.start n m (Exited s, one.last) (Exited t, two.last) (ap (λ (g : GuestState). end_at g n) (sym start) ∙ one.ends) two.ends in (
@@ -30,11 +30,11 @@ one-run program setting n m s t world other one two =
     )
 
 pub exit-run : (program : List ℕ) (setting : Setting) (start last : GuestState) (most s : ℕ)
-    → start_of program setting ≡ Ok start → first_end start most ≡ Some (Exited s, last) → Run program setting (last.steps + 1) s last.world
+    → start_of program setting ≡ Ok start → first_end start most ≡ Some (Exited s, last) → ProgramRun program setting (last.steps + 1) s last.world
 exit-run program setting start last most s starts is =
     let at = first_end-at start most (Exited s, last) is in by_number at.0 at.2
   where
-    by_number : (number : ℕ) → end_at start number ≡ Some (Exited s, last) → Run program setting (last.steps + 1) s last.world
+    by_number : (number : ℕ) → end_at start number ≡ Some (Exited s, last) → ProgramRun program setting (last.steps + 1) s last.world
     by_number zero e = absurd (no_end_at-zero start (Exited s, last) e)
     by_number (suc count) e =
         let counted = after-counted start last count (ends_after start count (Exited s, last) e).0 in

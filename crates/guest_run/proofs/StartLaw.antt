@@ -20,7 +20,7 @@ use Rattle.elf_load.proofs.Images.{image-sound}
 use Rattle.elf_load.specs.Image.{image_of, IsLoadable}
 use Rattle.elf_load.specs.Segments.{first_page, holds_address, paged_size, IsPlaced}
 use Rattle.paged_mem.proofs.Wholes.{whole-mapped, whole-written}
-use Rattle.guest_run.specs.Stack.{ended, gap, ended_texts, stack_bytes, stack_end, stack_pointer, stack_size, start_size, words}
+use Rattle.guest_run.specs.Stack.{zero_ended, gap, ended_texts, stack_bytes, stack_end, stack_pointer, stack_size, start_size, stack_words}
 use Rattle.guest_run.specs.Placed.{segment_bytes, with_segment, with_segments, with_stack}
 use Rattle.guest_run.specs.Setting.{Setting, files_size, IsBox}
 use Rattle.guest_run.specs.State.{GuestState}
@@ -49,16 +49,16 @@ words-bytes (w ∷ ws) = All-append IsByte (bytes_of 8 w) (flat_map (bytes_of 8)
 ended_texts-bytes : (texts : List (List ℕ)) → All AreBytes texts → AreBytes (ended_texts texts)
 ended_texts-bytes [] are = All-nil IsByte
 ended_texts-bytes (text ∷ texts) are =
-    All-append IsByte (ended text) (ended_texts texts)
+    All-append IsByte (zero_ended text) (ended_texts texts)
     (All-append IsByte text (0 ∷ []) (All-head AreBytes text texts are) (All-cons IsByte 0 [] (omega arith) (All-nil IsByte)))
     (ended_texts-bytes texts (All-tail AreBytes text texts are))
 
 stack-bytes : (args env : List (List ℕ)) → All AreBytes args → All AreBytes env → AreBytes (stack_bytes args env)
 unfolding stack_bytes
 stack-bytes args env are of_env =
-    All-append IsByte (flat_map (bytes_of 8) (words args env) ++ zeros (gap args env) ++ ended_texts args) (ended_texts env)
-    (All-append IsByte (flat_map (bytes_of 8) (words args env) ++ zeros (gap args env)) (ended_texts args)
-    (All-append IsByte (flat_map (bytes_of 8) (words args env)) (zeros (gap args env)) (words-bytes (words args env)) (zeros-bytes (gap args env)))
+    All-append IsByte (flat_map (bytes_of 8) (stack_words args env) ++ zeros (gap args env) ++ ended_texts args) (ended_texts env)
+    (All-append IsByte (flat_map (bytes_of 8) (stack_words args env) ++ zeros (gap args env)) (ended_texts args)
+    (All-append IsByte (flat_map (bytes_of 8) (stack_words args env)) (zeros (gap args env)) (words-bytes (stack_words args env)) (zeros-bytes (gap args env)))
     (ended_texts-bytes args are))
     (ended_texts-bytes env of_env)
 

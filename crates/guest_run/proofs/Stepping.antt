@@ -9,13 +9,13 @@ use Rattle.linux_calls.specs.declared.CallEnd.{CallEnd}
 use Rattle.linux_calls.specs.declared.CallEnd.TheVariants.{Back, Exit, Unknown}
 use Rattle.linux_calls.specs.declared.CallEnd.TheVariants as end
 use Rattle.linux_calls.specs.Answer.{IsAnswer}
-use Rattle.linux_calls.specs.Calls.{CallOutcome, State, answer_of, state, syscall}
+use Rattle.linux_calls.specs.Calls.{CallOutcome, CallState, answer_of, state, syscall}
 use Rattle.linux_calls.specs.Calls as call
 use Rattle.guest_run.specs.State.{GuestState, guest_state}
-use Rattle.guest_run.specs.Run.{Exited, Trapped, UnknownCall, Next, Goes, Ends, step_of_act, step_of_call, answered, call_arguments, call_number, CallTakesMemory, goes, next, outcome_of}
+use Rattle.guest_run.specs.Run.{Exited, Trapped, UnknownCall, Next, Goes, Ends, step_of_act, step_of_call, answered, call_arguments, call_number, CallTakesMemory, step_goes_on, next, outcome_of}
 
 -- the step, by the act
-pub next-goes : (guest : GuestState) (to : HartState) → act guest.hart ≡ hart.Goes to
+pub next-goes : (guest : GuestState) (to : HartState) → act guest.hart ≡ hart.GoesOn to
     → next guest ≡ Goes (record guest { hart = to; steps = guest.steps + 1 })
 unfolding next
 next-goes guest to is = ap (step_of_act guest) is
@@ -29,7 +29,7 @@ unfolding next
 next-traps guest cause is = ap (step_of_act guest) is
 
 -- a call's answer at the registers and the memory of the guest
-pub at_guest : (guest : GuestState) (left : State) (answer : CallEnd) (number : ℕ) (arguments : List ℕ) (memory : Memory)
+pub at_guest : (guest : GuestState) (left : CallState) (answer : CallEnd) (number : ℕ) (arguments : List ℕ) (memory : Memory)
     → number ≡ call_number guest → arguments ≡ call_arguments guest → memory ≡ guest.hart.memory
     → IsAnswer number (state memory guest.world guest.heap) left (syscall number arguments (state memory guest.world guest.heap)) answer
     → IsAnswer (call_number guest) (state guest.hart.memory guest.world guest.heap) left (outcome_of guest) answer
@@ -41,7 +41,7 @@ at_guest guest left answer number arguments memory same-number same-arguments sa
     subst P same is
 
 -- what the guest's step comes to, by the call's answer
-pub goes_back : (guest : GuestState) (meant : CallOutcome) (number value : ℕ) (old left : State) → IsAnswer number old left meant (Back value)
+pub goes_back : (guest : GuestState) (meant : CallOutcome) (number value : ℕ) (old left : CallState) → IsAnswer number old left meant (Back value)
     → step_of_call guest meant ≡ Goes (record {
       hart = answered (record guest.hart { memory = left.memory }) value;
       world = left.files;
@@ -58,38 +58,38 @@ goes_back guest (call.goes answer to) number value old left is =
 goes_back guest (call.exits status) number value old left is = absurd is
 goes_back guest (call.is_unknown n) number value old left is = absurd is
 
-pub exits_with : (guest : GuestState) (meant : CallOutcome) (number code : ℕ) (old left : State) → IsAnswer number old left meant (Exit code)
+pub exits_with : (guest : GuestState) (meant : CallOutcome) (number code : ℕ) (old left : CallState) → IsAnswer number old left meant (Exit code)
     → (step_of_call guest meant ≡ Ends (Exited code)) × (left ≡ old)
 exits_with guest (call.goes answer to) number code old left is = absurd is
 exits_with guest (call.exits status) number code old left is = (ap (λ s. Ends (Exited s)) (sym is.0), is.1)
 exits_with guest (call.is_unknown n) number code old left is = absurd is
 
-pub unknown_is : (guest : GuestState) (meant : CallOutcome) (number n : ℕ) (old left : State) → IsAnswer number old left meant (Unknown n)
+pub unknown_is : (guest : GuestState) (meant : CallOutcome) (number n : ℕ) (old left : CallState) → IsAnswer number old left meant (Unknown n)
     → (step_of_call guest meant ≡ Ends (UnknownCall n)) × (left ≡ old)
 unknown_is guest (call.goes answer to) number n old left is = absurd is
 unknown_is guest (call.exits status) number n old left is = absurd is
 unknown_is guest (call.is_unknown m) number n old left is = (ap (λ s. Ends (UnknownCall s)) (sym is.0), is.1)
 
-pub wants_memory : (guest : GuestState) (meant : CallOutcome) (left : State)
+pub wants_memory : (guest : GuestState) (meant : CallOutcome) (left : CallState)
     → IsAnswer (call_number guest) (state guest.hart.memory guest.world guest.heap) left meant end.OutOfMemory
-    → IsTrue (goes (step_of_call guest meant)) × CallTakesMemory guest meant × (left ≡ state guest.hart.memory guest.world guest.heap)
+    → IsTrue (step_goes_on (step_of_call guest meant)) × CallTakesMemory guest meant × (left ≡ state guest.hart.memory guest.world guest.heap)
 wants_memory guest (call.goes answer to) left is = (refl, is.0, is.1)
 wants_memory guest (call.exits status) left is = absurd is
 wants_memory guest (call.is_unknown n) left is = absurd is
 
 -- a state that a call left as it was
-pub left_as_was : (guest : GuestState) (left : State) → left ≡ state guest.hart.memory guest.world guest.heap
+pub left_as_was : (guest : GuestState) (left : CallState) → left ≡ state guest.hart.memory guest.world guest.heap
     → guest_state (record guest.hart { memory = left.memory }) left.files left.heap guest.steps ≡ guest
 left_as_was guest left same =
-    ap (λ (s : State). guest_state (record guest.hart { memory = s.memory }) s.files s.heap guest.steps) same
+    ap (λ (s : CallState). guest_state (record guest.hart { memory = s.memory }) s.files s.heap guest.steps) same
 
 -- a store that would go on is a step that would
-goes_if : (guest : GuestState) (an_act : Act) → IsTrue (goes_on an_act) → IsTrue (goes (step_of_act guest an_act))
-goes_if guest (hart.Goes to) is = refl
+goes_if : (guest : GuestState) (an_act : Act) → IsTrue (goes_on an_act) → IsTrue (step_goes_on (step_of_act guest an_act))
+goes_if guest (hart.GoesOn to) is = refl
 goes_if guest hart.Calls is = absurd (let no-way : false ≡ true = is in cc)
 goes_if guest (hart.Traps cause) is = absurd (let no-way : false ≡ true = is in cc)
 
-pub next-store : (guest : GuestState) → IsTrue (goes_on (act guest.hart)) → IsTrue (goes (next guest))
+pub next-store : (guest : GuestState) → IsTrue (goes_on (act guest.hart)) → IsTrue (step_goes_on (next guest))
 unfolding next
 next-store guest is = goes_if guest (act guest.hart) is
 
@@ -106,7 +106,7 @@ counted_call guest (call.is_unknown n) to is = cc
 
 counted_act : (guest : GuestState) (an_act : Act) (to : GuestState) → step_of_act guest an_act ≡ Goes to → to.steps ≡ guest.steps + 1
 unfolding count_of
-counted_act guest (hart.Goes next') to is = sym (ap (λ n. count_of n 0) is)
+counted_act guest (hart.GoesOn next') to is = sym (ap (λ n. count_of n 0) is)
 counted_act guest hart.Calls to is = counted_call guest (outcome_of guest) to is
 counted_act guest (hart.Traps cause) to is = cc
 

@@ -9,7 +9,7 @@ use Rattle.std.specs.List.{flat_map}
 use Rattle.std.proofs.lemmas.Grind.{flat_map-append}
 use Rattle.std.proofs.lemmas.List.Sums.{sum_by-cons}
 use Rattle.paged_mem.specs.Memory.{bytes_of, zeros}
-use Rattle.guest_run.specs.Stack.{addresses, cost, ended, gap, ended_texts, stack_bytes, stack_end, start_size}
+use Rattle.guest_run.specs.Stack.{addresses, cost, zero_ended, gap, ended_texts, stack_bytes, stack_end, start_size}
 
 -- the text at an index, and those after it
 pub ended_texts-on : (texts : List (List ℕ)) (i : ℕ) (d : List ℕ) → i < length texts
@@ -33,14 +33,14 @@ costs-are [] = refl
 costs-are (text ∷ texts) =
     let more = sum_by-cons cost text texts in
     let rest = costs-are texts in
-    let len = length-append (ended text) (ended_texts texts) in
+    let len = length-append (zero_ended text) (ended_texts texts) in
     let one = length-append text (0 ∷ []) in
     omega (arith, more, rest, len, one)
 
 pub ended_texts-length_on : (texts : List (List ℕ)) (i : ℕ) (d : List ℕ) → i < length texts
     → length (ended_texts (drop i texts)) ≡ (length (get_or texts i d) + 1) + length (ended_texts (drop (i + 1) texts))
 ended_texts-length_on texts i d lt =
-    ap length (ended_texts-on texts i d lt) ∙ length-append (ended (get_or texts i d)) (ended_texts (drop (i + 1) texts))
+    ap length (ended_texts-on texts i d lt) ∙ length-append (zero_ended (get_or texts i d)) (ended_texts (drop (i + 1) texts))
     ∙ ap (λ n. n + length (ended_texts (drop (i + 1) texts))) (length-append (get_or texts i d) (0 ∷ []))
 
 -- a search for the cost within a bound

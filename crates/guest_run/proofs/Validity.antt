@@ -9,7 +9,7 @@ use Rattle.rv64_machine.specs.Hart.{Act, IsHart, act}
 use Rattle.rv64_machine.specs.Hart as hart
 use Rattle.linux_calls.specs.declared.Heap.{Heap}
 use Rattle.linux_calls.specs.HeapOf.{IsHeapOf, is_beside_heap}
-use Rattle.linux_calls.specs.Calls.{CallOutcome, State, answer_of, state}
+use Rattle.linux_calls.specs.Calls.{CallOutcome, CallState, answer_of, state}
 use Rattle.linux_calls.specs.Rules.{IsState, LeavesNumber, LeavesState}
 use Rattle.linux_calls.specs.Calls as call
 use Rattle.linux_calls.proofs.Heaps.{IsHeapOf-same}
@@ -95,7 +95,7 @@ valid_after_call guest (call.exits status) valid leaves number keeps = number
 valid_after_call guest (call.is_unknown n) valid leaves number keeps = tt
 
 valid_after : (guest : GuestState) (an_act : Act) → act guest.hart ≡ an_act → IsValid guest → ValidIn (step_of_act guest an_act)
-valid_after guest (hart.Goes to) is valid = record {
+valid_after guest (hart.GoesOn to) is valid = record {
   hart = act-hart guest.hart to valid.hart is;
   numbers = act-numbers guest.hart to valid.hart.whole valid.numbers is;
   fits = fits_too guest.hart.memory to.memory guest.heap guest.heap valid.fits refl refl
@@ -103,7 +103,7 @@ valid_after guest (hart.Goes to) is valid = record {
   files = valid.files;
 }
 valid_after guest hart.Calls is valid =
-    let before : State = state guest.hart.memory guest.world guest.heap in
+    let before : CallState = state guest.hart.memory guest.world guest.heap in
     let order : IsState before = record { memory = valid.hart.whole; files = valid.files; heap = valid.fits.heap_of } in
     valid_after_call guest (outcome_of guest) valid
     (syscall-state (call_number guest) (call_arguments guest) before order) (syscall-small (call_number guest) (call_arguments guest) before order)

@@ -8,7 +8,7 @@ use Rattle.guest_run.specs.Start.{start_of}
 use Rattle.guest_run.specs.Run.{Exited, end_at}
 
 -- the program starts with this box, its run ends at step n, counted from 1, by an exit with the status s, and leaves these files
-pub record Run (program : List ℕ) (setting : Setting) (n s : ℕ) (world : World) : Type 0 where
+pub record ProgramRun (program : List ℕ) (setting : Setting) (n s : ℕ) (world : World) : Type 0 where
   pub start : GuestState
   pub last : GuestState
   pub starts : start_of program setting ≡ Ok start

@@ -53,7 +53,7 @@ step_of_call guest (call.is_unknown number) = Ends (UnknownCall number)
 
 -- the step of an act
 abbrev pub step_of_act : GuestState → Act → Next
-step_of_act guest (hart.Goes next) = Goes (record guest { hart = next; steps = guest.steps + 1 })
+step_of_act guest (hart.GoesOn next) = Goes (record guest { hart = next; steps = guest.steps + 1 })
 step_of_act guest hart.Calls = step_of_call guest (outcome_of guest)
 step_of_act guest (hart.Traps cause) = Ends (Trapped cause)
 
@@ -100,9 +100,9 @@ StepTakesMemory guest =
     IsTrue (is_store (effect_at guest.hart)) ⊎ ((act guest.hart ≡ hart.Calls) × CallTakesMemory guest (outcome_of guest))
 
 -- whether a step goes on
-abbrev pub goes : Next → Bool
-goes (Goes guest) = true
-goes (Ends end) = false
+abbrev pub step_goes_on : Next → Bool
+step_goes_on (Goes guest) = true
+step_goes_on (Ends end) = false
 
 -- what a step answers, none where the guest went on, and the state that it leaves; want of memory hides no end
 abbrev pub Steps : GuestState → Option RunEnd → GuestState → Type 0
@@ -111,7 +111,7 @@ Steps old (Some (answer.Exited status)) new = (next old ≡ Ends (Exited status)
 Steps old (Some (answer.Trapped cause)) new = (next old ≡ Ends (Trapped cause)) × (new ≡ old)
 Steps old (Some (answer.UnknownCall number)) new = (next old ≡ Ends (UnknownCall number)) × (new ≡ old)
 Steps old (Some answer.Spent) new = ⊥
-Steps old (Some answer.OutOfMemory) new = IsTrue (goes (next old)) × StepTakesMemory old × (new ≡ old)
+Steps old (Some answer.OutOfMemory) new = IsTrue (step_goes_on (next old)) × StepTakesMemory old × (new ≡ old)
 
 -- how many steps lie between two states
 abbrev pub steps_between : GuestState → GuestState → ℕ
@@ -125,4 +125,4 @@ Runs old most (answer.Trapped cause) new = first_end old most ≡ Some (Trapped 
 Runs old most (answer.UnknownCall number) new = first_end old most ≡ Some (UnknownCall number, new)
 Runs old most answer.Spent new = (first_end old most ≡ None) × (after old most ≡ Some new)
 Runs old most answer.OutOfMemory new =
-    (steps_between old new < most) × (after old (steps_between old new) ≡ Some new) × IsTrue (goes (next new)) × StepTakesMemory new
+    (steps_between old new < most) × (after old (steps_between old new) ≡ Some new) × IsTrue (step_goes_on (next new)) × StepTakesMemory new

@@ -12,12 +12,12 @@ abbrev pub stack_size : ℕ
 stack_size = 2048 * 4096
 
 -- a text with the zero byte that ends it
-abbrev pub ended : List ℕ → List ℕ
-ended text = text ++ 0 ∷ []
+abbrev pub zero_ended : List ℕ → List ℕ
+zero_ended text = text ++ 0 ∷ []
 
 -- texts in a row, each with its zero byte
 abbrev pub ended_texts : List (List ℕ) → List ℕ
-ended_texts texts = flat_map ended texts
+ended_texts texts = flat_map zero_ended texts
 
 -- where each text begins, of texts in a row from an address on
 abbrev pub addresses : ℕ → List (List ℕ) → List ℕ
@@ -37,8 +37,8 @@ abbrev pub texts_at : List (List ℕ) → List (List ℕ) → ℕ
 texts_at args env = stack_end - length (ended_texts args) - length (ended_texts env)
 
 -- the words: how many arguments, their addresses, 0, the addresses of the environment, 0, and an empty auxiliary vector
-abbrev pub words : List (List ℕ) → List (List ℕ) → List ℕ
-words args env =
+abbrev pub stack_words : List (List ℕ) → List (List ℕ) → List ℕ
+stack_words args env =
     length args ∷ addresses (texts_at args env) args
     ++ 0 ∷ addresses (texts_at args env + length (ended_texts args)) env
     ++ 0 ∷ 0 ∷ 0 ∷ []
@@ -53,7 +53,7 @@ gap args env = texts_at args env - 8 * word_count args env - stack_pointer args 
 
 -- the bytes from the stack pointer to the stack's end
 unfoldable pub stack_bytes : List (List ℕ) → List (List ℕ) → List ℕ
-stack_bytes args env = flat_map (bytes_of 8) (words args env) ++ zeros (gap args env) ++ ended_texts args ++ ended_texts env
+stack_bytes args env = flat_map (bytes_of 8) (stack_words args env) ++ zeros (gap args env) ++ ended_texts args ++ ended_texts env
 
 -- what a text takes of these bytes: its own, its zero byte and its address
 abbrev pub cost : List ℕ → ℕ

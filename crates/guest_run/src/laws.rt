@@ -1,6 +1,6 @@
 //! What holds of every start and every run. Each law is the contract of a function that does nothing.
 
-ghost use Rattle.guest_run.specs.Program.{Run};
+ghost use Rattle.guest_run.specs.Program.{ProgramRun};
 ghost use Rattle.guest_run.specs.Run.{after, end_at, first_end, End, Exited, Runs};
 ghost use Rattle.guest_run.specs.Setting.{IsBox, Setting};
 ghost use Rattle.guest_run.specs.Start.{start_of};
@@ -48,14 +48,14 @@ pub fn first_end_in_parts()
 /// One program with one box has at most one run: one number of steps, one status, and one world that it leaves.
 pub fn one_run()
     ensures { (program : List ℕ) (setting : Setting) (n m s t : ℕ) (world other : World)
-        → Run program setting n s world → Run program setting m t other → (n ≡ m) × (s ≡ t) × (world ≡ other) }
+        → ProgramRun program setting n s world → ProgramRun program setting m t other → (n ≡ m) × (s ≡ t) × (world ≡ other) }
 {}
 
 /// An exit within some steps of a start is a run, which ends at the step after those that were counted.
 pub fn an_exit_is_a_run()
     ensures { (program : List ℕ) (setting : Setting) (start last : GuestState) (most s : ℕ)
         → start_of program setting ≡ Ok start → first_end start most ≡ Some (Exited s, last)
-        → Run program setting (last.steps + 1) s last.world }
+        → ProgramRun program setting (last.steps + 1) s last.world }
 {}
 
 /// Where there is no end within some steps, they all go on.
@@ -108,9 +108,9 @@ pub fn ends_leave_valid_states()
 /// and its status has 8 bits.
 pub fn runs_leave_sound_files()
     ensures sound { (program : List ℕ) (setting : Setting) (n s : ℕ) (world : World) → AreBytes program → IsBox setting
-        → Run program setting n s world → IsSound world }
+        → ProgramRun program setting n s world → IsSound world }
     ensures left { (program : List ℕ) (setting : Setting) (n s : ℕ) (world : World) → AreBytes program → IsBox setting
-        → Run program setting n s world → AreLeft (left world) }
+        → ProgramRun program setting n s world → AreLeft (left world) }
     ensures numbers { (program : List ℕ) (setting : Setting) (n s : ℕ) (world : World) → AreBytes program → IsBox setting
-        → Run program setting n s world → (1 ≤ n) × (s < 256) }
+        → ProgramRun program setting n s world → (1 ≤ n) × (s < 256) }
 {}

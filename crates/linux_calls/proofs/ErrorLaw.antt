@@ -12,8 +12,8 @@ use Rattle.mem_files.specs.Limits.{most_descriptors, most_names}
 use Rattle.mem_files.specs.Linux.{o_accmode, o_creat, o_excl}
 use Rattle.mem_files.specs.Calls.{removed, removed_at, opened, opened_at, closed, closed_at, sought, sought_at, with_cursor, ready, write_place, written, written_if, fits, has}
 use Rattle.linux_calls.specs.Linux.{sys_unlinkat, sys_faccessat, sys_fchmodat, sys_openat, sys_close, sys_lseek, sys_read, sys_write, sys_exit, sys_exit_group, sys_brk}
-use Rattle.linux_calls.specs.Paths.{low, named, name_at, in_directory}
-use Rattle.linux_calls.specs.Calls.{State, CallOutcome, exits, is_unknown, back, answering, unlinked, accessed, mode_changed, opened_in, opened_as, read_at, written_from, written_at, moved_break, syscall}
+use Rattle.linux_calls.specs.Paths.{low, name_in_directory, name_at, in_directory}
+use Rattle.linux_calls.specs.Calls.{CallState, CallOutcome, exits, is_unknown, back, answering, unlinked, accessed, mode_changed, opened_in, opened_as, read_at, written_from, written_at, moved_break, syscall}
 use Rattle.linux_calls.specs.Rules.{LeavesOnError}
 
 -- a pair whose error leaves the files
@@ -83,18 +83,18 @@ leaves-opened_as w dir flags (Ok name) = leaves-if w (bit_and (low flags) o_accm
     inside (Err errno) = λ e. refl
     inside (Ok name) = leaves-opened w name (low flags)
 
-leaves-back : (s : State) (meant : Result ℕ ℕ × World) → Leaves s.files meant → LeavesOnError s (back s meant)
+leaves-back : (s : CallState) (meant : Result ℕ ℕ × World) → Leaves s.files meant → LeavesOnError s (back s meant)
 leaves-back s meant p = λ e. ap (λ files. record s { files = files }) (p e)
 
-outcome-if : (s : State) (b : Bool) (x y : CallOutcome) → LeavesOnError s x → LeavesOnError s y → LeavesOnError s (cond b x y)
+outcome-if : (s : CallState) (b : Bool) (x y : CallOutcome) → LeavesOnError s x → LeavesOnError s y → LeavesOnError s (cond b x y)
 outcome-if s true x y p q = p
 outcome-if s false x y p q = q
 
-leaves-moved : (s : State) (fd buffer : ℕ) (r : Result (List ℕ) ℕ) → LeavesOnError s (read_at s fd buffer r)
+leaves-moved : (s : CallState) (fd buffer : ℕ) (r : Result (List ℕ) ℕ) → LeavesOnError s (read_at s fd buffer r)
 leaves-moved s fd buffer (Err errno) = λ e. refl
 leaves-moved s fd buffer (Ok bytes) = outcome-if s (length bytes == 0) _ _ (λ e. refl) (outcome-if s (maps s.memory buffer (length bytes)) _ _ (λ e. cc) (λ e. refl))
 
-leaves-written_at : (s : State) (fd buffer count : ℕ) (o : Option (ℕ × ℕ)) → LeavesOnError s (written_at s fd buffer count o)
+leaves-written_at : (s : CallState) (fd buffer count : ℕ) (o : Option (ℕ × ℕ)) → LeavesOnError s (written_at s fd buffer count o)
 leaves-written_at s fd buffer count None = λ e. refl
 leaves-written_at s fd buffer count (Some place) = outcome-if s (count == 0) _ _ (λ e. refl) (from (bytes_at s.memory buffer count))
   where
@@ -102,20 +102,20 @@ leaves-written_at s fd buffer count (Some place) = outcome-if s (count == 0) _ _
     from None = λ e. refl
     from (Some bytes) = leaves-back s (answering (length bytes) (written s.files fd bytes)) (leaves-answering s.files (length bytes) (written s.files fd bytes).0 (written s.files fd bytes).1 (leaves-written s.files fd bytes))
 
-leaves-same : (s : State) (r : Result ℕ ℕ) → LeavesOnError s (back s (r, s.files))
+leaves-same : (s : CallState) (r : Result ℕ ℕ) → LeavesOnError s (back s (r, s.files))
 leaves-same s r = λ e. refl
 
-leaves-break : (s : State) (to : ℕ) → LeavesOnError s (moved_break s to)
+leaves-break : (s : CallState) (to : ℕ) → LeavesOnError s (moved_break s to)
 leaves-break s to = λ e. cc
 
-leaves-exit : (s : State) (status : ℕ) → LeavesOnError s (exits status)
+leaves-exit : (s : CallState) (status : ℕ) → LeavesOnError s (exits status)
 leaves-exit s status = tt
 
-leaves-unknown : (s : State) (n : ℕ) → LeavesOnError s (is_unknown n)
+leaves-unknown : (s : CallState) (n : ℕ) → LeavesOnError s (is_unknown n)
 leaves-unknown s n = tt
 
 -- the table, row by row from its end
-module _ (number : ℕ) (a : List ℕ) (s : State) where
+module _ (number : ℕ) (a : List ℕ) (s : CallState) where
   abbrev w : World
   w = s.files
 
@@ -123,7 +123,7 @@ module _ (number : ℕ) (a : List ℕ) (s : State) where
   arg = slice_index a
 
   abbrev name : Result (List ℕ) ℕ
-  name = named s.memory w (arg 0) (arg 1)
+  name = name_in_directory s.memory w (arg 0) (arg 1)
 
   abbrev after_exit_group : CallOutcome
   after_exit_group = cond (number == sys_brk) (moved_break s (arg 0)) (is_unknown number)

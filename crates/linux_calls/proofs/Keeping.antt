@@ -12,7 +12,7 @@ use Rattle.mem_files.specs.World.{World}
 use Rattle.mem_files.specs.Calls.{write_place, ready}
 use Rattle.linux_calls.specs.declared.Heap.{Heap}
 use Rattle.linux_calls.specs.HeapOf.{is_beside_heap, is_outside, IsHeapOf, resized}
-use Rattle.linux_calls.specs.Calls.{CallOutcome, State, back, read_at, moved_break, syscall, written_at, written_from}
+use Rattle.linux_calls.specs.Calls.{CallOutcome, CallState, back, read_at, moved_break, syscall, written_at, written_from}
 use Rattle.linux_calls.specs.Calls as call
 use Rattle.linux_calls.specs.Paths.{low}
 use Rattle.linux_calls.specs.Linux.{sys_unlinkat, sys_faccessat, sys_fchmodat, sys_openat, sys_close, sys_lseek, sys_read, sys_write, sys_exit, sys_exit_group, sys_brk}
@@ -20,39 +20,39 @@ use Rattle.paged_mem.proofs.Wholes.{same_after_write}
 use Rattle.linux_calls.proofs.Heaps.{IsHeapOf-same, kept_resized}
 
 -- what a call leaves: the heap's place and limit, its pages, and what is mapped beside it
-pub record Keeps (old new : State) : Type 0 where
+pub record Keeps (old new : CallState) : Type 0 where
   pub first : new.heap.first ≡ old.heap.first
   pub limit : new.heap.limit ≡ old.heap.limit
   pub heap_of : IsHeapOf new.memory new.heap
   pub beside : (q : ℕ) → is_beside_heap old.heap q ≡ true → is_some (get new.memory q) ≡ is_some (get old.memory q)
 
-abbrev pub OutcomeKeeps : State → CallOutcome → Type 0
+abbrev pub OutcomeKeeps : CallState → CallOutcome → Type 0
 OutcomeKeeps old (call.goes answer new) = Keeps old new
 OutcomeKeeps old (call.exits status) = Unit {0}
 OutcomeKeeps old (call.is_unknown number) = Unit {0}
 
 -- the same, as a record: what it speaks of is found from the goal
-record Kept (old : State) (meant : CallOutcome) : Type 0 where
+record Kept (old : CallState) (meant : CallOutcome) : Type 0 where
   is : OutcomeKeeps old meant
 
 -- where both choices keep, so does a choice
-chosen : (s : State) (b : Bool) (x y : CallOutcome) → Kept s x → Kept s y → Kept s (cond b x y)
+chosen : (s : CallState) (b : Bool) (x y : CallOutcome) → Kept s x → Kept s y → Kept s (cond b x y)
 chosen s true x y kx ky = kx
 chosen s false x y kx ky = ky
 
-chosen_by : (s : State) (b : Bool) (x y : CallOutcome) → (b ≡ true → Kept s x) → (b ≡ false → Kept s y) → Kept s (cond b x y)
+chosen_by : (s : CallState) (b : Bool) (x y : CallOutcome) → (b ≡ true → Kept s x) → (b ≡ false → Kept s y) → Kept s (cond b x y)
 chosen_by s true x y kx ky = kx refl
 chosen_by s false x y kx ky = ky refl
 
 -- other files
-files_alone : (s : State) (files : World) (answer : Result ℕ ℕ) → IsHeapOf s.memory s.heap → Kept s (call.goes answer (record s { files = files }))
+files_alone : (s : CallState) (files : World) (answer : Result ℕ ℕ) → IsHeapOf s.memory s.heap → Kept s (call.goes answer (record s { files = files }))
 files_alone s files answer is = record { is = record { first = refl; limit = refl; heap_of = is; beside = λ q apart. refl } }
 
-nothing : (s : State) (answer : Result ℕ ℕ) → IsHeapOf s.memory s.heap → Kept s (call.goes answer s)
+nothing : (s : CallState) (answer : Result ℕ ℕ) → IsHeapOf s.memory s.heap → Kept s (call.goes answer s)
 nothing s answer is = record { is = record { first = refl; limit = refl; heap_of = is; beside = λ q apart. refl } }
 
 -- read moves bytes to where bytes are
-read_keeps : (s : State) (fd buffer : ℕ) (given : Result (List ℕ) ℕ) → IsHeapOf s.memory s.heap → Kept s (read_at s fd buffer given)
+read_keeps : (s : CallState) (fd buffer : ℕ) (given : Result (List ℕ) ℕ) → IsHeapOf s.memory s.heap → Kept s (read_at s fd buffer given)
 read_keeps s fd buffer (Err errno) is = nothing s _ is
 read_keeps s fd buffer (Ok bytes) is =
     chosen s (length bytes == 0) _ _ (nothing s _ is)
@@ -67,11 +67,11 @@ read_keeps s fd buffer (Ok bytes) is =
     })
     (λ gone. nothing s _ is))
 
-write_keeps_from : (s : State) (fd : ℕ) (bytes : Option (List ℕ)) → IsHeapOf s.memory s.heap → Kept s (written_from s fd bytes)
+write_keeps_from : (s : CallState) (fd : ℕ) (bytes : Option (List ℕ)) → IsHeapOf s.memory s.heap → Kept s (written_from s fd bytes)
 write_keeps_from s fd None is = nothing s _ is
 write_keeps_from s fd (Some bytes) is = files_alone s _ _ is
 
-write_keeps : (s : State) (fd buffer count : ℕ) (place : Option (ℕ × ℕ)) → IsHeapOf s.memory s.heap → Kept s (written_at s fd buffer count place)
+write_keeps : (s : CallState) (fd buffer count : ℕ) (place : Option (ℕ × ℕ)) → IsHeapOf s.memory s.heap → Kept s (written_at s fd buffer count place)
 write_keeps s fd buffer count None is = nothing s _ is
 write_keeps s fd buffer count (Some place) is =
     chosen s (count == 0) _ _ (nothing s _ is) (write_keeps_from s fd (bytes_at s.memory buffer count) is)
@@ -107,7 +107,7 @@ resized_beside m heap to q is from high apart =
     ] in
     cases (nat_lt (page_up heap.now) (page_up to)) refl
 
-break_keeps : (s : State) (to : ℕ) → IsHeapOf s.memory s.heap → Kept s (moved_break s to)
+break_keeps : (s : CallState) (to : ℕ) → IsHeapOf s.memory s.heap → Kept s (moved_break s to)
 break_keeps s to is =
     let P : Bool → Type 0 = λ v. Keeps s (record s {
       memory = cond v s.memory (resized s.memory (page_up s.heap.now) (page_up to));
@@ -126,14 +126,14 @@ break_keeps s to is =
     record { is = cases (is_outside s.heap to) refl }
 
 -- a call that ends the run keeps, since it leaves the state
-ends_run : (s : State) (status : ℕ) → Kept s (call.exits status)
+ends_run : (s : CallState) (status : ℕ) → Kept s (call.exits status)
 ends_run s status = record { is = tt }
 
-is_none : (s : State) (number : ℕ) → Kept s (call.is_unknown number)
+is_none : (s : CallState) (number : ℕ) → Kept s (call.is_unknown number)
 is_none s number = record { is = tt }
 
 -- every call keeps
-kept : (number : ℕ) (a : List ℕ) (s : State) → IsHeapOf s.memory s.heap → Kept s (syscall number a s)
+kept : (number : ℕ) (a : List ℕ) (s : CallState) → IsHeapOf s.memory s.heap → Kept s (syscall number a s)
 kept number a s is =
     chosen s (number == sys_unlinkat) _ _ (files_alone s _ _ is)
     (chosen s (number == sys_faccessat) _ _ (files_alone s _ _ is)
@@ -147,5 +147,5 @@ kept number a s is =
     (chosen s (number == sys_exit_group) _ _ (ends_run s (slice_index a 0 % 256))
     (chosen s (number == sys_brk) _ _ (break_keeps s (slice_index a 0) is) (is_none s number)))))))))))
 
-pub call_keeps : (number : ℕ) (a : List ℕ) (s : State) → IsHeapOf s.memory s.heap → OutcomeKeeps s (syscall number a s)
+pub call_keeps : (number : ℕ) (a : List ℕ) (s : CallState) → IsHeapOf s.memory s.heap → OutcomeKeeps s (syscall number a s)
 call_keeps number a s is = (kept number a s is).is

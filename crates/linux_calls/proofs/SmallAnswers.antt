@@ -20,9 +20,9 @@ use Rattle.mem_files.proofs.KeepingCalls.{content_small}
 use Rattle.mem_files.proofs.Maps.{lowest_unused-le-len}
 use Rattle.mem_files.proofs.Rules.{kept_of}
 use Rattle.linux_calls.specs.Linux.{sys_unlinkat, sys_faccessat, sys_fchmodat, sys_openat, sys_close, sys_lseek, sys_read, sys_write, sys_exit, sys_exit_group, sys_brk}
-use Rattle.linux_calls.specs.Paths.{in_directory, low, name_at, named}
+use Rattle.linux_calls.specs.Paths.{in_directory, low, name_at, name_in_directory}
 use Rattle.linux_calls.specs.HeapOf.{IsHeapOf, is_outside}
-use Rattle.linux_calls.specs.Calls.{State, CallOutcome, is_unknown, answer_of, answering, back, accessed, mode_changed, unlinked, opened_in, opened_as, read_at, written_from, written_at, moved_break, syscall}
+use Rattle.linux_calls.specs.Calls.{CallState, CallOutcome, is_unknown, answer_of, answering, back, accessed, mode_changed, unlinked, opened_in, opened_as, read_at, written_from, written_at, moved_break, syscall}
 use Rattle.linux_calls.specs.Rules.{IsState, LeavesNumber}
 use Rattle.linux_calls.proofs.Keeping.{inside}
 
@@ -51,7 +51,7 @@ an_error errno = record { is = omega arith }
 a_value : (value : ℕ) → value < 2 ^ 64 → Value (Ok value)
 a_value value small = record { is = small }
 
-back-small : (s : State) (meant : Result ℕ ℕ × World) → Value meant.0 → Small (back s meant)
+back-small : (s : CallState) (meant : Result ℕ ℕ × World) → Value meant.0 → Small (back s meant)
 back-small s meant v = record { is = v.is }
 
 answering-small : {A : Type 0} (value : ℕ) (r : Result A ℕ) (files : World) → value < 2 ^ 64 → Value (answering value (r, files)).0
@@ -141,7 +141,7 @@ ready-small w fd count bytes sound e = at_slot (get w.slots fd) e
     at_slot (Some Stream2) e = cc
     at_slot (Some (File number cursor access)) e = readable (is_read access) number cursor e
 
-read-small : (s : State) (fd buffer count : ℕ) (r : Result (List ℕ) ℕ) → ready s.files fd count ≡ r → IsSound s.files → Small (read_at s fd buffer r)
+read-small : (s : CallState) (fd buffer count : ℕ) (r : Result (List ℕ) ℕ) → ready s.files fd count ≡ r → IsSound s.files → Small (read_at s fd buffer r)
 read-small s fd buffer count (Err errno) was sound = record { is = (an_error errno).is }
 read-small s fd buffer count (Ok bytes) was sound =
     chosen (length bytes == 0) _ _ (record { is = omega arith })
@@ -153,7 +153,7 @@ mapped-small m at zero bytes whole e = omega (arith, length_of_bytes_at m at zer
 mapped-small m at (suc count) bytes whole e =
     omega (arith, length_of_bytes_at m at (suc count) bytes e, whole.low (at + count) _ (get_in_bytes_at m at (suc count) bytes e (at + count) (omega arith) (omega arith)))
 
-write-small : (s : State) (fd buffer count : ℕ) (o : Option (ℕ × ℕ)) → IsWhole s.memory → Small (written_at s fd buffer count o)
+write-small : (s : CallState) (fd buffer count : ℕ) (o : Option (ℕ × ℕ)) → IsWhole s.memory → Small (written_at s fd buffer count o)
 write-small s fd buffer count None whole = record { is = omega arith }
 write-small s fd buffer count (Some place) whole = chosen (count == 0) _ _ (record { is = omega arith }) (from (bytes_at s.memory buffer count) refl)
   where
@@ -162,19 +162,19 @@ write-small s fd buffer count (Some place) whole = chosen (count == 0) _ _ (reco
     from (Some bytes) was =
         back-small s _ (answering-small (length bytes) (written s.files fd bytes).0 (written s.files fd bytes).1 (mapped-small s.memory buffer count bytes whole was))
 
-break-small : (s : State) (to : ℕ) → IsHeapOf s.memory s.heap → Small (moved_break s to)
+break-small : (s : CallState) (to : ℕ) → IsHeapOf s.memory s.heap → Small (moved_break s to)
 break-small s to is = record { is = by_test (is_outside s.heap to) refl }
   where
     by_test : (t : Bool) → is_outside s.heap to ≡ t → (cond t s.heap (record s.heap { now = to })).now < 2 ^ 64
     by_test true was = let a = is.to in let b = is.low in omega arith
     by_test false was = let a = (inside s.heap to was).1 in let b = is.low in omega arith
 
-every : (number : ℕ) (a : List ℕ) (s : State) → IsState s → Small (syscall number a s)
+every : (number : ℕ) (a : List ℕ) (s : CallState) → IsState s → Small (syscall number a s)
 every number a s is =
     let arg : ℕ → ℕ = slice_index a in
-    chosen (number == sys_unlinkat) _ _ (back-small s _ (unlinked-small s.files (arg 2) (named s.memory s.files (arg 0) (arg 1))))
-    (chosen (number == sys_faccessat) _ _ (back-small s _ (accessed-small s.files (arg 2) (named s.memory s.files (arg 0) (arg 1))))
-    (chosen (number == sys_fchmodat) _ _ (back-small s _ (mode-small s.files (named s.memory s.files (arg 0) (arg 1))))
+    chosen (number == sys_unlinkat) _ _ (back-small s _ (unlinked-small s.files (arg 2) (name_in_directory s.memory s.files (arg 0) (arg 1))))
+    (chosen (number == sys_faccessat) _ _ (back-small s _ (accessed-small s.files (arg 2) (name_in_directory s.memory s.files (arg 0) (arg 1))))
+    (chosen (number == sys_fchmodat) _ _ (back-small s _ (mode-small s.files (name_in_directory s.memory s.files (arg 0) (arg 1))))
     (chosen (number == sys_openat) _ _ (back-small s _ (opened-as-small s.files (arg 0) (arg 2) (name_at s.memory (arg 1)) is.files))
     (chosen (number == sys_close) _ _ (back-small s _ (answering-small 0 (closed s.files (low (arg 0))).0 (closed s.files (low (arg 0))).1 (omega arith)))
     (chosen (number == sys_lseek) _ _ (back-small s _ (sought-small s.files (low (arg 0)) (cast_signed w64 (arg 1)) (low (arg 2))))
@@ -184,5 +184,5 @@ every number a s is =
     (chosen (number == sys_exit_group) _ _ (record { is = omega arith })
     (chosen (number == sys_brk) (moved_break s (arg 0)) (is_unknown number) (break-small s (arg 0) is.heap) (record { is = tt })))))))))))
 
-pub syscall-small : (number : ℕ) (a : List ℕ) (s : State) → IsState s → LeavesNumber (syscall number a s)
+pub syscall-small : (number : ℕ) (a : List ℕ) (s : CallState) → IsState s → LeavesNumber (syscall number a s)
 syscall-small number a s is = (every number a s is).is

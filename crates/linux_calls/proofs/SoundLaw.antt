@@ -16,8 +16,8 @@ use Rattle.mem_files.specs.Calls.{has, closed, ready, ready_at, removed, write_p
 use Rattle.mem_files.specs.Sound.{AreBytes, IsSound}
 use Rattle.mem_files.proofs.Rules.{closed-sound, removed-sound, opened-sound, skipped-sound, sought-sound, stripped-bytes, written-sound}
 use Rattle.linux_calls.specs.Linux.{at_fdcwd, enotdir, sys_unlinkat, sys_faccessat, sys_fchmodat, sys_openat, sys_close, sys_lseek, sys_read, sys_write, sys_exit, sys_exit_group, sys_brk}
-use Rattle.linux_calls.specs.Paths.{and_then, in_directory, is_absolute, low, name_at, named, not_empty, text_at, text_from, text_of}
-use Rattle.linux_calls.specs.Calls.{State, CallOutcome, is_unknown, back, answering, unlinked, opened_in, opened_as, read_at, written_from, written_at, moved_break, syscall}
+use Rattle.linux_calls.specs.Paths.{and_then, in_directory, is_absolute, low, name_at, name_in_directory, not_empty, text_at, text_from, text_or_fault}
+use Rattle.linux_calls.specs.Calls.{CallState, CallOutcome, is_unknown, back, answering, unlinked, opened_in, opened_as, read_at, written_from, written_at, moved_break, syscall}
 use Rattle.linux_calls.specs.Rules.{LeavesSound}
 use Rattle.linux_calls.proofs.Texts.{text_at-is, name_of_text}
 use Rattle.paged_mem.proofs.Wholes.{bytes_at-bytes}
@@ -51,7 +51,7 @@ unfolding text_at
 text_at-bytes m at zero text whole e = cc
 text_at-bytes m at (suc most) text whole e = by_byte (λ t was. text_at-bytes m (suc at) most t whole was) (get m at) refl e
   where
-    by_byte : ((t : List ℕ) → text_at m (suc at) most ≡ Ok t → AreBytes t) → (o : Option ℕ) → get m at ≡ o → text_of o (text_at m (suc at) most) ≡ Ok text → AreBytes text
+    by_byte : ((t : List ℕ) → text_at m (suc at) most ≡ Ok t → AreBytes t) → (o : Option ℕ) → get m at ≡ o → text_or_fault o (text_at m (suc at) most) ≡ Ok text → AreBytes text
     by_byte more None was e = cc
     by_byte more (Some byte) was e = text_from-bytes byte (text_at m (suc at) most) text (whole.small at byte was) more e
 
@@ -122,16 +122,16 @@ chosen : (b : Bool) (x y : CallOutcome) → Sound x → Sound y → Sound (cond 
 chosen true x y p q = p
 chosen false x y p q = q
 
-back-sound : (s : State) (meant : Result ℕ ℕ × World) → IsSound meant.1 → Sound (back s meant)
+back-sound : (s : CallState) (meant : Result ℕ ℕ × World) → IsSound meant.1 → Sound (back s meant)
 back-sound s meant p = record { is = p }
 
-read-sound : (s : State) (fd buffer count : ℕ) (r : Result (List ℕ) ℕ) → ready s.files fd count ≡ r → IsSound s.files → Sound (read_at s fd buffer r)
+read-sound : (s : CallState) (fd buffer count : ℕ) (r : Result (List ℕ) ℕ) → ready s.files fd count ≡ r → IsSound s.files → Sound (read_at s fd buffer r)
 read-sound s fd buffer count (Err errno) was sound = record { is = sound }
 read-sound s fd buffer count (Ok bytes) was sound =
     chosen (length bytes == 0) _ _ (record { is = sound })
     (chosen (maps s.memory buffer (length bytes)) _ _ (record { is = skipped-sound s.files fd (length bytes) sound (ready_again s.files fd count bytes was) }) (record { is = sound }))
 
-write-sound : (s : State) (fd buffer count : ℕ) (o : Option (ℕ × ℕ)) → IsWhole s.memory → IsSound s.files → Sound (written_at s fd buffer count o)
+write-sound : (s : CallState) (fd buffer count : ℕ) (o : Option (ℕ × ℕ)) → IsWhole s.memory → IsSound s.files → Sound (written_at s fd buffer count o)
 write-sound s fd buffer count None whole sound = record { is = sound }
 write-sound s fd buffer count (Some place) whole sound = chosen (count == 0) _ _ (record { is = sound }) (from (bytes_at s.memory buffer count) refl)
   where
@@ -141,10 +141,10 @@ write-sound s fd buffer count (Some place) whole sound = chosen (count == 0) _ _
       is = answering-sound (length bytes) (written s.files fd bytes).0 (written s.files fd bytes).1 (written-sound s.files fd bytes sound (bytes_at-bytes s.memory buffer count bytes whole was));
     }
 
-every : (number : ℕ) (a : List ℕ) (s : State) → IsWhole s.memory → IsSound s.files → Sound (syscall number a s)
+every : (number : ℕ) (a : List ℕ) (s : CallState) → IsWhole s.memory → IsSound s.files → Sound (syscall number a s)
 every number a s whole sound =
     let arg : ℕ → ℕ = slice_index a in
-    chosen (number == sys_unlinkat) _ _ (back-sound s _ (unlinked-sound s.files (arg 2) (named s.memory s.files (arg 0) (arg 1)) sound))
+    chosen (number == sys_unlinkat) _ _ (back-sound s _ (unlinked-sound s.files (arg 2) (name_in_directory s.memory s.files (arg 0) (arg 1)) sound))
     (chosen (number == sys_faccessat) _ _ (back-sound s _ sound)
     (chosen (number == sys_fchmodat) _ _ (back-sound s _ sound)
     (chosen (number == sys_openat) _ _ (back-sound s _ (opened-as-sound s.files (arg 0) (arg 2) (name_at s.memory (arg 1)) (λ name e. (name_at-is s.memory (arg 1) name e, name_at-bytes s.memory (arg 1) name whole e)) sound))
@@ -156,5 +156,5 @@ every number a s whole sound =
     (chosen (number == sys_exit_group) _ _ (record { is = tt })
     (chosen (number == sys_brk) (moved_break s (arg 0)) (is_unknown number) (record { is = sound }) (record { is = tt })))))))))))
 
-pub syscall-sound : (number : ℕ) (a : List ℕ) (s : State) → IsWhole s.memory → IsSound s.files → LeavesSound (syscall number a s)
+pub syscall-sound : (number : ℕ) (a : List ℕ) (s : CallState) → IsWhole s.memory → IsSound s.files → LeavesSound (syscall number a s)
 syscall-sound number a s whole sound = (every number a s whole sound).is

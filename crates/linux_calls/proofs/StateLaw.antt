@@ -18,7 +18,7 @@ use Rattle.linux_calls.specs.declared.Heap.{Heap}
 use Rattle.linux_calls.specs.Linux.{sys_unlinkat, sys_faccessat, sys_fchmodat, sys_openat, sys_close, sys_lseek, sys_read, sys_write, sys_exit, sys_exit_group, sys_brk}
 use Rattle.linux_calls.specs.Paths.{low}
 use Rattle.linux_calls.specs.HeapOf.{IsHeapOf, is_outside, resized}
-use Rattle.linux_calls.specs.Calls.{State, CallOutcome, goes, exits, is_unknown, back, read_at, written_from, written_at, moved_break, syscall}
+use Rattle.linux_calls.specs.Calls.{CallState, CallOutcome, goes, exits, is_unknown, back, read_at, written_from, written_at, moved_break, syscall}
 use Rattle.linux_calls.specs.Rules.{IsState, LeavesSound, LeavesState}
 use Rattle.paged_mem.proofs.Wholes.{whole-mapped, whole-without, whole-written}
 use Rattle.linux_calls.proofs.SoundLaw.{syscall-sound}
@@ -54,17 +54,17 @@ chosen : (b : Bool) (x y : CallOutcome) → (b ≡ true → Whole x) → Whole y
 chosen true x y p q = p refl
 chosen false x y p q = q
 
-back-whole : (s : State) (meant : Result ℕ ℕ × World) → IsWhole s.memory → Whole (back s meant)
+back-whole : (s : CallState) (meant : Result ℕ ℕ × World) → IsWhole s.memory → Whole (back s meant)
 back-whole s meant whole = record { is = whole }
 
-read-whole : (s : State) (fd buffer count : ℕ) (r : Result (List ℕ) ℕ) → ready s.files fd count ≡ r → IsWhole s.memory → IsSound s.files → Whole (read_at s fd buffer r)
+read-whole : (s : CallState) (fd buffer count : ℕ) (r : Result (List ℕ) ℕ) → ready s.files fd count ≡ r → IsWhole s.memory → IsSound s.files → Whole (read_at s fd buffer r)
 read-whole s fd buffer count (Err errno) was whole sound = record { is = whole }
 read-whole s fd buffer count (Ok bytes) was whole sound =
     chosen (length bytes == 0) _ _ (λ none. record { is = whole })
     (chosen (maps s.memory buffer (length bytes)) _ _
     (λ there. record { is = whole-written s.memory buffer bytes whole there (ready-bytes s.files fd count bytes sound was) }) (record { is = whole }))
 
-write-whole : (s : State) (fd buffer count : ℕ) (o : Option (ℕ × ℕ)) → IsWhole s.memory → Whole (written_at s fd buffer count o)
+write-whole : (s : CallState) (fd buffer count : ℕ) (o : Option (ℕ × ℕ)) → IsWhole s.memory → Whole (written_at s fd buffer count o)
 write-whole s fd buffer count None whole = record { is = whole }
 write-whole s fd buffer count (Some place) whole = chosen (count == 0) _ _ (λ none. record { is = whole }) (from (bytes_at s.memory buffer count))
   where
@@ -88,14 +88,14 @@ resized-whole m heap to whole is high = by_test (nat_lt (page_up heap.now) (page
         whole-mapped m (page_up heap.now) (zeros (page_up to - page_up heap.now)) whole (omega arith) (omega arith) (omega arith) (zero-bytes (page_up to - page_up heap.now))
     by_test false was = whole-without m (page_up to) (page_up heap.now - page_up to) whole (omega arith) (omega arith)
 
-break-whole : (s : State) (to : ℕ) → IsWhole s.memory → IsHeapOf s.memory s.heap → Whole (moved_break s to)
+break-whole : (s : CallState) (to : ℕ) → IsWhole s.memory → IsHeapOf s.memory s.heap → Whole (moved_break s to)
 break-whole s to whole is = record { is = by_test (is_outside s.heap to) refl }
   where
     by_test : (t : Bool) → is_outside s.heap to ≡ t → IsWhole (cond t s.memory (resized s.memory (page_up s.heap.now) (page_up to)))
     by_test true was = whole
     by_test false was = resized-whole s.memory s.heap to whole is (inside s.heap to was).1
 
-every : (number : ℕ) (a : List ℕ) (s : State) → IsState s → Whole (syscall number a s)
+every : (number : ℕ) (a : List ℕ) (s : CallState) → IsState s → Whole (syscall number a s)
 every number a s is =
     let arg : ℕ → ℕ = slice_index a in
     let whole = is.memory in
@@ -111,11 +111,11 @@ every number a s is =
     (chosen (number == sys_exit_group) _ _ (λ e. record { is = tt })
     (chosen (number == sys_brk) (moved_break s (arg 0)) (is_unknown number) (λ e. break-whole s (arg 0) whole is.heap) (record { is = tt })))))))))))
 
-all_three : (s : State) (outcome : CallOutcome) → LeavesSound outcome → LeavesWhole outcome → OutcomeKeeps s outcome → LeavesState outcome
+all_three : (s : CallState) (outcome : CallOutcome) → LeavesSound outcome → LeavesWhole outcome → OutcomeKeeps s outcome → LeavesState outcome
 all_three s (goes answer next) sound whole keeps = record { memory = whole; files = sound; heap = keeps.heap_of }
 all_three s (exits status) sound whole keeps = tt
 all_three s (is_unknown n) sound whole keeps = tt
 
-pub syscall-state : (number : ℕ) (a : List ℕ) (s : State) → IsState s → LeavesState (syscall number a s)
+pub syscall-state : (number : ℕ) (a : List ℕ) (s : CallState) → IsState s → LeavesState (syscall number a s)
 syscall-state number a s is =
     all_three s (syscall number a s) (syscall-sound number a s is.memory is.files) (every number a s is).is (call_keeps number a s is.heap)

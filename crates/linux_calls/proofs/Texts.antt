@@ -11,7 +11,7 @@ use Rattle.paged_mem.specs.Memory.{Memory, reads, bytes_at, number_of, prepended
 use Rattle.std.specs.Option.{option_map}
 use Rattle.mem_files.specs.Linux.{enoent}
 use Rattle.linux_calls.specs.Linux.{efault, enametoolong}
-use Rattle.linux_calls.specs.Paths.{text_at, text_of, text_from, and_then, not_empty}
+use Rattle.linux_calls.specs.Paths.{text_at, text_or_fault, text_from, and_then, not_empty}
 
 -- bytes that were read, before the text that follows them
 abbrev pub after : List ℕ → Result (List ℕ) ℕ → Result (List ℕ) ℕ
@@ -30,11 +30,11 @@ after-push read byte rest ne = ap (λ b. after read (cond b (Ok []) (and_then (�
 
 pub text_at-step : (m : Memory) (at most left byte : ℕ) → most ≡ suc left → get m at ≡ Some byte → text_at m at most ≡ text_from byte (text_at m (suc at) left)
 unfolding text_at
-text_at-step m at most left byte e found = ap (text_at m at) e ∙ ap (λ o. text_of o (text_at m (suc at) left)) found
+text_at-step m at most left byte e found = ap (text_at m at) e ∙ ap (λ o. text_or_fault o (text_at m (suc at) left)) found
 
 pub text_at-unmapped : (m : Memory) (at most left : ℕ) → most ≡ suc left → get m at ≡ None → text_at m at most ≡ Err efault
 unfolding text_at
-text_at-unmapped m at most left e gone = ap (text_at m at) e ∙ ap (λ o. text_of o (text_at m (suc at) left)) gone
+text_at-unmapped m at most left e gone = ap (text_at m at) e ∙ ap (λ o. text_or_fault o (text_at m (suc at) left)) gone
 
 pub text_at-none : (m : Memory) (at : ℕ) → text_at m at 0 ≡ Err enametoolong
 unfolding text_at
@@ -78,7 +78,7 @@ unfolding text_at
 text_at-is m at zero text e = cc
 text_at-is m at (suc most) text e = by_byte (λ t was. text_at-is m (suc at) most t was) (get m at) e
   where
-    by_byte : ((t : List ℕ) → text_at m (suc at) most ≡ Ok t → (length t < most) × (has_zero t ≡ false)) → (o : Option ℕ) → text_of o (text_at m (suc at) most) ≡ Ok text → (length text < suc most) × (has_zero text ≡ false)
+    by_byte : ((t : List ℕ) → text_at m (suc at) most ≡ Ok t → (length t < most) × (has_zero t ≡ false)) → (o : Option ℕ) → text_or_fault o (text_at m (suc at) most) ≡ Ok text → (length text < suc most) × (has_zero text ≡ false)
     by_byte more None e = cc
     by_byte more (Some byte) e = text_from-is byte most (text_at m (suc at) most) text more e
 

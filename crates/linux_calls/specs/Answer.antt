@@ -7,10 +7,10 @@ use Rattle.linux_calls.specs.declared.CallEnd.{CallEnd}
 use Rattle.linux_calls.specs.declared.CallEnd.TheVariants.{Back, Exit, Unknown, OutOfMemory}
 use Rattle.linux_calls.specs.Linux.{sys_openat, sys_read, sys_write, sys_brk}
 use Rattle.linux_calls.specs.HeapOf.{break_heap, break_memory}
-use Rattle.linux_calls.specs.Calls.{State, CallOutcome, goes, exits, is_unknown, answer_of}
+use Rattle.linux_calls.specs.Calls.{CallState, CallOutcome, goes, exits, is_unknown, answer_of}
 
 -- the calls that take memory of the host: one that opens a file, one that moves bytes, one that gives the heap pages
-abbrev pub TakesMemory : ℕ → State → Result ℕ ℕ → State → Type 0
+abbrev pub TakesMemory : ℕ → CallState → Result ℕ ℕ → CallState → Type 0
 TakesMemory number old answer next =
     ((number ≡ sys_openat) × IsOk answer)
     ⊎ (((number ≡ sys_read) × IsOkAnd answer (λ count. 0 < count))
@@ -19,7 +19,7 @@ TakesMemory number old answer next =
 
 -- the answer and the state after it are those that are meant; or memory was out, in a call that takes memory, and the
 -- state is as before
-abbrev pub IsAnswer : ℕ → State → State → CallOutcome → CallEnd → Type 0
+abbrev pub IsAnswer : ℕ → CallState → CallState → CallOutcome → CallEnd → Type 0
 IsAnswer number old new (goes answer next) (Back value) = (value ≡ answer_of answer) × (new ≡ next)
 IsAnswer number old new (goes answer next) OutOfMemory = TakesMemory number old answer next × (new ≡ old)
 IsAnswer number old new (exits status) (Exit code) = (code ≡ status) × (new ≡ old)

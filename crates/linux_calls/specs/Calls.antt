@@ -9,21 +9,21 @@ use Rattle.mem_files.specs.Calls.{removed, opened, closed, sought, ready, skippe
 use Rattle.mem_files.specs.Linux.{enoent, ebadf, einval, o_accmode}
 use Rattle.linux_calls.specs.declared.Heap.{Heap}
 use Rattle.linux_calls.specs.Linux.{efault, sys_unlinkat, sys_faccessat, sys_fchmodat, sys_openat, sys_close, sys_lseek, sys_read, sys_write, sys_exit, sys_exit_group, sys_brk}
-use Rattle.linux_calls.specs.Paths.{low, named, name_at, in_directory}
+use Rattle.linux_calls.specs.Paths.{low, name_in_directory, name_at, in_directory}
 use Rattle.linux_calls.specs.HeapOf.{break_heap, break_memory}
 
 -- what a call reads and changes
-pub record State : Type 0 where
+pub record CallState : Type 0 where
   pub memory : Memory
   pub files : World
   pub heap : Heap
 
-abbrev pub state : Memory → World → Heap → State
+abbrev pub state : Memory → World → Heap → CallState
 state memory files heap = record { memory = memory; files = files; heap = heap }
 
 -- what a call comes to: it goes back to the guest with a value or an error, ends the program, or is unknown
 pub data CallOutcome : Type 0 where
-  goes : Result ℕ ℕ → State → CallOutcome
+  goes : Result ℕ ℕ → CallState → CallOutcome
   exits : ℕ → CallOutcome
   is_unknown : ℕ → CallOutcome
 
@@ -33,7 +33,7 @@ answer_of (Ok value) = value
 answer_of (Err errno) = (2 ^ 64 - errno) % 2 ^ 64
 
 -- an answer for the guest, with the files after it
-abbrev pub back : State → Result ℕ ℕ × World → CallOutcome
+abbrev pub back : CallState → Result ℕ ℕ × World → CallOutcome
 back s meant = goes meant.0 (record s { files = meant.1 })
 
 -- an answer that is `value` where there is no error
@@ -68,7 +68,7 @@ opened_as w dir flags (Ok name) =
     if bit_and (low flags) o_accmode == o_accmode then (Err einval, w) else opened_in w flags (in_directory w dir name)
 
 -- read: the bytes that are ready are read_at, all or none
-abbrev pub read_at : State → ℕ → ℕ → Result (List ℕ) ℕ → CallOutcome
+abbrev pub read_at : CallState → ℕ → ℕ → Result (List ℕ) ℕ → CallOutcome
 read_at s fd buffer (Err errno) = goes (Err errno) s
 read_at s fd buffer (Ok bytes) =
     if length bytes == 0 then goes (Ok 0) s
@@ -80,29 +80,29 @@ read_at s fd buffer (Ok bytes) =
     else goes (Err efault) s)
 
 -- write: to a descriptor that may be written
-abbrev pub written_from : State → ℕ → Option (List ℕ) → CallOutcome
+abbrev pub written_from : CallState → ℕ → Option (List ℕ) → CallOutcome
 written_from s fd None = goes (Err efault) s
 written_from s fd (Some bytes) = back s (answering (length bytes) (written s.files fd bytes))
 
-abbrev pub written_at : State → ℕ → ℕ → ℕ → Option (ℕ × ℕ) → CallOutcome
+abbrev pub written_at : CallState → ℕ → ℕ → ℕ → Option (ℕ × ℕ) → CallOutcome
 written_at s fd buffer count None = goes (Err ebadf) s
 written_at s fd buffer count (Some place) =
     if count == 0 then goes (Ok 0) s else written_from s fd (bytes_at s.memory buffer count)
 
 -- brk answers the break after the call
-abbrev pub moved_break : State → ℕ → CallOutcome
+abbrev pub moved_break : CallState → ℕ → CallOutcome
 moved_break s to = goes (Ok (break_heap s.heap to).now) (record s {
   memory = break_memory s.memory s.heap to;
   heap = break_heap s.heap to;
 })
 
 -- the table
-abbrev pub syscall : ℕ → List ℕ → State → CallOutcome
+abbrev pub syscall : ℕ → List ℕ → CallState → CallOutcome
 syscall number a s =
     let arg = slice_index a in
-    if number == sys_unlinkat then back s (unlinked s.files (arg 2) (named s.memory s.files (arg 0) (arg 1)))
-    else (if number == sys_faccessat then back s (accessed s.files (arg 2) (named s.memory s.files (arg 0) (arg 1)), s.files)
-    else (if number == sys_fchmodat then back s (mode_changed s.files (named s.memory s.files (arg 0) (arg 1)), s.files)
+    if number == sys_unlinkat then back s (unlinked s.files (arg 2) (name_in_directory s.memory s.files (arg 0) (arg 1)))
+    else (if number == sys_faccessat then back s (accessed s.files (arg 2) (name_in_directory s.memory s.files (arg 0) (arg 1)), s.files)
+    else (if number == sys_fchmodat then back s (mode_changed s.files (name_in_directory s.memory s.files (arg 0) (arg 1)), s.files)
     else (if number == sys_openat then back s (opened_as s.files (arg 0) (arg 2) (name_at s.memory (arg 1)))
     else (if number == sys_close then back s (answering 0 (closed s.files (low (arg 0))))
     else (if number == sys_lseek then back s (sought s.files (low (arg 0)) (cast_signed w64 (arg 1)) (low (arg 2)))

@@ -20,14 +20,14 @@ low register = register % 2 ^ 32
 abbrev pub text_from : ℕ → Result (List ℕ) ℕ → Result (List ℕ) ℕ
 text_from byte rest = if byte == 0 then Ok [] else and_then (λ text. Ok (byte ∷ text)) rest
 
-abbrev pub text_of : Option ℕ → Result (List ℕ) ℕ → Result (List ℕ) ℕ
-text_of None rest = Err efault
-text_of (Some byte) rest = text_from byte rest
+abbrev pub text_or_fault : Option ℕ → Result (List ℕ) ℕ → Result (List ℕ) ℕ
+text_or_fault None rest = Err efault
+text_or_fault (Some byte) rest = text_from byte rest
 
 -- the text at an address, which a zero byte among the next `most` bytes ends
 unfoldable pub text_at : Memory → ℕ → ℕ → Result (List ℕ) ℕ
 text_at m at zero = Err enametoolong
-text_at m at (suc most) = text_of (get m at) (text_at m (suc at) most)
+text_at m at (suc most) = text_or_fault (get m at) (text_at m (suc at) most)
 
 abbrev pub not_empty : List ℕ → Result (List ℕ) ℕ
 not_empty [] = Err enoent
@@ -49,5 +49,5 @@ in_directory w dir name =
     else (if contains_key w.slots (low dir) then Err enotdir else Err ebadf)
 
 -- the name that a path names in a directory
-abbrev pub named : Memory → World → ℕ → ℕ → Result (List ℕ) ℕ
-named m w dir at = and_then (λ name. in_directory w dir name) (name_at m at)
+abbrev pub name_in_directory : Memory → World → ℕ → ℕ → Result (List ℕ) ℕ
+name_in_directory m w dir at = and_then (λ name. in_directory w dir name) (name_at m at)

@@ -2,11 +2,11 @@
 use Rattle.std.specs.Prelude.{◌≡◌, ◌<◌, ◌^◌, ⊤, IsErr}
 use Rattle.paged_mem.specs.Memory.{IsWhole}
 use Rattle.mem_files.specs.Sound.{IsSound}
-use Rattle.linux_calls.specs.Calls.{State, CallOutcome, goes, exits, is_unknown, answer_of}
+use Rattle.linux_calls.specs.Calls.{CallState, CallOutcome, goes, exits, is_unknown, answer_of}
 use Rattle.linux_calls.specs.HeapOf.{IsHeapOf}
 
 -- an outcome that is an error leaves the state
-abbrev pub LeavesOnError : State → CallOutcome → Type 0
+abbrev pub LeavesOnError : CallState → CallOutcome → Type 0
 LeavesOnError s (goes answer next) = IsErr answer → next ≡ s
 LeavesOnError s (exits status) = ⊤
 LeavesOnError s (is_unknown n) = ⊤
@@ -18,7 +18,7 @@ LeavesSound (exits status) = ⊤
 LeavesSound (is_unknown n) = ⊤
 
 -- a state in order: a memory of whole pages of bytes, files that keep their rules, and a heap that fits the memory
-pub record IsState (s : State) : Type 0 where
+pub record IsState (s : CallState) : Type 0 where
   pub memory : IsWhole s.memory
   pub files : IsSound s.files
   pub heap : IsHeapOf s.memory s.heap

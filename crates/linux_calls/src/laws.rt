@@ -4,7 +4,7 @@ ghost use Rattle.std.specs.Prelude.{◌≡◌, ℕ, ◌<◌, ◌≤◌, Some, Li
 ghost use Rattle.std.specs.FinMap as map;
 ghost use Rattle.paged_mem.specs.Memory.{Memory, IsWhole};
 ghost use Rattle.linux_calls.specs.HeapOf.{resized};
-ghost use Rattle.linux_calls.specs.Calls.{State, syscall};
+ghost use Rattle.linux_calls.specs.Calls.{CallState, syscall};
 ghost use Rattle.linux_calls.specs.Linux.{efault, enotdir, enametoolong, at_fdcwd, sys_unlinkat, sys_faccessat, sys_fchmodat, sys_openat, sys_close, sys_lseek, sys_read, sys_write, sys_exit, sys_exit_group, sys_brk};
 ghost use Rattle.linux_calls.specs.Rules.{IsState, LeavesNumber, LeavesOnError, LeavesSound, LeavesState};
 ghost use Rattle.mem_files.specs.Sound.{IsSound};
@@ -25,24 +25,24 @@ pub fn pages_come_back_zero()
 
 /// A call that answers an error changes nothing.
 pub fn errors_change_nothing()
-    ensures { (number : ℕ) (arguments : List ℕ) (state : State) → LeavesOnError state (syscall number arguments state) }
+    ensures { (number : ℕ) (arguments : List ℕ) (state : CallState) → LeavesOnError state (syscall number arguments state) }
 {}
 
 /// Files that keep their rules do so after every call, where memory is of bytes.
 pub fn files_stay_sound()
-    ensures { (number : ℕ) (arguments : List ℕ) (state : State) → IsWhole state.memory → IsSound state.files
+    ensures { (number : ℕ) (arguments : List ℕ) (state : CallState) → IsWhole state.memory → IsSound state.files
         → LeavesSound (syscall number arguments state) }
 {}
 
 /// A state in order is in order after every call.
 pub fn states_stay_in_order()
-    ensures { (number : ℕ) (arguments : List ℕ) (state : State) → IsState state
+    ensures { (number : ℕ) (arguments : List ℕ) (state : CallState) → IsState state
         → LeavesState (syscall number arguments state) }
 {}
 
 /// What a guest gets from a call, given a state in order, is a number of 64 bits, and the status that it exits with one of 8.
 pub fn answers_are_numbers()
-    ensures { (number : ℕ) (arguments : List ℕ) (state : State) → IsState state
+    ensures { (number : ℕ) (arguments : List ℕ) (state : CallState) → IsState state
         → LeavesNumber (syscall number arguments state) }
 {}
 

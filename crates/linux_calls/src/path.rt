@@ -2,7 +2,7 @@
 
 ghost use Rattle.std.specs.Prelude.{◌≡◌, ◌%◌, MatchResult, IfOk, IsTrue, Ok, Err};
 ghost use Rattle.mem_files.specs.Names.{is_stripped_name};
-ghost use Rattle.linux_calls.specs.Paths.{low, text_at, name_at, named, in_directory};
+ghost use Rattle.linux_calls.specs.Paths.{low, text_at, name_at, name_in_directory, in_directory};
 
 use crate::{AT_FDCWD, EFAULT, ENAMETOOLONG, ENOTDIR};
 use arrayvec::ArrayVec;
@@ -79,8 +79,8 @@ pub fn read_path_in<R: Ram>(
     at: u64,
 ) -> Result<ArrayVec<u8, 256>, u16>
     ensures value { MatchResult result
-        (λ name. named (R.bytes ram.now) files.now dir at ≡ Ok name.items)
-        (λ errno. named (R.bytes ram.now) files.now dir at ≡ Err errno) }
+        (λ name. name_in_directory (R.bytes ram.now) files.now dir at ≡ Ok name.items)
+        (λ errno. name_in_directory (R.bytes ram.now) files.now dir at ≡ Err errno) }
     ensures name { IfOk result (λ name. IsTrue (is_stripped_name name.items)) }
 {
     let name = read_path(ram, at)?;

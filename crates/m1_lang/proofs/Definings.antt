@@ -10,12 +10,12 @@ use Rattle.m1_lang.specs.Words.Words.{Found, open_quote, Word, Words, word_list,
 use Rattle.m1_lang.specs.Words.Ahead.{words_at}
 use Rattle.m1_lang.specs.declared.refusal.M1Refusal.{M1Refusal}
 use Rattle.m1_lang.specs.declared.refusal.M1Refusal.TheVariants as refusal
-use Rattle.m1_lang.specs.Definitions.{Cut, Defined, Defines, definitions, definitions_in, is_value, Part, parts, Plain, unless_open, value_in, with_defined}
+use Rattle.m1_lang.specs.Definitions.{Cut, Defined, Defines, definitions, definitions_in, is_value, SourcePart, parts, Plain, unless_open, value_in, with_defined}
 use Rattle.m1_lang.specs.Representation.Passes.{behind_define, DefinesOne, looked_up, open_at, or_value, parts_at, quote_or, Tabulates, unless_quoted, valued, Values, values_in, with_values}
 use Rattle.m1_lang.proofs.Moves.{look-more}
 
 -- the definitions by what they give words
-pub valued-is : (parts : List Part) (seen : Defined) → looked_up (definitions seen parts) ≡ valued (value_in seen) parts
+pub valued-is : (parts : List SourcePart) (seen : Defined) → looked_up (definitions seen parts) ≡ valued (value_in seen) parts
 valued-is [] seen = refl
 valued-is (Defines at name value ∷ rest) seen = by (is_value value) (is_some (value_in seen name)) (valued-is rest (seen ++ (name, value) ∷ []))
   where

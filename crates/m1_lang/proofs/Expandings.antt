@@ -5,7 +5,7 @@ use Rattle.std.proofs.lemmas.Bool.Decides.{nat_tests}
 use Rattle.std.specs.BTreeMap.{BTreeMap}
 use Rattle.hex_langs.specs.declared.items.item.Item.{Item}
 use Rattle.hex_langs.specs.declared.items.words.Open.{Open}
-use Rattle.hex_langs.specs.Items.Reading.{Ends, formed, Formed, Reading, with_front, word_end}
+use Rattle.hex_langs.specs.Items.Reading.{NoToken, formed, Formed, Reading, with_front, word_end}
 use Rattle.m1_lang.specs.declared.words.meaning.WordFault.{WordFault}
 use Rattle.m1_lang.specs.Words.Words.{Found, Word, word_list, Words, words_of}
 use Rattle.m1_lang.specs.Words.Forms.{tokens_of}
@@ -13,7 +13,7 @@ use Rattle.m1_lang.specs.Words.Ahead.{words_at}
 use Rattle.m1_lang.specs.declared.refusal.M1Refusal.{M1Refusal}
 use Rattle.m1_lang.specs.declared.refusal.M1Refusal.TheVariants as refusal
 use Rattle.m1_lang.specs.Definitions.{Defined, definitions_in, is_define, parts, plain_words, value_in}
-use Rattle.m1_lang.specs.Expansion.{counted_items, Expands, expansion_by, expansion_of, then_read, unless_refused, words_reading}
+use Rattle.m1_lang.specs.Expansion.{counted_items, Expands, expansion_by, expansion_of, then_read, items_unless_refused, words_reading}
 use Rattle.m1_lang.specs.Representation.Passes.{looked_up, plain_behind, parts_at, reading_at, Tabulates, TakesWord, Values, values_in}
 use Rattle.m1_lang.proofs.Passing.{define-plain, parts-plain, words-end}
 use Rattle.m1_lang.proofs.Takings.{counted-end}
@@ -33,12 +33,12 @@ reading-define values source at after next word found define skips =
     ap (λ (w : Words). words_reading values (plain_words (parts (word_list w)))) found
     ∙ ap (words_reading values) (define-plain word (word_list (words_at source after)) define ∙ skips)
 
-pub reading-over : (values : List ℕ → Option (List ℕ)) (source : List ℕ) (at : ℕ) → word_list (words_at source at) ≡ [] → reading_at values source at ≡ Ends
+pub reading-over : (values : List ℕ → Option (List ℕ)) (source : List ℕ) (at : ℕ) → word_list (words_at source at) ≡ [] → reading_at values source at ≡ NoToken
 reading-over values source at none = ap (λ (l : List Word). words_reading values (plain_words (parts l))) none
 
 -- the last word is taken
 pub reading-done : (values : List ℕ → Option (List ℕ)) (source : List ℕ) (at : ℕ) (word : Option Open) (items : List Item) (whole : Formed WordFault) → length source ≤ at
-    → length items ≤ 33554432 → whole ≡ with_front items (formed word (reading_at values source at)) → counted_items whole ≡ unless_refused items (word_end word)
+    → length items ≤ 33554432 → whole ≡ with_front items (formed word (reading_at values source at)) → counted_items whole ≡ items_unless_refused items (word_end word)
 reading-done values source at word items whole past few is =
     ap counted_items is
     ∙ ap (λ (r : Reading WordFault). counted_items (with_front items (formed word r))) (reading-over values source at (ap word_list (words-end source at past)))

@@ -28,7 +28,7 @@ use Rattle.m1_lang.specs.declared.refusal.M1Refusal.{M1Refusal}
 use Rattle.m1_lang.specs.declared.refusal.M1Refusal.TheVariants.{TooLong}
 use Rattle.m1_lang.specs.Laws.{IsOfBytes}
 use Rattle.m1_lang.specs.Definitions.{Defined, Defines, Cut, definitions_in, is_define, parts, Plain, plain_words, value_in}
-use Rattle.m1_lang.specs.Expansion.{at_once, counted_items, expansion_by, expansion_of, then_read, unless_refused, words_reading}
+use Rattle.m1_lang.specs.Expansion.{at_once, counted_items, expansion_by, expansion_of, then_read, items_unless_refused, words_reading}
 
 abbrev AreGoodTokens : List Token → Type 0
 AreGoodTokens tokens = AllByRecursion IsGood tokens
@@ -250,7 +250,7 @@ plain-bytes (word ∷ name ∷ value ∷ words) are = by (is_define word.text) (
 counted-ok : (whole : Formed WordFault) (items : List Item) → counted_items whole ≡ Ok items → (whole.items ≡ items) × (length whole.items ≤ 33554432)
 counted-ok whole items is = by (nat_lt 33554432 (length whole.items)) refl whole.end is
   where
-    by : (over : Bool) → nat_lt 33554432 (length whole.items) ≡ over → (end : Ending WordFault) → cond over (Err TooLong) (unless_refused whole.items end) ≡ Ok items
+    by : (over : Bool) → nat_lt 33554432 (length whole.items) ≡ over → (end : Ending WordFault) → cond over (Err TooLong) (items_unless_refused whole.items end) ≡ Ok items
         → (whole.items ≡ items) × (length whole.items ≤ 33554432)
     by true many end same = absurd (cc)
     by false few Whole same = (cc, grind (arith, nat_tests))

@@ -5,7 +5,7 @@ use Rattle.std.specs.Prelude.{bytes_eq}
 use Rattle.std.proofs.lemmas.Slice.Eq.{bytes_eq-Decides}
 use Rattle.m1_lang.specs.Words.Words.{Word}
 use Rattle.m1_lang.specs.declared.refusal.M1Refusal.TheVariants as refusal
-use Rattle.m1_lang.specs.Definitions.{with_defined, Cut, Defined, Defines, definitions, is_value, Part, Plain, plain_words, value_in}
+use Rattle.m1_lang.specs.Definitions.{with_defined, Cut, Defined, Defines, definitions, is_value, SourcePart, Plain, plain_words, value_in}
 use Rattle.m1_lang.specs.Representation.Passes.{or_value}
 use Rattle.m1_lang.proofs.Unplaced.{expansion_by_values, expansion_with, ok, parts_expansion}
 
@@ -86,7 +86,7 @@ order-same seen one value other also apart text =
 
 -- ---- one definition in front
 
-ok-with : (seen : Defined) (at : ℕ) (name value : List ℕ) (ps : List Part)
+ok-with : (seen : Defined) (at : ℕ) (name value : List ℕ) (ps : List SourcePart)
     → ok (definitions seen (Defines at name value ∷ ps))
     ≡ cond (not (is_value value)) None (cond (is_some (value_in seen name)) None (ok (definitions (seen ++ (name, value) ∷ []) ps)))
 ok-with seen at name value ps = by (is_value value) (is_some (value_in seen name))
@@ -116,7 +116,7 @@ related-then (Some a) (Some b) None first second = absurd second
 related-then (Some a) (Some b) (Some c) first second = λ text. first text ∙ second text
 
 -- behind definitions that give the same values
-related-more : (one other : Defined) (ps : List Part) → SameValues one other → Related (ok (definitions one ps)) (ok (definitions other ps))
+related-more : (one other : Defined) (ps : List SourcePart) → SameValues one other → Related (ok (definitions one ps)) (ok (definitions other ps))
 related-more one other [] same = same
 related-more one other (Cut at ∷ ps) same = tt
 related-more one other (Plain word ∷ ps) same = related-more one other ps same
@@ -127,7 +127,7 @@ related-more one other (Defines at name value ∷ ps) same =
     (chosen (not (is_value value)) (is_some (value_in one name)) _ _ (related-more (one ++ (name, value) ∷ []) (other ++ (name, value) ∷ []) ps (more-same one other name value same))))
 
 -- behind one part
-behind-part : (seen : Defined) (part : Part) (ps qs : List Part) → ((more : Defined) → Related (ok (definitions more ps)) (ok (definitions more qs)))
+behind-part : (seen : Defined) (part : SourcePart) (ps qs : List SourcePart) → ((more : Defined) → Related (ok (definitions more ps)) (ok (definitions more qs)))
     → Related (ok (definitions seen (part ∷ ps))) (ok (definitions seen (part ∷ qs)))
 behind-part seen (Cut at) ps qs later = tt
 behind-part seen (Plain word) ps qs later = later seen
@@ -140,7 +140,7 @@ behind-part seen (Defines at name value) ps qs later =
 -- ---- two parts change places
 
 -- one definition and then another
-ok-two : (seen : Defined) (at place : ℕ) (one value other also : List ℕ) (ps : List Part)
+ok-two : (seen : Defined) (at place : ℕ) (one value other also : List ℕ) (ps : List SourcePart)
     → ok (definitions seen (Defines at one value ∷ Defines place other also ∷ ps))
     ≡ cond (not (is_value value)) None (cond (is_some (value_in seen one)) None
     (cond (not (is_value also)) None (cond (is_some (value_in seen other) || bytes_eq other one) None (ok (definitions ((seen ++ (one, value) ∷ []) ++ (other, also) ∷ []) ps)))))
@@ -169,7 +169,7 @@ cut-chosen true again = tt
 cut-chosen false true = tt
 cut-chosen false false = tt
 
-swap : (seen : Defined) (one value : List ℕ) (part : Part) (ps : List Part)
+swap : (seen : Defined) (one value : List ℕ) (part : SourcePart) (ps : List SourcePart)
     → Related (ok (definitions seen (Defines 0 one value ∷ part ∷ ps))) (ok (definitions seen (part ∷ Defines 0 one value ∷ ps)))
 swap seen one value (Cut at) ps =
     subst (λ (o : Option Defined). Related o None) (sym (ok-with seen 0 one value (Cut at ∷ ps))) (cut-chosen (not (is_value value)) (is_some (value_in seen one)))
@@ -188,27 +188,27 @@ swap seen one value (Defines at other also) ps =
 
 -- ---- a definition behind other parts
 
-move : (seen : Defined) (one value : List ℕ) (between back : List Part)
+move : (seen : Defined) (one value : List ℕ) (between back : List SourcePart)
     → Related (ok (definitions seen (Defines 0 one value ∷ (between ++ back)))) (ok (definitions seen (between ++ Defines 0 one value ∷ back)))
 move seen one value [] back = related-self (ok (definitions seen (Defines 0 one value ∷ back)))
 move seen one value (part ∷ between) back =
     related-then _ (ok (definitions seen (part ∷ Defines 0 one value ∷ (between ++ back)))) _ (swap seen one value part (between ++ back))
     (behind-part seen part (Defines 0 one value ∷ (between ++ back)) (between ++ Defines 0 one value ∷ back) (λ more. move more one value between back))
 
-move-behind : (seen : Defined) (one value : List ℕ) (front between back : List Part)
+move-behind : (seen : Defined) (one value : List ℕ) (front between back : List SourcePart)
     → Related (ok (definitions seen (front ++ Defines 0 one value ∷ (between ++ back)))) (ok (definitions seen (front ++ (between ++ Defines 0 one value ∷ back))))
 move-behind seen one value [] between back = move seen one value between back
 move-behind seen one value (part ∷ front) between back =
     behind-part seen part (front ++ Defines 0 one value ∷ (between ++ back)) (front ++ (between ++ Defines 0 one value ∷ back))
     (λ more. move-behind more one value front between back)
 
-plain-more : (ps qs rs : List Part) → plain_words qs ≡ plain_words rs → plain_words (ps ++ qs) ≡ plain_words (ps ++ rs)
+plain-more : (ps qs rs : List SourcePart) → plain_words qs ≡ plain_words rs → plain_words (ps ++ qs) ≡ plain_words (ps ++ rs)
 plain-more [] qs rs same = same
 plain-more (Defines at name value ∷ ps) qs rs same = plain-more ps qs rs same
 plain-more (Cut at ∷ ps) qs rs same = plain-more ps qs rs same
 plain-more (Plain word ∷ ps) qs rs same = ap (λ (words : List Word). word ∷ words) (plain-more ps qs rs same)
 
-plain-moved : (one value : List ℕ) (between back : List Part) → plain_words (between ++ back) ≡ plain_words (between ++ Defines 0 one value ∷ back)
+plain-moved : (one value : List ℕ) (between back : List SourcePart) → plain_words (between ++ back) ≡ plain_words (between ++ Defines 0 one value ∷ back)
 plain-moved one value between back = plain-more between back (Defines 0 one value ∷ back) refl
 
 related-with : (one other : Option Defined) (words : List Word) → Related one other → expansion_with one words ≡ expansion_with other words
@@ -219,7 +219,7 @@ related-with (Some a) (Some b) words related =
     let values : value_in a ≡ value_in b = λ i text. related text i in
     ap (λ (v : List ℕ → Option (List ℕ)). expansion_by_values v words) values
 
-pub moved : (one value : List ℕ) (front between back : List Part)
+pub moved : (one value : List ℕ) (front between back : List SourcePart)
     → parts_expansion (front ++ Defines 0 one value ∷ (between ++ back)) ≡ parts_expansion (front ++ (between ++ Defines 0 one value ∷ back))
 moved one value front between back =
     related-with _ (ok (definitions [] (front ++ (between ++ Defines 0 one value ∷ back)))) (plain_words (front ++ Defines 0 one value ∷ (between ++ back)))

@@ -2,14 +2,14 @@
 use Rattle.std.proofs.Common.{◌≡◌, ℕ, ◌≤◌, Bool, true, false, cond, List, [], ◌∷◌, length, refl, ap, arith}
 use denote.Bor.{Bor}
 use Rattle.std.proofs.lemmas.List.{drop_all}
-use Rattle.m1_lang.specs.Words.Words.{Over, Word, Words, word_list, words_from}
+use Rattle.m1_lang.specs.Words.Words.{NoWord, Word, Words, word_list, words_from}
 use Rattle.m1_lang.specs.Words.Ahead.{FindsAhead, words_at}
 use Rattle.m1_lang.specs.declared.words.splitting.Ahead.{Ahead}
 use Rattle.m1_lang.specs.declared.words.splitting.Ahead.TheVariants as next
 use Rattle.m1_lang.specs.Definitions.{Cut, Defines, is_define, parts, Plain, plain_words}
 use Rattle.m1_lang.specs.Representation.Passes.{behind_define, parts_at, plain_behind, valued, Values}
 
-pub words-end : (source : List ℕ) (at : ℕ) → length source ≤ at → words_at source at ≡ Over
+pub words-end : (source : List ℕ) (at : ℕ) → length source ≤ at → words_at source at ≡ NoWord
 unfolding words_from
 words-end source at past = ap (words_from at 0) (drop_all at source past)
 

@@ -15,10 +15,10 @@ use Rattle.hex_langs.specs.Items.Words.{Step, taken, Takes}
 use Rattle.hex_langs.proofs.ItemsLemmas.Readings.{formed-halt, formed-token, takes-ok, with_front-twice}
 use Rattle.m1_lang.specs.declared.words.meaning.WordFault.{WordFault}
 use Rattle.m1_lang.specs.declared.refusal.M1Refusal.TheVariants.{TooLong}
-use Rattle.m1_lang.specs.Expansion.{at_once, counted_items, halt_refusal, unless_refused}
+use Rattle.m1_lang.specs.Expansion.{at_once, counted_items, halt_refusal, items_unless_refused}
 use Rattle.m1_lang.specs.Representation.Passes.{TakesTokens}
 
-pub counted-few : (whole : Formed WordFault) → length whole.items ≤ 33554432 → counted_items whole ≡ unless_refused whole.items whole.end
+pub counted-few : (whole : Formed WordFault) → length whole.items ≤ 33554432 → counted_items whole ≡ items_unless_refused whole.items whole.end
 counted-few whole few = let fits : nat_lt 33554432 (length whole.items) ≡ false = grind (arith, nat_tests) in cond-false _ _ _ fits
 
 counted-many : (whole : Formed WordFault) → 33554432 < length whole.items → counted_items whole ≡ Err TooLong
@@ -26,7 +26,7 @@ counted-many whole many = let over : nat_lt 33554432 (length whole.items) ≡ tr
 
 -- the items so far are few, and nothing comes behind them
 pub counted-end : (items : List Item) (end : Ending WordFault) → length items ≤ 33554432
-    → counted_items (with_front items (record { items = []; end = end })) ≡ unless_refused items end
+    → counted_items (with_front items (record { items = []; end = end })) ≡ items_unless_refused items end
 counted-end items end few =
     ap (λ (all : List Item). counted_items (record { items = all; end = end })) (append-nil items) ∙ counted-few (record { items = items; end = end }) few
 

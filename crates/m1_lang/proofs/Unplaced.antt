@@ -11,14 +11,14 @@ use Rattle.hex_langs.specs.declared.items.words.Begun.TheVariants.{Nothing, One,
 use Rattle.hex_langs.specs.declared.items.words.Open.{Open}
 use Rattle.hex_langs.specs.declared.items.words.Halt.TheVariants as halt
 use Rattle.hex_langs.specs.Items.Words.{byte_in, field_in, reference_in, Step, taken}
-use Rattle.hex_langs.specs.Items.Reading.{behind_step, Ending, Ends, Faulted, Faulty, formed, Formed, Halted, Reading, Then, Whole}
+use Rattle.hex_langs.specs.Items.Reading.{behind_step, Ending, NoToken, Faulted, Faulty, formed, Formed, Halted, Reading, Then, Whole}
 use Rattle.m1_lang.specs.declared.words.meaning.WordFault.{WordFault}
 use Rattle.m1_lang.specs.Words.Forms.{Tokens, tokens_of}
 use Rattle.m1_lang.specs.Words.Words.{Word, word_list, words_of}
 use Rattle.m1_lang.specs.declared.refusal.M1Refusal.{M1Refusal}
 use Rattle.m1_lang.specs.declared.refusal.M1Refusal.TheVariants as refusal
-use Rattle.m1_lang.specs.Definitions.{with_defined, Cut, Defined, defined_with, Defines, definitions, is_define, is_value, Part, parts, Plain, plain_words, unless_open, value_in}
-use Rattle.m1_lang.specs.Expansion.{at_once, counted_items, expansion_by, expansion_of, then_read, unless_refused, words_reading}
+use Rattle.m1_lang.specs.Definitions.{with_defined, Cut, Defined, defined_with, Defines, definitions, is_define, is_value, SourcePart, parts, Plain, plain_words, unless_open, value_in}
+use Rattle.m1_lang.specs.Expansion.{at_once, counted_items, expansion_by, expansion_of, then_read, items_unless_refused, words_reading}
 use Rattle.m1_lang.specs.Laws.{IsCutIntoWords, parts_in, texts_in, unplaced}
 
 -- ---- one token
@@ -70,7 +70,7 @@ taken-none (Some word) at (Reference kind name) = reference-none word word.refer
 -- ---- readings
 
 abbrev reading_at_none : Reading WordFault → Reading WordFault
-reading_at_none Ends = Ends
+reading_at_none NoToken = NoToken
 reading_at_none (Faulty why at) = Faulty why 0
 reading_at_none (Then at token later) = Then 0 token (reading_at_none later)
 
@@ -93,12 +93,12 @@ step-alike (Err (halt.Second at)) one other later = record { items = refl; end =
 step-alike (Err halt.TooLong) one other later = record { items = refl; end = refl }
 step-alike (Err halt.OutOfMemory) one other later = record { items = refl; end = refl }
 
-end-alike : (word : Option Open) → Alike (formed (open_at_none word) Ends) (formed word Ends)
+end-alike : (word : Option Open) → Alike (formed (open_at_none word) NoToken) (formed word NoToken)
 end-alike None = record { items = refl; end = refl }
 end-alike (Some word) = record { items = refl; end = refl }
 
 formed-alike : (word : Option Open) (reading : Reading WordFault) → Alike (formed (open_at_none word) (reading_at_none reading)) (formed word reading)
-formed-alike word Ends = end-alike word
+formed-alike word NoToken = end-alike word
 formed-alike word (Faulty why at) = record { items = refl; end = refl }
 formed-alike word (Then at token later) =
     subst (λ (step : Step). Alike (behind_step step (λ next. formed next (reading_at_none later))) (behind_step (taken word at token) (λ next. formed next later)))
@@ -123,7 +123,7 @@ reading-none values [] = refl
 reading-none values (word ∷ words) =
     read-none word.at (tokens_of values word.text) (words_reading values words) ∙ ap (then_read 0 (tokens_of values word.text)) (reading-none values words)
 
-plain-none : (ps : List Part) → plain_words (map unplaced ps) ≡ map word_at_none (plain_words ps)
+plain-none : (ps : List SourcePart) → plain_words (map unplaced ps) ≡ map word_at_none (plain_words ps)
 plain-none [] = refl
 plain-none (Defines at name value ∷ ps) = plain-none ps
 plain-none (Cut at ∷ ps) = plain-none ps
@@ -135,7 +135,7 @@ abbrev pub ok : {A : Type 0} → Result A M1Refusal → Option A
 ok (Ok a) = Some a
 ok (Err why) = None
 
-with-none : (seen : Defined) (at : ℕ) (name value : List ℕ) (ps qs : List Part) → ((more : Defined) → ok (definitions more ps) ≡ ok (definitions more qs))
+with-none : (seen : Defined) (at : ℕ) (name value : List ℕ) (ps qs : List SourcePart) → ((more : Defined) → ok (definitions more ps) ≡ ok (definitions more qs))
     → ok (with_defined (defined_with seen 0 name value) (λ more. definitions more ps)) ≡ ok (with_defined (defined_with seen at name value) (λ more. definitions more qs))
 with-none seen at name value ps qs later = by (is_value value) (is_some (value_in seen name))
   where
@@ -146,7 +146,7 @@ with-none seen at name value ps qs later = by (is_value value) (is_some (value_i
     by true true = refl
     by true false = later (seen ++ (name, value) ∷ [])
 
-definitions-none : (seen : Defined) (ps : List Part) → ok (definitions seen (map unplaced ps)) ≡ ok (definitions seen ps)
+definitions-none : (seen : Defined) (ps : List SourcePart) → ok (definitions seen (map unplaced ps)) ≡ ok (definitions seen ps)
 definitions-none seen [] = refl
 definitions-none seen (Defines at name value ∷ ps) = with-none seen at name value (map unplaced ps) ps (λ more. definitions-none more ps)
 definitions-none seen (Cut at ∷ ps) = refl
@@ -168,7 +168,7 @@ expansion_with (Some defined) words = expansion_by_values (value_in defined) wor
 counted-whole : (items : List Item) (end : Ending WordFault) → ok (counted_items (record { items = items; end = end })) ≡ whole_items items (is_whole end)
 counted-whole items end = by (nat_lt 33554432 (length items)) end
   where
-    by : (many : Bool) (end : Ending WordFault) → ok (cond many (Err refusal.TooLong) (unless_refused items end)) ≡ cond many None (cond (is_whole end) (Some items) None)
+    by : (many : Bool) (end : Ending WordFault) → ok (cond many (Err refusal.TooLong) (items_unless_refused items end)) ≡ cond many None (cond (is_whole end) (Some items) None)
     by true end = refl
     by false Whole = refl
     by false (Halted why) = refl
@@ -185,7 +185,7 @@ by-none (Ok defined) words =
     ∙ ap (whole_items (formed None (words_reading values (map word_at_none words))).items) (sym same.end)
 
 -- what parts without offsets expand to
-abbrev pub parts_expansion : List Part → Option (List Item)
+abbrev pub parts_expansion : List SourcePart → Option (List Item)
 parts_expansion ps = expansion_with (ok (definitions [] ps)) (plain_words ps)
 
 pub expansion-none : (source : List ℕ) → IsCutIntoWords source → ok (expansion_of source) ≡ parts_expansion (parts_in source)
@@ -226,7 +226,7 @@ parts-none (word ∷ name ∷ []) = by (is_define word.text) (parts-none (name �
     by : (define : Bool) → map unplaced (parts (name ∷ [])) ≡ parts (text_word name.text ∷ [])
         → map unplaced (cond define (Cut word.at ∷ []) (Plain word ∷ parts (name ∷ []))) ≡ cond define (Cut 0 ∷ []) (Plain (text_word word.text) ∷ parts (text_word name.text ∷ []))
     by true rest = refl
-    by false rest = ap (λ (ps : List Part). Plain (text_word word.text) ∷ ps) rest
+    by false rest = ap (λ (ps : List SourcePart). Plain (text_word word.text) ∷ ps) rest
 parts-none (word ∷ name ∷ value ∷ words) = by (is_define word.text) (parts-none words) (parts-none (name ∷ value ∷ words))
   where
     by : (define : Bool) → map unplaced (parts words) ≡ parts (map text_word (map (λ (word : Word). word.text) words))
@@ -234,8 +234,8 @@ parts-none (word ∷ name ∷ value ∷ words) = by (is_define word.text) (parts
         → map unplaced (cond define (Defines word.at name.text value.text ∷ parts words) (Plain word ∷ parts (name ∷ value ∷ words)))
         ≡ cond define (Defines 0 name.text value.text ∷ parts (map text_word (map (λ (word : Word). word.text) words)))
         (Plain (text_word word.text) ∷ parts (text_word name.text ∷ text_word value.text ∷ map text_word (map (λ (word : Word). word.text) words)))
-    by true behind rest = ap (λ (ps : List Part). Defines 0 name.text value.text ∷ ps) behind
-    by false behind rest = ap (λ (ps : List Part). Plain (text_word word.text) ∷ ps) rest
+    by true behind rest = ap (λ (ps : List SourcePart). Defines 0 name.text value.text ∷ ps) behind
+    by false behind rest = ap (λ (ps : List SourcePart). Plain (text_word word.text) ∷ ps) rest
 
 pub same-texts : (one other : List ℕ) → texts_in one ≡ texts_in other → parts_in one ≡ parts_in other
 same-texts one other same =

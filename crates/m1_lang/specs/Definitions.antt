@@ -8,16 +8,16 @@ use Rattle.m1_lang.specs.declared.refusal.M1Refusal.{M1Refusal}
 use Rattle.m1_lang.specs.declared.refusal.M1Refusal.TheVariants.{BadDefine, DoubleDefine, OpenString}
 
 -- a part of a source: a definition with the offset of its `DEFINE`, a `DEFINE` that fewer than two words follow, or another word
-pub data Part : Type 0 where
-  Defines : (at : ℕ) (name value : List ℕ) → Part
-  Cut : (at : ℕ) → Part
-  Plain : (word : Word) → Part
+pub data SourcePart : Type 0 where
+  Defines : (at : ℕ) (name value : List ℕ) → SourcePart
+  Cut : (at : ℕ) → SourcePart
+  Plain : (word : Word) → SourcePart
 
 abbrev pub is_define : List ℕ → Bool
 is_define text = bytes_eq text (codes "DEFINE")
 
 -- `DEFINE` and the two words after it are one definition
-abbrev pub parts : List Word → List Part
+abbrev pub parts : List Word → List SourcePart
 parts [] = []
 parts (word ∷ []) = if is_define word.text then Cut word.at ∷ [] else Plain word ∷ []
 parts (word ∷ name ∷ []) = if is_define word.text then Cut word.at ∷ [] else Plain word ∷ parts (name ∷ [])
@@ -26,7 +26,7 @@ parts (word ∷ name ∷ value ∷ rest) =
     else Plain word ∷ parts (name ∷ value ∷ rest)
 
 -- the words that belong to no definition
-abbrev pub plain_words : List Part → List Word
+abbrev pub plain_words : List SourcePart → List Word
 plain_words [] = []
 plain_words (Plain word ∷ rest) = word ∷ plain_words rest
 plain_words (part ∷ rest) = plain_words rest
@@ -54,7 +54,7 @@ with_defined (Ok seen) rest = rest seen
 with_defined (Err why) rest = Err why
 
 -- the definitions of a source in order, behind those so far, or the first that is refused
-abbrev pub definitions : Defined → List Part → Result Defined M1Refusal
+abbrev pub definitions : Defined → List SourcePart → Result Defined M1Refusal
 definitions seen [] = Ok seen
 definitions seen (Defines at name value ∷ rest) = with_defined (defined_with seen at name value) (λ more. definitions more rest)
 definitions seen (Cut at ∷ rest) = Err (BadDefine at)

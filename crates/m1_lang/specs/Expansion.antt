@@ -5,7 +5,7 @@ use Rattle.hex_langs.specs.declared.items.item.Item.{Item}
 use Rattle.hex_langs.specs.declared.items.token.Token.{Token}
 use Rattle.hex_langs.specs.declared.items.words.Halt.{Halt}
 use Rattle.hex_langs.specs.declared.items.words.Halt.TheVariants as halt
-use Rattle.hex_langs.specs.Items.Reading.{Ending, Ends, Faulted, Faulty, formed, Formed, Halted, Reading, Then, Whole}
+use Rattle.hex_langs.specs.Items.Reading.{Ending, NoToken, Faulted, Faulty, formed, Formed, Halted, Reading, Then, Whole}
 use Rattle.m1_lang.specs.declared.words.meaning.WordFault.{WordFault}
 use Rattle.m1_lang.specs.declared.words.meaning.WordFault.TheVariants as fault
 use Rattle.m1_lang.specs.Words.Words.{Word, word_list, words_of}
@@ -26,7 +26,7 @@ then_read at (Err why) later = Faulty why at
 
 -- the tokens of words, each at its word's offset, by what definitions give words
 abbrev pub words_reading : (List ℕ → Option (List ℕ)) → List Word → Reading WordFault
-words_reading values [] = Ends
+words_reading values [] = NoToken
 words_reading values (word ∷ rest) = then_read word.at (tokens_of values word.text) (words_reading values rest)
 
 -- the refusal of a token that has no place in a word of four bytes
@@ -42,14 +42,14 @@ word_refusal fault.UnknownWord at = UnknownWord at
 word_refusal fault.NumberRange at = NumberRange at
 
 -- the items, unless the source is refused behind them
-abbrev pub unless_refused : List Item → Ending WordFault → Result (List Item) M1Refusal
-unless_refused items Whole = Ok items
-unless_refused items (Halted why) = Err (halt_refusal why)
-unless_refused items (Faulted why at) = Err (word_refusal why at)
+abbrev pub items_unless_refused : List Item → Ending WordFault → Result (List Item) M1Refusal
+items_unless_refused items Whole = Ok items
+items_unless_refused items (Halted why) = Err (halt_refusal why)
+items_unless_refused items (Faulted why at) = Err (word_refusal why at)
 
 -- more items than a list may have are refused where the first one too many would be formed
 abbrev pub counted_items : Formed WordFault → Result (List Item) M1Refusal
-counted_items formed = if nat_lt 33554432 (length formed.items) then Err TooLong else unless_refused formed.items formed.end
+counted_items formed = if nat_lt 33554432 (length formed.items) then Err TooLong else items_unless_refused formed.items formed.end
 
 -- the items of the words that belong to no definition; fields and bytes form words of four bytes as in hex2
 abbrev pub expansion_by : Result Defined M1Refusal → List Word → Result (List Item) M1Refusal

@@ -3,7 +3,7 @@ use Rattle.std.specs.Prelude.{◌≡◌, ℕ, ◌<◌, ◌≤◌, false, true, L
 use Rattle.std.specs.List.{AllByRecursion, flat_map}
 use Rattle.hex_langs.specs.Items.Tokens.{is_blank, opens_gap}
 use Rattle.m1_lang.specs.Words.Words.{open_quote, Word, word_list, word_more, words_of}
-use Rattle.m1_lang.specs.Definitions.{Cut, Defines, Part, parts, Plain}
+use Rattle.m1_lang.specs.Definitions.{Cut, Defines, SourcePart, parts, Plain}
 
 -- each is a byte
 abbrev pub IsOfBytes : List ℕ → Type 0
@@ -39,11 +39,11 @@ abbrev pub laid_out : Layout → List ℕ
 laid_out layout = flat_map (λ (laid : List ℕ × List ℕ). laid.0 ++ laid.1) layout
 
 -- a part without its offset
-abbrev pub unplaced : Part → Part
+abbrev pub unplaced : SourcePart → SourcePart
 unplaced (Defines at name value) = Defines 0 name value
 unplaced (Cut at) = Cut 0
 unplaced (Plain word) = Plain (record { at = 0; text = word.text })
 
 -- the definitions and the other words of a source without their offsets
-abbrev pub parts_in : List ℕ → List Part
+abbrev pub parts_in : List ℕ → List SourcePart
 parts_in source = map unplaced (parts (word_list (words_of source)))

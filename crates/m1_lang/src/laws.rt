@@ -6,7 +6,7 @@ ghost use Rattle.hex_langs.specs.Items.Reading.{items_of};
 ghost use Rattle.hex_langs.specs.Writer.Writing.{items_text};
 ghost use Rattle.m1_lang.specs.Expansion.{expansion_of};
 ghost use Rattle.m1_lang.specs.Words.Words.{open_quote, words_of};
-ghost use Rattle.m1_lang.specs.Definitions.{Defines, Part};
+ghost use Rattle.m1_lang.specs.Definitions.{Defines, SourcePart};
 ghost use Rattle.m1_lang.specs.Laws.{AreBlanks, IsOfBytes, IsLayout, IsCutIntoWords, laid_out, Layout, parts_in, texts_in};
 ghost use Rattle.std.specs.Prelude.{◌≡◌, ◌↔◌, ℕ, ◌≤◌, List, ◌∷◌, ◌++◌, None, Ok, length, map};
 
@@ -31,7 +31,7 @@ pub fn layout_does_not_matter()
 
 /// The place of a definition does not matter: two sources whose parts differ only in where one definition stands give the same items.
 pub fn definitions_may_move()
-    ensures { (one : List ℕ) → (other : List ℕ) → (items : List Item) → (name : List ℕ) → (value : List ℕ) → (front : List Part) → (between : List Part)
-        → (back : List Part) → IsCutIntoWords one → IsCutIntoWords other → parts_in one ≡ front ++ Defines 0 name value ∷ (between ++ back)
+    ensures { (one : List ℕ) → (other : List ℕ) → (items : List Item) → (name : List ℕ) → (value : List ℕ) → (front : List SourcePart) → (between : List SourcePart)
+        → (back : List SourcePart) → IsCutIntoWords one → IsCutIntoWords other → parts_in one ≡ front ++ Defines 0 name value ∷ (between ++ back)
         → parts_in other ≡ front ++ (between ++ Defines 0 name value ∷ back) → (expansion_of one ≡ Ok items) ↔ (expansion_of other ≡ Ok items) }
 {}

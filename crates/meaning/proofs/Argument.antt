@@ -14,7 +14,7 @@ use Rattle.wheeler.specs.Contents.{Contents, box_of, content}
 use Rattle.wheeler.specs.Stages.{output_of}
 use Rattle.wheeler.proofs.GivenBoxes.{AreContents, box-is}
 use Rattle.wheeler.proofs.Rules as rules
-use Rattle.meaning.specs.Assumptions.{Holds, assumed, input_line, is_trusted, lines_of, runs_unchecked, stage_line}
+use Rattle.meaning.specs.Assumptions.{Holds, assumed, input_assumption, is_trusted, trust_lines, runs_unchecked, stage_assumption}
 use Rattle.meaning.specs.AllContents.{text_named}
 use Rattle.meaning.specs.Follows.{FollowsBy}
 use Rattle.meaning.specs.Meaning.{Compiles, Implements, Prescribes}
@@ -76,15 +76,15 @@ module _ (prescribes : Prescribes) (compiles : Compiles) (laws : Laws prescribes
 
   -- where every line of what is trusted holds and every stage ran: the program of every stage is sound
   pub sound-law : IsRecipe recipe → AreContents all → All (λ (s : Stage). Ran recipe all s (content recipe all s.name)) recipe.stages → IsClosed trusted recipe
-      → All (Holds prescribes compiles recipe all) (lines_of trusted recipe)
+      → All (Holds prescribes compiles recipe all) (trust_lines trusted recipe)
       → All (λ (s : Stage). Facts prescribes compiles trusted recipe all s × Sound prescribes trusted recipe all s.program) recipe.stages
-  unfolding lines_of
+  unfolding trust_lines
   sound-law ok are ran closed lines =
       let holds = Holds prescribes compiles recipe all in
-      let ones = filter_map (input_line trusted recipe) recipe.inputs in
-      let others = filter_map (stage_line trusted recipe) recipe.stages in
-      let given = All-filter_map holds (input_line trusted recipe) recipe.inputs (All-front holds ones others lines) in
-      let made = All-filter_map holds (stage_line trusted recipe) recipe.stages (All-back holds ones others lines) in
+      let ones = filter_map (input_assumption trusted recipe) recipe.inputs in
+      let others = filter_map (stage_assumption trusted recipe) recipe.stages in
+      let given = All-filter_map holds (input_assumption trusted recipe) recipe.inputs (All-front holds ones others lines) in
+      let made = All-filter_map holds (stage_assumption trusted recipe) recipe.stages (All-back holds ones others lines) in
       let found = by-stages recipe (λ (s : Stage). (earlier : List Stage) × (rest : List Stage) × (recipe.stages ≡ earlier ++ s ∷ rest)) [] recipe.stages refl (λ earlier stage rest split. (earlier, rest, split)) in
       let facts : All (Facts prescribes compiles trusted recipe all) recipe.stages =
       λ k d less.

@@ -23,7 +23,7 @@ use Rattle.meaning.specs.Assumptions.{LinesHold}
 use Rattle.meaning.specs.Checked.{HasCheckItems, HasItemsOf, IsCheckValue}
 use Rattle.meaning.specs.Concludes.{Concludes, ConcludesDifferent, ConcludesEqual}
 use Rattle.meaning.specs.Differing.{IsExcluded, IsExcludedByOwn, IsNoValue}
-use Rattle.meaning.specs.Follows.{Follows, FollowsBy, HasParent, IsCompared, IsOnlyContent, PrescribesOnly, audited}
+use Rattle.meaning.specs.Follows.{Follows, FollowsBy, HasParent, IsComparedStage, IsOnlyContent, PrescribesOnly, audited_binary}
 use Rattle.meaning.specs.Meaning.{Compiles, Implements, Prescribes}
 use Rattle.meaning.specs.Values.{binary_of}
 use Rattle.meaning.proofs.Argument.{follows-law}
@@ -52,18 +52,18 @@ module _ (prescribes : Prescribes) (compiles : Compiles) (laws : Laws prescribes
   follows lines = follows-law prescribes compiles laws recipe all ok r.are r.ran lines
 
   -- the compared stage: what holds of all stages holds of it
-  of-compared : (P : Stage → Type 0) (stage : Stage) → All P recipe.stages → IsCompared recipe stage → P stage
+  of-compared : (P : Stage → Type 0) (stage : Stage) → All P recipe.stages → IsComparedStage recipe stage → P stage
   of-compared P stage each at = (found (λ (s : Stage). bytes_eq s.name recipe.compare.stage) P recipe.stages stage each at).0
 
-  own-name : (stage : Stage) → IsCompared recipe stage → stage.name ≡ recipe.compare.stage
+  own-name : (stage : Stage) → IsComparedStage recipe stage → stage.name ≡ recipe.compare.stage
   own-name stage at =
       (bytes_eq-Decides stage.name recipe.compare.stage).0
       (found (λ (s : Stage). bytes_eq s.name recipe.compare.stage) (λ _. Unit {0}) recipe.stages stage (λ _ _ _. tt) at).1
 
-  ran : (stage : Stage) → IsCompared recipe stage → Ran recipe all stage (content recipe all stage.name)
+  ran : (stage : Stage) → IsComparedStage recipe stage → Ran recipe all stage (content recipe all stage.name)
   ran stage at = of-compared (λ (s : Stage). Ran recipe all s (content recipe all s.name)) stage r.ran at
 
-  valid : (stage : Stage) → IsCompared recipe stage → IsBox (box_of recipe all stage)
+  valid : (stage : Stage) → IsComparedStage recipe stage → IsBox (box_of recipe all stage)
   valid stage at = box-is recipe all stage r.are (of-compared rules.IsStage stage (rules.rules recipe ok).stages at)
 
   -- the parent source is the one that follows
@@ -75,31 +75,31 @@ module _ (prescribes : Prescribes) (compiles : Compiles) (laws : Laws prescribes
       subst (λ s. Implements prescribes (program_of recipe all stage) (text_named recipe all s) × PrescribesOnly prescribes recipe all stage s (content recipe all stage.name)) same
       (here.implements, here.prescribed)
 
-  equalling : content recipe all recipe.compare.stage ≡ audited recipe inputs → (stage : Stage) → IsCompared recipe stage → content recipe all stage.name ≡ audited recipe inputs
+  equalling : content recipe all recipe.compare.stage ≡ audited_binary recipe inputs → (stage : Stage) → IsComparedStage recipe stage → content recipe all stage.name ≡ audited_binary recipe inputs
   equalling same stage at = ap (content recipe all) (own-name stage at) ∙ same
 
-  only : content recipe all recipe.compare.stage ≡ audited recipe inputs → LinesHold prescribes compiles recipe inputs → IsOnlyContent prescribes recipe inputs
+  only : content recipe all recipe.compare.stage ≡ audited_binary recipe inputs → LinesHold prescribes compiles recipe inputs → IsOnlyContent prescribes recipe inputs
   only same lines stage source parent =
       subst (PrescribesOnly prescribes recipe all stage source) (equalling same stage parent.compared)
       (prescribed stage source parent (follows lines)).1
 
-  differing : content recipe all recipe.compare.stage ≢ audited recipe inputs → (stage : Stage) → IsCompared recipe stage → content recipe all stage.name ≢ audited recipe inputs
+  differing : content recipe all recipe.compare.stage ≢ audited_binary recipe inputs → (stage : Stage) → IsComparedStage recipe stage → content recipe all stage.name ≢ audited_binary recipe inputs
   differing differs stage at same = differs (sym (ap (content recipe all) (own-name stage at)) ∙ same)
 
-  excluded_by_own : content recipe all recipe.compare.stage ≢ audited recipe inputs → IsExcludedByOwn prescribes recipe inputs
+  excluded_by_own : content recipe all recipe.compare.stage ≢ audited_binary recipe inputs → IsExcludedByOwn prescribes recipe inputs
   excluded_by_own differs stage source parent own program leaves implements =
       let text = text_named recipe all source in
       let box = box_of recipe all stage in
       let ok_box = valid stage parent.compared in
       let mine = ran stage parent.compared in
       let good = own box mine.step mine.world (output_of stage.output) (content recipe all stage.name) ok_box mine.runs mine.there in
-      let bad = implements box leaves.step leaves.world (output_of stage.output) (audited recipe inputs) ok_box leaves.runs leaves.there in
-      differing differs stage parent.compared (laws.fixed text box (output_of stage.output) (content recipe all stage.name) (audited recipe inputs) good bad)
+      let bad = implements box leaves.step leaves.world (output_of stage.output) (audited_binary recipe inputs) ok_box leaves.runs leaves.there in
+      differing differs stage parent.compared (laws.fixed text box (output_of stage.output) (content recipe all stage.name) (audited_binary recipe inputs) good bad)
 
-  excluded : content recipe all recipe.compare.stage ≢ audited recipe inputs → LinesHold prescribes compiles recipe inputs → IsExcluded prescribes recipe inputs
+  excluded : content recipe all recipe.compare.stage ≢ audited_binary recipe inputs → LinesHold prescribes compiles recipe inputs → IsExcluded prescribes recipe inputs
   excluded differs lines stage source parent = excluded_by_own differs stage source parent (prescribed stage source parent (follows lines)).0
 
-  own-value : (stage : Stage) (source : List ℕ) → IsCompared recipe stage → option_and_then (hex_check recipe.sources) stage.check ≡ Some source
+  own-value : (stage : Stage) (source : List ℕ) → IsComparedStage recipe stage → option_and_then (hex_check recipe.sources) stage.check ≡ Some source
       → binary_of (text_named recipe all source) ≡ Some (content recipe all stage.name)
   own-value stage source at is = by_check stage.check refl is where
     by_check : (o : Option (List ℕ)) → stage.check ≡ o → option_and_then (hex_check recipe.sources) o ≡ Some source
@@ -107,32 +107,32 @@ module _ (prescribes : Prescribes) (compiles : Compiles) (laws : Laws prescribes
     by_check None was is = absurd cc
     by_check (Some check) was is = checked-value recipe all stage check source (content recipe all stage.name) was is (ran stage at).right
 
-  value : content recipe all recipe.compare.stage ≡ audited recipe inputs → IsCheckValue recipe inputs
+  value : content recipe all recipe.compare.stage ≡ audited_binary recipe inputs → IsCheckValue recipe inputs
   value same stage source at is = own-value stage source at is ∙ ap Some (equalling same stage at)
 
-  items : content recipe all recipe.compare.stage ≡ audited recipe inputs → HasCheckItems recipe inputs
+  items : content recipe all recipe.compare.stage ≡ audited_binary recipe inputs → HasCheckItems recipe inputs
   items same stage source at was language =
       subst (HasItemsOf (text_named recipe all source)) (equalling same stage at)
       (checked-items recipe all stage source (content recipe all stage.name) was language (ran stage at).right)
 
-  no_value : content recipe all recipe.compare.stage ≢ audited recipe inputs → IsNoValue recipe inputs
+  no_value : content recipe all recipe.compare.stage ≢ audited_binary recipe inputs → IsNoValue recipe inputs
   no_value differs stage source at is value =
-      differing differs stage at (same_Some (content recipe all stage.name) (audited recipe inputs) (sym (own-value stage source at is) ∙ value))
+      differing differs stage at (same_Some (content recipe all stage.name) (audited_binary recipe inputs) (sym (own-value stage source at is) ∙ value))
 
-  equal : content recipe all recipe.compare.stage ≡ audited recipe inputs → ConcludesEqual prescribes compiles recipe inputs
+  equal : content recipe all recipe.compare.stage ≡ audited_binary recipe inputs → ConcludesEqual prescribes compiles recipe inputs
   equal same = record { follows = follows; only = only same; value = value same; items = items same }
 
-  different : content recipe all recipe.compare.stage ≢ audited recipe inputs → ConcludesDifferent prescribes compiles recipe inputs
+  different : content recipe all recipe.compare.stage ≢ audited_binary recipe inputs → ConcludesDifferent prescribes compiles recipe inputs
   different differs = record { follows = follows; excluded = excluded differs; excluded_by_own = excluded_by_own differs; no_value = no_value differs }
 
-  by-line : (o : Option ℕ) → first_difference (content recipe all recipe.compare.stage) (audited recipe inputs) ≡ o
-      → Concludes prescribes compiles recipe inputs (compared_at o (content recipe all recipe.compare.stage) (audited recipe inputs))
+  by-line : (o : Option ℕ) → first_difference (content recipe all recipe.compare.stage) (audited_binary recipe inputs) ≡ o
+      → Concludes prescribes compiles recipe inputs (compared_at o (content recipe all recipe.compare.stage) (audited_binary recipe inputs))
   by-line None none = equal (no-difference _ _ none)
   by-line (Some offset) some = different (some-difference _ _ offset some)
 
   pub concluded : Concludes prescribes compiles recipe inputs report.compare.result
   concluded =
-      subst (Concludes prescribes compiles recipe inputs) r.line (by-line (first_difference (content recipe all recipe.compare.stage) (audited recipe inputs)) refl)
+      subst (Concludes prescribes compiles recipe inputs) r.line (by-line (first_difference (content recipe all recipe.compare.stage) (audited_binary recipe inputs)) refl)
 
 pub concludes-law : (prescribes : Prescribes) (compiles : Compiles) → Laws prescribes compiles → (recipe : Said) (inputs : List (List ℕ)) (report : Report) → IsRecipe recipe
     → IsInputs recipe inputs → bench recipe inputs ≡ Completes report → Concludes prescribes compiles recipe inputs report.compare.result

@@ -16,10 +16,10 @@ use Rattle.recipe.specs.declared.parts.Source.{Source}
 use Rattle.recipe.specs.declared.parts.Stage.{Stage}
 use Rattle.recipe.specs.declared.parts.StageFile.{StageFile}
 use Rattle.recipe.specs.Kept.{Each, IsCheck, IsMade, IsStage}
-use Rattle.recipe.specs.Lookups.{content_of, input_at, source_named, stage_at}
+use Rattle.recipe.specs.Lookups.{content_named, input_at, source_named, stage_at}
 use Rattle.recipe.proofs.MoreStages.{content_more}
 use Rattle.wheeler.specs.declared.answer.Finished.{Finished}
-use Rattle.wheeler.specs.Contents.{Contents, box_of, bytes_named, check_of, content, defined, source_check, text_check, text_of, with_file}
+use Rattle.wheeler.specs.Contents.{Contents, box_of, bytes_named, check_of, content, defined, source_check, text_check, text_of, with_stage_file}
 use Rattle.wheeler.specs.Stages.{contents}
 use Rattle.meaning.proofs.Naming.{place-low, take-front}
 
@@ -27,8 +27,8 @@ pub each-all : {A : Type 0} (P : A → Type 0) (xs : List A) → Each P xs → A
 each-all P xs each k d less = each k (get_or xs k d) (slice_get-get_or xs k d less)
 
 -- an artefact among some stages is one of theirs
-artefact-low : (inputs : List InputTable) (earlier : List Stage) (name : List ℕ) (index : ℕ) → content_of inputs earlier name ≡ Some (Artefact index) → index < length earlier
-unfolding content_of
+artefact-low : (inputs : List InputTable) (earlier : List Stage) (name : List ℕ) (index : ℕ) → content_named inputs earlier name ≡ Some (Artefact index) → index < length earlier
+unfolding content_named
 artefact-low inputs earlier name index is = by_input (input_at inputs name) is where
   place_of : Option Content → ℕ
   place_of (Some (Artefact k)) = k
@@ -60,19 +60,19 @@ module _ (recipe : Said) (earlier rest : List Stage) (inputs : List (List ℕ)) 
   pub same-content : (name : List ℕ) → IsMade recipe earlier name → content recipe all name ≡ content recipe so_far name
   unfolding content
   same-content name there =
-      ap (bytes_named all) at ∙ by_place (content_of recipe.inputs earlier name) refl ∙ sym (ap (bytes_named so_far) at) where
+      ap (bytes_named all) at ∙ by_place (content_named recipe.inputs earlier name) refl ∙ sym (ap (bytes_named so_far) at) where
         front : take (length earlier) recipe.stages ≡ earlier
         front = ap (take (length earlier)) split.stages ∙ take-front earlier rest
 
-        at : content_of recipe.inputs recipe.stages name ≡ content_of recipe.inputs earlier name
+        at : content_named recipe.inputs recipe.stages name ≡ content_named recipe.inputs earlier name
         at =
-            content_more recipe.inputs recipe.stages (length earlier) name (subst (λ s. IsSome (content_of recipe.inputs s name)) (sym front) there)
-            ∙ ap (λ s. content_of recipe.inputs s name) front
+            content_more recipe.inputs recipe.stages (length earlier) name (subst (λ s. IsSome (content_named recipe.inputs s name)) (sym front) there)
+            ∙ ap (λ s. content_named recipe.inputs s name) front
 
         made : Finished → List ℕ
         made = λ f. f.made
 
-        by_place : (o : Option Content) → content_of recipe.inputs earlier name ≡ o → bytes_named all o ≡ bytes_named so_far o
+        by_place : (o : Option Content) → content_named recipe.inputs earlier name ≡ o → bytes_named all o ≡ bytes_named so_far o
         by_place None is = refl
         by_place (Some (Input k)) is = refl
         by_place (Some (Artefact k)) is =
@@ -82,11 +82,11 @@ module _ (recipe : Said) (earlier rest : List Stage) (inputs : List (List ℕ)) 
             ap (λ l. get_or l k []) (map-append made done more) ∙ get_or_append_left (map made done) (map made more) [] k (omega (arith, low, count, same))
 
   same-fold : (files : List StageFile) (held : FileMap) → All (λ (file : StageFile). content recipe all file.from ≡ content recipe so_far file.from) files
-      → fold (with_file recipe all) held files ≡ fold (with_file recipe so_far) held files
+      → fold (with_stage_file recipe all) held files ≡ fold (with_stage_file recipe so_far) held files
   same-fold [] held same = refl
   same-fold (file ∷ files) held same =
       let P : StageFile → Type 0 = λ file. content recipe all file.from ≡ content recipe so_far file.from in
-      ap (λ bytes. fold (with_file recipe all) (finite.insert held file.path bytes) files) (All-head P file files same)
+      ap (λ bytes. fold (with_stage_file recipe all) (finite.insert held file.path bytes) files) (All-head P file files same)
       ∙ same-fold files (finite.insert held file.path (content recipe so_far file.from)) (All-tail P file files same)
 
   pub same-box : (stage : Stage) → IsStage recipe earlier stage → box_of recipe all stage ≡ box_of recipe so_far stage

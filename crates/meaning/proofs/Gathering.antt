@@ -4,7 +4,7 @@ use Rattle.std.proofs.lemmas.List.{append-nil, length-map, length_push, map-appe
 use Rattle.std.proofs.lemmas.List.Elements.{All-cons, All-nil, All-push}
 use lib.Seq.{get_or-append_seam}
 use Rattle.mem_files.specs.Outputs.{IsContent}
-use Rattle.guest_run.specs.Program.{Run}
+use Rattle.guest_run.specs.Program.{ProgramRun}
 use Rattle.guest_run.specs.Setting.{Setting}
 use Rattle.recipe.specs.declared.contents.Said.{Said}
 use Rattle.recipe.specs.declared.parts.Stage.{Stage}
@@ -14,14 +14,14 @@ use Rattle.wheeler.specs.declared.answer.Answer.{Answer}
 use Rattle.wheeler.specs.declared.answer.Answer.TheVariants.{Completes, Fails}
 use Rattle.wheeler.specs.declared.answer.Fault.{Fault}
 use Rattle.wheeler.specs.declared.answer.Finished.{Finished}
-use Rattle.wheeler.specs.Bench.{after_stage, bench, bench_from, compared, report_of}
+use Rattle.wheeler.specs.Bench.{after_stage, bench, bench_from, compared, bench_report}
 use Rattle.wheeler.specs.Contents.{Contents, box_of, bytes_named, content, program_of}
 use Rattle.wheeler.specs.Stages.{contents, stage_result}
 use Rattle.wheeler.specs.Valid.{IsInputs}
 use Rattle.wheeler.proofs.GivenBoxes.{AreContents}
 use Rattle.wheeler.proofs.Rules as rules
 use Rattle.meaning.specs.AllContents.{all_contents, done_from, with_result}
-use Rattle.meaning.specs.Follows.{audited}
+use Rattle.meaning.specs.Follows.{audited_binary}
 use Rattle.meaning.proofs.Finding.{IsSplit, same-box, same-check, same-content}
 use Rattle.meaning.proofs.Naming.{IsPlaced, stage-placed}
 use Rattle.meaning.proofs.Ran.{Ran, ran-content, result-ran}
@@ -35,8 +35,8 @@ later recipe earlier rest inputs done more split stage made is r =
     record {
       step = r.step;
       world = r.world;
-      runs = subst (λ p. Run p (box_of recipe (contents inputs (done ++ more)) stage) r.step 0 r.world) (sym program)
-          (subst (λ (s : Setting). Run (program_of recipe (contents inputs done) stage) s r.step 0 r.world) (sym box) r.runs);
+      runs = subst (λ p. ProgramRun p (box_of recipe (contents inputs (done ++ more)) stage) r.step 0 r.world) (sym program)
+          (subst (λ (s : Setting). ProgramRun (program_of recipe (contents inputs done) stage) s r.step 0 r.world) (sym box) r.runs);
       there = r.there;
       right = same-check recipe earlier rest inputs done more split stage made is ∙ r.right;
     }
@@ -67,7 +67,7 @@ AllRan recipe all stages = All (λ (stage : Stage). Ran recipe all stage (conten
 record Gathered (recipe : Said) (inputs : List (List ℕ)) (done : List Finished) (stages : List Stage) (report : Report) : Type 0 where
   more : List Finished
   all_done : done_from recipe inputs done stages ≡ done ++ more
-  report_is : report ≡ report_of recipe inputs (done ++ more)
+  report_is : report ≡ bench_report recipe inputs (done ++ more)
   are : AreContents (contents inputs (done ++ more))
   ran : AllRan recipe (contents inputs (done ++ more)) stages
 
@@ -79,7 +79,7 @@ gather recipe ok inputs earlier done [] report split each are is =
     record {
       more = [];
       all_done = same;
-      report_is = sym (same_report (report_of recipe inputs done) report is) ∙ ap (report_of recipe inputs) same;
+      report_is = sym (same_report (bench_report recipe inputs done) report is) ∙ ap (bench_report recipe inputs) same;
       are = subst (λ d. AreContents (contents inputs d)) same are;
       ran = All-nil (λ (stage : Stage). Ran recipe (contents inputs (done ++ [])) stage (content recipe (contents inputs (done ++ [])) stage.name));
     }
@@ -114,7 +114,7 @@ gather recipe ok inputs earlier done (stage ∷ rest) report split each are is =
           record {
             more = f ∷ next.more;
             all_done = ap (λ o. with_result done o (λ d. done_from recipe inputs d rest)) at ∙ next.all_done ∙ whole;
-            report_is = next.report_is ∙ ap (report_of recipe inputs) whole;
+            report_is = next.report_is ∙ ap (bench_report recipe inputs) whole;
             are = subst (λ d. AreContents (contents inputs d)) whole next.are;
             ran = All-cons (λ (s : Stage). Ran recipe all s (content recipe all s.name)) stage rest here
                 (subst (λ d. AllRan recipe (contents inputs d) rest) whole next.ran);
@@ -124,11 +124,11 @@ gather recipe ok inputs earlier done (stage ∷ rest) report split each are is =
 pub record Reached (recipe : Said) (inputs : List (List ℕ)) (report : Report) : Type 0 where
   pub are : AreContents (all_contents recipe inputs)
   pub ran : All (λ (stage : Stage). Ran recipe (all_contents recipe inputs) stage (content recipe (all_contents recipe inputs) stage.name)) recipe.stages
-  pub line : compared (content recipe (all_contents recipe inputs) recipe.compare.stage) (audited recipe inputs) ≡ report.compare.result
+  pub line : compared (content recipe (all_contents recipe inputs) recipe.compare.stage) (audited_binary recipe inputs) ≡ report.compare.result
 
 pub reached : (recipe : Said) (inputs : List (List ℕ)) (report : Report) → IsRecipe recipe → IsInputs recipe inputs → bench recipe inputs ≡ Completes report
     → Reached recipe inputs report
-unfolding all_contents report_of
+unfolding all_contents bench_report
 reached recipe inputs report ok given is =
     let g = gather recipe ok inputs [] [] recipe.stages report (record { stages = refl; count = refl }) (rules.rules recipe ok).stages
     (record { inputs = given.each; artefacts = All-nil IsContent }) is in

@@ -3,7 +3,6 @@ use Rattle.std.proofs.Common.{◌≡◌, ℕ, suc, Bool, true, false, cond, Opti
 use Rattle.std.specs.Prelude.{◌==◌, ◌&&◌, bytes_eq, option_and_then, option_map}
 use Rattle.std.proofs.lemmas.Bool.{and_parts, eqb-true}
 use Rattle.std.proofs.lemmas.Slice.Eq.{bytes_eq-Decides}
-use Rattle.ddc_base.specs.declared.languages.Language.{Language}
 use Rattle.ddc_base.specs.declared.languages.Language.TheVariants.{M1}
 use Rattle.hex_langs.specs.declared.items.item.Item.{Item}
 use Rattle.hex_langs.specs.declared.items.item.Item.TheVariants as item
@@ -18,7 +17,7 @@ use Rattle.recipe.specs.declared.contents.Said.{Said}
 use Rattle.recipe.specs.declared.parts.Source.{Source}
 use Rattle.recipe.specs.declared.parts.Stage.{Stage}
 use Rattle.recipe.specs.Lookups.{source_named}
-use Rattle.wheeler.specs.SourceCheck.Checks.{check, checked, differs, first_other_item, items_against, joined, m1_value, same_item, same_kind}
+use Rattle.wheeler.specs.SourceCheck.Checks.{check, checked, differs, first_other_item, items_against, joined_files, m1_value, same_item, same_kind}
 use Rattle.wheeler.specs.Contents.{Contents, SourceText, check_language, check_of, defined, source_check, text_check, text_of}
 use Rattle.meaning.specs.AllContents.{text_by, text_named}
 use Rattle.meaning.specs.Checked.{HasItemsOf}
@@ -64,19 +63,19 @@ no-other-item (x ∷ xs) (y ∷ ys) is = by_test (same_item x y) refl is (no-oth
 
 right-items : (source : SourceText) (made : List ℕ) → text_check source (Some M1) made ≡ None → HasItemsOf source made
 unfolding check
-right-items source made is = by_source (expansion_of (joined source.files)) refl is where
+right-items source made is = by_source (expansion_of (joined_files source.files)) refl is where
   none_at : (o : Option ℕ) → differs o ≡ None → o ≡ None
   none_at None is = refl
   none_at (Some k) is = absurd cc
 
-  by_text : (items : List Item) → expansion_of (joined source.files) ≡ Ok items → (found : Result (List Item) HexRefusal) → items_of Hex2 made ≡ found
+  by_text : (items : List Item) → expansion_of (joined_files source.files) ≡ Ok items → (found : Result (List Item) HexRefusal) → items_of Hex2 made ≡ found
       → items_against items found ≡ None → HasItemsOf source made
   by_text items expands (Err why) reads is = absurd cc
   by_text items expands (Ok found) reads is =
       let same : items ≡ found = no-other-item items found (none_at (first_other_item items found) is) in
       record { items = items; expands = expands; reads = reads ∙ ap Ok (sym same) }
 
-  by_source : (meant : Result (List Item) M1Refusal) → expansion_of (joined source.files) ≡ meant → checked (m1_value meant) made ≡ None → HasItemsOf source made
+  by_source : (meant : Result (List Item) M1Refusal) → expansion_of (joined_files source.files) ≡ meant → checked (m1_value meant) made ≡ None → HasItemsOf source made
   by_source (Err why) expands is = absurd cc
   by_source (Ok items) expands is = by_text items expands (items_of Hex2 made) refl is
 

@@ -14,7 +14,7 @@ use Rattle.recipe.specs.declared.parts.Input.{Input}
 use Rattle.recipe.specs.declared.parts.Source.{Source}
 use Rattle.recipe.specs.declared.parts.Stage.{Stage}
 use Rattle.recipe.specs.Kept.{IsRecipe, IsStage, all_names}
-use Rattle.recipe.specs.Lookups.{content_of, input_at, stage_at}
+use Rattle.recipe.specs.Lookups.{content_named, input_at, stage_at}
 use Rattle.recipe.proofs.DistinctNames.{any_map}
 use Rattle.meaning.specs.AllContents.{stage_named}
 
@@ -79,8 +79,8 @@ named-at name_of P (x ∷ xs) name index all at =
 
 -- what holds of the names of all inputs and of the stages so far holds of a name that stands for something among them
 pub made-holds : (P : List ℕ → Type 0) (inputs : List Input) (earlier : List Stage) (name : List ℕ) → All (λ (i : Input). P i.name) inputs
-    → All (λ (s : Stage). P s.name) earlier → IsSome (content_of inputs earlier name) → P name
-unfolding content_of
+    → All (λ (s : Stage). P s.name) earlier → IsSome (content_named inputs earlier name) → P name
+unfolding content_named
 made-holds P inputs earlier name given made there = by_input (input_at inputs name) refl there where
   by_stage : (o : Option ℕ) → stage_at earlier name ≡ o → IsSome (option_map content.Stage o) → P name
   by_stage None at there = absurd cc
@@ -105,13 +105,13 @@ distinct-front (x ∷ front) name rest distinct =
     (distinct-front front name rest distinct.1)
 
 pub record IsPlaced (recipe : Said) (earlier : List Stage) (stage : Stage) : Type 0 where
-  pub content : content_of recipe.inputs recipe.stages stage.name ≡ Some (content.Stage (length earlier))
+  pub content : content_named recipe.inputs recipe.stages stage.name ≡ Some (content.Stage (length earlier))
   pub found : stage_named recipe.stages stage.name ≡ Some stage
   pub kept : IsStage recipe earlier stage
 
 pub stage-placed : (recipe : Said) (earlier : List Stage) (stage : Stage) (rest : List Stage) → IsRecipe recipe → recipe.stages ≡ earlier ++ stage ∷ rest
     → IsPlaced recipe earlier stage
-unfolding content_of
+unfolding content_named
 stage-placed recipe earlier stage rest ok split =
     let test : List ℕ → Bool = λ x. bytes_eq x stage.name in
     let name : Stage → List ℕ = λ s. s.name in

@@ -3,7 +3,7 @@ use Rattle.std.proofs.Common.{◌≡◌, ℕ, ◌+◌, Option, None, Some, Resul
 use Rattle.mem_files.specs.Outputs.{IsContent, out}
 use Rattle.mem_files.specs.World.{World}
 use Rattle.mem_files.proofs.Leftovers.{output-is}
-use Rattle.guest_run.specs.Program.{Run}
+use Rattle.guest_run.specs.Program.{ProgramRun}
 use Rattle.guest_run.specs.Run.{End, first_end}
 use Rattle.guest_run.specs.Start.{Refusal}
 use Rattle.guest_run.specs.State.{GuestState}
@@ -22,7 +22,7 @@ use Rattle.wheeler.proofs.Rules as rules
 pub record Ran (recipe : Said) (all : Contents) (stage : Stage) (made : List ℕ) : Type 0 where
   pub step : ℕ
   pub world : World
-  pub runs : Run (program_of recipe all stage) (box_of recipe all stage) step 0 world
+  pub runs : ProgramRun (program_of recipe all stage) (box_of recipe all stage) step 0 world
   pub there : out world (output_of stage.output) ≡ Some made
   pub right : check_of recipe all stage made ≡ None
 

@@ -2,7 +2,7 @@
 use Rattle.std.proofs.Common.{◌≡◌, ℕ, Bool, true, false, cond, Option, None, Some, List, refl, ap, ap₂, ◌∙◌, subst}
 use Rattle.std.specs.Prelude.{IfSome, IsSome, bytes_eq}
 use Rattle.std.proofs.lemmas.Slice.Eq.{bytes_eq-Decides}
-use Rattle.mem_files.specs.Outputs.{Output}
+use Rattle.mem_files.specs.Outputs.{OutputPlace}
 use Rattle.guest_run.specs.Setting.{IsBox, Setting}
 use Rattle.recipe.specs.declared.contents.Said.{Said}
 use Rattle.recipe.specs.declared.parts.Input.{Input}
@@ -13,7 +13,7 @@ use Rattle.wheeler.specs.Stages.{output_of}
 use Rattle.meaning.specs.declared.assumption.Assumption.{Assumption}
 use Rattle.meaning.specs.declared.assumption.Assumption.TheVariants as line
 use Rattle.meaning.specs.AllContents.{stage_named, text_named}
-use Rattle.meaning.specs.Assumptions.{Holds, checked_line, compiles_line, implements_line, input_line, line_by_check, stage_line}
+use Rattle.meaning.specs.Assumptions.{Holds, checked_line, compiles_line, implements_line, input_assumption, line_by_check, stage_assumption}
 use Rattle.meaning.specs.Meaning.{Compiles, Implements, Prescribes}
 use Rattle.meaning.specs.Values.{binary_of}
 use Rattle.meaning.proofs.Ran.{Ran}
@@ -21,9 +21,9 @@ use Rattle.meaning.proofs.Values.{checked-value}
 
 -- the laws of a meaning
 pub record Laws (prescribes : Prescribes) (compiles : Compiles) : Type 0 where
-  pub fixed : (source : SourceText) (box : Setting) (output : Output) (one other : List ℕ)
+  pub fixed : (source : SourceText) (box : Setting) (output : OutputPlace) (one other : List ℕ)
       → prescribes source box output one → prescribes source box output other → one ≡ other
-  pub carry : (source other : SourceText) (box : Setting) (output : Output) (program : List ℕ)
+  pub carry : (source other : SourceText) (box : Setting) (output : OutputPlace) (program : List ℕ)
       → prescribes source box output program → compiles source box output other → Implements prescribes program other
   pub literal : (source : SourceText) (program : List ℕ) → binary_of source ≡ Some program → Implements prescribes program source
 
@@ -37,7 +37,7 @@ pub record Facts (prescribes : Prescribes) (compiles : Compiles) (trusted : List
   pub found : stage_named recipe.stages stage.name ≡ Some stage
   pub ran : Ran recipe all stage (content recipe all stage.name)
   pub valid : IsBox (box_of recipe all stage)
-  pub line : IfSome (stage_line trusted recipe stage) (Holds prescribes compiles recipe all)
+  pub line : IfSome (stage_assumption trusted recipe stage) (Holds prescribes compiles recipe all)
   pub needed : stage.check ≡ None → trusted stage.name ≡ true → trusted stage.program ≡ true
   pub argued : stage.check ≡ None → IsSome (source_of recipe stage.program)
 
@@ -45,20 +45,20 @@ pub some_of : {A : Type 0} (o : Option A) → IsSome o → (x : A) × (o ≡ Som
 some_of None is = absurd cc
 some_of (Some x) is = (x, refl)
 
-stage_line-trusted : (trusted : List ℕ → Bool) (recipe : Said) (stage : Stage) → trusted stage.name ≡ true → stage_line trusted recipe stage ≡ line_by_check recipe stage stage.check
-unfolding stage_line
+stage_line-trusted : (trusted : List ℕ → Bool) (recipe : Said) (stage : Stage) → trusted stage.name ≡ true → stage_assumption trusted recipe stage ≡ line_by_check recipe stage stage.check
+unfolding stage_assumption
 stage_line-trusted trusted recipe stage is = ap (λ b. cond b (line_by_check recipe stage stage.check) None) is
 
 input_line-trusted : (trusted : List ℕ → Bool) (recipe : Said) (input : Input) → trusted input.name ≡ true
-    → input_line trusted recipe input ≡ implements_line input.name (source_of recipe input.name)
-unfolding input_line
+    → input_assumption trusted recipe input ≡ implements_line input.name (source_of recipe input.name)
+unfolding input_assumption
 input_line-trusted trusted recipe input is = ap (λ b. cond b (implements_line input.name (source_of recipe input.name)) None) is
 
 module _ (prescribes : Prescribes) (compiles : Compiles) (trusted : List ℕ → Bool) (recipe : Said) (all : Contents) where
   abbrev LineHolds : Option Assumption → Type 0
   LineHolds o = IfSome o (Holds prescribes compiles recipe all)
 
-  pub sound-input : (input : Input) → IfSome (input_line trusted recipe input) (Holds prescribes compiles recipe all) → Sound prescribes trusted recipe all input.name
+  pub sound-input : (input : Input) → IfSome (input_assumption trusted recipe input) (Holds prescribes compiles recipe all) → Sound prescribes trusted recipe all input.name
   sound-input input held is_trusted source is =
       subst LineHolds (input_line-trusted trusted recipe input is_trusted ∙ ap (implements_line input.name) is) held
 

@@ -18,10 +18,10 @@ use Rattle.recipe.specs.declared.parts.SourceLanguage.{SourceLanguage}
 use Rattle.recipe.specs.declared.parts.SourceLanguage.TheVariants.{Defined, Other}
 use Rattle.recipe.specs.declared.parts.Stage.{Stage}
 use Rattle.recipe.specs.Lookups.{hex_check, is_hex, source_named}
-use Rattle.wheeler.specs.SourceCheck.Checks.{check, checked, differs, hex_value, joined, value_of}
+use Rattle.wheeler.specs.SourceCheck.Checks.{check, checked, differs, hex_value, joined_files, source_value_of}
 use Rattle.wheeler.specs.Contents.{Contents, SourceText, check_of, defined, source_check, text_check, text_of}
 use Rattle.meaning.specs.AllContents.{text_by, text_named}
-use Rattle.meaning.specs.Values.{binary_in, binary_of, bytes_of}
+use Rattle.meaning.specs.Values.{binary_in, binary_of, bytes_of_value}
 
 pub no-difference : (a b : List ℕ) → first_difference a b ≡ None → a ≡ b
 no-difference [] [] is = refl
@@ -48,12 +48,12 @@ nothing-wrong (Some k) is = absurd cc
 right-bytes : (value made : List ℕ) → differs (first_difference value made) ≡ None → value ≡ made
 right-bytes value made is = no-difference value made (nothing-wrong (first_difference value made) is)
 
-right-linked : (meant : Result (List ℕ) HexRefusal) (made : List ℕ) → checked (hex_value meant) made ≡ None → bytes_of (hex_value meant) ≡ Some made
+right-linked : (meant : Result (List ℕ) HexRefusal) (made : List ℕ) → checked (hex_value meant) made ≡ None → bytes_of_value (hex_value meant) ≡ Some made
 right-linked (Ok bytes) made is = ap Some (right-bytes bytes made is)
 right-linked (Err why) made is = absurd cc
 
 right-value : (language : Language) (base : ℕ) (source made : List ℕ) → is_hex (Defined language) ≡ true → check language base source made ≡ None
-    → bytes_of (value_of language base source) ≡ Some made
+    → bytes_of_value (source_value_of language base source) ≡ Some made
 unfolding check
 right-value Hex0 base source made hex is = ap Some (right-bytes (hex0_of source) made is)
 right-value Hex1 base source made hex is = right-linked (linked base (items_of dialect.Hex1 source)) made is
@@ -62,7 +62,7 @@ right-value M1 base source made hex is = absurd cc
 
 right-text : (text : SourceText) (lang : SourceLanguage) (made : List ℕ) → is_hex lang ≡ true → text_check text (defined lang) made ≡ None
     → binary_in lang text.base text.files ≡ Some made
-right-text text (Defined language) made hex is = right-value language text.base (joined text.files) made hex is
+right-text text (Defined language) made hex is = right-value language text.base (joined_files text.files) made hex is
 right-text text Other made hex is = absurd cc
 
 -- the source of a check in hex0, hex1 or hex2

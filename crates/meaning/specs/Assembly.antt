@@ -1,24 +1,24 @@
 -- The meaning of hex0, hex1 and hex2 sources alone: a source means what a run of its value leaves.
 -- docs/reference/argument.md says the same for people.
 use Rattle.std.specs.Prelude.{◌≡◌, ℕ, Some, List}
-use Rattle.mem_files.specs.Outputs.{Output, out}
+use Rattle.mem_files.specs.Outputs.{OutputPlace, out}
 use Rattle.mem_files.specs.World.{World}
-use Rattle.guest_run.specs.Program.{Run}
+use Rattle.guest_run.specs.Program.{ProgramRun}
 use Rattle.guest_run.specs.Setting.{Setting}
 use Rattle.wheeler.specs.Contents.{SourceText}
 use Rattle.meaning.specs.Values.{binary_of}
 
 -- the source has a value, of which a run with the box exits with 0 and leaves the content at the output
-pub record ValueLeaves (source : SourceText) (box : Setting) (output : Output) (content : List ℕ) : Type 0 where
+pub record ValueLeaves (source : SourceText) (box : Setting) (output : OutputPlace) (content : List ℕ) : Type 0 where
   pub program : List ℕ
   pub is_value : binary_of source ≡ Some program
   pub step : ℕ
   pub world : World
-  pub runs : Run program box step 0 world
+  pub runs : ProgramRun program box step 0 world
   pub leaves : out world output ≡ Some content
 
 -- the other source has a value too, and that is what such a run leaves
-pub record ValueLeavesValue (source : SourceText) (box : Setting) (output : Output) (other : SourceText) : Type 0 where
+pub record ValueLeavesValue (source : SourceText) (box : Setting) (output : OutputPlace) (other : SourceText) : Type 0 where
   pub made : List ℕ
   pub is_value : binary_of other ≡ Some made
   pub leaves : ValueLeaves source box output made

@@ -42,19 +42,19 @@ line_by_check recipe stage None = compiles_line (source_of recipe stage.program)
 line_by_check recipe stage (Some check) = checked_line stage.name (hex_check recipe.sources check) (source_of recipe stage.name)
 
 -- the line of an input, and of a stage, where it is trusted
-unfoldable pub input_line : (List ℕ → Bool) → Said → Input → Option Assumption
-input_line trusted recipe input = if trusted input.name then implements_line input.name (source_of recipe input.name) else None
+unfoldable pub input_assumption : (List ℕ → Bool) → Said → Input → Option Assumption
+input_assumption trusted recipe input = if trusted input.name then implements_line input.name (source_of recipe input.name) else None
 
-unfoldable pub stage_line : (List ℕ → Bool) → Said → Stage → Option Assumption
-stage_line trusted recipe stage = if trusted stage.name then line_by_check recipe stage stage.check else None
+unfoldable pub stage_assumption : (List ℕ → Bool) → Said → Stage → Option Assumption
+stage_assumption trusted recipe stage = if trusted stage.name then line_by_check recipe stage stage.check else None
 
 -- the lines of what is trusted: inputs first and then stages, each in the recipe's order
-unfoldable pub lines_of : (List ℕ → Bool) → Said → List Assumption
-lines_of trusted recipe = filter_map (input_line trusted recipe) recipe.inputs ++ filter_map (stage_line trusted recipe) recipe.stages
+unfoldable pub trust_lines : (List ℕ → Bool) → Said → List Assumption
+trust_lines trusted recipe = filter_map (input_assumption trusted recipe) recipe.inputs ++ filter_map (stage_assumption trusted recipe) recipe.stages
 
 -- what is assumed of an audit
 abbrev pub assumed : Said → List Assumption
-assumed recipe = lines_of (is_trusted recipe) recipe
+assumed recipe = trust_lines (is_trusted recipe) recipe
 
 -- a line holds, of what its names stand for in an audit: the program implements the source; or the former source compiles the latter in
 -- the stage's box at its output

@@ -8,26 +8,26 @@ use Rattle.m1_lang.specs.Expansion.{expansion_of}
 use Rattle.recipe.specs.declared.contents.Said.{Said}
 use Rattle.recipe.specs.declared.parts.Stage.{Stage}
 use Rattle.recipe.specs.Lookups.{hex_check}
-use Rattle.wheeler.specs.SourceCheck.Checks.{joined}
+use Rattle.wheeler.specs.SourceCheck.Checks.{joined_files}
 use Rattle.wheeler.specs.Contents.{SourceText, check_language}
 use Rattle.meaning.specs.AllContents.{all_contents, text_named}
-use Rattle.meaning.specs.Follows.{IsCompared, audited}
+use Rattle.meaning.specs.Follows.{IsComparedStage, audited_binary}
 use Rattle.meaning.specs.Values.{binary_of}
 
 -- checked in hex0, hex1 or hex2: the audited binary is the value of the check's source
 abbrev pub IsCheckValue : Said → List (List ℕ) → Type 0
 IsCheckValue recipe inputs =
-    (stage : Stage) (source : List ℕ) → IsCompared recipe stage → option_and_then (hex_check recipe.sources) stage.check ≡ Some source
-    → binary_of (text_named recipe (all_contents recipe inputs) source) ≡ Some (audited recipe inputs)
+    (stage : Stage) (source : List ℕ) → IsComparedStage recipe stage → option_and_then (hex_check recipe.sources) stage.check ≡ Some source
+    → binary_of (text_named recipe (all_contents recipe inputs) source) ≡ Some (audited_binary recipe inputs)
 
 -- a text of hex2 that has the items of an M1 source, one by one
 pub record HasItemsOf (source : SourceText) (text : List ℕ) : Type 0 where
   pub items : List Item
-  pub expands : expansion_of (joined source.files) ≡ Ok items
+  pub expands : expansion_of (joined_files source.files) ≡ Ok items
   pub reads : items_of Hex2 text ≡ Ok items
 
 -- checked in M1: the audited binary is a text of hex2 that has the items of the check's source
 abbrev pub HasCheckItems : Said → List (List ℕ) → Type 0
 HasCheckItems recipe inputs =
-    (stage : Stage) (source : List ℕ) → IsCompared recipe stage → stage.check ≡ Some source → check_language recipe stage ≡ Some M1
-    → HasItemsOf (text_named recipe (all_contents recipe inputs) source) (audited recipe inputs)
+    (stage : Stage) (source : List ℕ) → IsComparedStage recipe stage → stage.check ≡ Some source → check_language recipe stage ≡ Some M1
+    → HasItemsOf (text_named recipe (all_contents recipe inputs) source) (audited_binary recipe inputs)

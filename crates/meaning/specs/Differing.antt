@@ -2,14 +2,14 @@
 use Rattle.std.specs.Prelude.{◌≡◌, ◌≢◌, ℕ, Some, option_and_then, List}
 use Rattle.mem_files.specs.Outputs.{out}
 use Rattle.mem_files.specs.World.{World}
-use Rattle.guest_run.specs.Program.{Run}
+use Rattle.guest_run.specs.Program.{ProgramRun}
 use Rattle.recipe.specs.declared.contents.Said.{Said}
 use Rattle.recipe.specs.declared.parts.Stage.{Stage}
 use Rattle.recipe.specs.Lookups.{hex_check}
 use Rattle.wheeler.specs.Contents.{Contents, box_of, program_of}
 use Rattle.wheeler.specs.Stages.{output_of}
 use Rattle.meaning.specs.AllContents.{all_contents, text_named}
-use Rattle.meaning.specs.Follows.{HasParent, IsCompared, audited}
+use Rattle.meaning.specs.Follows.{HasParent, IsComparedStage, audited_binary}
 use Rattle.meaning.specs.Meaning.{Implements, Prescribes}
 use Rattle.meaning.specs.Values.{binary_of}
 
@@ -17,13 +17,13 @@ use Rattle.meaning.specs.Values.{binary_of}
 pub record Leaves (recipe : Said) (all : Contents) (stage : Stage) (program made : List ℕ) : Type 0 where
   pub step : ℕ
   pub world : World
-  pub runs : Run program (box_of recipe all stage) step 0 world
+  pub runs : ProgramRun program (box_of recipe all stage) step 0 world
   pub there : out world (output_of stage.output) ≡ Some made
 
 -- no program that leaves the audited binary in the compared stage's box implements the parent source
 abbrev pub IsNoProgram : Prescribes → Said → List (List ℕ) → Stage → List ℕ → Type 0
 IsNoProgram prescribes recipe inputs stage source =
-    (program : List ℕ) → Leaves recipe (all_contents recipe inputs) stage program (audited recipe inputs)
+    (program : List ℕ) → Leaves recipe (all_contents recipe inputs) stage program (audited_binary recipe inputs)
     → ¬ (Implements prescribes program (text_named recipe (all_contents recipe inputs) source))
 
 abbrev pub IsExcluded : Prescribes → Said → List (List ℕ) → Type 0
@@ -40,5 +40,5 @@ IsExcludedByOwn prescribes recipe inputs =
 -- where the compared stage is checked in hex0, hex1 or hex2, the audited binary is not the value of the check's source
 abbrev pub IsNoValue : Said → List (List ℕ) → Type 0
 IsNoValue recipe inputs =
-    (stage : Stage) (source : List ℕ) → IsCompared recipe stage → option_and_then (hex_check recipe.sources) stage.check ≡ Some source
-    → binary_of (text_named recipe (all_contents recipe inputs) source) ≢ Some (audited recipe inputs)
+    (stage : Stage) (source : List ℕ) → IsComparedStage recipe stage → option_and_then (hex_check recipe.sources) stage.check ≡ Some source
+    → binary_of (text_named recipe (all_contents recipe inputs) source) ≢ Some (audited_binary recipe inputs)

@@ -38,27 +38,27 @@ Follows prescribes recipe inputs =
 
 -- ---- the compared stage and the audited binary
 
-abbrev pub audited : Said → List (List ℕ) → List ℕ
-audited recipe inputs = content recipe (all_contents recipe inputs) recipe.compare.binary
+abbrev pub audited_binary : Said → List (List ℕ) → List ℕ
+audited_binary recipe inputs = content recipe (all_contents recipe inputs) recipe.compare.binary
 
 -- the compared stage is this one
-abbrev pub IsCompared : Said → Stage → Type 0
-IsCompared recipe stage = stage_named recipe.stages recipe.compare.stage ≡ Some stage
+abbrev pub IsComparedStage : Said → Stage → Type 0
+IsComparedStage recipe stage = stage_named recipe.stages recipe.compare.stage ≡ Some stage
 
 -- it is this one, which is unchecked, and its program has this source: the parent source
 pub record HasParent (recipe : Said) (stage : Stage) (source : List ℕ) : Type 0 where
-  pub compared : IsCompared recipe stage
+  pub compared : IsComparedStage recipe stage
   pub unchecked : stage.check ≡ None
   pub parent : source_of recipe stage.program ≡ Some source
 
 -- the compared stage is there, and where it is unchecked it has a parent source
 pub record HasCompared (recipe : Said) : Type 0 where
   pub stage : Stage
-  pub compared : IsCompared recipe stage
+  pub compared : IsComparedStage recipe stage
   pub parent : stage.check ≡ None → (source : List ℕ) × HasParent recipe stage source
 
 -- the parent source prescribes the audited binary for the compared stage, and nothing else
 abbrev pub IsOnlyContent : Prescribes → Said → List (List ℕ) → Type 0
 IsOnlyContent prescribes recipe inputs =
     (stage : Stage) (source : List ℕ) → HasParent recipe stage source
-    → PrescribesOnly prescribes recipe (all_contents recipe inputs) stage source (audited recipe inputs)
+    → PrescribesOnly prescribes recipe (all_contents recipe inputs) stage source (audited_binary recipe inputs)

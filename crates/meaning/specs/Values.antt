@@ -3,17 +3,17 @@ use Rattle.std.specs.Prelude.{ℕ, Option, None, Some, Result, Ok, Err, List}
 use Rattle.recipe.specs.declared.parts.SourceLanguage.{SourceLanguage}
 use Rattle.recipe.specs.declared.parts.SourceLanguage.TheVariants.{Defined, Other}
 use Rattle.wheeler.specs.declared.source_check.cause.CheckCause.{CheckCause}
-use Rattle.wheeler.specs.SourceCheck.Checks.{Value, Bytes, Items, joined, value_of}
+use Rattle.wheeler.specs.SourceCheck.Checks.{SourceValue, ValueBytes, ValueItems, joined_files, source_value_of}
 use Rattle.wheeler.specs.Contents.{SourceText}
 
 -- a value's bytes; a value of M1 is items, which stand for no bytes of their own
-abbrev pub bytes_of : Result Value CheckCause → Option (List ℕ)
-bytes_of (Ok (Bytes bytes)) = Some bytes
-bytes_of (Ok (Items items)) = None
-bytes_of (Err why) = None
+abbrev pub bytes_of_value : Result SourceValue CheckCause → Option (List ℕ)
+bytes_of_value (Ok (ValueBytes bytes)) = Some bytes
+bytes_of_value (Ok (ValueItems items)) = None
+bytes_of_value (Err why) = None
 
 abbrev pub binary_in : SourceLanguage → ℕ → List (List ℕ) → Option (List ℕ)
-binary_in (Defined language) base files = bytes_of (value_of language base (joined files))
+binary_in (Defined language) base files = bytes_of_value (source_value_of language base (joined_files files))
 binary_in Other base files = None
 
 -- the value of a source of hex0, hex1 or hex2; none where it is refused, and in every other language

@@ -1,6 +1,6 @@
 //! The assumptions of an audit.
 
-ghost use Rattle.meaning.specs.Assumptions.{assumed, checked_line, compiles_line, implements_line, input_line, is_trusted, line_by_check, stage_line};
+ghost use Rattle.meaning.specs.Assumptions.{assumed, checked_line, compiles_line, implements_line, input_assumption, is_trusted, line_by_check, stage_assumption};
 ghost use Rattle.recipe.specs.Lookups.{hex_check};
 ghost use Rattle.std.specs.List.{cons_option};
 ghost use Rattle.std.specs.Prelude.{◌≡◌, ◌++◌, [], IfOk, OnOk, option_map};
@@ -15,7 +15,7 @@ use std::alloc::Global;
 /// then stages, each in the recipe's order.
 ///
 /// A stage that is checked in hex0, hex1 or hex2 as a program of the check's own source has no line.
-#[tactic(auto, unfolding(crate::specs::Assumptions::lines_of))]
+#[tactic(auto, unfolding(crate::specs::Assumptions::trust_lines))]
 pub fn assumptions(alloc: Global, recipe: &Recipe) -> Result<Assumptions, OutOfMemory>
     ensures { IfOk result (λ lines. lines ≡ assumed recipe.now) }
 {
@@ -40,9 +40,9 @@ fn push_line(lines: &mut Assumptions, line: Option<Assumption>) -> Result<(), Ou
 }
 
 /// The line of an input, where an unchecked stage runs it.
-#[tactic(auto, unfolding(crate::specs::Assumptions::input_line))]
+#[tactic(auto, unfolding(crate::specs::Assumptions::input_assumption))]
 fn input_line(recipe: &Recipe, input: &Input) -> Option<Assumption>
-    ensures { result ≡ input_line (is_trusted recipe.now) recipe.now input.now }
+    ensures { result ≡ input_assumption (is_trusted recipe.now) recipe.now input.now }
 {
     if is_trusted(recipe, &input.name) {
         implements_line(&input.name, recipe.source_of(&input.name))
@@ -52,9 +52,9 @@ fn input_line(recipe: &Recipe, input: &Input) -> Option<Assumption>
 }
 
 /// The line of a stage, where an unchecked stage runs what it makes.
-#[tactic(auto, unfolding(crate::specs::Assumptions::stage_line))]
+#[tactic(auto, unfolding(crate::specs::Assumptions::stage_assumption))]
 fn stage_line(recipe: &Recipe, stage: &Stage) -> Option<Assumption>
-    ensures { result ≡ stage_line (is_trusted recipe.now) recipe.now stage.now }
+    ensures { result ≡ stage_assumption (is_trusted recipe.now) recipe.now stage.now }
 {
     if !is_trusted(recipe, &stage.name) {
         return None;

@@ -16,9 +16,9 @@ use Rattle.mem_files.specs.declared.slot.Slot.{Slot}
 use Rattle.mem_files.specs.declared.slot.Slot.TheVariants.{File}
 use Rattle.mem_files.specs.Names.{bytes_cmp}
 use Rattle.mem_files.specs.World.{is_named, is_of, is_open}
-use Rattle.mem_files.specs.Sound.{IsInLimits, IsJoined, IsSound, IsSlotAt}
+use Rattle.mem_files.specs.Sound.{IsInLimits, IsWorldJoined, IsSound, IsSlotAt}
 use Rattle.mem_files.specs.Outputs.{IsContent}
-use Rattle.mem_files.specs.Lists.{ListedFile, FileLists, named, with_name, contents, world_of, IsName, is_listed, is_used, AreOrdered, AreInRange, AreJoined}
+use Rattle.mem_files.specs.Lists.{ListedFile, FileLists, named, with_name, numbered_contents, world_of, IsHeldName, is_listed, is_used, AreOrdered, AreInRange, AreJoined}
 use Rattle.mem_files.proofs.CellMaps.{len-from_entries}
 use Rattle.mem_files.proofs.Directory.{equal, bytes_cmp-IsAntisymmetric}
 use Rattle.mem_files.proofs.Entries.{some_of}
@@ -79,30 +79,30 @@ chosen_some true x o h = refl
 chosen_some false x o h = h
 
 -- the number of a name is that of a file
-pub name_held : (files : List ListedFile) (name : List ℕ) (number : ℕ) → fin.find bytes_cmp name (named files) ≡ Some number → IsSome (fin.find nat_cmp number (contents files))
+pub name_held : (files : List ListedFile) (name : List ℕ) (number : ℕ) → fin.find bytes_cmp name (named files) ≡ Some number → IsSome (fin.find nat_cmp number (numbered_contents files))
 name_held [] name number is = absurd (none-some number is)
 name_held (f ∷ files) name number is = at f.name is (name_held files name number)
   where
-    rest : IsSome (fin.find nat_cmp number (contents files)) → IsSome (fin.find nat_cmp number (contents (f ∷ files)))
-    rest h = chosen_some (eq_by_cmp nat_cmp number f.number) f.content (fin.find nat_cmp number (contents files)) h
+    rest : IsSome (fin.find nat_cmp number (numbered_contents files)) → IsSome (fin.find nat_cmp number (numbered_contents (f ∷ files)))
+    rest h = chosen_some (eq_by_cmp nat_cmp number f.number) f.content (fin.find nat_cmp number (numbered_contents files)) h
 
-    at : (o : Option (List ℕ)) → fin.find bytes_cmp name (with_name o f.number (named files)) ≡ Some number → (fin.find bytes_cmp name (named files) ≡ Some number → IsSome (fin.find nat_cmp number (contents files))) → IsSome (fin.find nat_cmp number (contents (f ∷ files)))
+    at : (o : Option (List ℕ)) → fin.find bytes_cmp name (with_name o f.number (named files)) ≡ Some number → (fin.find bytes_cmp name (named files) ≡ Some number → IsSome (fin.find nat_cmp number (numbered_contents files))) → IsSome (fin.find nat_cmp number (numbered_contents (f ∷ files)))
     at None is next = rest (next is)
-    at (Some n) is next = elim (eq_by_cmp bytes_cmp name n) as (λ b. cond b (Some f.number) (fin.find bytes_cmp name (named files)) ≡ Some number → IsSome (fin.find nat_cmp number (contents (f ∷ files)))) [
-      | true ↦ λ here. ap (λ b. is_some (cond b (Some f.content) (fin.find nat_cmp number (contents files)))) (unsigned_tied number f.number ∙ eq-eqb number f.number (sym (same_Some f.number number here)))
+    at (Some n) is next = elim (eq_by_cmp bytes_cmp name n) as (λ b. cond b (Some f.number) (fin.find bytes_cmp name (named files)) ≡ Some number → IsSome (fin.find nat_cmp number (numbered_contents (f ∷ files)))) [
+      | true ↦ λ here. ap (λ b. is_some (cond b (Some f.content) (fin.find nat_cmp number (numbered_contents files)))) (unsigned_tied number f.number ∙ eq-eqb number f.number (sym (same_Some f.number number here)))
       | false ↦ λ later. rest (next later)
     ] is
 
 -- a number has one name
-pub one_name : (files : List ListedFile) → T (fin.is_sorted nat_cmp (contents files)) → (name other : List ℕ) (number : ℕ) → fin.find bytes_cmp name (named files) ≡ Some number → fin.find bytes_cmp other (named files) ≡ Some number → name ≡ other
+pub one_name : (files : List ListedFile) → T (fin.is_sorted nat_cmp (numbered_contents files)) → (name other : List ℕ) (number : ℕ) → fin.find bytes_cmp name (named files) ≡ Some number → fin.find bytes_cmp other (named files) ≡ Some number → name ≡ other
 one_name [] sorted name other number is also = absurd (none-some number is)
 one_name (f ∷ files) sorted name other number is also = at f.name is also (one_name files parts.1 name other number)
   where
-    parts : T (below_all nat_cmp f.number (contents files)) × T (fin.is_sorted nat_cmp (contents files))
-    parts = both (below_all nat_cmp f.number (contents files)) (fin.is_sorted nat_cmp (contents files)) sorted
+    parts : T (below_all nat_cmp f.number (numbered_contents files)) × T (fin.is_sorted nat_cmp (numbered_contents files))
+    parts = both (below_all nat_cmp f.number (numbered_contents files)) (fin.is_sorted nat_cmp (numbered_contents files)) sorted
 
     apart : (n : List ℕ) → fin.find bytes_cmp n (named files) ≡ Some number → f.number ≡ number → ⊥
-    apart n later same = false≢true (sym (ap is_some (find_low number f.number (contents files) (omega arith) parts.0)) ∙ name_held files n number later)
+    apart n later same = false≢true (sym (ap is_some (find_low number f.number (numbered_contents files) (omega arith) parts.0)) ∙ name_held files n number later)
 
     at : (o : Option (List ℕ)) → fin.find bytes_cmp name (with_name o f.number (named files)) ≡ Some number → fin.find bytes_cmp other (with_name o f.number (named files)) ≡ Some number
         → (fin.find bytes_cmp name (named files) ≡ Some number → fin.find bytes_cmp other (named files) ≡ Some number → name ≡ other) → name ≡ other
@@ -120,11 +120,11 @@ one_name (f ∷ files) sorted name other number is also = at f.name is also (one
         ] refl is
 
 -- a listed number has a file
-pub number_held : (files : List ListedFile) (number : ℕ) → list_any (λ file. eqb file.number number) files ≡ true → IsSome (fin.find nat_cmp number (contents files))
+pub number_held : (files : List ListedFile) (number : ℕ) → list_any (λ file. eqb file.number number) files ≡ true → IsSome (fin.find nat_cmp number (numbered_contents files))
 number_held [] number is = absurd (false≢true is)
 number_held (f ∷ files) number is = or_cases (eqb f.number number) (list_any (λ file. eqb file.number number) files) is
-    (λ here. ap (λ b. is_some (cond b (Some f.content) (fin.find nat_cmp number (contents files)))) (unsigned_tied number f.number ∙ eq-eqb number f.number (sym (eqb-true f.number number here))))
-    (λ later. chosen_some (eq_by_cmp nat_cmp number f.number) f.content (fin.find nat_cmp number (contents files)) (number_held files number later))
+    (λ here. ap (λ b. is_some (cond b (Some f.content) (fin.find nat_cmp number (numbered_contents files)))) (unsigned_tied number f.number ∙ eq-eqb number f.number (sym (eqb-true f.number number here))))
+    (λ later. chosen_some (eq_by_cmp nat_cmp number f.number) f.content (fin.find nat_cmp number (numbered_contents files)) (number_held files number later))
 
 all_keys : (P : List ℕ → Type 0) (es : List (List ℕ × ℕ)) → AllByRecursion P (map (λ e. e.0) es) → All (λ e. P e.0) es
 all_keys P [] all = All-nil (λ e. P e.0)
@@ -138,11 +138,11 @@ pub record FileAt (files : List ListedFile) (Q : ListedFile → Type 0) (number 
   pub called : (name : List ℕ) → file.name ≡ Some name → fin.find bytes_cmp name (named files) ≡ Some number
   pub holds : Q file
 
-pub file_at : (files : List ListedFile) (Q : ListedFile → Type 0) → IsDistinct (eq_by_cmp bytes_cmp) (map (λ e. e.0) (named files)) → All Q files → (number : ℕ) (content : List ℕ) → fin.find nat_cmp number (contents files) ≡ Some content → FileAt files Q number content
+pub file_at : (files : List ListedFile) (Q : ListedFile → Type 0) → IsDistinct (eq_by_cmp bytes_cmp) (map (λ e. e.0) (named files)) → All Q files → (number : ℕ) (content : List ℕ) → fin.find nat_cmp number (numbered_contents files) ≡ Some content → FileAt files Q number content
 unfolding IsDistinct
 file_at [] Q distinct all number content is = absurd (none-some content is)
 file_at (f ∷ files) Q distinct all number content is =
-    elim (eq_by_cmp nat_cmp number f.number) as (λ b. eq_by_cmp nat_cmp number f.number ≡ b → cond b (Some f.content) (fin.find nat_cmp number (contents files)) ≡ Some content → FileAt (f ∷ files) Q number content) [
+    elim (eq_by_cmp nat_cmp number f.number) as (λ b. eq_by_cmp nat_cmp number f.number ≡ b → cond b (Some f.content) (fin.find nat_cmp number (numbered_contents files)) ≡ Some content → FileAt (f ∷ files) Q number content) [
       | true ↦ λ tie here.
           let same : f.number ≡ number = sym (eqb-true number f.number (sym (unsigned_tied number f.number) ∙ tie)) in
           record { file = f; numbered = same; filled = same_Some f.content content here; called = λ name is. first f.name name is ∙ ap (λ n. Some n) same; holds = All-head Q f files all }
@@ -176,13 +176,13 @@ file_at (f ∷ files) Q distinct all number content is =
       holds = r.holds;
     }
 
-contents_all : (P : ℕ × List ℕ → Type 0) (files : List ListedFile) → All (λ file. P (file.number, file.content)) files → All P (contents files)
+contents_all : (P : ℕ × List ℕ → Type 0) (files : List ListedFile) → All (λ file. P (file.number, file.content)) files → All P (numbered_contents files)
 contents_all P files all = All-map P (λ (file : ListedFile). (file.number, file.content)) files all
 
 -- sums over lists and over maps
-pub values_sum : (files : List ListedFile) → sum_by length (map (λ e. e.1) (contents files)) ≡ sum_by size_of files
+pub values_sum : (files : List ListedFile) → sum_by length (map (λ e. e.1) (numbered_contents files)) ≡ sum_by size_of files
 values_sum [] = refl
-values_sum (f ∷ files) = sum_by-cons length f.content (map (λ e. e.1) (contents files)) ∙ ap (λ n. length f.content + n) (values_sum files) ∙ sym (sum_by-cons size_of f files)
+values_sum (f ∷ files) = sum_by-cons length f.content (map (λ e. e.1) (numbered_contents files)) ∙ ap (λ n. length f.content + n) (values_sum files) ∙ sym (sum_by-cons size_of f files)
 
 pub two_sum : (streams : List (List ℕ)) → length streams ≡ 2 → sum_by length streams ≡ length (get_or streams 0 []) + length (get_or streams 1 [])
 two_sum [] two = absurd (omega arith)
@@ -195,7 +195,7 @@ any_value number [] = refl
 any_value number (e ∷ slots) = ap (λ b. is_of number e.1 || b) (any_value number slots)
 
 module _ (lists : FileLists) (order : AreOrdered lists) (range : AreInRange lists) where
-  files_sorted : T (fin.is_sorted nat_cmp (contents lists.files))
+  files_sorted : T (fin.is_sorted nat_cmp (numbered_contents lists.files))
   files_sorted = subst T (sym order.files_rise) tt
 
   slots_sorted : T (fin.is_sorted nat_cmp lists.slots)
@@ -208,12 +208,12 @@ module _ (lists : FileLists) (order : AreOrdered lists) (range : AreInRange list
   lists-in_limits = record {
     few_names = omega (arith, len-from_entries nat_list_cmp_total (named lists.files), range.few_names);
     few_slots = omega (arith, len-from_entries nat_cmp_total lists.slots, slots_few);
-    good_names = λ name number is. (found_name (λ e. IsName e.0) (named lists.files) name number range.good_names is).0;
-    name_bytes = λ name number is. (found_name (λ e. IsName e.0) (named lists.files) name number range.good_names is).1;
+    good_names = λ name number is. (found_name (λ e. IsHeldName e.0) (named lists.files) name number range.good_names is).0;
+    name_bytes = λ name number is. (found_name (λ e. IsHeldName e.0) (named lists.files) name number range.good_names is).1;
     low_numbers = λ number held. let found = some_of (fin.get (world_of lists).files number) held in
-        found_nat (λ e. e.0 < 5120) (contents lists.files) number found.0 (contents_all (λ e. e.0 < 5120) lists.files range.low_numbers) found.1;
-    file_bytes = λ number content is. (found_nat (λ e. IsContent e.1) (contents lists.files) number content (contents_all (λ e. IsContent e.1) lists.files range.good_files) is).bytes;
-    small_files = λ number content is. (found_nat (λ e. IsContent e.1) (contents lists.files) number content (contents_all (λ e. IsContent e.1) lists.files range.good_files) is).small;
+        found_nat (λ e. e.0 < 5120) (numbered_contents lists.files) number found.0 (contents_all (λ e. e.0 < 5120) lists.files range.low_numbers) found.1;
+    file_bytes = λ number content is. (found_nat (λ e. IsContent e.1) (numbered_contents lists.files) number content (contents_all (λ e. IsContent e.1) lists.files range.good_files) is).bytes;
+    small_files = λ number content is. (found_nat (λ e. IsContent e.1) (numbered_contents lists.files) number content (contents_all (λ e. IsContent e.1) lists.files range.good_files) is).small;
     stream1_bytes = (range.good_streams 0 [] (omega (arith, order.two_streams))).bytes;
     stream2_bytes = (range.good_streams 1 [] (omega (arith, order.two_streams))).bytes;
     small_stream1 = (range.good_streams 0 [] (omega (arith, order.two_streams))).small;
@@ -224,15 +224,15 @@ module _ (lists : FileLists) (order : AreOrdered lists) (range : AreInRange list
           range.small_total,
           two_sum lists.streams order.two_streams,
           values_sum lists.files,
-          ap (λ es. sum_by length (map (λ e. e.1) es)) (entries_risen nat_cmp_total fin.nat_cmp-IsAntisymmetric (contents lists.files) order.files_rise),
+          ap (λ es. sum_by length (map (λ e. e.1) es)) (entries_risen nat_cmp_total fin.nat_cmp-IsAntisymmetric (numbered_contents lists.files) order.files_rise),
         );
     low_slots = λ fd slot is. found_nat (λ e. e.0 < 1024) lists.slots fd slot range.low_slots is;
     good_slots = λ fd slot is. found_nat (λ e. IsSlotAt e.0 e.1) lists.slots fd slot range.good_slots is;
   }
 
   module _ (refer : AreJoined lists) where
-    number_at : (number : ℕ) → IsSome (fin.find nat_cmp number (contents lists.files)) → IsSome (fin.get (world_of lists).files number)
-    number_at number held = ap is_some (fin.get-from_entries nat_cmp_total (contents lists.files) number) ∙ held
+    number_at : (number : ℕ) → IsSome (fin.find nat_cmp number (numbered_contents lists.files)) → IsSome (fin.get (world_of lists).files number)
+    number_at number held = ap is_some (fin.get-from_entries nat_cmp_total (numbered_contents lists.files) number) ∙ held
 
     name_at : (name : List ℕ) (number : ℕ) → fin.get (world_of lists).names name ≡ Some number → fin.find bytes_cmp name (named lists.files) ≡ Some number
     name_at name number is = sym (fin.get-from_entries nat_list_cmp_total (named lists.files) name) ∙ is
@@ -246,7 +246,7 @@ module _ (lists : FileLists) (order : AreOrdered lists) (range : AreInRange list
         (ap (λ es. list_any (is_of number) (map (λ e. e.1) es)) (entries_risen nat_cmp_total fin.nat_cmp-IsAntisymmetric lists.slots order.slots_rise)
         ∙ any_value number lists.slots ∙ sym (ap (λ n. list_any (λ e. is_of n e.1) lists.slots) at.numbered) ∙ opened))
 
-    lists-joined : IsJoined (world_of lists)
+    lists-joined : IsWorldJoined (world_of lists)
     lists-joined = record {
       held = λ name number is. number_at number (name_held lists.files name number (name_at name number is));
       named_once = λ name other number is also. one_name lists.files files_sorted name other number (name_at name number is) (name_at other number also);
@@ -254,7 +254,7 @@ module _ (lists : FileLists) (order : AreOrdered lists) (range : AreInRange list
           number_at number (number_held lists.files number (found_nat (λ e. IsTrue (is_listed lists.files e.1)) lists.slots fd (File number cursor access) refer.held is));
       used = λ number held.
           let found = some_of (fin.get (world_of lists).files number) held in
-          used_at number found.0 (file_at lists.files (λ file. IsTrue (is_used lists.slots file)) range.distinct refer.used number found.0 (sym (fin.get-from_entries nat_cmp_total (contents lists.files) number) ∙ found.1));
+          used_at number found.0 (file_at lists.files (λ file. IsTrue (is_used lists.slots file)) range.distinct refer.used number found.0 (sym (fin.get-from_entries nat_cmp_total (numbered_contents lists.files) number) ∙ found.1));
     }
 
     pub lists-sound : IsSound (world_of lists)

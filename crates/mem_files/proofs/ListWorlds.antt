@@ -13,7 +13,7 @@ use Rattle.std.proofs.lemmas.List.Sums.{sum_by-append, sum_by-cons}
 use Rattle.mem_files.specs.declared.view.FileView.{FileView}
 use Rattle.mem_files.specs.Names.{bytes_cmp}
 use Rattle.mem_files.specs.World.{World, total, content_of}
-use Rattle.mem_files.specs.Lists.{ListedFile, listed, named, with_name, contents, world_of}
+use Rattle.mem_files.specs.Lists.{ListedFile, listed, named, with_name, numbered_contents, world_of}
 use Rattle.mem_files.specs.Inside.Listing.{with_title, with_listed}
 use Rattle.mem_files.proofs.Directory.{bytes_cmp-IsAntisymmetric}
 use Rattle.mem_files.proofs.Maps.{both, head_above, rest_above, find_apart}
@@ -83,12 +83,12 @@ abbrev pub of_files : List ListedFile → World
 of_files files = world_of (record { files = files; slots = []; streams = [] })
 
 -- what is known of a file before it is put
-module _ (xs ys : List ListedFile) (f : ListedFile) (rise : fin.is_sorted nat_cmp (contents (xs ++ f ∷ ys)) ≡ true) (distinct : IsDistinct (eq_by_cmp bytes_cmp) (map (λ e. e.0) (named (xs ++ f ∷ ys)))) where
-  risen : T (fin.is_sorted nat_cmp (contents xs ++ (f.number, f.content) ∷ contents ys))
+module _ (xs ys : List ListedFile) (f : ListedFile) (rise : fin.is_sorted nat_cmp (numbered_contents (xs ++ f ∷ ys)) ≡ true) (distinct : IsDistinct (eq_by_cmp bytes_cmp) (map (λ e. e.0) (named (xs ++ f ∷ ys)))) where
+  risen : T (fin.is_sorted nat_cmp (numbered_contents xs ++ (f.number, f.content) ∷ numbered_contents ys))
   risen = subst (λ (es : List (ℕ × List ℕ)). T (fin.is_sorted nat_cmp es)) (map-append (λ (file : ListedFile). (file.number, file.content)) xs (f ∷ ys)) (subst T (sym rise) tt)
 
   pub unused_number : fin.get (of_files xs).files f.number ≡ None
-  unused_number = fin.get-from_entries nat_cmp_total (contents xs) f.number ∙ fresh f.number f.content (contents xs) (contents ys) risen
+  unused_number = fin.get-from_entries nat_cmp_total (numbered_contents xs) f.number ∙ fresh f.number f.content (numbered_contents xs) (numbered_contents ys) risen
 
   pub absent_name : (name : List ℕ) → f.name ≡ Some name → fin.get (of_files xs).names name ≡ None
   absent_name name is = fin.get-from_entries nat_list_cmp_total (named xs) name ∙ fresh_name xs ys f name is distinct
@@ -96,7 +96,7 @@ module _ (xs ys : List ListedFile) (f : ListedFile) (rise : fin.is_sorted nat_cm
   pub put_world : with_listed (of_files xs) f ≡ of_files (xs ++ f ∷ [])
   put_world = λ i. record {
     names = sym (ap (λ es. fin.from_entries {R = bytes_cmp} es) (named_more xs f) ∙ names_pushed xs f.name f.number (λ name is. fresh_name xs ys f name is distinct)) i;
-    files = sym (ap (λ es. fin.from_entries {R = nat_cmp} es) (map-append (λ (file : ListedFile). (file.number, file.content)) xs (f ∷ [])) ∙ pushed f.number f.content (contents xs) (contents ys) risen) i;
+    files = sym (ap (λ es. fin.from_entries {R = nat_cmp} es) (map-append (λ (file : ListedFile). (file.number, file.content)) xs (f ∷ [])) ∙ pushed f.number f.content (numbered_contents xs) (numbered_contents ys) risen) i;
     slots = fin.empty;
     stream1 = [];
     stream2 = [];
@@ -160,9 +160,9 @@ module _ (views : List FileView) (i : ℕ) (d : FileView) (inside : i < length v
       zero_more : (n : ℕ) → n + 0 ≡ n
       zero_more n = omega arith
 
-  module _ (rise : fin.is_sorted nat_cmp (contents (map listed views)) ≡ true) (distinct : IsDistinct (eq_by_cmp bytes_cmp) (map (λ e. e.0) (named (map listed views)))) where
-    split_rise : fin.is_sorted nat_cmp (contents (take i all ++ next ∷ drop (i + 1) all)) ≡ true
-    split_rise = ap (λ l. fin.is_sorted nat_cmp (contents l)) split ∙ rise
+  module _ (rise : fin.is_sorted nat_cmp (numbered_contents (map listed views)) ≡ true) (distinct : IsDistinct (eq_by_cmp bytes_cmp) (map (λ e. e.0) (named (map listed views)))) where
+    split_rise : fin.is_sorted nat_cmp (numbered_contents (take i all ++ next ∷ drop (i + 1) all)) ≡ true
+    split_rise = ap (λ l. fin.is_sorted nat_cmp (numbered_contents l)) split ∙ rise
 
     split_distinct : IsDistinct (eq_by_cmp bytes_cmp) (map (λ e. e.0) (named (take i all ++ next ∷ drop (i + 1) all)))
     split_distinct = subst (λ l. IsDistinct (eq_by_cmp bytes_cmp) (map (λ e. e.0) (named l))) (sym split) distinct

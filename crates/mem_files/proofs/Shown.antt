@@ -14,7 +14,7 @@ use Rattle.std.specs.Option.{option_copied}
 use Rattle.mem_files.specs.declared.slot.Slot.{Slot}
 use Rattle.mem_files.specs.declared.stored.Stored.{Stored}
 use Rattle.mem_files.specs.declared.view.FileView.{FileView}
-use Rattle.mem_files.specs.Lists.{listed, first_from, name_of, listed_file, file_from, slot_from}
+use Rattle.mem_files.specs.Lists.{listed, first_from, name_of_file, listed_file, file_from, slot_from}
 use Rattle.mem_files.specs.World.{World, is_named}
 use Rattle.mem_files.specs.Inside.Cells.{AreEmpty, IsFirstFull}
 use Rattle.mem_files.specs.Inside.Stored.{content_in, name_in}
@@ -82,14 +82,14 @@ is_some-found number (e ∷ es) = elim (eqb e.1 number) as (λ b. is_some (cond 
 ]
 
 -- the name of a file that has none, and of one that has one
-pub name-none : (w : World) (number : ℕ) → is_named w number ≡ false → name_of w number ≡ None
+pub name-none : (w : World) (number : ℕ) → is_named w number ≡ false → name_of_file w number ≡ None
 name-none w number none = at (find (λ e. eqb e.1 number) (fin.entries w.names)) (is_some-found number (fin.entries w.names) ∙ none)
   where
     at : (o : Option (List ℕ × ℕ)) → is_some o ≡ false → option_map (λ e. e.0) o ≡ None
     at None h = refl
     at (Some e) h = absurd (false≢true (sym h))
 
-pub name-some : (w : World) (number : ℕ) (name : List ℕ) → is_named w number ≡ true → ((other : List ℕ) → fin.get w.names other ≡ Some number → other ≡ name) → name_of w number ≡ Some name
+pub name-some : (w : World) (number : ℕ) (name : List ℕ) → is_named w number ≡ true → ((other : List ℕ) → fin.get w.names other ≡ Some number → other ≡ name) → name_of_file w number ≡ Some name
 name-some w number name held once = at (find (λ e. eqb e.1 number) (fin.entries w.names)) refl (is_some-found number (fin.entries w.names) ∙ held)
   where
     P : List ℕ × ℕ → Type 0
@@ -102,8 +102,8 @@ name-some w number name held once = at (find (λ e. eqb e.1 number) (fin.entries
         ap (λ n. Some n) (once e.0 (found.0 ∙ ap (λ n. Some n) (eqb-true e.1 number found.1)))
 
 module _ (p : Parts) (w : World) (is : world_of p ≡ w) (ok : IsConsistent p) where
-  name_of-is : (number : ℕ) → name_of w number ≡ name_in (get_or p.files number None)
-  name_of-is number = elim (name_in (get_or p.files number None)) as (λ o. name_in (get_or p.files number None) ≡ o → name_of w number ≡ o) [
+  name_of-is : (number : ℕ) → name_of_file w number ≡ name_in (get_or p.files number None)
+  name_of-is number = elim (name_in (get_or p.files number None)) as (λ o. name_in (get_or p.files number None) ≡ o → name_of_file w number ≡ o) [
     | None ↦ λ none. name-none w number (is_named-is p w is ok number ∙ ap is_some none)
     | Some name ↦ λ e. name-some w number name (is_named-is p w is ok number ∙ ap is_some e)
         (λ other held. same_Some other name (sym (ok.found other number (ap (λ (v : World). fin.get v.names other) is ∙ held)) ∙ e))
@@ -123,7 +123,7 @@ module _ (p : Parts) (w : World) (is : world_of p ≡ w) (ok : IsConsistent p) w
         → view.number ≡ at → option_copied view.name ≡ name_in (Some file) → Some view.content.now ≡ content_in (Some file) → Some (listed view) ≡ file_from w number
     file_from-some number at file view first numbered titled filled =
         let held = rw shown at first in
-        let named : name_of w at ≡ option_copied view.name = name_of-is at ∙ ap name_in held.1 ∙ sym titled in
+        let named : name_of_file w at ≡ option_copied view.name = name_of-is at ∙ ap name_in held.1 ∙ sym titled in
         let from : first_from w.files number ≡ Some (at, view.content.now) =
         least_from w.files number at view.content.now (file-is p w is ok at ∙ ap content_in held.1 ∙ sym filled) held.0 (λ q low high. file-is p w is ok q ∙ ap content_in (held.2 q low high)) in
         sym (ap (option_map (listed_file w)) from ∙ (λ i. Some (record { number = sym numbered i; name = named i; content = view.content.now })))

@@ -4,20 +4,20 @@ use Rattle.mem_files.specs.declared.slot.Mode.{Mode}
 use Rattle.mem_files.specs.declared.slot.Mode.TheVariants.{Read, Write, ReadWrite}
 use Rattle.mem_files.specs.declared.slot.Access.{Access}
 
-abbrev pub reads : Mode → Bool
-reads Read = true
-reads Write = false
-reads ReadWrite = true
+abbrev pub mode_reads : Mode → Bool
+mode_reads Read = true
+mode_reads Write = false
+mode_reads ReadWrite = true
 
-abbrev pub writes : Mode → Bool
-writes Read = false
-writes Write = true
-writes ReadWrite = true
+abbrev pub mode_writes : Mode → Bool
+mode_writes Read = false
+mode_writes Write = true
+mode_writes ReadWrite = true
 
 -- may the file be read?
 abbrev pub is_read : Access → Bool
-is_read access = reads access.mode
+is_read access = mode_reads access.mode
 
 -- may the file be written?
 abbrev pub is_written : Access → Bool
-is_written access = writes access.mode
+is_written access = mode_writes access.mode

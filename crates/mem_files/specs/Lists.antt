@@ -36,12 +36,12 @@ lists_from files slots stream1 stream2 = record { files = map listed files; slot
 -- ---- the lists of a world
 
 -- the name of the file that has a number
-abbrev pub name_of : World → ℕ → Option (List ℕ)
-name_of w number = option_map (λ e. e.0) (find (λ e. e.1 == number) (fin.entries w.names))
+abbrev pub name_of_file : World → ℕ → Option (List ℕ)
+name_of_file w number = option_map (λ e. e.0) (find (λ e. e.1 == number) (fin.entries w.names))
 
 -- a file by its number and its bytes
 abbrev pub listed_file : World → ℕ × List ℕ → ListedFile
-listed_file w file = record { number = file.0; name = name_of w file.0; content = file.1 }
+listed_file w file = record { number = file.0; name = name_of_file w file.0; content = file.1 }
 
 abbrev pub lists_of : World → FileLists
 lists_of w = record {
@@ -74,13 +74,13 @@ named [] = []
 named (file ∷ files) = with_name file.name file.number (named files)
 
 -- the bytes of files, with the files' numbers
-abbrev pub contents : List ListedFile → List (ℕ × List ℕ)
-contents files = map (λ file. (file.number, file.content)) files
+abbrev pub numbered_contents : List ListedFile → List (ℕ × List ℕ)
+numbered_contents files = map (λ file. (file.number, file.content)) files
 
 abbrev pub world_of : FileLists → World
 world_of lists = record {
   names = fin.from_entries (named lists.files);
-  files = fin.from_entries (contents lists.files);
+  files = fin.from_entries (numbered_contents lists.files);
   slots = fin.from_entries lists.slots;
   stream1 = slice_index_or lists.streams 0 [];
   stream2 = slice_index_or lists.streams 1 [];
@@ -90,18 +90,18 @@ world_of lists = record {
 
 -- numbers and descriptors rise, and there are two streams
 pub record AreOrdered (lists : FileLists) : Type 0 where
-  pub files_rise : IsTrue (fin.is_sorted nat_cmp (contents lists.files))
+  pub files_rise : IsTrue (fin.is_sorted nat_cmp (numbered_contents lists.files))
   pub slots_rise : IsTrue (fin.is_sorted nat_cmp lists.slots)
   pub two_streams : length lists.streams ≡ 2
 
 -- a name as files hold it
-abbrev pub IsName : List ℕ → Type 0
-IsName name = IsTrue (is_stripped_name name) × AreBytes name
+abbrev pub IsHeldName : List ℕ → Type 0
+IsHeldName name = IsTrue (is_stripped_name name) × AreBytes name
 
 -- what counts and ranges say
 pub record AreInRange (lists : FileLists) : Type 0 where
   pub few_names : length (named lists.files) ≤ most_names
-  pub good_names : All (λ e. IsName e.0) (named lists.files)
+  pub good_names : All (λ e. IsHeldName e.0) (named lists.files)
   pub distinct : IsDistinct (eq_by_cmp bytes_cmp) (map (λ e. e.0) (named lists.files))
   -- 5,120 is the most names and the most descriptors together
   pub low_numbers : All (λ file. file.number < 5120) lists.files

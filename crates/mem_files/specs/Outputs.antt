@@ -16,12 +16,12 @@ unfoldable pub left : World → List (List ℕ × List ℕ)
 left w = map (named_content w) (entries w.names)
 
 -- what an output is: the first stream, or the file at a path
-pub data Output : Type 0 where
-  FirstStream : Output
-  AtPath : List ℕ → Output
+pub data OutputPlace : Type 0 where
+  FirstStream : OutputPlace
+  AtPath : List ℕ → OutputPlace
 
 -- the content of an output; none where no file has the path
-abbrev pub out : World → Output → Option (List ℕ)
+abbrev pub out : World → OutputPlace → Option (List ℕ)
 out w FirstStream = Some w.stream1
 out w (AtPath path) = content_at w path
 

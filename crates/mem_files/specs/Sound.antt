@@ -1,17 +1,14 @@
 -- The rules of files, which every call keeps (docs/reference/files.md, "Rules"), in two parts: what a count or a range says,
 -- and what a reference says.
-use Rattle.std.specs.Prelude.{◌≡◌, ℕ, ◌^◌, ◌<◌, ◌≤◌, ◌||◌, List, length, Some, IsSome, IsTrue, All}
+use Rattle.std.specs.Prelude.{◌≡◌, ℕ, ◌^◌, ◌<◌, ◌≤◌, ◌||◌, List, length, Some, IsSome, IsTrue}
 use Rattle.std.specs.FinMap as map
+pub use Rattle.ddc_base.specs.ByteLists.{AreBytes}
 use Rattle.mem_files.specs.declared.slot.Access.{Access}
 use Rattle.mem_files.specs.declared.slot.Slot.{Slot}
 use Rattle.mem_files.specs.declared.slot.Slot.TheVariants.{Input, Stream1, Stream2, File}
 use Rattle.mem_files.specs.Limits.{most_content, most_total, most_descriptors, most_names}
 use Rattle.mem_files.specs.Names.{is_stripped_name}
 use Rattle.mem_files.specs.World.{World, total, is_named, is_open}
-
--- each number of the list is a byte
-abbrev pub AreBytes : List ℕ → Type 0
-AreBytes bytes = All (λ byte. byte < 256) bytes
 
 -- what may stand at a descriptor: the input and the streams have numbers of their own, and a cursor is below 2^63
 abbrev pub IsSlotAt : ℕ → Slot → Type 0
@@ -39,7 +36,7 @@ pub record IsInLimits (w : World) : Type 0 where
   pub good_slots : (fd : ℕ) (slot : Slot) → map.get w.slots fd ≡ Some slot → IsSlotAt fd slot
 
 -- what references say: a name has a file, a file at most one name, an open file is there, and each file has a name or a descriptor
-pub record IsJoined (w : World) : Type 0 where
+pub record IsWorldJoined (w : World) : Type 0 where
   pub held : (name : List ℕ) (number : ℕ) → map.get w.names name ≡ Some number → IsSome (map.get w.files number)
   pub named_once : (name other : List ℕ) (number : ℕ) → map.get w.names name ≡ Some number → map.get w.names other ≡ Some number → name ≡ other
   pub open_held : (fd number cursor : ℕ) (access : Access) → map.get w.slots fd ≡ Some (File number cursor access) → IsSome (map.get w.files number)
@@ -48,4 +45,4 @@ pub record IsJoined (w : World) : Type 0 where
 -- both parts
 pub record IsSound (w : World) : Type 0 where
   pub within : IsInLimits w
-  pub joined : IsJoined w
+  pub joined : IsWorldJoined w

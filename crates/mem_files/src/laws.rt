@@ -11,7 +11,7 @@ ghost use Rattle.mem_files.specs.Names.{is_stripped_name};
 ghost use Rattle.mem_files.specs.World.{World, lowest_unused};
 ghost use Rattle.mem_files.specs.Calls.{first_world, placed, opened, closed, written, skipped, sought, ready, removed};
 ghost use Rattle.mem_files.specs.Sound.{AreBytes, IsSound};
-ghost use Rattle.mem_files.specs.Outputs.{left, out, Output, AtPath, AreLeft, IsContent};
+ghost use Rattle.mem_files.specs.Outputs.{left, out, OutputPlace, AtPath, AreLeft, IsContent};
 ghost use Rattle.std.specs.List.{Contains};
 
 use crate::*;
@@ -59,7 +59,7 @@ pub fn what_is_left_keeps_the_limits()
     ensures names { (w : World) → IsSound w → All (λ file. (1 ≤ length file.0) × (length file.0 ≤ most_name)) (left w) }
     ensures contents { (w : World) → IsSound w → All (λ file. out w (AtPath file.0) ≡ Some file.1) (left w) }
     ensures streams { (w : World) → IsSound w → IsContent w.stream1 × IsContent w.stream2 }
-    ensures output { (w : World) (output : Output) (content : List ℕ) → IsSound w → out w output ≡ Some content → IsContent content }
+    ensures output { (w : World) (output : OutputPlace) (content : List ℕ) → IsSound w → out w output ≡ Some content → IsContent content }
     ensures at_path { (w : World) (path content : List ℕ) → IsSound w → out w (AtPath path) ≡ Some content
         → Contains (left w) (path, content) }
 {}

@@ -8,7 +8,7 @@ ghost use Rattle.std.specs.FinMap as map;
 ghost use Rattle.mem_files.specs.Names.{bytes_cmp};
 ghost use Rattle.mem_files.specs.World.{total};
 ghost use Rattle.mem_files.specs.Calls.{bare_world};
-ghost use Rattle.mem_files.specs.Lists.{listed, named, contents, world_of, lists_from, AreOrdered, AreInRange};
+ghost use Rattle.mem_files.specs.Lists.{listed, named, numbered_contents, world_of, lists_from, AreOrdered, AreInRange};
 ghost use Rattle.mem_files.specs.Inside.Listing.{with_listed};
 
 use crate::table::Table;
@@ -39,7 +39,7 @@ impl Table {
     /// Puts all files.
     fn put_files(&mut self, files: &[FileView<'_>]) -> Result<(), AllocError>
         requires bare { self.old ≡ bare_world }
-        requires rise { IsTrue (map.is_sorted nat_cmp (contents (map_list listed files.now))) }
+        requires rise { IsTrue (map.is_sorted nat_cmp (numbered_contents (map_list listed files.now))) }
         requires low { All (λ file. file.number < MAX_NAMES + MAX_SLOTS) (map_list listed files.now) }
         requires short { All (λ e. length e.0 ≤ MAX_NAME) (named (map_list listed files.now)) }
         requires distinct { IsDistinct (eq_by_cmp bytes_cmp) (map_list (λ e. e.0) (named (map_list listed files.now))) }

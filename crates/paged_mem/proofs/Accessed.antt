@@ -10,7 +10,7 @@ use Rattle.std.proofs.lemmas.List.{get_or_default, get_or-drop, get_or-take}
 use Rattle.paged_mem.specs.Memory.{Memory, maps, bytes_at, bytes_of, reads, with_bytes}
 use Rattle.paged_mem.specs.Inside.Flat.{memory_of, place, slot, Spans, overwritten, number_at}
 use Rattle.paged_mem.specs.Held.{place-some}
-use Rattle.paged_mem.specs.Entries.{Entry, ArePages, AreFull, content, flat, held_pages}
+use Rattle.paged_mem.specs.Entries.{Entry, ArePages, AreFull, page_content, flat, held_pages}
 use Rattle.paged_mem.specs.Paged.{TouchesUnheld}
 use Rattle.paged_mem.specs.Ram.{count_of}
 use Rattle.paged_mem.specs.declared.ram.Width.{Width}
@@ -29,11 +29,11 @@ count_some W4 = omega arith
 count_some W8 = omega arith
 
 pub number_at-flat : (entries : List Entry) → AreFull entries → (index low count : ℕ) (entry : Entry) → index < length entries → low + count ≤ 4096
-    → entry ≡ get_or entries index entry → number_at (content entry) low count ≡ number_at (flat entries) (4096 * index + low) count
+    → entry ≡ get_or entries index entry → number_at (page_content entry) low count ≡ number_at (flat entries) (4096 * index + low) count
 number_at-flat entries full index low zero entry within fits at = refl
 number_at-flat entries full index low (suc count) entry within fits at =
-    let here : get_or (flat entries) (4096 * index + low) 0 ≡ get_or (content entry) low 0 =
-    get-flat entries full index low within (omega arith) ∙ ap (λ e. get_or (content e) low 0) (get_or_default entries index None entry within ∙ sym at) in
+    let here : get_or (flat entries) (4096 * index + low) 0 ≡ get_or (page_content entry) low 0 =
+    get-flat entries full index low within (omega arith) ∙ ap (λ e. get_or (page_content e) low 0) (get_or_default entries index None entry within ∙ sym at) in
     let rest = number_at-flat entries full index (1 + low) count entry within (omega arith) at in
     let next : number_at (flat entries) (4096 * index + (1 + low)) count ≡ number_at (flat entries) (1 + (4096 * index + low)) count = ap (λ s. number_at (flat entries) s count) (omega arith) in
     omega arith
@@ -50,7 +50,7 @@ module _ (pages : List ℕ) (entries : List Entry) (are : ArePages pages entries
 
   -- the number of an access within a page
   pub read_near : (at index count value : ℕ) (entry : Entry) → 0 < count → at % 4096 + count ≤ 4096 → place pages (at / 4096) ≡ Some index
-      → entry ≡ get_or entries index entry → value ≡ number_at (content entry) (at % 4096) count
+      → entry ≡ get_or entries index entry → value ≡ number_at (page_content entry) (at % 4096) count
       → Some value ≡ reads (memory_of pages (flat entries)) at count
   read_near at index count value entry some within found is value_is =
       number_read pages (flat entries) pages (memory_of pages (flat entries)) are.sound refl refl at count (flat entries) (4096 * index + at % 4096) count value
@@ -83,18 +83,18 @@ module _ (pages : List ℕ) (entries : List Entry) (are : ArePages pages entries
 
   -- after bytes were written within a page
   module _ (at index : ℕ) (source : List ℕ) (entry default : Entry) (some : 0 < length source) (inside : at % 4096 + length source ≤ 4096)
-      (found : place pages (at / 4096) ≡ Some index) (put : content entry ≡ overwritten (content (get_or entries index default)) (at % 4096) source) where
+      (found : place pages (at / 4096) ≡ Some index) (put : page_content entry ≡ overwritten (page_content (get_or entries index default)) (at % 4096) source) where
     flat_near : flat (set entries index entry) ≡ overwritten (flat entries) (4096 * index + at % 4096) source
     flat_near =
         flat-set entries index (at % 4096) source entry are.full (placed (at / 4096) index found) inside
-        (put ∙ ap (λ e. overwritten (content e) (at % 4096) source) (get_or_default entries index default None (placed (at / 4096) index found)))
+        (put ∙ ap (λ e. overwritten (page_content e) (at % 4096) source) (get_or_default entries index default None (placed (at / 4096) index found)))
 
     pub memory_near : (maps (memory_of pages (flat entries)) at (length source) ≡ true)
         × (memory_of pages (flat (set entries index entry)) ≡ with_bytes (memory_of pages (flat entries)) at source)
     memory_near =
         memory_written at (4096 * index + at % 4096) source (set entries index entry) flat_near (span_in_page pages are.sound.rising at (length source) index some inside found)
 
-    pub are_near : length (content entry) ≡ 4096 → ((i : ℕ) → get_or source i 0 < 256) → ArePages pages (set entries index entry)
+    pub are_near : length (page_content entry) ≡ 4096 → ((i : ℕ) → get_or source i 0 < 256) → ArePages pages (set entries index entry)
     are_near full small =
         are_written at (4096 * index + at % 4096) source (set entries index entry) flat_near (length-set entries index entry)
         (AreFull-set entries index entry are.full full) (span_in_page pages are.sound.rising at (length source) index some inside found) small
@@ -198,12 +198,12 @@ low_bytes width value count bytes same is =
 -- the page at an address is its entry's
 pub page_shown : (pages : List ℕ) (entries : List Entry) → ArePages pages entries → (first index : ℕ) (entry : Entry) → first % 4096 ≡ 0
     → place pages (first / 4096) ≡ Some index → entry ≡ get_or entries index entry
-    → Some (content entry) ≡ bytes_at (memory_of pages (flat entries)) first 4096
+    → Some (page_content entry) ≡ bytes_at (memory_of pages (flat entries)) first 4096
 page_shown pages entries are first index entry aligned found at =
-    ap Some (same_number_lists (content entry) (take 4096 (drop start (flat entries)))
+    ap Some (same_number_lists (page_content entry) (take 4096 (drop start (flat entries)))
     (omega (arith, long, length-take 4096 (drop start (flat entries)), length-drop start (flat entries), length-flat entries are.full, within))
     (λ k below.
-    ap (λ e. get_or (content e) k 0) page_is
+    ap (λ e. get_or (page_content e) k 0) page_is
     ∙ sym (get-flat entries are.full index k within (omega (arith, long)))
     ∙ ap (λ n. get_or (flat entries) n 0) (omega arith)
     ∙ sym (get_or-take 4096 (drop start (flat entries)) k 0 (omega (arith, long)) ∙ get_or-drop start (flat entries) k 0)))
@@ -219,5 +219,5 @@ page_shown pages entries are first index entry aligned found at =
     page_is : entry ≡ get_or entries index None
     page_is = at ∙ get_or_default entries index entry None within
 
-    long : length (content entry) ≡ 4096
-    long = ap (λ e. length (content e)) page_is ∙ are.full index
+    long : length (page_content entry) ≡ 4096
+    long = ap (λ e. length (page_content e)) page_is ∙ are.full index

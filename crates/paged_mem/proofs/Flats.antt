@@ -7,7 +7,7 @@ use Rattle.std.proofs.lemmas.List.{places, length-replicate, get_or-replicate, g
 use borrow.Rule.Slice.PartMut.{put_mid}
 use Rattle.paged_mem.specs.Memory.{zeros}
 use Rattle.paged_mem.specs.Inside.Flat.{overwritten, number_at}
-use Rattle.paged_mem.specs.Entries.{Entry, AreFull, ArePages, content, flat, held_pages}
+use Rattle.paged_mem.specs.Entries.{Entry, AreFull, ArePages, page_content, flat, held_pages}
 use Rattle.paged_mem.proofs.Mapped.{length-zeros}
 use Rattle.paged_mem.proofs.Views.{get_or-overwritten, get_or-overwritten_other, length-overwritten}
 
@@ -31,20 +31,20 @@ pub length-flat : (entries : List Entry) → AreFull entries → length (flat en
 unfolding flat
 length-flat [] full = refl
 length-flat (entry ∷ entries) full =
-    let first : length (content entry) ≡ 4096 = full 0 in
-    omega (arith, length-append (content entry) (flat entries), first, length-flat entries (AreFull-tail entry entries full))
+    let first : length (page_content entry) ≡ 4096 = full 0 in
+    omega (arith, length-append (page_content entry) (flat entries), first, length-flat entries (AreFull-tail entry entries full))
 
 pub get-flat : (entries : List Entry) → AreFull entries → (i k : ℕ) → i < length entries → k < 4096
-    → get_or (flat entries) (4096 * i + k) 0 ≡ get_or (content (get_or entries i None)) k 0
+    → get_or (flat entries) (4096 * i + k) 0 ≡ get_or (page_content (get_or entries i None)) k 0
 unfolding flat
 get-flat [] full i k within below = absurd (omega arith)
 get-flat (entry ∷ entries) full zero k within below =
-    let first : length (content entry) ≡ 4096 = full 0 in
-    get_or_append_left (content entry) (flat entries) 0 (4096 * 0 + k) (omega arith) ∙ ap (λ n. get_or (content entry) n 0) (omega arith)
+    let first : length (page_content entry) ≡ 4096 = full 0 in
+    get_or_append_left (page_content entry) (flat entries) 0 (4096 * 0 + k) (omega arith) ∙ ap (λ n. get_or (page_content entry) n 0) (omega arith)
 get-flat (entry ∷ entries) full (suc i) k within below =
-    let first : length (content entry) ≡ 4096 = full 0 in
-    ap (λ n. get_or (content entry ++ flat entries) n 0) (let at : 4096 * suc i + k ≡ length (content entry) + (4096 * i + k) = omega arith in at)
-    ∙ get_or-append-add (content entry) (flat entries) (4096 * i + k) 0
+    let first : length (page_content entry) ≡ 4096 = full 0 in
+    ap (λ n. get_or (page_content entry ++ flat entries) n 0) (let at : 4096 * suc i + k ≡ length (page_content entry) + (4096 * i + k) = omega arith in at)
+    ∙ get_or-append-add (page_content entry) (flat entries) (4096 * i + k) 0
     ∙ get-flat entries (AreFull-tail entry entries full) i k (omega arith) below
 
 -- ---- one entry written
@@ -114,30 +114,30 @@ overwritten-right xs ys at start source is within =
         ∙ sym (get_right xs ys k past)
 
 pub flat-set : (entries : List Entry) (i low : ℕ) (source : List ℕ) (entry : Entry) → AreFull entries → i < length entries
-    → low + length source ≤ 4096 → content entry ≡ overwritten (content (get_or entries i None)) low source
+    → low + length source ≤ 4096 → page_content entry ≡ overwritten (page_content (get_or entries i None)) low source
     → flat (set entries i entry) ≡ overwritten (flat entries) (4096 * i + low) source
 unfolding flat
 flat-set [] i low source entry full within fits is = absurd (omega arith)
 flat-set (first ∷ entries) zero low source entry full within fits is =
-    let long : length (content first) ≡ 4096 = full 0 in
+    let long : length (page_content first) ≡ 4096 = full 0 in
     let at : low ≡ 4096 * 0 + low = omega arith in
-    ap (λ xs. xs ++ flat entries) is ∙ sym (overwritten-left (content first) (flat entries) low source (omega arith))
-    ∙ ap (λ n. overwritten (content first ++ flat entries) n source) at
+    ap (λ xs. xs ++ flat entries) is ∙ sym (overwritten-left (page_content first) (flat entries) low source (omega arith))
+    ∙ ap (λ n. overwritten (page_content first ++ flat entries) n source) at
 flat-set (first ∷ entries) (suc i) low source entry full within fits is =
-    let long : length (content first) ≡ 4096 = full 0 in
+    let long : length (page_content first) ≡ 4096 = full 0 in
     let rest = AreFull-tail first entries full in
-    ap (λ xs. content first ++ xs) (flat-set entries i low source entry rest (omega arith) fits is)
-    ∙ sym (overwritten-right (content first) (flat entries) (4096 * suc i + low) (4096 * i + low) source (omega arith) (omega (arith, length-flat entries rest)))
+    ap (λ xs. page_content first ++ xs) (flat-set entries i low source entry rest (omega arith) fits is)
+    ∙ sym (overwritten-right (page_content first) (flat entries) (4096 * suc i + low) (4096 * i + low) source (omega arith) (omega (arith, length-flat entries rest)))
 
 -- an entry put in the place of one with the same bytes
-pub flat-set_same : (entries : List Entry) (i : ℕ) (entry : Entry) → content entry ≡ content (get_or entries i None)
+pub flat-set_same : (entries : List Entry) (i : ℕ) (entry : Entry) → page_content entry ≡ page_content (get_or entries i None)
     → flat (set entries i entry) ≡ flat entries
 unfolding flat
 flat-set_same [] i entry is = refl
 flat-set_same (first ∷ entries) zero entry is = ap (λ xs. xs ++ flat entries) is
-flat-set_same (first ∷ entries) (suc i) entry is = ap (λ xs. content first ++ xs) (flat-set_same entries i entry is)
+flat-set_same (first ∷ entries) (suc i) entry is = ap (λ xs. page_content first ++ xs) (flat-set_same entries i entry is)
 
-pub AreFull-set : (entries : List Entry) (i : ℕ) (entry : Entry) → AreFull entries → length (content entry) ≡ 4096 → AreFull (set entries i entry)
+pub AreFull-set : (entries : List Entry) (i : ℕ) (entry : Entry) → AreFull entries → length (page_content entry) ≡ 4096 → AreFull (set entries i entry)
 AreFull-set [] i entry full long k = full k
 AreFull-set (first ∷ entries) zero entry full long zero = long
 AreFull-set (first ∷ entries) zero entry full long (suc k) = full (suc k)
@@ -271,7 +271,7 @@ held_pages-past (page ∷ pages) (entry ∷ entries) (suc i) past = held_pages-p
 
 -- ---- steps of the loops
 
-pub content-absent : (entry : Entry) → is_some entry ≡ false → content entry ≡ zeros 4096
+pub content-absent : (entry : Entry) → is_some entry ≡ false → page_content entry ≡ zeros 4096
 content-absent None absent = refl
 content-absent (Some page) absent = absurd (let clash : true ≡ false = absent in cc)
 
@@ -279,7 +279,7 @@ pub write_more : (entries : List Entry) (old : List ℕ) (start done count n : �
     → AreFull entries → length old ≡ 4096 * length entries → flat entries ≡ overwritten old start (take done source)
     → done < length source → done + count ≤ length source → start + length source ≤ length old → (start + done) % 4096 + count ≤ 4096
     → n ≡ count → piece ≡ take n (drop done source)
-    → content entry ≡ overwritten (content (get_or entries ((start + done) / 4096) default)) ((start + done) % 4096) piece
+    → page_content entry ≡ overwritten (page_content (get_or entries ((start + done) / 4096) default)) ((start + done) % 4096) piece
     → flat (set entries ((start + done) / 4096) entry) ≡ overwritten old start (take (done + count) source)
 write_more entries old start done count n source piece entry default full long is some most fits low same_n piece_is put =
     let left = length-drop done source in
@@ -287,7 +287,7 @@ write_more entries old start done count n source piece entry default full long i
     let within : (start + done) / 4096 < length entries = omega arith in
     let at : 4096 * ((start + done) / 4096) + (start + done) % 4096 ≡ start + done = omega arith in
     flat-set entries ((start + done) / 4096) ((start + done) % 4096) piece entry full within (omega arith)
-    (put ∙ ap (λ e. overwritten (content e) ((start + done) % 4096) piece) (get_or_default entries ((start + done) / 4096) default None within))
+    (put ∙ ap (λ e. overwritten (page_content e) ((start + done) % 4096) piece) (get_or_default entries ((start + done) / 4096) default None within))
     ∙ ap (λ m. overwritten (flat entries) m piece) at
     ∙ ap (λ xs. overwritten xs (start + done) piece) is
     ∙ ap (λ xs. overwritten (overwritten old start (take done source)) (start + done) xs) (piece_is ∙ ap (λ m. take m (drop done source)) same_n)
@@ -296,7 +296,7 @@ write_more entries old start done count n source piece entry default full long i
 pub read_more : (entries : List Entry) (out piece : List ℕ) (start done count n : ℕ) (entry : Entry) → AreFull entries
     → start + length out ≤ 4096 * length entries → done < length out → done + count ≤ length out → (start + done) % 4096 + count ≤ 4096
     → n ≡ count → entry ≡ get_or entries ((start + done) / 4096) entry
-    → piece ≡ take (length (take n (drop done out))) (drop ((start + done) % 4096) (content entry))
+    → piece ≡ take (length (take n (drop done out))) (drop ((start + done) % 4096) (page_content entry))
     → ((k : ℕ) → k < done → get_or out k 0 ≡ get_or (flat entries) (start + k) 0)
     → (length (put_mid done n out piece) ≡ length out)
     × ((k : ℕ) → k < done + count → get_or (put_mid done n out piece) k 0 ≡ get_or (flat entries) (start + k) 0)
@@ -314,11 +314,11 @@ read_more entries out piece start done count n entry full fits some most low sam
     room : length (take n (drop done out)) ≡ count
     room = omega (arith, length-take n (drop done out), length-drop done out)
 
-    page_long : length (content entry) ≡ 4096
-    page_long = ap (λ e. length (content e)) page_is ∙ full ((start + done) / 4096)
+    page_long : length (page_content entry) ≡ 4096
+    page_long = ap (λ e. length (page_content e)) page_is ∙ full ((start + done) / 4096)
 
     size : length piece ≡ count
-    size = omega (arith, ap length piece_is, length-take (length (take n (drop done out))) (drop ((start + done) % 4096) (content entry)), length-drop ((start + done) % 4096) (content entry), room, page_long)
+    size = omega (arith, ap length piece_is, length-take (length (take n (drop done out))) (drop ((start + done) % 4096) (page_content entry)), length-drop ((start + done) % 4096) (page_content entry), room, page_long)
 
     put_mid-overwritten : put_mid done n out piece ≡ overwritten out done piece
     put_mid-overwritten = ap (λ m. put_mid done m out piece) (same_n ∙ sym size) ∙ search (rules, places)
@@ -328,9 +328,9 @@ read_more entries out piece start done count n entry full fits some most low sam
     by_order k below (inr from) =
         get_or-overwritten out done piece k (omega (arith, size)) from (omega (arith, size))
         ∙ ap (λ xs. get_or xs (k - done) 0) piece_is
-        ∙ get_or-take (length (take n (drop done out))) (drop ((start + done) % 4096) (content entry)) (k - done) 0 (omega (arith, room))
-        ∙ get_or-drop ((start + done) % 4096) (content entry) (k - done) 0
-        ∙ ap (λ e. get_or (content e) ((start + done) % 4096 + (k - done)) 0) page_is
+        ∙ get_or-take (length (take n (drop done out))) (drop ((start + done) % 4096) (page_content entry)) (k - done) 0 (omega (arith, room))
+        ∙ get_or-drop ((start + done) % 4096) (page_content entry) (k - done) 0
+        ∙ ap (λ e. get_or (page_content e) ((start + done) % 4096 + (k - done)) 0) page_is
         ∙ sym (get-flat entries full ((start + done) / 4096) ((start + done) % 4096 + (k - done)) within (omega arith))
         ∙ ap (λ m. get_or (flat entries) m 0) (let there : 4096 * ((start + done) / 4096) + ((start + done) % 4096 + (k - done)) ≡ start + k = omega arith in there)
 
@@ -339,7 +339,7 @@ read_more entries out piece start done count n entry full fits some most low sam
 pub flat-append : (xs ys : List Entry) → flat (xs ++ ys) ≡ flat xs ++ flat ys
 unfolding flat
 flat-append [] ys = refl
-flat-append (x ∷ xs) ys = ap (λ rest. content x ++ rest) (flat-append xs ys) ∙ sym (append_assoc (content x) (flat xs) (flat ys))
+flat-append (x ∷ xs) ys = ap (λ rest. page_content x ++ rest) (flat-append xs ys) ∙ sym (append_assoc (page_content x) (flat xs) (flat ys))
 
 pub length-absent : (count : ℕ) → length (replicate {A = Entry} count None) ≡ count
 length-absent count = length-replicate count None
@@ -389,7 +389,7 @@ flat-absent count =
     same k below =
         ap (λ n. get_or (flat (replicate count None)) n 0) (let at : k ≡ 4096 * (k / 4096) + k % 4096 = omega arith in at)
         ∙ get-flat (replicate count None) (AreFull-absent count) (k / 4096) (k % 4096) (omega (arith, length-absent count)) (omega arith)
-        ∙ ap (λ (e : Entry). get_or (content e) (k % 4096) 0) (get_or-replicate {A = Entry} count (k / 4096) None None (omega arith))
+        ∙ ap (λ (e : Entry). get_or (page_content e) (k % 4096) 0) (get_or-replicate {A = Entry} count (k / 4096) None None (omega arith))
         ∙ get_or-all_zeros 4096 (k % 4096)
         ∙ sym (get_or-replicate {A = ℕ} (4096 * count) k 0 0 below)
 

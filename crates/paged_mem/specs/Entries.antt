@@ -12,18 +12,18 @@ abbrev pub Entry : Type 0
 Entry = Option (Box (List ℕ))
 
 -- the bytes of an entry's page
-abbrev pub content : Entry → List ℕ
-content None = zeros 4096
-content (Some page) = page.value
+abbrev pub page_content : Entry → List ℕ
+page_content None = zeros 4096
+page_content (Some page) = page.value
 
 -- the bytes of the pages, one page after the other
 unfoldable pub flat : List Entry → List ℕ
 flat [] = []
-flat (entry ∷ entries) = content entry ++ flat entries
+flat (entry ∷ entries) = page_content entry ++ flat entries
 
 -- each entry is that of 4,096 bytes
 abbrev pub AreFull : List Entry → Type 0
-AreFull entries = (i : ℕ) → length (content (slice_index_or entries i None)) ≡ 4096
+AreFull entries = (i : ℕ) → length (page_content (slice_index_or entries i None)) ≡ 4096
 
 -- the numbers of the pages whose entry holds bytes
 unfoldable pub held_pages : List ℕ → List Entry → List ℕ

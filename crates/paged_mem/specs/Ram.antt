@@ -48,7 +48,7 @@ RunsFrom m at None = (address : ℕ) → at / 4096 * 4096 ≤ address → get m 
 RunsFrom m at (Some run) = IsRun m at run.0 run.1
 
 -- the bytes of a page that is shown, or none
-abbrev pub shown : PageView → Option (List ℕ)
-shown page.Unmapped = None
-shown page.Zero = Some (zeros 4096)
-shown (page.Full bytes) = Some bytes.now
+abbrev pub shown_bytes : PageView → Option (List ℕ)
+shown_bytes page.Unmapped = None
+shown_bytes page.Zero = Some (zeros 4096)
+shown_bytes (page.Full bytes) = Some bytes.now

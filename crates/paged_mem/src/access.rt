@@ -2,7 +2,7 @@
 
 ghost use Rattle.std.specs.Prelude.{◌≡◌, ℕ, ◌+◌, ◌-◌, ◌*◌, ◌%◌, ◌^◌, ◌<◌, ◌≤◌, length, IfSome, slice_index, unwrap_or, Err, Some};
 ghost use Rattle.paged_mem.specs.Memory.{bytes_at, maps, reads};
-ghost use Rattle.paged_mem.specs.Ram.{count_of, RunsFrom, shown, Stores, StoresNear, Writes};
+ghost use Rattle.paged_mem.specs.Ram.{count_of, RunsFrom, shown_bytes, Stores, StoresNear, Writes};
 ghost use Rattle.paged_mem.specs.Entries.{AreFull, ArePages, AreRowsOf, flat, held_pages};
 ghost use Rattle.paged_mem.specs.Inside.Flat.{memory_of, number_at, Rises};
 ghost use Rattle.paged_mem.specs.Paged.{pages_touched, TouchesUnheld};
@@ -236,7 +236,7 @@ pub fn store_at(
 pub fn page_at<'a>(pages: &[u64], entries: &'a [Entry], first: u64) -> PageView<'a>
     requires pages { ArePages pages.now entries.now }
     requires aligned { first % 4096 ≡ 0 }
-    ensures { shown result ≡ bytes_at (memory_of pages.now (flat entries.now)) first 4096 }
+    ensures { shown_bytes result ≡ bytes_at (memory_of pages.now (flat entries.now)) first 4096 }
 {
     match find(pages, first / PAGE) {
         None => PageView::Unmapped,

@@ -1,7 +1,7 @@
 //! The entries of pages: reading and writing over several of them.
 
 ghost use Rattle.std.specs.Prelude.{◌≡◌, ◌≢◌, ℕ, ◌+◌, ◌-◌, ◌*◌, ◌%◌, ◌^◌, ◌<◌, ◌≤◌, length, take, drop, is_some, IsSome, OnOk, OnErr, None, List, slice_index, slice_index_or};
-ghost use Rattle.paged_mem.specs.Entries.{AreFull, content, flat, held_pages};
+ghost use Rattle.paged_mem.specs.Entries.{AreFull, page_content, flat, held_pages};
 ghost use Rattle.paged_mem.specs.Inside.Flat.{number_at, overwritten};
 ghost use Rattle.paged_mem.specs.Ram.{count_of};
 
@@ -18,7 +18,7 @@ pub type Entry = Option<Box<[u8; PAGE_LEN]>>;
 /// The little-endian number of an access that lies within a page.
 pub fn number_in(entry: &Entry, low: usize, width: Width) -> u64
     requires { low + count_of width ≤ 4096 }
-    ensures value { result ≡ number_at (content entry.now) low (count_of width) }
+    ensures value { result ≡ number_at (page_content entry.now) low (count_of width) }
     ensures fits { result < 2 ^ (8 * count_of width) }
 {
     match entry {
@@ -40,7 +40,7 @@ fn clear(out: &mut [u8])
 /// Fills `out` with the bytes of a page from an index on.
 fn fill_from(entry: &Entry, low: usize, out: &mut [u8])
     requires { low + length out.old ≤ 4096 }
-    ensures { out.new ≡ take (length out.old) (drop low (content entry.now)) }
+    ensures { out.new ≡ take (length out.old) (drop low (page_content entry.now)) }
 {
     match entry {
         None => clear(out),
@@ -53,8 +53,8 @@ pub fn put_into(entry: &mut Entry, low: usize, source: &[u8])
     requires held { IsSome entry.old }
     requires within { low + length source.now ≤ 4096 }
     ensures held { IsSome entry.new }
-    ensures content { content entry.new ≡ overwritten (content entry.old) low source.now }
-    ensures full { length (content entry.new) ≡ 4096 }
+    ensures content { page_content entry.new ≡ overwritten (page_content entry.old) low source.now }
+    ensures full { length (page_content entry.new) ≡ 4096 }
 {
     match entry {
         None => {}
@@ -117,9 +117,9 @@ pub fn write(entries: &mut [Entry], start: usize, source: &[u8])
 
 /// Takes the memory of a page that holds no bytes yet, zero bytes at first.
 fn hold(alloc: Global, entry: &mut Entry) -> Result<(), OutOfMemory>
-    requires { length (content entry.old) ≡ 4096 }
-    ensures bytes { content entry.new ≡ content entry.old }
-    ensures full { length (content entry.new) ≡ 4096 }
+    requires { length (page_content entry.old) ≡ 4096 }
+    ensures bytes { page_content entry.new ≡ page_content entry.old }
+    ensures full { length (page_content entry.new) ≡ 4096 }
     ensures ok { OnOk result (IsSome entry.new) }
     ensures err { OnErr result ((entry.old ≡ None) × (entry.new ≡ None)) }
 {

@@ -1,7 +1,7 @@
 ghost use Rattle.std.specs.Prelude.{◌≡◌, ℕ, ◌+◌, ◌*◌, ◌%◌, ◌^◌, ◌<◌, ◌≤◌, length, IsTrue, unwrap_or, IfSome, OnOk, OnErr, Some};
 ghost use Rattle.std.specs.FinMap as map;
 ghost use Rattle.paged_mem.specs.Memory.{Memory, IsWhole, IsFree, bytes_at, maps, reads, with_bytes, without, zeros};
-ghost use Rattle.paged_mem.specs.Ram.{count_of, Stores, StoresNear, Writes, RunsFrom, shown};
+ghost use Rattle.paged_mem.specs.Ram.{count_of, Stores, StoresNear, Writes, RunsFrom, shown_bytes};
 
 use ddc_base::OutOfMemory;
 use std::alloc::Global;
@@ -110,7 +110,7 @@ pub trait Ram: Sized + Drop {
     /// The page at `first`: all its bytes, or that it is unmapped.
     fn page(&self, first: u64) -> PageView<'_>
         requires { first % 4096 ≡ 0 }
-        ensures { shown result ≡ bytes_at (bytes self.now) first 4096 };
+        ensures { shown_bytes result ≡ bytes_at (bytes self.now) first 4096 };
 
     ghost whole: { (ram : Self) → IsWhole (bytes ram) };
 }

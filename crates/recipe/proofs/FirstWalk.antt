@@ -17,7 +17,7 @@ use Rattle.recipe.specs.declared.parts.Source.{Source}
 use Rattle.recipe.specs.declared.parts.Stage.{Stage}
 use Rattle.recipe.specs.declared.parts.StageFile.{StageFile}
 use Rattle.recipe.specs.Kept.{IsGuestPath, IsOutput}
-use Rattle.recipe.specs.Tables.{is_taken, a_new_name, input_table, a_language, source_table, guest_path, is_file_path, entry_text, next_file, some_files, output_of, an_output, stage_table}
+use Rattle.recipe.specs.Tables.{is_taken, a_new_name, input_table, a_language, source_table, guest_path, is_file_path, entry_text, next_file, some_files, output_said, an_output, stage_table}
 use Rattle.recipe.proofs.GuestPaths.{guest_path_ok, output_ok}
 use Rattle.recipe.proofs.DistinctNames.{not_false, distinct_push, any_map}
 
@@ -165,7 +165,7 @@ heap_ok place (Some heap) read = (number_ok 0 (2 ^ 30) place key.Heap read.0 hea
 an_output_ok : (place : Place) (value : Data) (output : Output) → an_output place key.Output value ≡ Ok output → IsOutput output
 unfolding an_output
 an_output_ok place value output e =
-    bound _ (a_text place key.Output value) _ output e (λ text text_is rest. output_ok text output (or_ok (BadPath place key.Output) (output_of text) output rest))
+    bound _ (a_text place key.Output value) _ output e (λ text text_is rest. output_ok text output (or_ok (BadPath place key.Output) (output_said text) output rest))
 
 pub stage_said : (inputs : List Input) (sources : List Source) (stages : List Stage) (place : Place) (table : Members) (stage : Stage)
     → stage_table inputs sources stages place table ≡ Ok stage → StageSaid inputs sources stages stage

@@ -7,7 +7,7 @@ use Rattle.std.proofs.lemmas.Bool.{lt-ltb, ltb-true}
 use Rattle.recipe.specs.declared.parts.Content.TheVariants as content
 use Rattle.recipe.specs.declared.parts.Input.{Input}
 use Rattle.recipe.specs.declared.parts.Stage.{Stage}
-use Rattle.recipe.specs.Lookups.{input_at, stage_at, content_of}
+use Rattle.recipe.specs.Lookups.{input_at, stage_at, content_named}
 
 first_of : (here : Bool) (n m k l : ℕ) → cond (not here) (1 + n) 0 < suc k → (n < k → (m ≡ n) × (m < l)) → (cond (not here) (1 + m) 0 ≡ cond (not here) (1 + n) 0) × (cond (not here) (1 + m) 0 < suc l)
 first_of true n m k l within more = (refl, omega arith)
@@ -42,8 +42,8 @@ either_more (Some index) few many more is = refl
 either_more None (Some index) many more is = ap (option_map content.Stage) (more refl)
 either_more None None many more is = absurd cc
 
-pub content_more : (inputs : List Input) (stages : List Stage) (i : ℕ) (name : List ℕ) → IsSome (content_of inputs (take i stages) name)
-    → content_of inputs stages name ≡ content_of inputs (take i stages) name
-unfolding content_of
+pub content_more : (inputs : List Input) (stages : List Stage) (i : ℕ) (name : List ℕ) → IsSome (content_named inputs (take i stages) name)
+    → content_named inputs stages name ≡ content_named inputs (take i stages) name
+unfolding content_named
 content_more inputs stages i name is =
     either_more (input_at inputs name) (stage_at (take i stages) name) (stage_at stages name) (position_more (λ stage. bytes_eq stage.name name) stages i) is

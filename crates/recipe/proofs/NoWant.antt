@@ -18,10 +18,10 @@ use Rattle.recipe.specs.declared.parts.Input.{Input}
 use Rattle.recipe.specs.declared.parts.Source.{Source}
 use Rattle.recipe.specs.declared.parts.Stage.{Stage}
 use Rattle.recipe.specs.declared.parts.StageFile.{StageFile}
-use Rattle.recipe.specs.Lookups.{source_named, content_of, content_source, stage_at, input_at}
+use Rattle.recipe.specs.Lookups.{source_named, content_named, content_source, stage_at, input_at}
 use Rattle.recipe.specs.Reading.{first_walk, recipe_of}
 use Rattle.recipe.specs.SecondWalk.{is_content, refers_to_source, input_refers, source_refers, is_defined, checks_source, check_refers, stage_refers_after, stage_refers, compare_refers, has_source, is_argued, program_has_source, second_walk}
-use Rattle.recipe.specs.Tables.{top_place, input_place, source_place, stage_place, compare_place, top_table, is_taken, a_new_name, input_table, next_input, source_language, a_language, source_table, next_source, guest_path, is_file_path, entry_text, next_file, some_files, output_of, an_output, stage_table, next_stage, compare_table}
+use Rattle.recipe.specs.Tables.{top_place, input_place, source_place, stage_place, compare_place, top_table, is_taken, a_new_name, input_table, next_input, source_language, a_language, source_table, next_source, guest_path, is_file_path, entry_text, next_file, some_files, output_said, an_output, stage_table, next_stage, compare_table}
 
 -- ---- the first walk
 
@@ -91,7 +91,7 @@ sated_files place k value = sated_bind (an_array 0 256 place k value) _ (sated_a
 
 sated_output : (place : Place) (k : Key) (value : Data) → Sated (an_output place k value)
 unfolding an_output
-sated_output place k value = sated_bind (a_text place k value) _ (sated_text place k value) (λ text. sated_or (BadPath place k) (output_of text) (λ is. absurd cc))
+sated_output place k value = sated_bind (a_text place k value) _ (sated_text place k value) (λ text. sated_or (BadPath place k) (output_said text) (λ is. absurd cc))
 
 abbrev stage_keys : List Key
 stage_keys = key.Name ∷ key.Program ∷ key.Args ∷ key.Env ∷ key.Files ∷ key.Output ∷ key.Steps ∷ key.Heap ∷ key.Check ∷ key.Becomes ∷ []
@@ -175,7 +175,7 @@ sated_program said (Some (content.Stage index)) = sated_unless _ (is_some (conte
 
 sated_argued : (said : Said) (check : Option (List ℕ)) (program : List ℕ) → Sated (is_argued said check program)
 sated_argued said (Some check) program = sated_ok tt
-sated_argued said None program = sated_program said (content_of said.inputs said.stages program)
+sated_argued said None program = sated_program said (content_named said.inputs said.stages program)
 
 sated_second : (said : Said) → Sated (second_walk said)
 unfolding second_walk

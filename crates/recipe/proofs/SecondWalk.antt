@@ -14,7 +14,7 @@ use Rattle.recipe.specs.declared.parts.Content.TheVariants as content
 use Rattle.recipe.specs.declared.parts.Source.{Source}
 use Rattle.recipe.specs.declared.parts.Stage.{Stage}
 use Rattle.recipe.specs.Kept.{Each, NamesSource, IsMade, Checks, IsCheck}
-use Rattle.recipe.specs.Lookups.{source_named, content_of, content_source, source_of, stage_at, input_at}
+use Rattle.recipe.specs.Lookups.{source_named, content_named, content_source, source_of, stage_at, input_at}
 use Rattle.recipe.specs.SecondWalk.{is_content, refers_to_source, input_refers, source_refers, is_defined, checks_source, check_refers, stage_refers_after, stage_refers, compare_refers, has_source, is_argued, program_has_source, second_walk}
 use Rattle.recipe.specs.Tables.{stage_place, compare_place}
 use Rattle.recipe.proofs.MoreStages.{content_more}
@@ -84,8 +84,8 @@ pub argued_at : (said : Said) (i : ℕ) (stage : Stage) → each_passes (program
     → IsMade said (take i said.stages) stage.program → stage.check ≡ None → IsSome (source_of said stage.program)
 argued_at said i stage passed is made unchecked =
     let has : is_argued said stage.check stage.program ≡ Ok tt = passes_at (program_has_source said) 1 said.stages i stage passed is in
-    let there : IsSome (content_of said.inputs said.stages stage.program) = ap is_some (content_more said.inputs said.stages i stage.program made) ∙ made in
-    sourced said (content_of said.inputs said.stages stage.program) there (ap (λ check. is_argued said check stage.program) (sym unchecked) ∙ has)
+    let there : IsSome (content_named said.inputs said.stages stage.program) = ap is_some (content_more said.inputs said.stages i stage.program made) ∙ made in
+    sourced said (content_named said.inputs said.stages stage.program) there (ap (λ check. is_argued said check stage.program) (sym unchecked) ∙ has)
 
 -- ---- the whole walk
 

@@ -12,7 +12,7 @@ use Rattle.recipe.specs.declared.parts.Output.TheVariants.{Stream, File}
 use Rattle.recipe.specs.declared.parts.Source.{Source}
 use Rattle.recipe.specs.declared.parts.Stage.{Stage}
 use Rattle.recipe.specs.declared.parts.StageFile.{StageFile}
-use Rattle.recipe.specs.Lookups.{content_of, input_at, source_named, source_of, stage_at}
+use Rattle.recipe.specs.Lookups.{content_named, input_at, source_named, source_of, stage_at}
 use Rattle.recipe.specs.SecondWalk.{is_defined}
 
 -- P holds of the element at each index
@@ -25,7 +25,7 @@ NamesSource sources name = IfSome name (λ name. IsSome (source_named sources na
 
 -- the name stands for an input or for what one of these stages makes
 abbrev pub IsMade : Said → List Stage → List ℕ → Type 0
-IsMade said stages name = IsSome (content_of said.inputs stages name)
+IsMade said stages name = IsSome (content_named said.inputs stages name)
 
 -- a path of a program's file
 pub record IsGuestPath (text : List ℕ) : Type 0 where

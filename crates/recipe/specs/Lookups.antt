@@ -24,8 +24,8 @@ abbrev pub source_named : List Source → List ℕ → Option Source
 source_named sources name = find (λ source. bytes_eq source.name name) sources
 
 -- the input of a name, or else the stage that makes what has this name
-unfoldable pub content_of : List Input → List Stage → List ℕ → Option Content
-content_of inputs stages name = option_or (option_map content.Input (input_at inputs name)) (option_map content.Stage (stage_at stages name))
+unfoldable pub content_named : List Input → List Stage → List ℕ → Option Content
+content_named inputs stages name = option_or (option_map content.Input (input_at inputs name)) (option_map content.Stage (stage_at stages name))
 
 -- whether a checked artefact in this language is the value of its source: in hex0, hex1 and hex2
 abbrev pub is_hex : SourceLanguage → Bool
@@ -50,7 +50,7 @@ content_source said (content.Stage index) = option_and_then (stage_source said.s
 
 -- the name of the source of the program of a name
 abbrev pub source_of : Said → List ℕ → Option (List ℕ)
-source_of said name = option_and_then (content_source said) (content_of said.inputs said.stages name)
+source_of said name = option_and_then (content_source said) (content_named said.inputs said.stages name)
 
 -- the index is one of an input or of a stage
 abbrev pub IsIndex : List Input → List Stage → Content → Type 0

@@ -14,13 +14,13 @@ use Rattle.recipe.specs.declared.parts.Source.{Source}
 use Rattle.recipe.specs.declared.parts.SourceLanguage.{SourceLanguage}
 use Rattle.recipe.specs.declared.parts.SourceLanguage.TheVariants.{Defined, Other}
 use Rattle.recipe.specs.declared.parts.Stage.{Stage}
-use Rattle.recipe.specs.Lookups.{input_at, stage_at, source_named, content_of, content_source}
+use Rattle.recipe.specs.Lookups.{input_at, stage_at, source_named, content_named, content_source}
 use Rattle.recipe.specs.declared.contents.Said.{Said}
 use Rattle.recipe.specs.Tables.{input_place, source_place, stage_place, compare_place}
 
 -- whether a name stands for one of these inputs or for what one of these stages makes
 abbrev pub is_content : List Input → List Stage → List ℕ → Bool
-is_content inputs stages name = is_some (content_of inputs stages name)
+is_content inputs stages name = is_some (content_named inputs stages name)
 
 -- a source of this name is there, where a name stands at the key
 abbrev pub refers_to_source : List Source → Place → Key → Option (List ℕ) → Result (Unit {0}) RecipeRefusal
@@ -82,7 +82,7 @@ has_source said None = Ok tt
 -- the program of an unchecked stage
 abbrev pub is_argued : Said → Option (List ℕ) → List ℕ → Result (Unit {0}) RecipeRefusal
 is_argued said (Some check) program = Ok tt
-is_argued said None program = has_source said (content_of said.inputs said.stages program)
+is_argued said None program = has_source said (content_named said.inputs said.stages program)
 
 abbrev pub program_has_source : Said → ℕ → Stage → Result (Unit {0}) RecipeRefusal
 program_has_source said number stage = is_argued said stage.check stage.program

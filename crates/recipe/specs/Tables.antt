@@ -149,13 +149,13 @@ some_files place key value = do
   gathered (next_file place key) [] entries
 
 -- stream 1 where it is written `-`, else a file of the program
-abbrev pub output_of : List ℕ → Option Output
-output_of text = if bytes_eq text (codes "-") then Some Stream else option_map File (guest_path text)
+abbrev pub output_said : List ℕ → Option Output
+output_said text = if bytes_eq text (codes "-") then Some Stream else option_map File (guest_path text)
 
 unfoldable pub an_output : Place → Key → Data → Result Output RecipeRefusal
 an_output place key value = do
   text ← a_text place key value
-  or_refused (BadPath place key) (output_of text)
+  or_refused (BadPath place key) (output_said text)
 
 unfoldable pub stage_table : List Input → List Source → List Stage → Place → Members → Result Stage RecipeRefusal
 stage_table inputs sources stages place table = do

@@ -1,7 +1,7 @@
 ghost use Rattle.std.specs.Prelude.{◌≡◌, ◌≤◌, IfSome, length, option_map, take};
 ghost use Rattle.recipe.specs.Lookups.{IsIndex};
 ghost use Rattle.recipe.specs.Kept.{IsRecipe};
-ghost use Rattle.recipe.specs.Lookups.{content_of, source_named, source_of};
+ghost use Rattle.recipe.specs.Lookups.{content_named, source_named, source_of};
 
 use crate::contents::Said;
 use crate::lookups::{content_of, content_source, source_named};
@@ -78,7 +78,7 @@ impl Recipe {
 
     /// What a name stands for: the input of that name, or else what the stage of that name makes.
     pub fn content(&self, name: &Name) -> Option<Content>
-        ensures value { result ≡ content_of self.now.inputs self.now.stages name.now }
+        ensures value { result ≡ content_named self.now.inputs self.now.stages name.now }
         ensures index { IfSome result (IsIndex self.now.inputs self.now.stages) }
     {
         content_of(
@@ -91,7 +91,7 @@ impl Recipe {
     /// What a name stands for at a stage, by its index from 0: among the inputs and the stages before it.
     pub fn content_before(&self, stage: usize, name: &Name) -> Option<Content>
         requires { stage ≤ length self.now.stages }
-        ensures value { result ≡ content_of self.now.inputs (take stage self.now.stages) name.now }
+        ensures value { result ≡ content_named self.now.inputs (take stage self.now.stages) name.now }
         ensures index { IfSome result (IsIndex self.now.inputs (take stage self.now.stages)) }
     {
         content_of(

@@ -6,7 +6,7 @@ ghost use Rattle.recipe.specs.declared.parts.Input.{Input};
 ghost use Rattle.recipe.specs.declared.parts.Stage.{Stage};
 ghost use Rattle.recipe.specs.declared.contents.Said.{Said};
 ghost use Rattle.recipe.specs.Kept.{IsRecipe};
-ghost use Rattle.recipe.specs.Lookups.{content_of};
+ghost use Rattle.recipe.specs.Lookups.{content_named};
 ghost use Rattle.recipe.specs.Reading.{recipe_of};
 
 /// What bytes that read as a recipe say keeps the rules of a recipe.
@@ -16,7 +16,7 @@ pub fn a_recipe_that_reads_keeps_the_rules()
 
 /// What a name stands for among the inputs and the first stages, it stands for among all of them.
 pub fn a_name_keeps_its_content()
-    ensures { (inputs : List Input) (stages : List Stage) (n : ℕ) (name : List ℕ) → IsSome (content_of inputs (take n stages) name) → content_of inputs stages name ≡ content_of inputs (take n stages) name }
+    ensures { (inputs : List Input) (stages : List Stage) (n : ℕ) (name : List ℕ) → IsSome (content_named inputs (take n stages) name) → content_named inputs stages name ≡ content_named inputs (take n stages) name }
 {}
 
 /// What bytes say is never want of memory: it comes from the reader's calls alone.

@@ -2,7 +2,7 @@
 
 ghost use Rattle.std.specs.Prelude.{◌≡◌, ◌<◌, IfSome, length, option_and_then, option_map, slice_get};
 ghost use Rattle.recipe.specs.Lookups.{IsIndex};
-ghost use Rattle.recipe.specs.Lookups.{content_of, content_source, hex_check, input_at, is_hex, source_named, stage_at, stage_source};
+ghost use Rattle.recipe.specs.Lookups.{content_named, content_source, hex_check, input_at, is_hex, source_named, stage_at, stage_source};
 
 use crate::contents::Said;
 use crate::parts::{Content, Input, Source, SourceLanguage, Stage};
@@ -33,9 +33,9 @@ pub(crate) fn source_named<'a>(sources: &'a [Source], name: &Name) -> Option<&'a
 }
 
 /// The input of a name, or else the stage that makes what has this name.
-#[tactic(auto, unfolding(crate::specs::Lookups::content_of))]
+#[tactic(auto, unfolding(crate::specs::Lookups::content_named))]
 pub(crate) fn content_of(inputs: &[Input], stages: &[Stage], name: &Name) -> Option<Content>
-    ensures value { result ≡ content_of inputs.now stages.now name.now }
+    ensures value { result ≡ content_named inputs.now stages.now name.now }
     ensures index { IfSome result (IsIndex inputs.now stages.now) }
 {
     match input_at(inputs, name) {

@@ -275,7 +275,7 @@ fn program_has_source(said: &Said, number: u32, stage: &Stage) -> Result<(), Rec
 fn named_has_source(said: &Said, program: &Name) -> Result<(), RecipeRefusal>
     requires few_inputs { length said.now.inputs ≤ 256 }
     requires few_stages { length said.now.stages ≤ 256 }
-    ensures { Gives (λ x. x) result (has_source said.now (spec.content_of said.now.inputs said.now.stages program.now)) }
+    ensures { Gives (λ x. x) result (has_source said.now (spec.content_named said.now.inputs said.now.stages program.now)) }
 {
     match content_of(said.inputs.as_slice(), said.stages.as_slice(), program) {
         Some(content) => has_source(said, content),

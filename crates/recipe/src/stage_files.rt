@@ -3,7 +3,7 @@
 ghost use Rattle.std.specs.Prelude.{◌≡◌, [], IfOk, map, option_map, unwrap_or};
 ghost use Rattle.toml.specs.View.{table_view, view};
 ghost use Rattle.recipe.specs.Text.Reading.{Gives, gathered, optional, required};
-ghost use Rattle.recipe.specs.Tables.{an_output, entry_text, guest_path, is_file_path, next_file, output_of, some_files};
+ghost use Rattle.recipe.specs.Tables.{an_output, entry_text, guest_path, is_file_path, next_file, output_said, some_files};
 
 use crate::parts::{Output, StageFile};
 use crate::text::{
@@ -140,7 +140,7 @@ fn output(alloc: Global, place: Place, value: &Value) -> Result<Output, RecipeRe
 
 /// The output that a text names.
 fn output_of(alloc: Global, text: &[u8]) -> Result<Option<Output>, OutOfMemory>
-    ensures { IfOk result (λ x. x ≡ output_of text.now) }
+    ensures { IfOk result (λ x. x ≡ output_said text.now) }
 {
     if text == "-".as_bytes() {
         return Ok(Some(Output::Stream));

@@ -2,7 +2,7 @@
 use Rattle.std.specs.Prelude.{ℕ, List, [], ◌∷◌, Option, Some, None, codes, decimal}
 use Rattle.ddc_base.specs.Lines.{line}
 use Rattle.recipe.specs.Text.Keys.{key_word, table_word}
-use Rattle.recipe.specs.Text.Refusals.{refusal_number, refusal_place, refusal_key}
+use Rattle.recipe.specs.Text.Refusals.{recipe_refusal_number, recipe_refusal_place, refusal_key}
 use Rattle.recipe.specs.declared.text.keys.Key.{Key}
 use Rattle.recipe.specs.declared.text.keys.Place.{Place}
 use Rattle.recipe.specs.declared.text.refusal.RecipeRefusal.{RecipeRefusal}
@@ -23,13 +23,13 @@ place_words (Some place) (Some key) = table_word place.table ∷ decimal place.n
 -- a file is no recipe
 unfoldable pub recipe_line : RecipeRefusal → List ℕ
 recipe_line refusal =
-    line (codes "recipe" ∷ codes "refused" ∷ decimal (refusal_number refusal) ∷ place_words (refusal_place refusal) (refusal_key refusal))
+    line (codes "recipe" ∷ codes "refused" ∷ decimal (recipe_refusal_number refusal) ∷ place_words (recipe_refusal_place refusal) (refusal_key refusal))
 
 -- how the compared artefact and binary compare
-abbrev pub compared_words : List ℕ → List ℕ → Compared → List (List ℕ)
-compared_words stage binary (Equal size) = codes "equal" ∷ stage ∷ binary ∷ decimal size ∷ []
-compared_words stage binary (Differs offset made given) =
+abbrev pub comparison_words : List ℕ → List ℕ → Compared → List (List ℕ)
+comparison_words stage binary (Equal size) = codes "equal" ∷ stage ∷ binary ∷ decimal size ∷ []
+comparison_words stage binary (Differs offset made given) =
     codes "differs" ∷ stage ∷ binary ∷ decimal offset ∷ decimal made ∷ decimal given ∷ []
 
 unfoldable pub compared_line : CompareLine → List ℕ
-compared_line compare = line (compared_words compare.stage compare.binary compare.result)
+compared_line compare = line (comparison_words compare.stage compare.binary compare.result)

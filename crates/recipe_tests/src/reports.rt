@@ -2,7 +2,7 @@
 
 ghost use Rattle.std.specs.Prelude.{◌≡◌, ◌++◌, OnOk};
 ghost use Rattle.std.specs.List.{flat_map};
-ghost use Rattle.recipe_tests.specs.Reports.Texts.{written};
+ghost use Rattle.recipe_tests.specs.Reports.Texts.{spelled_byte};
 
 use ddc_base::{Bytes, OutOfMemory};
 
@@ -11,7 +11,7 @@ mod reports;
 
 /// Adds a text in which `*` stands for the SHA-256 digest of no bytes.
 pub fn put_text(out: &mut Bytes, text: &[u8]) -> Result<(), OutOfMemory>
-    ensures { OnOk result (out.new ≡ out.old ++ flat_map written text.now) }
+    ensures { OnOk result (out.new ≡ out.old ++ flat_map spelled_byte text.now) }
 {
     for byte in text {
         put_byte(out, *byte)?;
@@ -19,9 +19,9 @@ pub fn put_text(out: &mut Bytes, text: &[u8]) -> Result<(), OutOfMemory>
     Ok(())
 }
 
-#[tactic(auto, unfolding(crate::specs::Reports::Texts::written))]
+#[tactic(auto, unfolding(crate::specs::Reports::Texts::spelled_byte))]
 fn put_byte(out: &mut Bytes, byte: u8) -> Result<(), OutOfMemory>
-    ensures { OnOk result (out.new ≡ out.old ++ written byte) }
+    ensures { OnOk result (out.new ≡ out.old ++ spelled_byte byte) }
 {
     if byte == b'*' {
         out.extend(b"e3b0c44298fc1c149afbf4c8996fb92427ae41e4649b934ca495991b7852b855")

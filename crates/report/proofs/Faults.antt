@@ -12,8 +12,8 @@ use Rattle.report.specs.declared.types.Report.{Report}
 use Rattle.report.specs.Inside.Cuts.{◌>>=◌}
 use Rattle.report.specs.Inside.States.{step}
 use Rattle.report.specs.Inside.Reading.{next_line, one_more, after}
-use Rattle.report.specs.Lines.{words, lines_text}
-use Rattle.report.specs.Reports.{report_lines, report_text, IsReport, Begins, IsFirstFault}
+use Rattle.report.specs.Lines.{line_words, lines_text}
+use Rattle.report.specs.Reports.{report_lines, report_text, IsReport, BeginsReport, IsFirstFault}
 use Rattle.report.proofs.Cuts.{bind_some, same_some}
 use Rattle.report.proofs.LineTexts.{IsLine, next_again, next_takes}
 use Rattle.report.proofs.Turns.{no_more}
@@ -44,7 +44,7 @@ unfolding after
 after_from zero bytes = refl
 after_from (suc n) bytes = ap (λ (o : Option (State × List ℕ)). o >>= one_more) (after_from n bytes) ∙ sym (from_more n (Start, bytes))
 
-one_line : (s : State) (l : Line) (t : State) (rest : List ℕ) → IsLine l → step s l ≡ Some t → one_more (s, line_text (words l) ++ rest) ≡ Some (t, rest)
+one_line : (s : State) (l : Line) (t : State) (rest : List ℕ) → IsLine l → step s l ≡ Some t → one_more (s, line_text (line_words l) ++ rest) ≡ Some (t, rest)
 unfolding one_more
 one_line s l t rest fits stepped = rw (next_again l rest fits, stepped) refl
 
@@ -53,11 +53,11 @@ run_from [] s t rest each e = ap (λ (o : Option State). o >>= λ u. Some (u, re
 run_from (l ∷ ls) s t rest each e =
     let parts = bind_some (step s l) (λ u. run u ls) t e in
     let one : one_more (s, lines_text (l ∷ ls) ++ rest) ≡ Some (parts.0, lines_text ls ++ rest) =
-    ap (λ (bytes : List ℕ). one_more (s, bytes)) (append_assoc (line_text (words l)) (lines_text ls) rest) ∙ one_line s l parts.0 (lines_text ls ++ rest) (All-head IsLine l ls each) parts.1 in
+    ap (λ (bytes : List ℕ). one_more (s, bytes)) (append_assoc (line_text (line_words l)) (lines_text ls) rest) ∙ one_line s l parts.0 (lines_text ls ++ rest) (All-head IsLine l ls each) parts.1 in
     ap (λ (o : Option (State × List ℕ)). o >>= from (length ls)) one ∙ run_from ls parts.0 t rest (All-tail IsLine l ls each) parts.2
 
 -- where the lines begin a report, they are taken
-pub begun : (n : ℕ) (bytes : List ℕ) → Begins n bytes → (x : State × List ℕ) × (after n bytes ≡ Some x)
+pub begun : (n : ℕ) (bytes : List ℕ) → BeginsReport n bytes → (x : State × List ℕ) × (after n bytes ≡ Some x)
 begun n bytes begins =
     let lines = report_lines begins.report in
     let whole : run Start (take n lines ++ drop n lines) ≡ Some (Ended begins.report) = ap (run Start) (take-append-drop n lines) ∙ run_report begins.report begins.is in
@@ -68,9 +68,9 @@ begun n bytes begins =
 
 -- ---- what is taken
 
-lines_text-push : (ls : List Line) (l : Line) → lines_text (ls ++ l ∷ []) ≡ lines_text ls ++ line_text (words l)
-lines_text-push [] l = append-nil (line_text (words l))
-lines_text-push (first ∷ ls) l = ap (λ (t : List ℕ). line_text (words first) ++ t) (lines_text-push ls l) ∙ sym (append_assoc (line_text (words first)) (lines_text ls) (line_text (words l)))
+lines_text-push : (ls : List Line) (l : Line) → lines_text (ls ++ l ∷ []) ≡ lines_text ls ++ line_text (line_words l)
+lines_text-push [] l = append-nil (line_text (line_words l))
+lines_text-push (first ∷ ls) l = ap (λ (t : List ℕ). line_text (line_words first) ++ t) (lines_text-push ls l) ∙ sym (append_assoc (line_text (line_words first)) (lines_text ls) (line_text (line_words l)))
 
 pub record Taken (n : ℕ) (bytes : List ℕ) (s : State) (rest : List ℕ) : Type 0 where
   pub good : Good s
@@ -93,13 +93,13 @@ taken (suc n) bytes x e =
     subst (λ (y : State × List ℕ). Taken (suc n) bytes y.0 y.1) is (record {
       good = step_keeps a.0.0 b.0.0 d.0 before.good line.0 d.1;
       text = before.text ∙ ap (λ (t : List ℕ). lines_text (so_far a.0.0) ++ t) line.1
-          ∙ sym (append_assoc (lines_text (so_far a.0.0)) (line_text (words b.0.0)) b.0.1)
+          ∙ sym (append_assoc (lines_text (so_far a.0.0)) (line_text (line_words b.0.0)) b.0.1)
           ∙ ap (λ (t : List ℕ). t ++ b.0.1) (sym (lines_text-push (so_far a.0.0) b.0.0) ∙ ap lines_text (sym grown));
       long = omega (arith, ap length grown, length-append (so_far a.0.0) (b.0.0 ∷ []), before.long);
     })
 
 -- what is taken begins a report
-pub begins : (n : ℕ) (bytes : List ℕ) (x : State × List ℕ) → after n bytes ≡ Some x → Begins n bytes
+pub begins : (n : ℕ) (bytes : List ℕ) (x : State × List ℕ) → after n bytes ≡ Some x → BeginsReport n bytes
 begins n bytes x e =
     let t = taken n bytes x e in
     let f = finished x.0 t.good in

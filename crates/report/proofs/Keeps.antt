@@ -25,7 +25,7 @@ use Rattle.report.specs.declared.state.Opened.{Opened}
 use Rattle.report.specs.declared.state.State.{State}
 use Rattle.report.specs.declared.state.State.TheVariants.{Start, Titled, Inputs, Named, Heard, Leaving, Closing, Stages, Compared, Ended}
 use Rattle.report.specs.Inside.States.{step, follows, is_after, closed, with_stage}
-use Rattle.report.specs.Reports.{stage_lines, report_lines, ascend, IsCount, IsDigest, IsMark, IsInput, IsLeft, IsStage, IsCompare, IsReport}
+use Rattle.report.specs.Reports.{stage_block, report_lines, ascend, IsCount, IsDigest, IsMark, IsInputLine, IsLeft, IsStageLine, IsCompare, IsReport}
 use Rattle.report.proofs.Cuts.{if_some, same_some}
 use Rattle.report.proofs.LineTexts.{IsLine}
 use Rattle.report.proofs.Takes.{so_far, step_takes}
@@ -33,9 +33,9 @@ use Rattle.report.proofs.Takes.{so_far, step_takes}
 pub record IsFront (front : Front) : Type 0 where
   pub recipe : IsDigest front.recipe
   pub inputs : IsCount 1 256 (length front.inputs)
-  pub each_input : All IsInput front.inputs
+  pub each_input : All IsInputLine front.inputs
   pub stages : length front.stages ≤ 256
-  pub each_stage : All IsStage front.stages
+  pub each_stage : All IsStageLine front.stages
 
 pub record IsOpened (stage : Opened) : Type 0 where
   pub name : IsName stage.name
@@ -55,7 +55,7 @@ pub record HasRoom (front : Front) : Type 0 where
 abbrev pub Good : State → Type 0
 Good Start = Unit {0}
 Good Titled = Unit {0}
-Good (Inputs recipe inputs) = IsDigest recipe × (length inputs ≤ 256) × All IsInput inputs
+Good (Inputs recipe inputs) = IsDigest recipe × (length inputs ≤ 256) × All IsInputLine inputs
 Good (Named front name steps) = HasRoom front × IsName name × (steps < 2 ^ 64)
 Good (Heard front name steps stream1) = HasRoom front × IsName name × (steps < 2 ^ 64) × IsMark stream1
 Good (Leaving front stage) = HasRoom front × IsOpened stage
@@ -84,14 +84,14 @@ ascend_push (first ∷ next ∷ left) file h k =
 grown : {X : Type 0} (xs : List X) (x : X) → length (xs ++ x ∷ []) ≡ length xs + 1
 grown xs x = length-append xs (x ∷ [])
 
-with_room : (front : Front) (stage : StageLine) → HasRoom front → IsStage stage → Good (Stages (with_stage front stage))
+with_room : (front : Front) (stage : StageLine) → HasRoom front → IsStageLine stage → Good (Stages (with_stage front stage))
 with_room front stage has is = (
   record {
     recipe = has.fits.recipe;
     inputs = has.fits.inputs;
     each_input = has.fits.each_input;
     stages = omega (arith, has.room, grown front.stages stage);
-    each_stage = All-push IsStage front.stages stage has.fits.each_stage is;
+    each_stage = All-push IsStageLine front.stages stage has.fits.each_stage is;
   },
   omega (arith, grown front.stages stage),
 )
@@ -99,15 +99,15 @@ with_room front stage has is = (
 pub step_keeps : (s : State) (l : Line) (t : State) → Good s → IsLine l → step s l ≡ Some t → Good t
 unfolding step
 step_keeps Start Header t good is e = subst Good (same_some Titled t e) tt
-step_keeps Titled (Recipe recipe) t good is e = subst Good (same_some (Inputs recipe []) t e) (is, omega arith, All-nil IsInput)
+step_keeps Titled (Recipe recipe) t good is e = subst Good (same_some (Inputs recipe []) t e) (is, omega arith, All-nil IsInputLine)
 step_keeps (Inputs recipe inputs) (Input input) t good is e =
     let p = if_some (ltb (length inputs) 256) (Some (Inputs recipe (inputs ++ input ∷ []))) t e in
-    subst Good (same_some (Inputs recipe (inputs ++ input ∷ [])) t p.1) (good.0, omega (arith, is_below _ _ p.0, grown inputs input), All-push IsInput inputs input good.2 is)
+    subst Good (same_some (Inputs recipe (inputs ++ input ∷ [])) t p.1) (good.0, omega (arith, is_below _ _ p.0, grown inputs input), All-push IsInputLine inputs input good.2 is)
 step_keeps (Inputs recipe inputs) (Stage name steps) t good is e =
     let front : Front = record { recipe = recipe; inputs = inputs; stages = [] } in
     let p = if_some (ltb 0 (length inputs)) (Some (Named front name steps)) t e in
     let some : 1 ≤ length inputs = omega (arith, is_below _ _ p.0) in
-    let fits : IsFront front = record { recipe = good.0; inputs = (some, good.1); each_input = good.2; stages = omega arith; each_stage = All-nil IsStage } in
+    let fits : IsFront front = record { recipe = good.0; inputs = (some, good.1); each_input = good.2; stages = omega arith; each_stage = All-nil IsStageLine } in
     subst Good (same_some (Named front name steps) t p.1) (record { fits = fits; room = lit< tt }, is.0, is.1)
 step_keeps (Named front name steps) (Stream1 mark) t good is e = subst Good (same_some (Heard front name steps mark) t e) (good.0, good.1, good.2, is)
 step_keeps (Heard front name steps stream1) (Stream2 mark) t good is e =
@@ -130,7 +130,7 @@ step_keeps (Leaving front stage) (Left file) t good is e =
     subst Good (same_some (Leaving front next) t q.1) (good.0, fits)
 step_keeps (Leaving front stage) (Made mark) t good is e = subst Good (same_some (Closing front stage mark) t e) (good.0, good.1, is)
 step_keeps (Closing front stage made) (Checked checked) t good is e =
-    let fits : IsStage (closed stage made checked) = record {
+    let fits : IsStageLine (closed stage made checked) = record {
       name = good.1.name;
       steps = good.1.steps;
       stream1 = good.1.stream1;
@@ -262,7 +262,7 @@ finished (Ended report) good = from_ended report good
 
 -- ---- the lines of a report
 
-stage_is : (stage : StageLine) → IsStage stage → All IsLine (stage_lines stage)
+stage_is : (stage : StageLine) → IsStageLine stage → All IsLine (stage_block stage)
 stage_is stage is =
     let left = map Left stage.left in
     let ending = Made stage.made ∷ Checked stage.checked ∷ [] in
@@ -273,15 +273,15 @@ stage_is stage is =
     All-cons IsLine (Stream1 stage.stream1) (Stream2 stage.stream2 ∷ rest) is.stream1 (
     All-cons IsLine (Stream2 stage.stream2) rest is.stream2 (All-append IsLine left ending each_left last)))
 
-stages_are : (stages : List StageLine) → All IsStage stages → All IsLine (flat_map stage_lines stages)
+stages_are : (stages : List StageLine) → All IsStageLine stages → All IsLine (flat_map stage_block stages)
 stages_are [] each = All-nil IsLine
 stages_are (stage ∷ stages) each =
-    All-append IsLine (stage_lines stage) (flat_map stage_lines stages) (stage_is stage (All-head IsStage stage stages each)) (stages_are stages (All-tail IsStage stage stages each))
+    All-append IsLine (stage_block stage) (flat_map stage_block stages) (stage_is stage (All-head IsStageLine stage stages each)) (stages_are stages (All-tail IsStageLine stage stages each))
 
 pub lines_are : (report : Report) → IsReport report → All IsLine (report_lines report)
 lines_are report is =
     let inputs = map Input report.inputs in
-    let stages = flat_map stage_lines report.stages in
+    let stages = flat_map stage_block report.stages in
     let front : All IsLine (Header ∷ Recipe report.recipe ∷ inputs) =
     All-cons IsLine Header (Recipe report.recipe ∷ inputs) tt (All-cons IsLine (Recipe report.recipe) inputs is.recipe (All-map IsLine Input report.inputs is.each_input)) in
     let last : All IsLine (Compare report.compare ∷ End ∷ []) = All-cons IsLine (Compare report.compare) (End ∷ []) is.compare (All-cons IsLine End [] tt (All-nil IsLine)) in

@@ -18,8 +18,8 @@ use Rattle.report.specs.declared.types.StageLine.{StageLine}
 use Rattle.report.specs.declared.types.Compared.{Compared}
 use Rattle.report.specs.declared.types.Compared.TheVariants.{Equal, Differs}
 use Rattle.report.specs.declared.types.Report.{Report}
-use Rattle.report.specs.Lines.{words, mark_words, compared_words, lines_text}
-use Rattle.report.specs.Reports.{stage_lines, report_lines, report_text, IsMark, IsStage, IsCompared, IsReport}
+use Rattle.report.specs.Lines.{line_words, mark_words, compared_words, lines_text}
+use Rattle.report.specs.Reports.{stage_block, report_lines, report_text, IsMark, IsStageLine, IsCompared, IsReport}
 use Rattle.report.proofs.LineTexts.{IsLine}
 use Rattle.report.proofs.Keeps.{lines_are}
 
@@ -57,7 +57,7 @@ compared_short (Differs o a b) is =
       number_short b is.small_theirs,
     )
 
-line_short : (l : Line) → IsLine l → length (line_text (words l)) ≤ 602
+line_short : (l : Line) → IsLine l → length (line_text (line_words l)) ≤ 602
 line_short Header is = omega arith
 line_short (Recipe d) is = omega (arith, length-append (encode_lower d.0) (10 ∷ []), hex_long d.0, is.count)
 line_short (Input i) is = omega (arith, length-append i.name (32 ∷ line_text (mark_words i.mark)), fits i.name is.name, mark_short i.mark is.mark)
@@ -79,7 +79,7 @@ line_short End is = omega arith
 lines_short : (ls : List Line) → All IsLine ls → length (lines_text ls) ≤ 602 * length ls
 lines_short [] each = omega arith
 lines_short (l ∷ ls) each =
-    omega (arith, length-append (line_text (words l)) (lines_text ls), line_short l (All-head IsLine l ls each), lines_short ls (All-tail IsLine l ls each))
+    omega (arith, length-append (line_text (line_words l)) (lines_text ls), line_short l (All-head IsLine l ls each), lines_short ls (All-tail IsLine l ls each))
 
 -- ---- how many lines there are
 
@@ -87,18 +87,18 @@ mapped : {X : Type 0} (make : X → Line) (xs : List X) → length (map make xs)
 mapped make [] = refl
 mapped make (x ∷ xs) = ap suc (mapped make xs)
 
-block_few : (stage : StageLine) → IsStage stage → length (stage_lines stage) ≤ 4101
+block_few : (stage : StageLine) → IsStageLine stage → length (stage_block stage) ≤ 4101
 block_few stage is = omega (arith, length-append (map Left stage.left) (Made stage.made ∷ Checked stage.checked ∷ []), mapped Left stage.left, is.count)
 
-blocks_few : (stages : List StageLine) → All IsStage stages → length (flat_map stage_lines stages) ≤ 4101 * length stages
+blocks_few : (stages : List StageLine) → All IsStageLine stages → length (flat_map stage_block stages) ≤ 4101 * length stages
 blocks_few [] each = omega arith
 blocks_few (stage ∷ stages) each =
-    omega (arith, length-append (stage_lines stage) (flat_map stage_lines stages), block_few stage (All-head IsStage stage stages each), blocks_few stages (All-tail IsStage stage stages each))
+    omega (arith, length-append (stage_block stage) (flat_map stage_block stages), block_few stage (All-head IsStageLine stage stages each), blocks_few stages (All-tail IsStageLine stage stages each))
 
 lines_few : (report : Report) → IsReport report → length (report_lines report) ≤ 1050116
 lines_few report is =
     let inputs = map Input report.inputs in
-    let stages = flat_map stage_lines report.stages in
+    let stages = flat_map stage_block report.stages in
     omega (arith, length-append (inputs ++ stages) (Compare report.compare ∷ End ∷ []), length-append inputs stages, mapped Input report.inputs, blocks_few report.stages is.each_stage, is.inputs.1, is.stages.1)
 
 pub short : (report : Report) → IsReport report → length (report_text report) < 1073741824

@@ -14,8 +14,8 @@ use Rattle.report.specs.Inside.Cuts.{◌>>=◌, cut_at}
 use Rattle.report.specs.Inside.Fields.{digest_of, mark_of}
 use Rattle.report.specs.Inside.LinesRead.{header_of, recipe_of, input_of, stage_of, stream_of, left_of, made_of, checked_of, compare_of, line_of_kind, longer_line_of, line_of}
 use Rattle.report.specs.Inside.Reading.{next_line}
-use Rattle.report.specs.Lines.{words, compared_words}
-use Rattle.report.specs.Reports.{IsDigest, IsMark, IsInput, IsLeft, IsCompare}
+use Rattle.report.specs.Lines.{line_words, compared_words}
+use Rattle.report.specs.Reports.{IsDigest, IsMark, IsInputLine, IsLeft, IsCompare}
 use Rattle.report.proofs.Cuts.{Without, Without-append, cut_at-joined, cut_at-takes, bind_some, same_some}
 use Rattle.report.proofs.Plain.{no_blank, no_feed}
 use Rattle.report.proofs.Spelled.{two_again, two_takes}
@@ -25,7 +25,7 @@ use Rattle.report.proofs.FieldTexts.{by_word, number, name, name_word, language,
 abbrev pub IsLine : Line → Type 0
 IsLine Header = Unit {0}
 IsLine (Recipe digest) = IsDigest digest
-IsLine (Input input) = IsInput input
+IsLine (Input input) = IsInputLine input
 IsLine (Stage name steps) = IsName name × (steps < 2 ^ 64)
 IsLine (Stream1 mark) = IsMark mark
 IsLine (Stream2 mark) = IsMark mark
@@ -223,7 +223,7 @@ line_takes text l e =
 
 -- ---- lines with their LF
 
-spelled : (l : Line) → line_text (words l) ≡ text_of l ++ 10 ∷ []
+spelled : (l : Line) → line_text (line_words l) ≡ text_of l ++ 10 ∷ []
 spelled Header = refl
 spelled (Recipe d) = refl
 spelled (Input i) = simp append_assoc
@@ -241,19 +241,19 @@ spelled (Compare c) = on c.result
     on (Differs o a b) = simp append_assoc
 spelled End = refl
 
-feed : (l : Line) (rest : List ℕ) → line_text (words l) ++ rest ≡ text_of l ++ 10 ∷ rest
+feed : (l : Line) (rest : List ℕ) → line_text (line_words l) ++ rest ≡ text_of l ++ 10 ∷ rest
 feed l rest = ap (λ (t : List ℕ). t ++ rest) (spelled l) ∙ append_assoc (text_of l) (10 ∷ []) rest
 
-pub next_again : (l : Line) (rest : List ℕ) → IsLine l → next_line (line_text (words l) ++ rest) ≡ Some (l, rest)
+pub next_again : (l : Line) (rest : List ℕ) → IsLine l → next_line (line_text (line_words l) ++ rest) ≡ Some (l, rest)
 unfolding next_line
 next_again l rest is = rw (feed l rest, cut_at-joined 10 (text_of l) rest (line_no_feed l is), line_again l is) refl
 
-pub next_takes : (bytes : List ℕ) (l : Line) (rest : List ℕ) → next_line bytes ≡ Some (l, rest) → IsLine l × (bytes ≡ line_text (words l) ++ rest)
+pub next_takes : (bytes : List ℕ) (l : Line) (rest : List ℕ) → next_line bytes ≡ Some (l, rest) → IsLine l × (bytes ≡ line_text (line_words l) ++ rest)
 unfolding next_line
 next_takes bytes l rest e =
     let x = bind_some (cut_at 10 bytes) (λ cut. line_of cut.0 >>= λ line. Some (line, cut.1)) (l, rest) e in
     let y = bind_some (line_of x.0.0) (λ line. Some (line, x.0.1)) (l, rest) x.2 in
     let found = line_takes x.0.0 y.0 y.1 in
-    let P = λ (z : Line × List ℕ). IsLine z.0 × (bytes ≡ line_text (words z.0) ++ z.1) in
+    let P = λ (z : Line × List ℕ). IsLine z.0 × (bytes ≡ line_text (line_words z.0) ++ z.1) in
     subst P (same_some (y.0, x.0.1) (l, rest) y.2)
     (found.0, cut_at-takes 10 bytes x.0.0 x.0.1 x.1 ∙ ap (λ (t : List ℕ). t ++ 10 ∷ x.0.1) found.1 ∙ sym (feed y.0 x.0.1))

@@ -12,8 +12,8 @@ use Rattle.report.specs.declared.refusal.ReportRefusal.TheVariants.{Form, OutOfM
 use Rattle.report.specs.Inside.Cuts.{◌>>=◌, cut_at}
 use Rattle.report.specs.Inside.LinesRead.{line_of}
 use Rattle.report.specs.Inside.States.{step}
-use Rattle.report.specs.Inside.Reading.{next_line, one_more, after, ended, read_on, Stands, Stops}
-use Rattle.report.specs.Reading.{report_of, Reads}
+use Rattle.report.specs.Inside.Reading.{next_line, one_more, after, ended_report, read_on, Stands, Stops}
+use Rattle.report.specs.Reading.{report_of, ReadsReport}
 use Rattle.report.specs.Reports.{report_text, IsReport, IsFirstFault, IsRead, IsReading, IsFault}
 use Rattle.report.proofs.Cuts.{cut_at-takes, bind_some, same_some}
 use Rattle.report.proofs.Turns.{no_more, after_more}
@@ -36,7 +36,7 @@ record Place (bytes : List ℕ) (meant : Result Report ℕ) : Type 0 where
   number : ℕ
   at : State × List ℕ
   last : Last bytes number at
-  is : meant ≡ ended (number + 1) at.0 at.1
+  is : meant ≡ ended_report (number + 1) at.0 at.1
 
 empty : (xs : List ℕ) → length xs ≤ 0 → xs ≡ []
 empty [] few = refl
@@ -45,7 +45,7 @@ empty (x ∷ xs) few = absurd (omega arith)
 -- by what one line more gives
 walked_on : (more n : ℕ) (bytes : List ℕ) (at : State × List ℕ) → after n bytes ≡ Some at
     → ((next : State × List ℕ) → after (n + 1) bytes ≡ Some next → length next.1 < length at.1 → Place bytes (read_on more (n + 1 + 1) next))
-    → (o : Option (State × List ℕ)) → one_more at ≡ o → Place bytes (option_map_or (λ next. read_on more (n + 1 + 1) next) o (ended (n + 1) at.0 at.1))
+    → (o : Option (State × List ℕ)) → one_more at ≡ o → Place bytes (option_map_or (λ next. read_on more (n + 1 + 1) next) o (ended_report (n + 1) at.0 at.1))
 walked_on more n bytes at there further None none = record { number = n; at = at; last = record { there = there; none = none }; is = refl }
 walked_on more n bytes at there further (Some next) some =
     further next (after_more n bytes ∙ ap (λ (o : Option (State × List ℕ)). o >>= one_more) there ∙ some) (shorter at next some)
@@ -63,28 +63,28 @@ unfolding report_of after
 place bytes = walked (length bytes) 0 bytes (Start, bytes) refl (omega arith)
 
 -- what a text reads as where its lines no longer go on
-reads_at : (bytes : List ℕ) (n : ℕ) (at : State × List ℕ) → Last bytes n at → report_of bytes ≡ ended (n + 1) at.0 at.1
+reads_at : (bytes : List ℕ) (n : ℕ) (at : State × List ℕ) → Last bytes n at → report_of bytes ≡ ended_report (n + 1) at.0 at.1
 reads_at bytes n at last =
     let p = place bytes in
     let same = one_last p.number n bytes p.at at p.last last in
-    p.is ∙ ap (λ (k : ℕ). ended (k + 1) p.at.0 p.at.1) same.0 ∙ ap (λ (x : State × List ℕ). ended (n + 1) x.0 x.1) same.1
+    p.is ∙ ap (λ (k : ℕ). ended_report (k + 1) p.at.0 p.at.1) same.0 ∙ ap (λ (x : State × List ℕ). ended_report (n + 1) x.0 x.1) same.1
 
 pub read_text : (bytes : List ℕ) (report : Report) → IsReport report → bytes ≡ report_text report → report_of bytes ≡ Ok report
 read_text bytes report is text = reads_at bytes _ (Ended report, []) (text_last bytes report is text)
 
 -- ---- the ends
 
-ended_ok : (k : ℕ) (s : State) (rest : List ℕ) (report : Report) → ended k s rest ≡ Ok report → (s ≡ Ended report) × (rest ≡ [])
+ended_ok : (k : ℕ) (s : State) (rest : List ℕ) (report : Report) → ended_report k s rest ≡ Ok report → (s ≡ Ended report) × (rest ≡ [])
 ended_ok k (Ended found) [] report e =
     let same : found ≡ report = cc in
     (ap (λ (r : Report). Ended r) same, refl)
 ended_ok k _ _ report e = absurd cc
 
-ended_err : (k : ℕ) (s : State) (rest : List ℕ) (number : ℕ) → ended k s rest ≡ Err number → k ≡ number
+ended_err : (k : ℕ) (s : State) (rest : List ℕ) (number : ℕ) → ended_report k s rest ≡ Err number → k ≡ number
 ended_err k (Ended found) [] number e = absurd cc
 ended_err k _ _ number e = cc
 
-ended_not : (k : ℕ) (s : State) (rest : List ℕ) → ((report : Report) → s ≡ Ended report → rest ≡ [] → ⊥) → ended k s rest ≡ Err k
+ended_not : (k : ℕ) (s : State) (rest : List ℕ) → ((report : Report) → s ≡ Ended report → rest ≡ [] → ⊥) → ended_report k s rest ≡ Err k
 ended_not k (Ended found) [] unended = absurd (unended found refl refl)
 ended_not k _ _ unended = refl
 
@@ -141,16 +141,16 @@ reads_stopped bytes number stops =
 
 -- ---- what a call that reads answers
 
-pub reads_found : (bytes : List ℕ) (result : Result Report ReportRefusal) → Reads (report_of bytes) result → IfOk result (λ report. IsReport report × (bytes ≡ report_text report))
+pub reads_found : (bytes : List ℕ) (result : Result Report ReportRefusal) → ReadsReport (report_of bytes) result → IfOk result (λ report. IsReport report × (bytes ≡ report_text report))
 reads_found bytes (Ok report) reads = read_report bytes report reads
 reads_found bytes (Err e) reads = tt
 
-pub reads_only : (bytes : List ℕ) (result : Result Report ReportRefusal) (report : Report) → IsReport report → bytes ≡ report_text report → Reads (report_of bytes) result → IsRead report result
+pub reads_only : (bytes : List ℕ) (result : Result Report ReportRefusal) (report : Report) → IsReport report → bytes ≡ report_text report → ReadsReport (report_of bytes) result → IsRead report result
 reads_only bytes (Ok found) report is text reads = let both : Ok found ≡ Ok report = sym reads ∙ read_text bytes report is text in cc
 reads_only bytes (Err OutOfMemory) report is text reads = tt
 reads_only bytes (Err (Form number)) report is text reads = let both : Err number ≡ Ok report = sym reads ∙ read_text bytes report is text in absurd cc
 
-pub reads_refused : (bytes : List ℕ) (result : Result Report ReportRefusal) → Reads (report_of bytes) result → IfErr result (IsFault bytes)
+pub reads_refused : (bytes : List ℕ) (result : Result Report ReportRefusal) → ReadsReport (report_of bytes) result → IfErr result (IsFault bytes)
 reads_refused bytes (Ok report) reads = tt
 reads_refused bytes (Err OutOfMemory) reads = tt
 reads_refused bytes (Err (Form number)) reads = read_fault bytes number reads

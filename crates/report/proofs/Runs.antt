@@ -21,7 +21,7 @@ use Rattle.report.specs.declared.state.State.{State}
 use Rattle.report.specs.declared.state.State.TheVariants.{Start, Inputs, Named, Leaving, Stages, Ended}
 use Rattle.report.specs.Inside.Cuts.{◌>>=◌}
 use Rattle.report.specs.Inside.States.{step, follows, is_after, with_stage}
-use Rattle.report.specs.Reports.{stage_lines, report_lines, ascend, IsStage, IsReport}
+use Rattle.report.specs.Reports.{stage_block, report_lines, ascend, IsStageLine, IsReport}
 
 -- the state after the lines
 abbrev pub run : State → List Line → Option State
@@ -72,7 +72,7 @@ run_left front stage (file ∷ more) few ascending =
     ∙ ap (λ (left : List LeftLine). Some (Leaving front (record stage { left = left }))) (append_assoc stage.left (file ∷ []) more))
 
 -- a block after its first line
-run_block : (front : Front) (stage : StageLine) → IsStage stage
+run_block : (front : Front) (stage : StageLine) → IsStageLine stage
     → run (Named front stage.name stage.steps) (Stream1 stage.stream1 ∷ Stream2 stage.stream2 ∷ map Left stage.left ++ Made stage.made ∷ Checked stage.checked ∷ [])
     ≡ Some (Stages (with_stage front stage))
 unfolding step
@@ -81,34 +81,34 @@ run_block front stage is =
     then (Leaving front opened) (Leaving front (record opened { left = stage.left })) (map Left stage.left) (Made stage.made ∷ Checked stage.checked ∷ [])
     (run_left front opened stage.left (omega (arith, is.count)) is.ascending)
 
-run_stages : (front : Front) (more : List StageLine) → length front.stages + length more ≤ 256 → All IsStage more
-    → run (Stages front) (flat_map stage_lines more) ≡ Some (Stages (record front { stages = front.stages ++ more }))
+run_stages : (front : Front) (more : List StageLine) → length front.stages + length more ≤ 256 → All IsStageLine more
+    → run (Stages front) (flat_map stage_block more) ≡ Some (Stages (record front { stages = front.stages ++ more }))
 unfolding step
 run_stages front [] few each = ap (λ (stages : List StageLine). Some (Stages (record front { stages = stages }))) (sym (append-nil front.stages))
 run_stages front (stage ∷ more) few each =
-    let opened : run (Stages front) (stage_lines stage) ≡ Some (Stages (with_stage front stage)) =
-    rw (below (length front.stages) 256 (omega arith)) (run_block front stage (All-head IsStage stage more each)) in
-    then (Stages front) (Stages (with_stage front stage)) (stage_lines stage) (flat_map stage_lines more) opened
-    ∙ run_stages (with_stage front stage) more (omega (arith, length-append front.stages (stage ∷ []))) (All-tail IsStage stage more each)
+    let opened : run (Stages front) (stage_block stage) ≡ Some (Stages (with_stage front stage)) =
+    rw (below (length front.stages) 256 (omega arith)) (run_block front stage (All-head IsStageLine stage more each)) in
+    then (Stages front) (Stages (with_stage front stage)) (stage_block stage) (flat_map stage_block more) opened
+    ∙ run_stages (with_stage front stage) more (omega (arith, length-append front.stages (stage ∷ []))) (All-tail IsStageLine stage more each)
     ∙ ap (λ (stages : List StageLine). Some (Stages (record front { stages = stages }))) (append_assoc front.stages (stage ∷ []) more)
 
 -- the blocks, the first of which ends the inputs
-run_blocks : (recipe : Digest) (inputs : List InputLine) (stages : List StageLine) → 1 ≤ length inputs → 1 ≤ length stages → length stages ≤ 256 → All IsStage stages
-    → run (Inputs recipe inputs) (flat_map stage_lines stages) ≡ Some (Stages (record { recipe = recipe; inputs = inputs; stages = stages }))
+run_blocks : (recipe : Digest) (inputs : List InputLine) (stages : List StageLine) → 1 ≤ length inputs → 1 ≤ length stages → length stages ≤ 256 → All IsStageLine stages
+    → run (Inputs recipe inputs) (flat_map stage_block stages) ≡ Some (Stages (record { recipe = recipe; inputs = inputs; stages = stages }))
 unfolding step
 run_blocks recipe inputs [] some one few each = absurd (omega arith)
 run_blocks recipe inputs (stage ∷ more) some one few each =
     let front : Front = record { recipe = recipe; inputs = inputs; stages = [] } in
-    let opened : run (Inputs recipe inputs) (stage_lines stage) ≡ Some (Stages (with_stage front stage)) =
-    rw (below 0 (length inputs) (omega arith)) (run_block front stage (All-head IsStage stage more each)) in
-    then (Inputs recipe inputs) (Stages (with_stage front stage)) (stage_lines stage) (flat_map stage_lines more) opened
-    ∙ run_stages (with_stage front stage) more (omega arith) (All-tail IsStage stage more each)
+    let opened : run (Inputs recipe inputs) (stage_block stage) ≡ Some (Stages (with_stage front stage)) =
+    rw (below 0 (length inputs) (omega arith)) (run_block front stage (All-head IsStageLine stage more each)) in
+    then (Inputs recipe inputs) (Stages (with_stage front stage)) (stage_block stage) (flat_map stage_block more) opened
+    ∙ run_stages (with_stage front stage) more (omega arith) (All-tail IsStageLine stage more each)
 
 pub run_report : (report : Report) → IsReport report → run Start (report_lines report) ≡ Some (Ended report)
 unfolding step
 run_report report is =
     let inputs = map Input report.inputs in
-    let stages = flat_map stage_lines report.stages in
+    let stages = flat_map stage_block report.stages in
     let ending = Compare report.compare ∷ End ∷ [] in
     let read : run (Inputs report.recipe []) inputs ≡ Some (Inputs report.recipe report.inputs) = run_inputs report.recipe [] report.inputs (omega (arith, is.inputs.1)) in
     let before : run (Inputs report.recipe []) (inputs ++ stages) ≡ Some (Stages (record { recipe = report.recipe; inputs = report.inputs; stages = report.stages })) =

@@ -12,7 +12,7 @@ use Rattle.report.specs.declared.state.Opened.{Opened}
 use Rattle.report.specs.declared.state.State.{State}
 use Rattle.report.specs.declared.state.State.TheVariants.{Start, Titled, Inputs, Named, Heard, Leaving, Closing, Stages, Compared, Ended}
 use Rattle.report.specs.Inside.States.{step, follows, closed, with_stage}
-use Rattle.report.specs.Reports.{stage_lines, front_lines, report_lines}
+use Rattle.report.specs.Reports.{stage_block, front_lines, report_lines}
 use Rattle.report.proofs.Cuts.{if_some, same_some}
 
 abbrev pub front_of : Front → List Line
@@ -38,11 +38,11 @@ so_far (Ended report) = report_lines report
 grows : (s t : State) (line : Line) → Some t ≡ Some s → (ls : List Line) → so_far t ≡ ls ++ line ∷ [] → so_far s ≡ ls ++ line ∷ []
 grows s t line e ls is = ap so_far (sym (same_some t s e)) ∙ is
 
-front_push : (front : Front) (stage : StageLine) → front_of (with_stage front stage) ≡ front_of front ++ stage_lines stage
+front_push : (front : Front) (stage : StageLine) → front_of (with_stage front stage) ≡ front_of front ++ stage_block stage
 front_push front stage =
     let ls = Header ∷ Recipe front.recipe ∷ map Input front.inputs in
-    ap (λ (more : List Line). ls ++ more) (flat_map-append stage_lines front.stages (stage ∷ []) ∙ ap (λ (more : List Line). flat_map stage_lines front.stages ++ more) (append-nil (stage_lines stage)))
-    ∙ sym (append_assoc ls (flat_map stage_lines front.stages) (stage_lines stage))
+    ap (λ (more : List Line). ls ++ more) (flat_map-append stage_block front.stages (stage ∷ []) ∙ ap (λ (more : List Line). flat_map stage_block front.stages ++ more) (append-nil (stage_block stage)))
+    ∙ sym (append_assoc ls (flat_map stage_block front.stages) (stage_block stage))
 
 no_stages : (recipe : _) (inputs : List InputLine) → front_lines recipe inputs [] ≡ Header ∷ Recipe recipe ∷ map Input inputs
 no_stages recipe inputs = append-nil (Header ∷ Recipe recipe ∷ map Input inputs)

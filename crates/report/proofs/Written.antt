@@ -4,7 +4,7 @@ use Rattle.std.proofs.lemmas.Grind.{flat_map-append}
 use Rattle.std.proofs.lemmas.List.{append-nil, drop_more}
 use Rattle.ddc_base.specs.Lines.{line as line_text}
 use Rattle.report.specs.declared.line.Line.{Line}
-use Rattle.report.specs.Lines.{words, lines_text}
+use Rattle.report.specs.Lines.{line_words, lines_text}
 
 pub ruleset written = append_assoc
 
@@ -19,7 +19,7 @@ writes_more lines one adds old xs i x out more within is writes grown =
     let rest = drop (i + 1) xs in
     let front : drop i xs ≡ x ∷ rest = drop_more xs i x within ∙ ap (λ y. y ∷ rest) (sym is) in
     let split : lines_text (lines (drop i xs)) ≡ lines_text (one x) ++ lines_text (lines rest) =
-    ap (λ ys. lines_text (lines ys)) front ∙ ap lines_text (adds x rest) ∙ flat_map-append (λ l. line_text (words l)) (one x) (lines rest) in
+    ap (λ ys. lines_text (lines ys)) front ∙ ap lines_text (adds x rest) ∙ flat_map-append (λ l. line_text (line_words l)) (one x) (lines rest) in
     record {
       so_far = ap (λ (t : List ℕ). t ++ lines_text (lines rest)) grown ∙ append_assoc out (lines_text (one x)) (lines_text (lines rest))
           ∙ ap (λ (t : List ℕ). out ++ t) (sym split) ∙ writes.so_far;
@@ -31,5 +31,5 @@ writes_all lines empty old xs i out none writes =
     sym (append-nil out) ∙ ap (λ (t : List ℕ). out ++ t) (sym (ap (λ ys. lines_text (lines ys)) none ∙ ap lines_text empty)) ∙ writes.so_far
 
 -- the text of one line
-pub one_line : (l : Line) → lines_text (l ∷ []) ≡ line_text (words l)
-one_line l = append-nil (line_text (words l))
+pub one_line : (l : Line) → lines_text (l ∷ []) ≡ line_text (line_words l)
+one_line l = append-nil (line_text (line_words l))

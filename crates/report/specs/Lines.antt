@@ -24,19 +24,19 @@ compared_words (Equal length) = codes "equal" ∷ decimal length ∷ []
 compared_words (Differs offset ours theirs) = codes "differs" ∷ decimal offset ∷ decimal ours ∷ decimal theirs ∷ []
 
 -- the words of a line
-abbrev pub words : Line → List (List ℕ)
-words Header = codes "ddc-report" ∷ codes "1" ∷ []
-words (Recipe digest) = codes "recipe" ∷ encode_lower digest.0 ∷ []
-words (Input input) = codes "input" ∷ input.name ∷ mark_words input.mark
-words (Stage name steps) = codes "stage" ∷ name ∷ decimal steps ∷ []
-words (Stream1 mark) = codes "stream" ∷ codes "1" ∷ mark_words mark
-words (Stream2 mark) = codes "stream" ∷ codes "2" ∷ mark_words mark
-words (Left file) = codes "left" ∷ encode_lower file.name ∷ mark_words file.mark
-words (Made mark) = codes "made" ∷ mark_words mark
-words (Checked language) = checked_words language
-words (Compare compare) = codes "compare" ∷ compare.stage ∷ compare.binary ∷ compared_words compare.result
-words End = codes "end" ∷ []
+abbrev pub line_words : Line → List (List ℕ)
+line_words Header = codes "ddc-report" ∷ codes "1" ∷ []
+line_words (Recipe digest) = codes "recipe" ∷ encode_lower digest.0 ∷ []
+line_words (Input input) = codes "input" ∷ input.name ∷ mark_words input.mark
+line_words (Stage name steps) = codes "stage" ∷ name ∷ decimal steps ∷ []
+line_words (Stream1 mark) = codes "stream" ∷ codes "1" ∷ mark_words mark
+line_words (Stream2 mark) = codes "stream" ∷ codes "2" ∷ mark_words mark
+line_words (Left file) = codes "left" ∷ encode_lower file.name ∷ mark_words file.mark
+line_words (Made mark) = codes "made" ∷ mark_words mark
+line_words (Checked language) = checked_words language
+line_words (Compare compare) = codes "compare" ∷ compare.stage ∷ compare.binary ∷ compared_words compare.result
+line_words End = codes "end" ∷ []
 
 -- the text of lines: in each a blank between neighbouring words, and an LF at its end
 abbrev pub lines_text : List Line → List ℕ
-lines_text lines = flat_map (λ l. line (words l)) lines
+lines_text lines = flat_map (λ l. line (line_words l)) lines

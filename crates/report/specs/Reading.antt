@@ -16,6 +16,6 @@ Refuses meant (Form number) = meant ≡ Err number
 Refuses meant OutOfMemory = Unit {0}
 
 -- the answer of a call that reads a text which reads so
-abbrev pub Reads : Result Report ℕ → Result Report ReportRefusal → Type 0
-Reads meant (Ok report) = meant ≡ Ok report
-Reads meant (Err refusal) = Refuses meant refusal
+abbrev pub ReadsReport : Result Report ℕ → Result Report ReportRefusal → Type 0
+ReadsReport meant (Ok report) = meant ≡ Ok report
+ReadsReport meant (Err refusal) = Refuses meant refusal

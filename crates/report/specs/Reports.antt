@@ -3,6 +3,7 @@ use Rattle.std.specs.Prelude.{◌≡◌, ◌≢◌, ℕ, ◌<◌, ◌≤◌, ◌
 use Rattle.std.specs.List.{flat_map}
 use Rattle.std.specs.Ordering.{nat_cmp, is_lt}
 use Rattle.std.specs.Cmp.Lexicographic.{slice_cmp}
+pub use Rattle.ddc_base.specs.ByteLists.{AreBytes}
 use Rattle.ddc_base.specs.Names.{IsName}
 use Rattle.ddc_base.specs.declared.digests.Digest.{Digest}
 use Rattle.report.specs.declared.line.Line.{Line}
@@ -22,14 +23,14 @@ use Rattle.report.specs.Lines.{lines_text}
 -- ---- the text
 
 -- the block of a stage
-abbrev pub stage_lines : StageLine → List Line
-stage_lines stage =
+abbrev pub stage_block : StageLine → List Line
+stage_block stage =
     (Stage stage.name stage.steps ∷ Stream1 stage.stream1 ∷ Stream2 stage.stream2 ∷ map Left stage.left)
     ++ Made stage.made ∷ Checked stage.checked ∷ []
 
 -- the lines above the comparison
 abbrev pub front_lines : Digest → List InputLine → List StageLine → List Line
-front_lines recipe inputs stages = (Header ∷ Recipe recipe ∷ map Input inputs) ++ flat_map stage_lines stages
+front_lines recipe inputs stages = (Header ∷ Recipe recipe ∷ map Input inputs) ++ flat_map stage_block stages
 
 abbrev pub report_lines : Report → List Line
 report_lines report = front_lines report.recipe report.inputs report.stages ++ Compare report.compare ∷ End ∷ []
@@ -43,9 +44,6 @@ report_text report = lines_text (report_lines report)
 abbrev pub IsCount : ℕ → ℕ → ℕ → Type 0
 IsCount least most count = (least ≤ count) × (count ≤ most)
 
-abbrev pub AreBytes : List ℕ → Type 0
-AreBytes bytes = All (λ byte. byte < 256) bytes
-
 pub record IsDigest (digest : Digest) : Type 0 where
   pub count : length digest.0 ≡ 32
   pub bytes : AreBytes digest.0
@@ -54,7 +52,7 @@ pub record IsMark (mark : Mark) : Type 0 where
   pub length : mark.length < 2 ^ 64
   pub digest : IsDigest mark.digest
 
-pub record IsInput (input : InputLine) : Type 0 where
+pub record IsInputLine (input : InputLine) : Type 0 where
   pub name : IsName input.name
   pub mark : IsMark input.mark
 
@@ -69,7 +67,7 @@ ascend [] = true
 ascend (file ∷ []) = true
 ascend (file ∷ next ∷ files) = is_lt (slice_cmp nat_cmp file.name next.name) && ascend (next ∷ files)
 
-pub record IsStage (stage : StageLine) : Type 0 where
+pub record IsStageLine (stage : StageLine) : Type 0 where
   pub name : IsName stage.name
   pub steps : stage.steps < 2 ^ 64
   pub stream1 : IsMark stage.stream1
@@ -99,15 +97,15 @@ pub record IsCompare (compare : CompareLine) : Type 0 where
 pub record IsReport (report : Report) : Type 0 where
   pub recipe : IsDigest report.recipe
   pub inputs : IsCount 1 256 (length report.inputs)
-  pub each_input : All IsInput report.inputs
+  pub each_input : All IsInputLine report.inputs
   pub stages : IsCount 1 256 (length report.stages)
-  pub each_stage : All IsStage report.stages
+  pub each_stage : All IsStageLine report.stages
   pub compare : IsCompare report.compare
 
 -- ---- reading
 
 -- the first n lines of a text, each with its LF, begin the text of some report
-pub record Begins (n : ℕ) (bytes : List ℕ) : Type 0 where
+pub record BeginsReport (n : ℕ) (bytes : List ℕ) : Type 0 where
   pub report : Report
   pub is : IsReport report
   pub within : n ≤ length (report_lines report)
@@ -116,8 +114,8 @@ pub record Begins (n : ℕ) (bytes : List ℕ) : Type 0 where
 
 -- the least number of lines that begin no report
 pub record IsFirstFault (number : ℕ) (bytes : List ℕ) : Type 0 where
-  pub not_here : ¬ (Begins number bytes)
-  pub before : (m : ℕ) → m < number → Begins m bytes
+  pub not_here : ¬ (BeginsReport number bytes)
+  pub before : (m : ℕ) → m < number → BeginsReport m bytes
 
 -- the one reading of a text: the report whose text it is; or, where it is none's, the least number of lines that begin no report
 abbrev pub IsReading : List ℕ → Result Report ℕ → Type 0

@@ -1,7 +1,7 @@
 //! Reading a report.
 
 ghost use Rattle.std.specs.Prelude.{◌≡◌, ◌<◌, length, IfOk, IfErr, IfSome, option_map};
-ghost use Rattle.report.specs.Reading.{report_of, Reads};
+ghost use Rattle.report.specs.Reading.{report_of, ReadsReport};
 ghost use Rattle.report.specs.Inside.Loops.{ReadsLines};
 ghost use Rattle.report.specs.Inside.Reading.{next_line};
 ghost use Rattle.report.specs.Reports.{IsReport, report_text, IsRead, IsFault};
@@ -23,13 +23,13 @@ pub fn read(alloc: Global, bytes: &[u8]) -> Result<Report, ReportRefusal>
     ensures found { IfOk result (λ report. IsReport report × (bytes.now ≡ report_text report)) }
     ensures only { (report : ReportValue) → IsReport report → bytes.now ≡ report_text report → IsRead report result }
     ensures refused { IfErr result (IsFault bytes.now) }
-    ensures value { Reads (report_of bytes.now) result }
+    ensures value { ReadsReport (report_of bytes.now) result }
 {
     read_report(alloc, bytes)
 }
 
 fn read_report(alloc: Global, bytes: &[u8]) -> Result<Report, ReportRefusal>
-    ensures { Reads (report_of bytes.now) result }
+    ensures { ReadsReport (report_of bytes.now) result }
 {
     let (state, number) = read_lines(alloc, bytes)?;
     match state {

@@ -4,8 +4,8 @@ ghost use Rattle.std.specs.Prelude.{◌≡◌, ◌++◌, ◌∷◌, ◌<◌, [],
 ghost use Rattle.std.specs.List.{flat_map};
 ghost use Rattle.hex.specs.Hex.{encode_lower};
 ghost use Rattle.ddc_base.specs.Lines.{line as line_text};
-ghost use Rattle.report.specs.Lines.{words, mark_words, compared_words, checked_words, lines_text};
-ghost use Rattle.report.specs.Reports.{IsReport, stage_lines, report_text};
+ghost use Rattle.report.specs.Lines.{line_words, mark_words, compared_words, checked_words, lines_text};
+ghost use Rattle.report.specs.Reports.{IsReport, stage_block, report_text};
 ghost use Rattle.report.specs.declared.line.Line.TheVariants as line;
 ghost use Rattle.report.specs.declared.types.Compared.TheVariants as compared;
 
@@ -83,7 +83,7 @@ fn put_inputs(out: &mut Bytes, inputs: &[InputLine]) -> Result<(), OutOfMemory>
 
 #[tactic(auto, using(crate::proofs::Written::written))]
 fn put_input(out: &mut Bytes, input: &InputLine) -> Result<(), OutOfMemory>
-    ensures { OnOk result (out.new ≡ out.old ++ line_text (words (line.Input input.now))) }
+    ensures { OnOk result (out.new ≡ out.old ++ line_text (line_words (line.Input input.now))) }
 {
     out.extend(b"input ")?;
     out.extend(input.name.bytes())?;
@@ -103,7 +103,7 @@ fn put_mark(out: &mut Bytes, mark: &Mark) -> Result<(), OutOfMemory>
 }
 
 fn put_stages(out: &mut Bytes, stages: &[StageLine]) -> Result<(), OutOfMemory>
-    ensures { OnOk result (out.new ≡ out.old ++ lines_text (flat_map stage_lines stages.now)) }
+    ensures { OnOk result (out.new ≡ out.old ++ lines_text (flat_map stage_block stages.now)) }
 {
     for stage in stages {
         put_stage(out, stage)?;
@@ -113,7 +113,7 @@ fn put_stages(out: &mut Bytes, stages: &[StageLine]) -> Result<(), OutOfMemory>
 
 /// A stage's block.
 fn put_stage(out: &mut Bytes, stage: &StageLine) -> Result<(), OutOfMemory>
-    ensures { OnOk result (out.new ≡ out.old ++ lines_text (stage_lines stage.now)) }
+    ensures { OnOk result (out.new ≡ out.old ++ lines_text (stage_block stage.now)) }
 {
     put_name(out, stage)?;
     put_streams(out, stage)?;
@@ -124,7 +124,7 @@ fn put_stage(out: &mut Bytes, stage: &StageLine) -> Result<(), OutOfMemory>
 
 #[tactic(auto, using(crate::proofs::Written::written))]
 fn put_name(out: &mut Bytes, stage: &StageLine) -> Result<(), OutOfMemory>
-    ensures { OnOk result (out.new ≡ out.old ++ line_text (words (line.Stage stage.now.name stage.now.steps))) }
+    ensures { OnOk result (out.new ≡ out.old ++ line_text (line_words (line.Stage stage.now.name stage.now.steps))) }
 {
     out.extend(b"stage ")?;
     out.extend(stage.name.bytes())?;
@@ -135,7 +135,7 @@ fn put_name(out: &mut Bytes, stage: &StageLine) -> Result<(), OutOfMemory>
 
 #[tactic(auto, using(crate::proofs::Written::written))]
 fn put_streams(out: &mut Bytes, stage: &StageLine) -> Result<(), OutOfMemory>
-    ensures { OnOk result (out.new ≡ out.old ++ line_text (words (line.Stream1 stage.now.stream1)) ++ line_text (words (line.Stream2 stage.now.stream2))) }
+    ensures { OnOk result (out.new ≡ out.old ++ line_text (line_words (line.Stream1 stage.now.stream1)) ++ line_text (line_words (line.Stream2 stage.now.stream2))) }
 {
     out.extend(b"stream 1 ")?;
     put_mark(out, &stage.stream1)?;
@@ -154,7 +154,7 @@ fn put_left_files(out: &mut Bytes, files: &[LeftLine]) -> Result<(), OutOfMemory
 
 #[tactic(auto, using(crate::proofs::Written::written))]
 fn put_left(out: &mut Bytes, file: &LeftLine) -> Result<(), OutOfMemory>
-    ensures { OnOk result (out.new ≡ out.old ++ line_text (words (line.Left file.now))) }
+    ensures { OnOk result (out.new ≡ out.old ++ line_text (line_words (line.Left file.now))) }
 {
     out.extend(b"left ")?;
     put_hex(out, file.name.as_slice())?;
@@ -164,7 +164,7 @@ fn put_left(out: &mut Bytes, file: &LeftLine) -> Result<(), OutOfMemory>
 
 #[tactic(auto, using(crate::proofs::Written::written))]
 fn put_made(out: &mut Bytes, mark: &Mark) -> Result<(), OutOfMemory>
-    ensures { OnOk result (out.new ≡ out.old ++ line_text (words (line.Made mark.now))) }
+    ensures { OnOk result (out.new ≡ out.old ++ line_text (line_words (line.Made mark.now))) }
 {
     out.extend(b"made ")?;
     put_mark(out, mark)
@@ -186,7 +186,7 @@ fn put_checked(out: &mut Bytes, checked: Option<Language>) -> Result<(), OutOfMe
 
 #[tactic(auto, using(crate::proofs::Written::written))]
 fn put_compare(out: &mut Bytes, compare: &CompareLine) -> Result<(), OutOfMemory>
-    ensures { OnOk result (out.new ≡ out.old ++ line_text (words (line.Compare compare.now))) }
+    ensures { OnOk result (out.new ≡ out.old ++ line_text (line_words (line.Compare compare.now))) }
 {
     out.extend(b"compare ")?;
     out.extend(compare.stage.bytes())?;

@@ -6,14 +6,14 @@ use Rattle.rv64_table.specs.declared.Row.{Row}
 use Rattle.rv64_table.specs.declared.Op.TheVariants.{Lui}
 use Rattle.rv64_table.specs.declared.Form.{Form}
 use Rattle.rv64_table.specs.declared.Form.TheVariants.{R, I, H, K, S, B, U, J, E}
-use Rattle.rv64_table.specs.Table.{mask_of, row, matches, row_for, row_with, number, table}
+use Rattle.rv64_table.specs.Table.{mask_of, row, matches, row_for, row_with, op_number, table}
 use Rattle.rv64_table.proofs.Apart.{row_for-matches}
 use Rattle.rv64_table.proofs.OpRows.{row_with-at, op-at}
 use Rattle.rv64_table.proofs.Places.{find-listed, regular-at, row_with-row_for}
 use Rattle.rv64_decode.specs.declared.Inst.{Inst}
 use Rattle.rv64_decode.specs.Fields.{bits, branch_offset, jump_offset, immediate, has_rd, has_rs1, has_rs2}
 use Rattle.rv64_decode.specs.Decode.{instruction, decoded}
-use Rattle.rv64_decode.specs.Encode.{immediate_bits, joined, has_immediate, fits_form, is_encodable}
+use Rattle.rv64_decode.specs.Encode.{immediate_bits, joined_fields, has_immediate, fits_form, is_encodable}
 use Rattle.rv64_decode.specs.Laws.{IsWordOf, HasOneWord, HasWordInForm}
 use Rattle.rv64_decode.proofs.Signed.{signed-range, unsigned-range, signed-multiple}
 use Rattle.rv64_decode.proofs.Encoded.{Given, reads, low}
@@ -73,7 +73,7 @@ decoded-encodable w i e =
 -- what an instruction in its form and its row give
 given : (i : Inst) (r : Row) → row_with i.op ≡ Some r → is_encodable i ≡ true → Given r.form r.want i.rd i.rs1 i.rs2 i.imm
 given i r e h =
-    let listed = find-listed (λ s. number s.op == number i.op) table r e in
+    let listed = find-listed (λ s. op_number s.op == op_number i.op) table r e in
     let regular = regular-at listed.place r listed.at in
     let fields : fits_form r.form i ≡ true = rw e at h in
     let rd = and_parts (nat_lt i.rd (if has_rd r.form then 32 else 1)) _ fields in
@@ -94,11 +94,11 @@ same-fields i r w op rd rs1 rs2 imm = rw (op, rd, rs1, rs2, imm) refl
 
 -- as the sum of the row's wanted bits and the fields at their places is
 pub joined-word : (i : Inst) (r : Row) (n : ℕ) → row_with i.op ≡ Some r → r.op ≡ i.op → is_encodable i ≡ true
-    → n ≡ immediate_bits r.form (low i.imm) → IsWordOf i (joined r.want i n)
+    → n ≡ immediate_bits r.form (low i.imm) → IsWordOf i (joined_fields r.want i n)
 joined-word i r n e op h immediate =
-    let w : ℕ = joined r.want i n in
-    let reading = reads r.form r.want i.rd i.rs1 i.rs2 i.imm w (given i r e h) (ap (joined r.want i) immediate) in
-    let listed = find-listed (λ s. number s.op == number i.op) table r e in
+    let w : ℕ = joined_fields r.want i n in
+    let reading = reads r.form r.want i.rd i.rs1 i.rs2 i.imm w (given i r e h) (ap (joined_fields r.want i) immediate) in
+    let listed = find-listed (λ s. op_number s.op == op_number i.op) table r e in
     let regular = regular-at listed.place r listed.at in
     let fit : matches r w ≡ true = rw regular.mask reading.matches in
     let fields = same-fields i r w op reading.rd reading.rs1 reading.rs2 reading.imm in
@@ -134,10 +134,10 @@ one-word-of i v w own other =
 
 -- the row of an instruction's operation, which stands at the operation's number
 abbrev row_at : Inst → Row
-row_at i = slice_index_or table (number i.op) (row U 0x37 0 0 Lui)
+row_at i = slice_index_or table (op_number i.op) (row U 0x37 0 0 Lui)
 
 abbrev word_at : Inst → ℕ
-word_at i = joined (row_at i).want i (immediate_bits (row_at i).form (low i.imm))
+word_at i = joined_fields (row_at i).want i (immediate_bits (row_at i).form (low i.imm))
 
 row_at-word : (i : Inst) → is_encodable i ≡ true → IsWordOf i (word_at i)
 row_at-word i h = joined-word i (row_at i) (immediate_bits (row_at i).form (low i.imm)) (row_with-at i.op _) (op-at i.op _) h refl

@@ -58,5 +58,5 @@ immediate_bits J n = bits n 20 20 * 2 ^ 31 + bits n 10 1 * 2 ^ 21 + bits n 11 11
 immediate_bits E n = 0
 
 -- a row's wanted bits, an instruction's registers at their places and the placed immediate
-abbrev pub joined : ℕ → Inst → ℕ → ℕ
-joined want inst immediate = want + inst.rd * 2 ^ 7 + inst.rs1 * 2 ^ 15 + inst.rs2 * 2 ^ 20 + immediate
+abbrev pub joined_fields : ℕ → Inst → ℕ → ℕ
+joined_fields want inst immediate = want + inst.rd * 2 ^ 7 + inst.rs1 * 2 ^ 15 + inst.rs2 * 2 ^ 20 + immediate

@@ -22,8 +22,8 @@ pub fn encode(inst: &Inst) -> u32
 
 /// A row's wanted bits, an instruction's registers at their places and the placed immediate.
 fn joined(want: u32, inst: &Inst, immediate: u32) -> u32
-    requires { encoding.joined want inst.now immediate < 2 ^ 32 }
-    ensures { result ≡ encoding.joined want inst.now immediate }
+    requires { encoding.joined_fields want inst.now immediate < 2 ^ 32 }
+    ensures { result ≡ encoding.joined_fields want inst.now immediate }
 {
     want + (u32::from(inst.rd) << 7)
         + (u32::from(inst.rs1) << 15)

@@ -14,11 +14,11 @@ use Rattle.rv64_machine.specs.Arithmetic.{sign_extended}
 use Rattle.rv64_machine.specs.declared.effect.Effect.{Effect}
 use Rattle.rv64_machine.specs.declared.effect.Effect.TheVariants.{Put, Jump, Branch, Load, LoadSigned, Store, Next, Call, Break}
 use Rattle.rv64_machine.specs.declared.answer.Cause.TheVariants.{FetchMisaligned, StoreUnmapped}
-use Rattle.rv64_machine.specs.Hart.{Goes, Traps, HartState, IsHart, act, arrives, carried, following, loads, passes, with_register}
+use Rattle.rv64_machine.specs.Hart.{GoesOn, Traps, HartState, IsHart, act, arrives, carried, following, loads, passes, with_register}
 use Rattle.rv64_machine.proofs.ActLemmas.{act-goes}
 use Rattle.paged_mem.proofs.Wholes.{whole-written}
 
-same_state : (one other : HartState) → Goes one ≡ Goes other → one ≡ other
+same_state : (one other : HartState) → GoesOn one ≡ GoesOn other → one ≡ other
 same_state one other e = cc
 
 pub register-hart : (hart : HartState) (number value : ℕ) → IsHart hart → IsHart (with_register hart number value)
@@ -42,18 +42,18 @@ following-hart hart is =
     let even = is.aligned in
     record { count = is.count; zero = is.zero; aligned = omega arith; whole = is.whole }
 
-passes-hart : (hart next : HartState) → IsHart hart → passes hart ≡ Goes next → IsHart next
+passes-hart : (hart next : HartState) → IsHart hart → passes hart ≡ GoesOn next → IsHart next
 passes-hart hart next is goes = subst IsHart (same_state (record hart { pc = following hart }) next goes) (following-hart hart is)
 
-arrives-hart : (hart next : HartState) (target : ℕ) → IsHart hart → arrives hart target ≡ Goes next → IsHart next
+arrives-hart : (hart next : HartState) (target : ℕ) → IsHart hart → arrives hart target ≡ GoesOn next → IsHart next
 arrives-hart hart next target is goes = by_test (target % 4 == 0) refl goes
   where
-    by_test : (t : Bool) → (target % 4 == 0) ≡ t → cond t (Goes (record hart { pc = target })) (Traps (FetchMisaligned target)) ≡ Goes next → IsHart next
+    by_test : (t : Bool) → (target % 4 == 0) ≡ t → cond t (GoesOn (record hart { pc = target })) (Traps (FetchMisaligned target)) ≡ GoesOn next → IsHart next
     by_test true was e =
         subst IsHart (same_state (record hart { pc = target }) next e) (record { count = is.count; zero = is.zero; aligned = tested (target % 4) 0 was; whole = is.whole })
     by_test false was e = cc
 
-loads-hart : (hart next : HartState) (rd at : ℕ) (o : Option ℕ) → IsHart hart → loads hart rd at o ≡ Goes next → IsHart next
+loads-hart : (hart next : HartState) (rd at : ℕ) (o : Option ℕ) → IsHart hart → loads hart rd at o ≡ GoesOn next → IsHart next
 loads-hart hart next rd at None is goes = cc
 loads-hart hart next rd at (Some value) is goes = passes-hart (with_register hart rd value) next (register-hart hart rd value is) goes
 
@@ -66,7 +66,7 @@ stored-hart hart at count value is there = record {
       (All-from_get_or (λ byte. byte < 256) (bytes_of count value) 0 (λ i less. bytes_of-small count value i));
 }
 
-carried-hart : (hart next : HartState) (rd : ℕ) (effect : Effect) → IsHart hart → carried hart rd effect ≡ Goes next → IsHart next
+carried-hart : (hart next : HartState) (rd : ℕ) (effect : Effect) → IsHart hart → carried hart rd effect ≡ GoesOn next → IsHart next
 carried-hart hart next rd (Put value) is goes = passes-hart (with_register hart rd value) next (register-hart hart rd value is) goes
 carried-hart hart next rd (Jump target) is goes = arrives-hart (with_register hart rd (following hart)) next target (register-hart hart rd (following hart) is) goes
 carried-hart hart next rd (Branch true target) is goes = arrives-hart hart next target is goes
@@ -77,14 +77,14 @@ carried-hart hart next rd (LoadSigned width at) is goes =
 carried-hart hart next rd (Store width at value) is goes = by_test (maps hart.memory at (count_of width)) refl goes
   where
     by_test : (t : Bool) → maps hart.memory at (count_of width) ≡ t
-        → cond t (passes (record hart { memory = writes hart.memory at (count_of width) value })) (Traps (StoreUnmapped at)) ≡ Goes next → IsHart next
+        → cond t (passes (record hart { memory = writes hart.memory at (count_of width) value })) (Traps (StoreUnmapped at)) ≡ GoesOn next → IsHart next
     by_test true there e = passes-hart (record hart { memory = writes hart.memory at (count_of width) value }) next (stored-hart hart at (count_of width) value is there) e
     by_test false gone e = cc
 carried-hart hart next rd Next is goes = passes-hart hart next is goes
 carried-hart hart next rd Call is goes = cc
 carried-hart hart next rd Break is goes = cc
 
-pub act-hart : (hart next : HartState) → IsHart hart → act hart ≡ Goes next → IsHart next
+pub act-hart : (hart next : HartState) → IsHart hart → act hart ≡ GoesOn next → IsHart next
 act-hart hart next is goes = let (rd, effect, there, carries) = act-goes hart next goes in carried-hart hart next rd effect is carries
 
 -- the hart after a call

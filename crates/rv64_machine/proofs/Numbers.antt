@@ -19,7 +19,7 @@ use Rattle.rv64_machine.specs.Meaning.{meaning}
 use Rattle.rv64_machine.specs.declared.effect.Effect.{Effect}
 use Rattle.rv64_machine.specs.declared.effect.Effect.TheVariants.{Put, Jump, Branch, Load, LoadSigned, Store, Next, Call, Break}
 use Rattle.rv64_machine.specs.declared.answer.Cause.TheVariants.{FetchMisaligned, StoreUnmapped}
-use Rattle.rv64_machine.specs.Hart.{Goes, Traps, HartState, HasNumbers, act, arrives, carried, effect_of, fetched, following, loads, passes, runs, with_register}
+use Rattle.rv64_machine.specs.Hart.{GoesOn, Traps, HartState, HasNumbers, act, arrives, carried, effect_of, fetched, following, loads, passes, runs, with_register}
 use Rattle.rv64_decode.specs.Decode.{decoded}
 use Rattle.paged_mem.proofs.Wholes.{bytes_at-bytes}
 
@@ -185,7 +185,7 @@ extended-small count value None e = cc
 extended-small count value (Some n) e = let is : sign_extended count n ≡ value = cc in subst (λ v. v < 2 ^ 64) is (wrapped-small _)
 
 -- acts
-same_state : (one other : HartState) → Goes one ≡ Goes other → one ≡ other
+same_state : (one other : HartState) → GoesOn one ≡ GoesOn other → one ≡ other
 same_state one other e = cc
 
 register-numbers : (hart : HartState) (number value : ℕ) → value < 2 ^ 64 → HasNumbers hart → HasNumbers (with_register hart number value)
@@ -195,22 +195,22 @@ register-numbers hart number value small is = by_test (number == 0)
     by_test true = is
     by_test false = record { registers = All-set (λ v. v < 2 ^ 64) hart.registers number value small is.registers; pc = is.pc }
 
-passes-numbers : (hart next : HartState) → HasNumbers hart → passes hart ≡ Goes next → HasNumbers next
+passes-numbers : (hart next : HartState) → HasNumbers hart → passes hart ≡ GoesOn next → HasNumbers next
 passes-numbers hart next is goes =
     subst HasNumbers (same_state (record hart { pc = following hart }) next goes) (record { registers = is.registers; pc = mod-small (hart.pc + 4) })
 
-arrives-numbers : (hart next : HartState) (target : ℕ) → target < 2 ^ 64 → HasNumbers hart → arrives hart target ≡ Goes next → HasNumbers next
+arrives-numbers : (hart next : HartState) (target : ℕ) → target < 2 ^ 64 → HasNumbers hart → arrives hart target ≡ GoesOn next → HasNumbers next
 arrives-numbers hart next target small is goes = by_test (target % 4 == 0) goes
   where
-    by_test : (t : Bool) → cond t (Goes (record hart { pc = target })) (Traps (FetchMisaligned target)) ≡ Goes next → HasNumbers next
+    by_test : (t : Bool) → cond t (GoesOn (record hart { pc = target })) (Traps (FetchMisaligned target)) ≡ GoesOn next → HasNumbers next
     by_test true e = subst HasNumbers (same_state (record hart { pc = target }) next e) (record { registers = is.registers; pc = small })
     by_test false e = cc
 
-loads-numbers : (hart next : HartState) (rd at : ℕ) (o : Option ℕ) → ((value : ℕ) → o ≡ Some value → value < 2 ^ 64) → HasNumbers hart → loads hart rd at o ≡ Goes next → HasNumbers next
+loads-numbers : (hart next : HartState) (rd at : ℕ) (o : Option ℕ) → ((value : ℕ) → o ≡ Some value → value < 2 ^ 64) → HasNumbers hart → loads hart rd at o ≡ GoesOn next → HasNumbers next
 loads-numbers hart next rd at None small is goes = cc
 loads-numbers hart next rd at (Some value) small is goes = passes-numbers (with_register hart rd value) next (register-numbers hart rd value (small value refl) is) goes
 
-carried-numbers : (hart next : HartState) (rd : ℕ) (effect : Effect) → IsSmall effect → IsWhole hart.memory → HasNumbers hart → carried hart rd effect ≡ Goes next → HasNumbers next
+carried-numbers : (hart next : HartState) (rd : ℕ) (effect : Effect) → IsSmall effect → IsWhole hart.memory → HasNumbers hart → carried hart rd effect ≡ GoesOn next → HasNumbers next
 carried-numbers hart next rd (Put value) small whole is goes = passes-numbers (with_register hart rd value) next (register-numbers hart rd value small is) goes
 carried-numbers hart next rd (Jump target) small whole is goes =
     arrives-numbers (with_register hart rd (following hart)) next target small (register-numbers hart rd (following hart) (mod-small (hart.pc + 4)) is) goes
@@ -223,18 +223,18 @@ carried-numbers hart next rd (LoadSigned width at) small whole is goes =
     (λ value e. extended-small (8 * count_of width) value (reads hart.memory at (count_of width)) e) is goes
 carried-numbers hart next rd (Store width at value) small whole is goes = by_test (maps hart.memory at (count_of width)) goes
   where
-    by_test : (t : Bool) → cond t (passes (record hart { memory = writes hart.memory at (count_of width) value })) (Traps (StoreUnmapped at)) ≡ Goes next → HasNumbers next
+    by_test : (t : Bool) → cond t (passes (record hart { memory = writes hart.memory at (count_of width) value })) (Traps (StoreUnmapped at)) ≡ GoesOn next → HasNumbers next
     by_test true e = passes-numbers (record hart { memory = writes hart.memory at (count_of width) value }) next (record { registers = is.registers; pc = is.pc }) e
     by_test false e = cc
 carried-numbers hart next rd Next small whole is goes = passes-numbers hart next is goes
 carried-numbers hart next rd Call small whole is goes = cc
 carried-numbers hart next rd Break small whole is goes = cc
 
-pub act-numbers : (hart next : HartState) → IsWhole hart.memory → HasNumbers hart → act hart ≡ Goes next → HasNumbers next
+pub act-numbers : (hart next : HartState) → IsWhole hart.memory → HasNumbers hart → act hart ≡ GoesOn next → HasNumbers next
 unfolding act
 act-numbers hart next whole is goes = by_word (reads hart.memory hart.pc 4) goes
   where
-    by_inst : (word : ℕ) (o : Option Inst) → runs hart word o ≡ Goes next → HasNumbers next
+    by_inst : (word : ℕ) (o : Option Inst) → runs hart word o ≡ GoesOn next → HasNumbers next
     by_inst word None e = cc
     by_inst word (Some inst) e =
         carried-numbers hart next inst.rd (effect_of hart inst)
@@ -242,7 +242,7 @@ act-numbers hart next whole is goes = by_word (reads hart.memory hart.pc 4) goes
         (register-small hart.registers inst.rs1 is.registers) (register-small hart.registers inst.rs2 is.registers) (wrapped-small inst.imm) is.pc)
         whole is e
 
-    by_word : (o : Option ℕ) → fetched hart o ≡ Goes next → HasNumbers next
+    by_word : (o : Option ℕ) → fetched hart o ≡ GoesOn next → HasNumbers next
     by_word None e = cc
     by_word (Some word) e = by_inst word (decoded word) e
 

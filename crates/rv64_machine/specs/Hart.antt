@@ -43,7 +43,7 @@ code =
 
 -- one act: the hart goes on in a state, calls the system, or traps; both of the latter leave the state
 pub data Act : Type 0 where
-  Goes : HartState → Act
+  GoesOn : HartState → Act
   Calls : Act
   Traps : Cause → Act
 
@@ -58,12 +58,12 @@ following hart = sum 64 hart.pc 4
 
 -- the act that goes on at the next instruction
 abbrev pub passes : HartState → Act
-passes hart = Goes (record hart { pc = following hart })
+passes hart = GoesOn (record hart { pc = following hart })
 
 -- the act that goes on at a target, which must be a multiple of 4
 abbrev pub arrives : HartState → ℕ → Act
 arrives hart target =
-    if target % 4 == 0 then Goes (record hart { pc = target }) else Traps (cause.FetchMisaligned target)
+    if target % 4 == 0 then GoesOn (record hart { pc = target }) else Traps (cause.FetchMisaligned target)
 
 -- the act of a load from an address, which read this
 abbrev pub loads : HartState → ℕ → ℕ → Option ℕ → Act
@@ -111,7 +111,7 @@ effect_at hart = option_map (effect_of hart) (option_and_then decoded (reads har
 
 -- whether an act goes on
 abbrev pub goes_on : Act → Bool
-goes_on (Goes next) = true
+goes_on (GoesOn next) = true
 goes_on _ = false
 
 -- whether an effect is that of a store
@@ -120,25 +120,25 @@ is_store (Some (Store width at value)) = true
 is_store _ = false
 
 -- how a step ended, and the state that it left, of a hart with this act and this effect
-abbrev pub Ends : Act → Option Effect → HartState → StepEnd → HartState → Type 0
-Ends an_act effect old end.Done new = an_act ≡ Goes new
-Ends an_act effect old end.Call new = (an_act ≡ Calls) × (new ≡ old)
-Ends an_act effect old (end.Trap cause) new = (an_act ≡ Traps cause) × (new ≡ old)
-Ends an_act effect old end.OutOfMemory new = IsTrue (goes_on an_act) × IsTrue (is_store effect) × (new ≡ old)
+abbrev pub EndsStep : Act → Option Effect → HartState → StepEnd → HartState → Type 0
+EndsStep an_act effect old end.Done new = an_act ≡ GoesOn new
+EndsStep an_act effect old end.Call new = (an_act ≡ Calls) × (new ≡ old)
+EndsStep an_act effect old (end.Trap cause) new = (an_act ≡ Traps cause) × (new ≡ old)
+EndsStep an_act effect old end.OutOfMemory new = IsTrue (goes_on an_act) × IsTrue (is_store effect) × (new ≡ old)
 
 -- what a step answers, and the state that it leaves: its act's, or want of memory in a store that would go on
 abbrev pub Acts : HartState → StepEnd → HartState → Type 0
-Acts old end new = Ends (act old) (effect_at old) old end new
+Acts old end new = EndsStep (act old) (effect_at old) old end new
 
 -- the state in which an act went on
-abbrev pub onward : Act → Option HartState
-onward (Goes next) = Some next
-onward _ = None
+abbrev pub went_on : Act → Option HartState
+went_on (GoesOn next) = Some next
+went_on _ = None
 
 -- the state after so many acts that went on; none where one of them did not
 unfoldable pub acted : HartState → ℕ → Option HartState
 acted hart zero = Some hart
-acted hart (suc count) = option_and_then (λ last. onward (act last)) (acted hart count)
+acted hart (suc count) = option_and_then (λ last. went_on (act last)) (acted hart count)
 
 -- how at most so many steps ended, after so many that went on, and the state that they left: all of them went on, or the next one
 -- did not, and left the state

@@ -4,7 +4,7 @@ ghost use Rattle.rv64_table.specs.Table.{row_for};
 ghost use Rattle.paged_mem.specs.Memory.{reads};
 ghost use Rattle.paged_mem.specs.Ram.{count_of, Stores};
 ghost use Rattle.rv64_machine.specs.Arithmetic.{sign_extended};
-ghost use Rattle.rv64_machine.specs.Hart.{carried, effect_of, Ends, following, HartState, HasNumbers, IsHart, runs, ActsInARow, Acts, with_register};
+ghost use Rattle.rv64_machine.specs.Hart.{carried, effect_of, EndsStep, following, HartState, HasNumbers, IsHart, runs, ActsInARow, Acts, with_register};
 ghost use Rattle.std.specs.FinMap.{contains_key};
 ghost use Rattle.std.specs.Borrow.{Lends, sem};
 ghost use Rattle.rv64_machine.specs.contracts.hart.Hart.{the_row};
@@ -217,7 +217,7 @@ impl<R: Ram> Hart<R> {
     /// Carries out a word.
     #[inline(always)]
     fn obey(&mut self, word: u32) -> StepEnd
-        ensures { Ends (runs self.old word (decoded word)) (option_map (effect_of self.old) (decoded word)) self.old result self.new }
+        ensures { EndsStep (runs self.old word (decoded word)) (option_map (effect_of self.old) (decoded word)) self.old result self.new }
     {
         match row_of(word) {
             None => StepEnd::Trap(Cause::Illegal(word)),
@@ -230,7 +230,7 @@ impl<R: Ram> Hart<R> {
     #[inline(always)]
     fn dispatch(&mut self, op: Op, word: u32) -> StepEnd
         requires { option_map (λ row. row.op) (row_for word) ≡ Some op }
-        ensures { Ends (runs self.old word (decoded word)) (option_map (effect_of self.old) (decoded word)) self.old result self.new }
+        ensures { EndsStep (runs self.old word (decoded word)) (option_map (effect_of self.old) (decoded word)) self.old result self.new }
     {
         by_operation! { self, op, word;
             Lui Auipc Jal Jalr Beq Bne Blt Bge Bltu Bgeu Lb Lh Lw Ld Lbu Lhu Lwu Sb Sh Sw Sd
@@ -244,7 +244,7 @@ impl<R: Ram> Hart<R> {
     #[inline(always)]
     fn perform(&mut self, op: Op, word: u32) -> StepEnd
         requires { option_map (λ row. row.op) (row_for word) ≡ Some op }
-        ensures { Ends (runs self.old word (decoded word)) (option_map (effect_of self.old) (decoded word)) self.old result self.new }
+        ensures { EndsStep (runs self.old word (decoded word)) (option_map (effect_of self.old) (decoded word)) self.old result self.new }
     {
         let inst = decode_as(op, word);
         let effect = effect_of(
@@ -261,7 +261,7 @@ impl<R: Ram> Hart<R> {
     #[inline(always)]
     fn carry_out(&mut self, rd: u8, effect: Effect) -> StepEnd
         requires { rd < 32 }
-        ensures { Ends (carried self.old rd effect) (Some effect) self.old result self.new }
+        ensures { EndsStep (carried self.old rd effect) (Some effect) self.old result self.new }
     {
         match effect {
             Effect::Put(value) => {
@@ -283,7 +283,7 @@ impl<R: Ram> Hart<R> {
     #[inline(always)]
     fn jump(&mut self, rd: u8, target: u64) -> StepEnd
         requires { rd < 32 }
-        ensures { Ends (carried self.old rd (Effect.Jump target)) None self.old result self.new }
+        ensures { EndsStep (carried self.old rd (Effect.Jump target)) None self.old result self.new }
     {
         if target % 4 != 0 {
             return StepEnd::Trap(Cause::FetchMisaligned(target));
@@ -297,7 +297,7 @@ impl<R: Ram> Hart<R> {
     /// Carries out a branch.
     #[inline(always)]
     fn branch(&mut self, taken: bool, target: u64) -> StepEnd
-        ensures { Ends (carried self.old 0 (Effect.Branch taken target)) None
+        ensures { EndsStep (carried self.old 0 (Effect.Branch taken target)) None
             self.old result self.new }
     {
         if !taken {
@@ -314,7 +314,7 @@ impl<R: Ram> Hart<R> {
     #[inline(always)]
     fn load(&mut self, rd: u8, width: Width, at: u64, is_signed: bool) -> StepEnd
         requires { rd < 32 }
-        ensures { Ends (carried self.old rd (if is_signed then Effect.LoadSigned width at else Effect.Load width at))
+        ensures { EndsStep (carried self.old rd (if is_signed then Effect.LoadSigned width at else Effect.Load width at))
             None self.old result self.new }
     {
         let read = match self.ram.load_near(at, width) {
@@ -337,7 +337,7 @@ impl<R: Ram> Hart<R> {
     #[inline(always)]
     #[tactic(auto, using(crate::proofs::StoredBytes::stored))]
     fn store(&mut self, width: Width, at: u64, value: u64) -> StepEnd
-        ensures { Ends (carried self.old 0 (Effect.Store width at value))
+        ensures { EndsStep (carried self.old 0 (Effect.Store width at value))
             (Some (Effect.Store width at value)) self.old result self.new }
     {
         if self.ram.store_near(at, width, value) {

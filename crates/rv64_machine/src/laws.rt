@@ -4,7 +4,7 @@ ghost use Rattle.paged_mem.specs.Memory.{reads};
 ghost use Rattle.paged_mem.specs.Ram.{count_of};
 ghost use Rattle.paged_mem.specs.declared.ram.Width.{Width};
 ghost use Rattle.rv64_decode.specs.Decode.{decoded};
-ghost use Rattle.rv64_machine.specs.Hart.{act, effect_at, following, Goes, HartState, HasNumbers, is_store, IsHart, runs, Acts, with_register};
+ghost use Rattle.rv64_machine.specs.Hart.{act, effect_at, following, GoesOn, HartState, HasNumbers, is_store, IsHart, runs, Acts, with_register};
 ghost use Rattle.rv64_machine.specs.declared.effect.Effect.TheVariants.{Store};
 ghost use Rattle.std.specs.FinMap.{contains_key, get};
 ghost use Rattle.std.specs.Prelude.{◌≡◌, ◌≢◌, ℕ, ◌+◌, ◌*◌, ◌%◌, ◌^◌, ◌<◌, ◌≤◌, ◌⊎◌, false, Some};
@@ -30,23 +30,23 @@ pub fn equal_harts_step_alike<R: Ram, S: Ram>(
 
 /// A row other than a store leaves memory as it was.
 pub fn only_stores_write()
-    ensures { (hart next : HartState) → act hart ≡ Goes next → is_store (effect_at hart) ≡ false
+    ensures { (hart next : HartState) → act hart ≡ GoesOn next → is_store (effect_at hart) ≡ false
         → next.memory ≡ hart.memory }
 {}
 
 /// An act maps and unmaps nothing.
 pub fn nothing_is_mapped()
-    ensures { (hart next : HartState) → act hart ≡ Goes next
+    ensures { (hart next : HartState) → act hart ≡ GoesOn next
         → (address : ℕ) → contains_key next.memory address ≡ contains_key hart.memory address }
 {}
 
 /// A store changes the bytes of its access alone, to the low bytes of its value.
 pub fn a_store_writes_its_access()
     ensures access { (hart next : HartState) (width : Width) (at value : ℕ)
-        → act hart ≡ Goes next → effect_at hart ≡ Some (Store width at value)
+        → act hart ≡ GoesOn next → effect_at hart ≡ Some (Store width at value)
         → reads next.memory at (count_of width) ≡ Some (value % 256 ^ count_of width) }
     ensures others { (hart next : HartState) (width : Width) (at value : ℕ)
-        → act hart ≡ Goes next → effect_at hart ≡ Some (Store width at value)
+        → act hart ≡ GoesOn next → effect_at hart ≡ Some (Store width at value)
         → (address : ℕ) → (address < at) ⊎ (at + count_of width ≤ address)
         → get next.memory address ≡ get hart.memory address }
 {}
@@ -55,15 +55,15 @@ pub fn a_store_writes_its_access()
 /// next act is that word's.
 pub fn a_stored_word_is_fetched()
     ensures { (hart next : HartState) (value : ℕ)
-        → act hart ≡ Goes next → effect_at hart ≡ Some (Store Width.W4 next.pc value)
+        → act hart ≡ GoesOn next → effect_at hart ≡ Some (Store Width.W4 next.pc value)
         → act next ≡ runs next (value % 2 ^ 32) (decoded (value % 2 ^ 32)) }
 {}
 
 /// An act of a hart that goes on leaves a hart: 32 registers of which x0 is 0, a pc at a multiple of 4, and memory of whole
 /// pages of bytes; and where registers and pc were numbers of 64 bits, they are.
 pub fn acts_keep_the_rules()
-    ensures rules { (hart next : HartState) → IsHart hart → act hart ≡ Goes next → IsHart next }
-    ensures numbers { (hart next : HartState) → IsHart hart → HasNumbers hart → act hart ≡ Goes next → HasNumbers next }
+    ensures rules { (hart next : HartState) → IsHart hart → act hart ≡ GoesOn next → IsHart next }
+    ensures numbers { (hart next : HartState) → IsHart hart → HasNumbers hart → act hart ≡ GoesOn next → HasNumbers next }
 {}
 
 /// The answer to a call does too.

@@ -6,7 +6,7 @@ use Rattle.std.proofs.lemmas.Bool.{and_parts, eqb-true, ltb-true, cases_Bool}
 use Rattle.rv64_table.specs.declared.Row.{Row}
 use Rattle.rv64_table.specs.declared.Form.{Form}
 use Rattle.rv64_table.specs.declared.Op.{Op}
-use Rattle.rv64_table.specs.Table.{mask_of, matches, row_for, table, row_with, number}
+use Rattle.rv64_table.specs.Table.{mask_of, matches, row_for, table, row_with, op_number}
 use Rattle.rv64_table.specs.Inside.Lookup.{has_fields, fits_funct3, fits_funct7, fits_fields}
 use Rattle.rv64_table.proofs.OpRows.{row_with-at}
 
@@ -35,16 +35,16 @@ find-listed test (x ∷ rows) r e = ⊎_elim
 -- the rows have the numbers from here on
 abbrev pub is_numbered : ℕ → List Row → Bool
 is_numbered n [] = true
-is_numbered n (r ∷ rows) = (number r.op == n) && is_numbered (suc n) rows
+is_numbered n (r ∷ rows) = (op_number r.op == n) && is_numbered (suc n) rows
 
-number-at : (n : ℕ) (rows : List Row) (i : ℕ) (r : Row) → is_numbered n rows ≡ true → slice_get rows i ≡ Some r → number r.op ≡ n + i
+number-at : (n : ℕ) (rows : List Row) (i : ℕ) (r : Row) → is_numbered n rows ≡ true → slice_get rows i ≡ Some r → op_number r.op ≡ n + i
 number-at n [] i r h e = cc
 number-at n (x ∷ rows) zero r h e =
     let same : x ≡ r = cc in
-    let first : number x.op ≡ n = eqb-true _ _ ((and_parts (number x.op == n) (is_numbered (suc n) rows) h).0) in
+    let first : op_number x.op ≡ n = eqb-true _ _ ((and_parts (op_number x.op == n) (is_numbered (suc n) rows) h).0) in
     rw (← same) (omega (arith, first))
 number-at n (x ∷ rows) (suc i) r h e =
-    let rest = number-at (suc n) rows i r ((and_parts (number x.op == n) (is_numbered (suc n) rows) h).1) e in omega (arith, rest)
+    let rest = number-at (suc n) rows i r ((and_parts (op_number x.op == n) (is_numbered (suc n) rows) h).1) e in omega (arith, rest)
 
 -- a listed element is the one that its index reads
 index-at : (rows : List Row) (i : ℕ) (r d : Row) → slice_get rows i ≡ Some r → slice_index_or rows i d ≡ r
@@ -56,7 +56,7 @@ index-at (x ∷ rows) (suc i) r d e = index-at rows i r d e
 pub row_with-listed : (i : ℕ) (r : Row) → slice_get table i ≡ Some r → row_with r.op ≡ Some r
 unfolding table
 row_with-listed i r e =
-    let place : number r.op ≡ i = number-at 0 table i r refl e ∙ omega arith in
+    let place : op_number r.op ≡ i = number-at 0 table i r refl e ∙ omega arith in
     row_with-at r.op r ∙ ap Some (rw place (index-at table i r r e))
 
 -- so is the row of a word

@@ -113,7 +113,7 @@ macro_rules! forms {
 
 impl Op {
     ghost use Rattle.std.specs.Prelude.{Some, option_map};
-    ghost use Rattle.rv64_table.specs.Table.{number, row_with};
+    ghost use Rattle.rv64_table.specs.Table.{op_number, row_with};
 
     /// The form of this operation's row. A match, so that a decoder that has just found the operation need not look.
     #[tactic(auto, unfolding(crate::specs::Table::table))]
@@ -136,7 +136,7 @@ impl Op {
 
     /// The number of this operation: where its row stands in the table, from 0 on.
     pub fn number(self) -> usize
-        ensures { result ≡ number self }
+        ensures { result ≡ op_number self }
     {
         self as usize
     }

@@ -8,11 +8,11 @@ use Rattle.save_text.proofs.ByteFieldsLemmas.Spells.{AreBytes, Nothing, Spells, 
 use Rattle.save_text.proofs.StateTextLemmas.Texts.{spells_state}
 use Rattle.save_text.specs.declared.state_text.reading.TextRefusal.{TextRefusal}
 use Rattle.save_text.specs.declared.parts.Parts.{Parts}
-use Rattle.save_text.specs.SaveText.{SaveText, after_left, digest_at, formed, is_behind, left_at, magic, mark_at, name_at, save_at, stage_at}
-use Rattle.save_text.specs.Spelled.{IsDigest, IsLeft, IsMark, IsStage, IsText, digest_text, left_text, mark_text, stage_text, text_of}
-use Rattle.save_text.specs.Seen.{Reads, view}
+use Rattle.save_text.specs.SaveText.{SaveText, after_left, digest_at, parsed_save, is_behind, saved_left_at, save_magic, mark_at, saved_name_at, save_at, saved_stage_at}
+use Rattle.save_text.specs.Spelled.{IsSavedDigest, IsSavedLeft, IsSavedMark, IsStageText, IsSaveText, digest_text, left_text, mark_text, stage_text, text_of_save}
+use Rattle.save_text.specs.Seen.{ReadsSaveText, save_view}
 
-pub spells_digest : Spells digest_at digest_text IsDigest
+pub spells_digest : Spells digest_at digest_text IsSavedDigest
 unfolding digest_at
 spells_digest =
     spells (
@@ -22,7 +22,7 @@ spells_digest =
     (λ d f. record { full = f.1.0.long })
     (λ d f. (tt, (record { long = f.full }, tt)))
 
-pub spells_mark : Spells mark_at mark_text IsMark
+pub spells_mark : Spells mark_at mark_text IsSavedMark
 unfolding mark_at mark_text
 spells_mark =
     spells (
@@ -37,16 +37,16 @@ spells_mark =
 abbrev IsBehind : Option (List ℕ) → List ℕ → Type 0
 IsBehind last name = is_behind last name ≡ true
 
-pub spells_name : (last : Option (List ℕ)) → Spells (name_at last) (blob_text w16) (λ name. (length name < 2 ^ 16) × IsBehind last name)
-unfolding name_at
+pub spells_name : (last : Option (List ℕ)) → Spells (saved_name_at last) (blob_text w16) (λ name. (length name < 2 ^ 16) × IsBehind last name)
+unfolding saved_name_at
 spells_name last =
     spells (
     then {G = IsBehind last} {K = Nothing} (λ (name : List ℕ). length name) (spells_number w16 (2 ^ 16) wide16) (λ count f.
     spells (spells_that (is_behind last) (spells_bytes count)) (λ name g. refl) (λ name g. ((tt, sym g.0.long), g.1)) (λ name g. (record { long = sym g.0.1 }, g.1))))
     (λ name f. refl) (λ name f. f.1) (λ name f. (tt, f))
 
-pub spells_left : (last : Option (List ℕ)) → Spells (left_at last) left_text (IsLeft last)
-unfolding left_at
+pub spells_left : (last : Option (List ℕ)) → Spells (saved_left_at last) left_text (IsSavedLeft last)
+unfolding saved_left_at
 spells_left last =
     spells (
     then {K = Nothing} (λ l. l.name) (spells_name last) (λ name f.
@@ -56,8 +56,8 @@ spells_left last =
     (λ l f. record { short = f.1.0.0; behind = f.1.0.1; mark = f.1.1.0 })
     (λ l f. (tt, ((f.short, f.behind), (f.mark, tt))))
 
-pub spells_stage : (any : ℕ) → Spells (stage_at any) stage_text IsStage
-unfolding stage_at stage_text
+pub spells_stage : (any : ℕ) → Spells (saved_stage_at any) stage_text IsStageText
+unfolding saved_stage_at stage_text
 spells_stage any =
     spells (
     then {K = Nothing} (λ s. s.steps) spells_u64 (λ steps f.
@@ -71,11 +71,11 @@ spells_stage any =
     (λ s f. let g = f.1 in record { steps = g.0; stream1 = g.1.0; stream2 = g.1.1.0; left = g.1.1.1.0; made = g.1.1.1.1.0 })
     (λ s f. (tt, (f.steps, (f.stream1, (f.stream2, (f.left, (f.made, tt)))))))
 
-pub spells_save : Spells save_at text_of IsText
-unfolding save_at text_of
+pub spells_save : Spells save_at text_of_save IsSaveText
+unfolding save_at text_of_save
 spells_save =
     spells (
-    then {K = Nothing} (λ s. tt) (spells_begun magic refl) (λ begun f.
+    then {K = Nothing} (λ s. tt) (spells_begun save_magic refl) (λ begun f.
     then (λ s. s.recipe) spells_digest (λ recipe f1.
     then (λ s. s.inputs) (spells_counted (λ input. 0) (λ (any : ℕ). spells_digest) 0) (λ inputs f2.
     then (λ s. s.stages) (spells_counted (λ stage. 0) spells_stage 0) (λ stages f3.
@@ -88,11 +88,11 @@ spells_save =
 
 -- ---- with nothing behind it
 
-pub formed_again : (s : SaveText) → IsText s → formed (text_of s) ≡ Ok s
-unfolding formed
+pub formed_again : (s : SaveText) → IsSaveText s → parsed_save (text_of_save s) ≡ Ok s
+unfolding parsed_save
 formed_again s fits = whole_again spells_save s fits
 
-pub is_found : (text : List ℕ) (r : Result Parts TextRefusal) → AreBytes text → Reads r (formed text) → IfOk r (λ p. IsText (view p) × (text ≡ text_of (view p)))
-unfolding formed
-is_found text (Ok p) fits given = whole_takes spells_save text (view p) fits given
+pub is_found : (text : List ℕ) (r : Result Parts TextRefusal) → AreBytes text → ReadsSaveText r (parsed_save text) → IfOk r (λ p. IsSaveText (save_view p) × (text ≡ text_of_save (save_view p)))
+unfolding parsed_save
+is_found text (Ok p) fits given = whole_takes spells_save text (save_view p) fits given
 is_found text (Err e) fits given = tt

@@ -6,20 +6,20 @@ use Rattle.save_text.specs.ByteFields.Spelling.{InTurn}
 use Rattle.report.specs.declared.types.LeftLine.{LeftLine}
 use Rattle.save_text.specs.declared.parts.StagePart.{StagePart}
 use Rattle.save_text.specs.SaveText.{StageText, after_left}
-use Rattle.save_text.specs.Spelled.{IsLeft, IsShort, IsStage}
+use Rattle.save_text.specs.Spelled.{IsSavedLeft, IsShortStage, IsStageText}
 use Rattle.save_text.specs.Seen.{stage_view}
 
 pub ruleset written = append_assoc
 
-names_by : (files : List LeftLine) (last : Option (List ℕ)) → InTurn IsLeft after_left last files → AllByRecursion (λ f. length f.name < 2 ^ 16) files
+names_by : (files : List LeftLine) (last : Option (List ℕ)) → InTurn IsSavedLeft after_left last files → AllByRecursion (λ f. length f.name < 2 ^ 16) files
 names_by [] last fits = tt
 names_by (f ∷ fs) last fits = (fits.0.short, names_by fs (after_left f) fits.1)
 
-contents_by : (files : List LeftLine) (last : Option (List ℕ)) → InTurn IsLeft after_left last files → AllByRecursion (λ f. f.mark.length < 2 ^ 32) files
+contents_by : (files : List LeftLine) (last : Option (List ℕ)) → InTurn IsSavedLeft after_left last files → AllByRecursion (λ f. f.mark.length < 2 ^ 32) files
 contents_by [] last fits = tt
 contents_by (f ∷ fs) last fits = (fits.0.mark.length, contents_by fs (after_left f) fits.1)
 
-pub is_short : (stage : StageText) → IsStage stage → IsShort stage
+pub is_short : (stage : StageText) → IsStageText stage → IsShortStage stage
 is_short stage fits = record {
   stream1 = fits.stream1.length;
   stream2 = fits.stream2.length;
@@ -29,9 +29,9 @@ is_short stage fits = record {
   made = fits.made.short;
 }
 
-by_turn : (stages : List StagePart) (any : ℕ) → InTurn (λ (any : ℕ). IsStage) (λ stage. 0) any (map stage_view stages) → AllByRecursion (λ s. IsShort (stage_view s)) stages
+by_turn : (stages : List StagePart) (any : ℕ) → InTurn (λ (any : ℕ). IsStageText) (λ stage. 0) any (map stage_view stages) → AllByRecursion (λ s. IsShortStage (stage_view s)) stages
 by_turn [] any fits = tt
 by_turn (s ∷ ss) any fits = (is_short (stage_view s) fits.0, by_turn ss 0 fits.1)
 
-pub short_stages : (stages : List StagePart) → InTurn (λ (any : ℕ). IsStage) (λ stage. 0) 0 (map stage_view stages) → All (λ s. IsShort (stage_view s)) stages
-short_stages stages fits = All-from_recursion (λ (s : StagePart). IsShort (stage_view s)) stages (by_turn stages 0 fits)
+pub short_stages : (stages : List StagePart) → InTurn (λ (any : ℕ). IsStageText) (λ stage. 0) 0 (map stage_view stages) → All (λ s. IsShortStage (stage_view s)) stages
+short_stages stages fits = All-from_recursion (λ (s : StagePart). IsShortStage (stage_view s)) stages (by_turn stages 0 fits)

@@ -28,8 +28,8 @@ pub record SaveText : Type 0 where
 -- ---- how it is read
 
 -- the eight bytes that begin each text: `ddcsave1`
-abbrev pub magic : List ℕ
-magic = 100 ∷ 100 ∷ 99 ∷ 115 ∷ 97 ∷ 118 ∷ 101 ∷ 49 ∷ []
+abbrev pub save_magic : List ℕ
+save_magic = 100 ∷ 100 ∷ 99 ∷ 115 ∷ 97 ∷ 118 ∷ 101 ∷ 49 ∷ []
 
 unfoldable pub digest_at : Reader Digest
 digest_at = do
@@ -48,38 +48,38 @@ is_behind None name = true
 is_behind (Some last) name = is_lt (slice_cmp nat_cmp last name)
 
 -- a length, and a name of that many bytes, which is wrong where it does not follow the one before it
-unfoldable pub name_at : Option (List ℕ) → Reader (List ℕ)
-name_at last = do
+unfoldable pub saved_name_at : Option (List ℕ) → Reader (List ℕ)
+saved_name_at last = do
   count ← u16
   that (is_behind last) (bytes count)
 
-unfoldable pub left_at : Option (List ℕ) → Reader LeftLine
-left_at last = do
-  name ← name_at last
+unfoldable pub saved_left_at : Option (List ℕ) → Reader LeftLine
+saved_left_at last = do
+  name ← saved_name_at last
   mark ← mark_at
   done (record { name = name; mark = mark })
 
 abbrev pub after_left : LeftLine → Option (List ℕ)
 after_left file = Some file.name
 
-unfoldable pub stage_at : ℕ → Reader StageText
-stage_at any = do
+unfoldable pub saved_stage_at : ℕ → Reader StageText
+saved_stage_at any = do
   steps ← u64
   stream1 ← mark_at
   stream2 ← mark_at
-  left ← counted left_at after_left None
+  left ← counted saved_left_at after_left None
   made ← blob w32
   done (record { steps = steps; stream1 = stream1; stream2 = stream2; left = left; made = made })
 
 unfoldable pub save_at : Reader SaveText
 save_at = do
-  start ← begun magic
+  start ← begun save_magic
   recipe ← digest_at
   inputs ← counted (λ (any : ℕ). digest_at) (λ input. 0) 0
-  stages ← counted {S = ℕ} stage_at (λ stage. 0) 0
+  stages ← counted {S = ℕ} saved_stage_at (λ stage. 0) 0
   state ← state_at
   done (record { recipe = recipe; inputs = inputs; stages = stages; state = state })
 
 -- what a text says, or the offset of its first wrong field: nothing follows the state
-unfoldable pub formed : List ℕ → Result SaveText ℕ
-formed text = whole save_at text
+unfoldable pub parsed_save : List ℕ → Result SaveText ℕ
+parsed_save text = whole save_at text

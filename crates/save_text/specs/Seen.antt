@@ -15,11 +15,11 @@ input_view input = input.digest
 abbrev pub stage_view : StagePart → StageText
 stage_view s = record { steps = s.steps; stream1 = s.stream1; stream2 = s.stream2; left = s.left; made = s.made }
 
-abbrev pub view : Parts → SaveText
-view p = record { recipe = p.recipe; inputs = map input_view p.inputs.items; stages = map stage_view p.done.items; state = state.view p.state }
+abbrev pub save_view : Parts → SaveText
+save_view p = record { recipe = p.recipe; inputs = map input_view p.inputs.items; stages = map stage_view p.done.items; state = state.state_view p.state }
 
 -- what was read is what the text says; want of memory says nothing of it
-abbrev pub Reads : Result Parts TextRefusal → Result SaveText ℕ → Type 0
-Reads (Ok p) read = read ≡ Ok (view p)
-Reads (Err (Form offset)) read = read ≡ Err offset
-Reads (Err OutOfMemory) read = Unit {0}
+abbrev pub ReadsSaveText : Result Parts TextRefusal → Result SaveText ℕ → Type 0
+ReadsSaveText (Ok p) read = read ≡ Ok (save_view p)
+ReadsSaveText (Err (Form offset)) read = read ≡ Err offset
+ReadsSaveText (Err OutOfMemory) read = Unit {0}

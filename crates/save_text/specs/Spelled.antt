@@ -6,7 +6,7 @@ use Rattle.report.specs.declared.types.LeftLine.{LeftLine}
 use Rattle.report.specs.declared.types.Mark.{Mark}
 use Rattle.save_text.specs.ByteFields.Spelling.{Counted, IsBlob, blob_text, list_text, number_text}
 use Rattle.save_text.specs.StateText.Spelled as state
-use Rattle.save_text.specs.SaveText.{SaveText, StageText, after_left, is_behind, magic}
+use Rattle.save_text.specs.SaveText.{SaveText, StageText, after_left, is_behind, save_magic}
 
 -- ---- how it is spelled
 
@@ -23,12 +23,12 @@ unfoldable pub stage_text : StageText → List ℕ
 stage_text stage =
     number_text w64 stage.steps ++ (mark_text stage.stream1 ++ (mark_text stage.stream2 ++ (list_text left_text stage.left ++ blob_text w32 stage.made)))
 
-unfoldable pub text_of : SaveText → List ℕ
-text_of save =
-    magic ++ (digest_text save.recipe ++ (list_text digest_text save.inputs ++ (list_text stage_text save.stages ++ state.text_of save.state)))
+unfoldable pub text_of_save : SaveText → List ℕ
+text_of_save save =
+    save_magic ++ (digest_text save.recipe ++ (list_text digest_text save.inputs ++ (list_text stage_text save.stages ++ state.text_of_state save.state)))
 
 -- its lengths have a place in a text
-pub record IsShort (stage : StageText) : Type 0 where
+pub record IsShortStage (stage : StageText) : Type 0 where
   pub stream1 : stage.stream1.length < 2 ^ 32
   pub stream2 : stage.stream2.length < 2 ^ 32
   pub few : length stage.left < 2 ^ 32
@@ -38,27 +38,27 @@ pub record IsShort (stage : StageText) : Type 0 where
 
 -- ---- which have a text
 
-pub record IsDigest (digest : Digest) : Type 0 where
+pub record IsSavedDigest (digest : Digest) : Type 0 where
   pub full : length digest.0 ≡ 32
 
-pub record IsMark (mark : Mark) : Type 0 where
+pub record IsSavedMark (mark : Mark) : Type 0 where
   pub length : mark.length < 2 ^ 32
-  pub digest : IsDigest mark.digest
+  pub digest : IsSavedDigest mark.digest
 
-pub record IsLeft (last : Option (List ℕ)) (file : LeftLine) : Type 0 where
+pub record IsSavedLeft (last : Option (List ℕ)) (file : LeftLine) : Type 0 where
   pub short : length file.name < 2 ^ 16
   pub behind : is_behind last file.name ≡ true
-  pub mark : IsMark file.mark
+  pub mark : IsSavedMark file.mark
 
-pub record IsStage (stage : StageText) : Type 0 where
+pub record IsStageText (stage : StageText) : Type 0 where
   pub steps : stage.steps < 2 ^ 64
-  pub stream1 : IsMark stage.stream1
-  pub stream2 : IsMark stage.stream2
-  pub left : Counted IsLeft after_left None stage.left
+  pub stream1 : IsSavedMark stage.stream1
+  pub stream2 : IsSavedMark stage.stream2
+  pub left : Counted IsSavedLeft after_left None stage.left
   pub made : IsBlob (2 ^ 32) stage.made
 
-pub record IsText (save : SaveText) : Type 0 where
-  pub recipe : IsDigest save.recipe
-  pub inputs : Counted (λ (any : ℕ). IsDigest) (λ input. 0) 0 save.inputs
-  pub stages : Counted (λ (any : ℕ). IsStage) (λ stage. 0) 0 save.stages
-  pub state : state.IsText save.state
+pub record IsSaveText (save : SaveText) : Type 0 where
+  pub recipe : IsSavedDigest save.recipe
+  pub inputs : Counted (λ (any : ℕ). IsSavedDigest) (λ input. 0) 0 save.inputs
+  pub stages : Counted (λ (any : ℕ). IsStageText) (λ stage. 0) 0 save.stages
+  pub state : state.IsStateText save.state

@@ -4,9 +4,9 @@ ghost use Rattle.std.specs.Prelude.{◌≡◌, ◌<◌, ◌^◌, ◌++◌, All, 
 ghost use Rattle.std.specs.Option.{option_copied};
 ghost use Rattle.std.specs.Ordering.{is_lt, nat_cmp};
 ghost use Rattle.std.specs.Cmp.Lexicographic.{slice_cmp};
-ghost use Rattle.save_text.specs.ByteFields.Reader.{Gives, counted, several};
+ghost use Rattle.save_text.specs.ByteFields.Reader.{GivesField, counted, several};
 ghost use Rattle.save_text.specs.ByteFields.Spelling.{list_text};
-ghost use Rattle.save_text.specs.SaveText.{after_left, digest_at, is_behind, left_at, mark_at, name_at};
+ghost use Rattle.save_text.specs.SaveText.{after_left, digest_at, is_behind, saved_left_at, mark_at, saved_name_at};
 ghost use Rattle.save_text.specs.Spelled.{digest_text, left_text, mark_text};
 
 use crate::byte_fields::{Cursor, Item, Stop, put_blob16, put_u32};
@@ -20,7 +20,7 @@ use std::alloc::Global;
 /// The 32 bytes of a digest.
 #[tactic(auto, unfolding(crate::specs::SaveText::digest_at))]
 pub(crate) fn digest_of(cursor: &mut Cursor<'_>) -> Result<Digest, Stop>
-    ensures { Gives (λ x. x) result cursor.new (digest_at cursor.old) }
+    ensures { GivesField (λ x. x) result cursor.new (digest_at cursor.old) }
 {
     let bytes = cursor.bytes(32)?;
     let mut digest = [0; 32];
@@ -31,7 +31,7 @@ pub(crate) fn digest_of(cursor: &mut Cursor<'_>) -> Result<Digest, Stop>
 /// A length of 4 bytes, and a digest.
 #[tactic(auto, unfolding(crate::specs::SaveText::mark_at))]
 fn mark_of(cursor: &mut Cursor<'_>) -> Result<Mark, Stop>
-    ensures { Gives (λ x. x) result cursor.new (mark_at cursor.old) }
+    ensures { GivesField (λ x. x) result cursor.new (mark_at cursor.old) }
 {
     let length = cursor.u32()?;
     let digest = digest_of(cursor)?;
@@ -62,9 +62,9 @@ fn is_behind(last: Option<&[u8]>, name: &[u8]) -> bool
 }
 
 /// A name that is behind the one before it.
-#[tactic(auto, unfolding(crate::specs::SaveText::name_at))]
+#[tactic(auto, unfolding(crate::specs::SaveText::saved_name_at))]
 fn name_of<'a>(cursor: &mut Cursor<'a>, last: Option<&[u8]>) -> Result<&'a [u8], Stop>
-    ensures { Gives (λ x. x.now) result cursor.new (name_at (option_copied last.entry) cursor.old) }
+    ensures { GivesField (λ x. x.now) result cursor.new (saved_name_at (option_copied last.entry) cursor.old) }
 {
     let count = cursor.u16()?;
     let at = cursor.len();
@@ -77,7 +77,7 @@ fn name_of<'a>(cursor: &mut Cursor<'a>, last: Option<&[u8]>) -> Result<&'a [u8],
 
 /// The files that a stage left.
 fn left_of(alloc: Global, cursor: &mut Cursor<'_>, count: u32) -> Result<LeftLines, Stop>
-    ensures { Gives (λ x. x) result cursor.new (several left_at after_left None count cursor.old) }
+    ensures { GivesField (λ x. x) result cursor.new (several saved_left_at after_left None count cursor.old) }
 {
     let mut lines = LeftLines::new(alloc);
     let mut last = None;
@@ -93,9 +93,9 @@ fn left_of(alloc: Global, cursor: &mut Cursor<'_>, count: u32) -> Result<LeftLin
 }
 
 /// A file that a stage left: its name, lent, and its mark.
-#[tactic(auto, unfolding(crate::specs::SaveText::left_at))]
+#[tactic(auto, unfolding(crate::specs::SaveText::saved_left_at))]
 fn line_of<'a>(cursor: &mut Cursor<'a>, last: Option<&[u8]>) -> Result<(&'a [u8], Mark), Stop>
-    ensures { Gives (λ x. record { name = x.0.now; mark = x.1 }) result cursor.new (left_at (option_copied last.entry) cursor.old) }
+    ensures { GivesField (λ x. record { name = x.0.now; mark = x.1 }) result cursor.new (saved_left_at (option_copied last.entry) cursor.old) }
 {
     let name = name_of(cursor, last)?;
     let mark = mark_of(cursor)?;
@@ -158,23 +158,23 @@ impl<'a> Item<'a> for InputPart {
 }
 
 impl<'a> Item<'a> for StagePart {
-    ghost use Rattle.save_text.specs.SaveText.{StageText, stage_at};
-    ghost use Rattle.save_text.specs.Spelled.{IsShort, stage_text};
+    ghost use Rattle.save_text.specs.SaveText.{StageText, saved_stage_at};
+    ghost use Rattle.save_text.specs.Spelled.{IsShortStage, stage_text};
     ghost use Rattle.save_text.specs.Seen.{stage_view};
 
     ghost Seen = { StageText };
 
     ghost seen = { stage_view };
 
-    ghost read_from = { stage_at };
+    ghost read_from = { saved_stage_at };
 
     ghost next_least = { λ stage. 0 };
 
     ghost text = { stage_text };
 
-    ghost IsShort = { IsShort };
+    ghost IsShort = { IsShortStage };
 
-    #[tactic(auto, unfolding(crate::specs::SaveText::stage_at))]
+    #[tactic(auto, unfolding(crate::specs::SaveText::saved_stage_at))]
     fn take(alloc: Global, cursor: &mut Cursor<'a>, _least: u64) -> Result<StagePart, Stop> {
         let steps = cursor.u64()?;
         let stream1 = mark_of(cursor)?;

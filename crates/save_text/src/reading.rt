@@ -1,8 +1,8 @@
 ghost use Rattle.std.specs.Prelude.{◌≡◌, IfOk, Ok};
-ghost use Rattle.save_text.specs.ByteFields.Reader.{Gives};
-ghost use Rattle.save_text.specs.SaveText.{SaveText, formed, save_at};
-ghost use Rattle.save_text.specs.Spelled.{IsText, text_of};
-ghost use Rattle.save_text.specs.Seen.{Reads, view};
+ghost use Rattle.save_text.specs.ByteFields.Reader.{GivesField};
+ghost use Rattle.save_text.specs.SaveText.{SaveText, parsed_save, save_at};
+ghost use Rattle.save_text.specs.Spelled.{IsSaveText, text_of_save};
+ghost use Rattle.save_text.specs.Seen.{ReadsSaveText, save_view};
 
 use crate::byte_fields::{Cursor, Stop, counted};
 use crate::fields::digest_of;
@@ -16,7 +16,7 @@ pub const MAGIC: [u8; 8] = *b"ddcsave1";
 /// A save's text at the front of what is left.
 #[tactic(auto, unfolding(crate::specs::SaveText::save_at))]
 fn save_of<'a>(alloc: Global, cursor: &mut Cursor<'a>) -> Result<Parts<'a>, Stop>
-    ensures { Gives view result cursor.new (save_at cursor.old) }
+    ensures { GivesField save_view result cursor.new (save_at cursor.old) }
 {
     cursor.begins_with(&MAGIC)?;
     let recipe = digest_of(cursor)?;
@@ -35,18 +35,18 @@ fn save_of<'a>(alloc: Global, cursor: &mut Cursor<'a>) -> Result<Parts<'a>, Stop
 /// state has its place in the save.
 pub fn read(alloc: Global, text: &[u8]) -> Result<Parts<'_>, TextRefusal>
     // What is read is spelled so.
-    ensures found { IfOk result (λ p. IsText (view p) × (text.now ≡ text_of (view p))) }
+    ensures found { IfOk result (λ p. IsSaveText (save_view p) × (text.now ≡ text_of_save (save_view p))) }
     // What is spelled so is read, unless memory runs out.
-    ensures only { (save : SaveText) → IsText save → text.now ≡ text_of save → Reads result (Ok save) }
+    ensures only { (save : SaveText) → IsSaveText save → text.now ≡ text_of_save save → ReadsSaveText result (Ok save) }
     // Which field is the first wrong one.
-    ensures exact { Reads result (formed text.now) }
+    ensures exact { ReadsSaveText result (parsed_save text.now) }
 {
     all(alloc, text)
 }
 
-#[tactic(auto, unfolding(crate::specs::SaveText::formed))]
+#[tactic(auto, unfolding(crate::specs::SaveText::parsed_save))]
 fn all(alloc: Global, text: &[u8]) -> Result<Parts<'_>, TextRefusal>
-    ensures { Reads result (formed text.now) }
+    ensures { ReadsSaveText result (parsed_save text.now) }
 {
     let mut cursor = Cursor::new(text);
     let parts = match save_of(alloc, &mut cursor) {

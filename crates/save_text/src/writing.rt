@@ -1,7 +1,7 @@
 ghost use Rattle.std.specs.Prelude.{◌≡◌, ◌<◌, ◌^◌, ◌++◌, All, IfOk, OnOk, length, map};
 ghost use Rattle.save_text.specs.ByteFields.Spelling.{list_text};
-ghost use Rattle.save_text.specs.Spelled.{IsShort, IsText, stage_text, text_of};
-ghost use Rattle.save_text.specs.Seen.{stage_view, view};
+ghost use Rattle.save_text.specs.Spelled.{IsShortStage, IsSaveText, stage_text, text_of_save};
+ghost use Rattle.save_text.specs.Seen.{stage_view, save_view};
 
 use crate::byte_fields::{put_blob32, put_counted, put_u64};
 use crate::fields::{put_left, put_mark};
@@ -21,7 +21,7 @@ pub fn put_stage(
     left: &[LeftLine],
     made: &[u8],
 ) -> Result<(), OutOfMemory>
-    requires { IsShort (record { steps = steps; stream1 = streams.0; stream2 = streams.1; left = left.now; made = made.now }) }
+    requires { IsShortStage (record { steps = steps; stream1 = streams.0; stream2 = streams.1; left = left.now; made = made.now }) }
     ensures { OnOk result (out.new ≡ out.old ++ stage_text (record { steps = steps; stream1 = streams.0; stream2 = streams.1; left = left.now; made = made.now })) }
 {
     put_u64(out, steps)?;
@@ -33,17 +33,17 @@ pub fn put_stage(
 
 fn put_stages(out: &mut Bytes, stages: &[StagePart]) -> Result<(), OutOfMemory>
     requires few { length stages.now < 2 ^ 32 }
-    requires short { All (λ stage. IsShort (stage_view stage)) stages.now }
+    requires short { All (λ stage. IsShortStage (stage_view stage)) stages.now }
     ensures { OnOk result (out.new ≡ out.old ++ list_text stage_text (map stage_view stages.now)) }
 {
     put_counted(out, stages)
 }
 
 /// The one text of what a save says.
-#[tactic(auto, using(crate::proofs::Written::written), unfolding(crate::specs::Spelled::text_of))]
+#[tactic(auto, using(crate::proofs::Written::written), unfolding(crate::specs::Spelled::text_of_save))]
 pub fn write(alloc: Global, parts: &Parts<'_>) -> Result<Bytes, OutOfMemory>
-    requires { IsText (view parts.now) }
-    ensures { IfOk result (λ text. text ≡ text_of (view parts.now)) }
+    requires { IsSaveText (save_view parts.now) }
+    ensures { IfOk result (λ text. text ≡ text_of_save (save_view parts.now)) }
 {
     let mut out = Bytes::new(alloc);
     out.extend(&MAGIC)?;

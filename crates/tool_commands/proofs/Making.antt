@@ -4,7 +4,7 @@ use Rattle.ddc_base.specs.Outside.{ShelfState}
 use Rattle.hex_langs.specs.declared.items.item.Item.{Item}
 use Rattle.hex_langs.specs.declared.items.reader.HexRefusal.{HexRefusal}
 use Rattle.hex_langs.specs.declared.items.reader.HexRefusal.TheVariants as refusal
-use Rattle.hex_langs.specs.Items.Refusals.{refusal_number, refusal_place}
+use Rattle.hex_langs.specs.Items.Refusals.{hex_refusal_number, hex_refusal_place}
 use Rattle.hex_langs.specs.declared.link.values.HexLanguage.{HexLanguage}
 use Rattle.hex_langs.specs.Link.Link.{Links}
 use Rattle.hex_langs.specs.Link.Values.{value_of}
@@ -25,7 +25,7 @@ use Rattle.tool_commands.specs.Inside.Refusing.{Refuses, RefusesM1}
 
 module _ (language : HexLanguage) (base : ℕ) (source : List ℕ) (shelf : ShelfState) where
   abbrev refuse : HexRefusal → Plan
-  refuse why = answers CheckFailed (refused_line (refusal_number why) (refusal_place why))
+  refuse why = answers CheckFailed (refused_line (hex_refusal_number why) (hex_refusal_place why))
 
   pub has_value : (value : List ℕ) → Links (Ok value) (value_of language base source) → Obtains (needs_value language base source) shelf shelf (Ok value)
   has_value value is = step.reads (value_of language base source) refuse (λ v. v) shelf value value (sym is) refl

@@ -2,7 +2,7 @@
 use Rattle.std.specs.Prelude.{ℕ, ◌^◌, nat_le, Option, Some, None, List, [], ◌∷◌, length, codes, decimal, if◌then◌else◌}
 use Rattle.ddc_base.specs.Decimals.{as_decimal}
 use Rattle.ddc_base.specs.Lines.{line}
-use Rattle.hex_langs.specs.Items.Refusals.{refusal_number, refusal_place}
+use Rattle.hex_langs.specs.Items.Refusals.{hex_refusal_number, hex_refusal_place}
 use Rattle.hex_langs.specs.declared.link.values.HexLanguage.{HexLanguage}
 use Rattle.hex_langs.specs.declared.link.values.HexLanguage.TheVariants as hex
 use Rattle.hex_langs.specs.Link.Values.{value_of}
@@ -35,7 +35,7 @@ as_base word = within_bases (as_decimal word)
 -- a source's value in a language of hexadecimal digits, at a base
 abbrev pub needs_value : HexLanguage → ℕ → List ℕ → (List ℕ → Plan) → Plan
 needs_value language base source next =
-    unless_refused (value_of language base source) (λ refusal. answers CheckFailed (refused_line (refusal_number refusal) (refusal_place refusal))) next
+    unless_refused (value_of language base source) (λ refusal. answers CheckFailed (refused_line (hex_refusal_number refusal) (hex_refusal_place refusal))) next
 
 -- the text of the items that an M1 source expands to, which is a source of hex2
 abbrev pub needs_items : List ℕ → (List ℕ → Plan) → Plan

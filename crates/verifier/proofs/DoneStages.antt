@@ -11,7 +11,7 @@ use Rattle.guest_run.specs.State.{GuestState}
 use Rattle.guest_run.specs.Setting.{Setting}
 use Rattle.guest_run.specs.Start.{Refusal, start_of}
 use Rattle.guest_run.specs.Run.{End, Exited, Trapped, UnknownCall, end_at, end_of, first_end}
-use Rattle.guest_run.specs.Program.{Run}
+use Rattle.guest_run.specs.Program.{ProgramRun}
 use Rattle.guest_run.proofs.Endings.{end-counted, run-sound}
 use Rattle.guest_run.proofs.Running.{after-counted, end_at-next}
 use Rattle.guest_run.proofs.RunLaws.{first_end-found, no_end_at-zero}
@@ -32,7 +32,7 @@ use Rattle.wheeler.proofs.Slices.{end-place}
 use Rattle.verifier.proofs.StageRules.{rules-of}
 use Rattle.verifier.specs.declared.part.Part.{Part}
 use Rattle.verifier.specs.declared.part.Part.TheVariants as part
-use Rattle.verifier.specs.Faults.{◌>>=◌, assembled, exit_of, has_left, is_mark_of, left_at, made_as, or_fails, recorded, replayed, size_of}
+use Rattle.verifier.specs.Faults.{◌>>=◌, checked_artefact, exit_of, has_left, is_mark_of, left_at, made_as, or_fails, recorded, replayed, size_of}
 
 -- the program ends by an exit with 0 at this step, and what it leaves has an artefact that is small enough and right
 pub record IsDone (recipe : Said) (inputs : List (List ℕ)) (done : List Finished) (stage : Stage) (steps : ℕ) (world : World) (made : List ℕ) : Type 0 where
@@ -187,7 +187,7 @@ made-is so_far stage line world made is = by_left (has_left line world) refl is 
   by_left true left is = by_output (out world (output_of stage.output)) refl left is
 
 -- an artefact in which nothing is wrong
-right-is : (found made : List ℕ) (o : Option CheckCause) → assembled found o ≡ Ok made → (o ≡ None) × (found ≡ made)
+right-is : (found made : List ℕ) (o : Option CheckCause) → checked_artefact found o ≡ Ok made → (o ≡ None) × (found ≡ made)
 right-is found made None is = (refl, ap (λ (r : Result (List ℕ) Part). value_of r) is) where
   value_of : Result (List ℕ) Part → List ℕ
   value_of (Ok v) = v
@@ -207,9 +207,9 @@ unfolding replayed
 judged recipe so_far stage line made is =
     let start = start_stage recipe so_far stage in
     let first = chained (or_fails part.Run (left_at start stage.steps line.steps))
-    (λ world. or_fails part.Files (recorded so_far stage line world) >>= (λ found. assembled found (check_of recipe so_far stage found))) made is in
+    (λ world. or_fails part.Files (recorded so_far stage line world) >>= (λ found. checked_artefact found (check_of recipe so_far stage found))) made is in
     let world = first.0 in
-    let second = chained (or_fails part.Files (recorded so_far stage line world)) (λ found. assembled found (check_of recipe so_far stage found)) made first.2 in
+    let second = chained (or_fails part.Files (recorded so_far stage line world)) (λ found. checked_artefact found (check_of recipe so_far stage found)) made first.2 in
     let third = right-is second.0 made (check_of recipe so_far stage second.0) second.2 in
     record {
       world = world;
@@ -246,7 +246,7 @@ pub replayed-content : (recipe : Said) (so_far : Contents) (stage : Stage) (line
     → AreContents so_far → replayed recipe so_far stage line ≡ Ok made → IsContent made × (size_of so_far + length made ≤ 1073741824)
 replayed-content recipe so_far stage line made is known are right =
     let j = judged recipe so_far stage line made right in
-    let run : Run (program_of recipe so_far stage) (box_of recipe so_far stage) line.steps 0 j.world =
+    let run : ProgramRun (program_of recipe so_far stage) (box_of recipe so_far stage) line.steps 0 j.world =
     record { start = j.run.guest; last = j.run.last; starts = j.run.started; ends = j.run.ended; leaves = j.run.leaves } in
     let sound = run-sound (program_of recipe so_far stage) (box_of recipe so_far stage) line.steps 0 j.world (content-is recipe so_far stage.program are).bytes
     (box-is recipe so_far stage are (rules-of recipe stage is known)) run in
@@ -262,8 +262,8 @@ pub done-replayed : (recipe : Said) (inputs : List (List ℕ)) (done : List Fini
 unfolding replayed
 done-replayed recipe inputs done stage line world made ok left mark =
     let files : World → Result (List ℕ) Part =
-    λ w. or_fails part.Files (recorded (contents inputs done) stage line w) >>= (λ found. assembled found (check_of recipe (contents inputs done) stage found)) in
-    let check : Result (List ℕ) Part → Result (List ℕ) Part = λ r. r >>= (λ found. assembled found (check_of recipe (contents inputs done) stage found)) in
+    λ w. or_fails part.Files (recorded (contents inputs done) stage line w) >>= (λ found. checked_artefact found (check_of recipe (contents inputs done) stage found)) in
+    let check : Result (List ℕ) Part → Result (List ℕ) Part = λ r. r >>= (λ found. checked_artefact found (check_of recipe (contents inputs done) stage found)) in
     let size = size-of inputs done in
     let small : size_of (contents inputs done) + length made ≤ 1_073_741_824 = omega (arith, ok.small, size) in
     ap (λ s. or_fails part.Run (left_at s stage.steps line.steps) >>= files) ok.started
@@ -275,17 +275,17 @@ done-replayed recipe inputs done stage line world made ok left mark =
     ∙ ap (λ o. check (or_fails part.Files (made_as (contents inputs done) line o))) ok.there
     ∙ ap (λ b. check (or_fails part.Files (if b then Some made else None)))
     (and_from (is_mark_of line.made made) (nat_le (size_of (contents inputs done) + length made) 1_073_741_824) mark (le-leb (size_of (contents inputs done) + length made) 1_073_741_824 small))
-    ∙ ap (assembled made) ok.right
+    ∙ ap (checked_artefact made) ok.right
 
 -- ---- a judged run
 
 pub judged-run : (program : List ℕ) (setting : Setting) (limit step : ℕ) (world : World) → left_at (start_of program setting) limit step ≡ Some world
-    → (1 ≤ step) × (step ≤ limit) × Run program setting step 0 world
+    → (1 ≤ step) × (step ≤ limit) × ProgramRun program setting step 0 world
 judged-run program setting limit step world is =
     let r = ran (start_of program setting) limit step world is in
     (some-step r.guest (Exited 0, r.last) step r.ended, r.within, record { start = r.guest; last = r.last; starts = r.started; ends = r.ended; leaves = r.leaves })
 
-pub run-judged : (program : List ℕ) (setting : Setting) (limit step : ℕ) (world : World) → 1 ≤ step → step ≤ limit → Run program setting step 0 world
+pub run-judged : (program : List ℕ) (setting : Setting) (limit step : ℕ) (world : World) → 1 ≤ step → step ≤ limit → ProgramRun program setting step 0 world
     → left_at (start_of program setting) limit step ≡ Some world
 run-judged program setting limit step world some within run =
     ap (λ s. left_at s limit step) run.starts

@@ -10,7 +10,7 @@ use Rattle.report.specs.declared.types.Compared.{Compared}
 use Rattle.report.specs.declared.types.StageLine.{StageLine}
 use Rattle.wheeler.specs.Contents.{Contents}
 use Rattle.verifier.specs.declared.part.Part.{Part}
-use Rattle.verifier.specs.Faults.{after_stage, compare_fault, replayed, stages_fault, with_artefact}
+use Rattle.verifier.specs.Faults.{fault_after_stage, compare_fault, replayed, stages_fault, with_artefact}
 use Rattle.verifier.specs.Verdicts.{AreReplayed, StandsAtStage}
 
 drop-found : {A : Type 0} (xs : List A) (index : ℕ) (x : A) → slice_get xs index ≡ Some x → drop index xs ≡ x ∷ drop (index + 1) xs
@@ -53,13 +53,13 @@ pub goes_on : (recipe : Said) (compare : Compared) (so_far : Contents) (stage : 
     → replayed recipe so_far stage line ≡ Ok made
     → stages_fault recipe compare so_far (stage ∷ later) (line ∷ others) ≡ stages_fault recipe compare (with_artefact so_far made) later others
 goes_on recipe compare so_far stage later line others made is =
-    ap (λ r. after_stage (length so_far.artefacts + 1) r (λ m. stages_fault recipe compare (with_artefact so_far m) later others)) is
+    ap (λ r. fault_after_stage (length so_far.artefacts + 1) r (λ m. stages_fault recipe compare (with_artefact so_far m) later others)) is
 
 pub stops : (recipe : Said) (compare : Compared) (so_far : Contents) (stage : Stage) (later : List Stage) (line : StageLine) (others : List StageLine) (why : Part)
     → replayed recipe so_far stage line ≡ Err why
     → stages_fault recipe compare so_far (stage ∷ later) (line ∷ others) ≡ Some (why, length so_far.artefacts + 1)
 stops recipe compare so_far stage later line others why is =
-    ap (λ r. after_stage (length so_far.artefacts + 1) r (λ m. stages_fault recipe compare (with_artefact so_far m) later others)) is
+    ap (λ r. fault_after_stage (length so_far.artefacts + 1) r (λ m. stages_fault recipe compare (with_artefact so_far m) later others)) is
 
 -- behind the last stage, or the last line, the comparison is left
 pub no_stage : (recipe : Said) (compare : Compared) (so_far : Contents) (stages : List Stage) (lines : List StageLine) (index : ℕ) → slice_get stages index ≡ None

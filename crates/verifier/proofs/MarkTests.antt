@@ -18,7 +18,7 @@ use Rattle.report.specs.declared.types.Mark.{Mark}
 use Rattle.report.specs.declared.types.StageLine.{StageLine}
 use Rattle.wheeler.specs.SourceCheck.Checks.{differs}
 use Rattle.wheeler.specs.Bench.{compared, compared_at}
-use Rattle.wheeler.specs.Stages.{left_line, mark_of}
+use Rattle.wheeler.specs.Stages.{marked_left, mark_of}
 use Rattle.verifier.specs.Faults.{has_left, is_at, is_mark_of, names_left, same_language, says}
 use Rattle.verifier.proofs.Rightness.{no-difference}
 
@@ -50,7 +50,7 @@ heads {A = A} x y xs ys e = (ap (first x) e, ap rest e) where
   rest [] = []
   rest (z ∷ zs) = zs
 
-left-names-Decides : (lines : List LeftLine) (files : List (List ℕ × List ℕ)) → Decides (names_left lines files) (lines ≡ map left_line files)
+left-names-Decides : (lines : List LeftLine) (files : List (List ℕ × List ℕ)) → Decides (names_left lines files) (lines ≡ map marked_left files)
 left-names-Decides [] [] = (λ t. refl, λ e. refl)
 left-names-Decides [] (file ∷ files) = (λ t. absurd cc, λ e. absurd cc)
 left-names-Decides (line ∷ lines) [] = (λ t. absurd cc, λ e. absurd cc)
@@ -59,13 +59,13 @@ left-names-Decides (line ∷ lines) (file ∷ files) =
     (both (bytes_eq line.name file.0 && is_mark_of line.mark file.1) (names_left lines files)
     (both (bytes_eq line.name file.0) (is_mark_of line.mark file.1) (bytes_eq-Decides line.name file.0) (mark-Decides line.mark file.1)) (left-names-Decides lines files))
     (λ h. λ i. record { name = h.0.0 i; mark = h.0.1 i } ∷ h.1 i)
-    (λ e. let p = heads line (left_line file) lines (map left_line files) e in ((ap (λ (l : LeftLine). l.name) p.0, ap (λ (l : LeftLine). l.mark) p.0), p.1))
+    (λ e. let p = heads line (marked_left file) lines (map marked_left files) e in ((ap (λ (l : LeftLine). l.name) p.0, ap (λ (l : LeftLine). l.mark) p.0), p.1))
 
 -- what a run left is what a stage's line says
 pub record Leaves (line : StageLine) (world : World) : Type 0 where
   pub stream1 : line.stream1 ≡ mark_of world.stream1
   pub stream2 : line.stream2 ≡ mark_of world.stream2
-  pub files : line.left ≡ map left_line (left world)
+  pub files : line.left ≡ map marked_left (left world)
 
 pub left-Decides : (line : StageLine) (world : World) → Decides (has_left line world) (Leaves line world)
 unfolding has_left

@@ -17,10 +17,10 @@ use Rattle.wheeler.specs.declared.answer.Fault.{Fault}
 use Rattle.wheeler.specs.declared.answer.Finished.{Finished}
 use Rattle.wheeler.specs.Contents.{Contents, check_language, content}
 use Rattle.wheeler.specs.Stages.{contents, finished, mark_of, stage_result}
-use Rattle.wheeler.specs.Bench.{after_stage as bench_after, bench, bench_from, compared, input_lines, report_of, stage_line, stage_lines}
+use Rattle.wheeler.specs.Bench.{after_stage as bench_after, bench, bench_from, compared, input_lines, bench_report, stage_line, stage_lines}
 use Rattle.verifier.specs.declared.part.Part.{Part}
 use Rattle.verifier.specs.declared.part.Part.TheVariants as part
-use Rattle.verifier.specs.Faults.{after_stage, compare_fault, first_fault, first_of_both, inputs_fault, is_header, is_mark_of, names_compared, names_inputs, names_stages, replayed, same_language, says, stages_fault, with_artefact}
+use Rattle.verifier.specs.Faults.{fault_after_stage, compare_fault, first_fault, first_of_both, inputs_fault, is_header, is_mark_of, names_compared, names_inputs, names_stages, replayed, same_language, says, stages_fault, with_artefact}
 use Rattle.verifier.proofs.DoneStages.{done-replayed, done-result, replayed-done, result-done}
 use Rattle.verifier.proofs.MarkTests.{compared-Decides, language-Decides, left-Decides, mark-Decides}
 
@@ -134,14 +134,14 @@ own-line recipe inputs done stage f is =
 -- what lines without a fault stand for
 abbrev Stands : Said → List (List ℕ) → Compared → List Finished → List Stage → List StageLine → Type 0
 Stands recipe inputs line done stages lines =
-    (more : List Finished) × (bench_from recipe inputs done stages ≡ Completes (report_of recipe inputs (done ++ more)))
+    (more : List Finished) × (bench_from recipe inputs done stages ≡ Completes (bench_report recipe inputs (done ++ more)))
     × (stage_lines recipe stages more ≡ lines) × (comes_to recipe (contents inputs (done ++ more)) ≡ line)
 
 none-stands : (recipe : Said) (inputs : List (List ℕ)) (line : Compared) (done : List Finished) (stages : List Stage) (lines : List StageLine)
     → names_stages recipe stages lines ≡ true → stages_fault recipe line (contents inputs done) stages lines ≡ None → Stands recipe inputs line done stages lines
 none-stands recipe inputs line done [] [] named is = (
   [],
-  ap (λ d. Completes (report_of recipe inputs d)) (sym (append-nil done)),
+  ap (λ d. Completes (bench_report recipe inputs d)) (sym (append-nil done)),
   refl,
   ap (λ d. comes_to recipe (contents inputs d)) (append-nil done) ∙ compare-is recipe (contents inputs done) line is,
 )
@@ -156,7 +156,7 @@ none-stands recipe inputs line done (stage ∷ stages) (first ∷ lines) named i
       here = and_parts (bytes_eq stage.name first.name) (same_language (check_language recipe stage) first.checked) rest.0
 
       by_replay : (r : Result (List ℕ) Part) → replayed recipe (contents inputs done) stage first ≡ r
-          → after_stage (length (contents inputs done).artefacts + 1) r (λ made. stages_fault recipe line (with_artefact (contents inputs done) made) stages lines) ≡ None
+          → fault_after_stage (length (contents inputs done).artefacts + 1) r (λ made. stages_fault recipe line (with_artefact (contents inputs done) made) stages lines) ≡ None
           → ((d : List Finished) → stages_fault recipe line (contents inputs d) stages lines ≡ None → Stands recipe inputs line d stages lines)
           → Stands recipe inputs line done (stage ∷ stages) (first ∷ lines)
       by_replay (Err why) at is later = absurd cc
@@ -166,7 +166,7 @@ none-stands recipe inputs line done (stage ∷ stages) (first ∷ lines) named i
             ok.f ∷ more.0,
             ap (λ r. bench_after (suc (length done)) r (λ g. bench_from recipe inputs (done ++ g ∷ []) stages)) ok.result
                 ∙ more.1
-                ∙ ap (λ d. Completes (report_of recipe inputs d)) (one_more done more.0 ok.f),
+                ∙ ap (λ d. Completes (bench_report recipe inputs d)) (one_more done more.0 ok.f),
             (λ i. ok.line_is i ∷ more.2 i),
             ap (λ d. comes_to recipe (contents inputs d)) (sym (one_more done more.0 ok.f)) ∙ more.3,
           )
@@ -174,7 +174,7 @@ none-stands recipe inputs line done (stage ∷ stages) (first ∷ lines) named i
 -- what stands behind a bench that reaches its end
 abbrev Reached : Said → List (List ℕ) → List Finished → List Stage → Report → Type 0
 Reached recipe inputs done stages report =
-    (more : List Finished) × (report ≡ report_of recipe inputs (done ++ more)) × (names_stages recipe stages (stage_lines recipe stages more) ≡ true)
+    (more : List Finished) × (report ≡ bench_report recipe inputs (done ++ more)) × (names_stages recipe stages (stage_lines recipe stages more) ≡ true)
     × ((line : Compared) → comes_to recipe (contents inputs (done ++ more)) ≡ line → stages_fault recipe line (contents inputs done) stages (stage_lines recipe stages more) ≡ None)
 
 same_report : (a b : Report) → Completes a ≡ Completes b → a ≡ b
@@ -187,7 +187,7 @@ reaches : (recipe : Said) (inputs : List (List ℕ)) (done : List Finished) (sta
     → bench_from recipe inputs done stages ≡ Completes report → Reached recipe inputs done stages report
 reaches recipe inputs done [] report is = (
   [],
-  sym (same_report (report_of recipe inputs done) report is) ∙ ap (report_of recipe inputs) (sym (append-nil done)),
+  sym (same_report (bench_report recipe inputs done) report is) ∙ ap (bench_report recipe inputs) (sym (append-nil done)),
   refl,
   λ line same. compare-none recipe (contents inputs done) line (ap (λ d. comes_to recipe (contents inputs d)) (sym (append-nil done)) ∙ same),
 )
@@ -200,13 +200,13 @@ reaches recipe inputs done (stage ∷ stages) report is = by_result (stage_resul
   by_result (Ok f) at is later =
       let more = later (done ++ f ∷ []) is in (
         f ∷ more.0,
-        more.1 ∙ ap (report_of recipe inputs) (one_more done more.0 f),
+        more.1 ∙ ap (bench_report recipe inputs) (one_more done more.0 f),
         and_from (bytes_eq stage.name stage.name && same_language (check_language recipe stage) (check_language recipe stage)) (names_stages recipe stages (stage_lines recipe stages more.0))
             (and_from (bytes_eq stage.name stage.name) (same_language (check_language recipe stage) (check_language recipe stage))
             ((bytes_eq-Decides stage.name stage.name).1 refl) ((language-Decides (check_language recipe stage) (check_language recipe stage)).1 refl))
             more.2,
         λ line same.
-            ap (λ r. after_stage (length (contents inputs done).artefacts + 1) r (λ made. stages_fault recipe line (with_artefact (contents inputs done) made) stages (stage_lines recipe stages more.0)))
+            ap (λ r. fault_after_stage (length (contents inputs done).artefacts + 1) r (λ made. stages_fault recipe line (with_artefact (contents inputs done) made) stages (stage_lines recipe stages more.0)))
             (own-line recipe inputs done stage f at)
             ∙ ap (λ all. stages_fault recipe line all stages (stage_lines recipe stages more.0)) (more-contents inputs done f f.made refl)
             ∙ more.3 line (ap (λ d. comes_to recipe (contents inputs d)) (one_more done more.0 f) ∙ same),
@@ -249,7 +249,7 @@ at_first inputs = record { inputs = inputs; artefacts = [] }
 
 pub fault-none : (recipe : Said) (inputs : List (List ℕ)) (report : Report) → length inputs ≡ length recipe.inputs
     → first_fault recipe inputs report ≡ None → bench recipe inputs ≡ Completes report
-unfolding first_fault report_of
+unfolding first_fault bench_report
 fault-none recipe inputs report counted is = by_header (is_header recipe report) refl is where
   stages : Option (Part × ℕ)
   stages = stages_fault recipe report.compare.result (at_first inputs) recipe.stages report.stages
@@ -278,10 +278,10 @@ fault-none recipe inputs report counted is = by_header (is_header recipe report)
 own-report : (recipe : Said) (inputs : List (List ℕ)) (done : List Finished) → length inputs ≡ length recipe.inputs
     → names_stages recipe recipe.stages (stage_lines recipe recipe.stages done) ≡ true
     → stages_fault recipe (comes_to recipe (contents inputs done)) (at_first inputs) recipe.stages (stage_lines recipe recipe.stages done) ≡ None
-    → first_fault recipe inputs (report_of recipe inputs done) ≡ None
-unfolding first_fault report_of
+    → first_fault recipe inputs (bench_report recipe inputs done) ≡ None
+unfolding first_fault bench_report
 own-report recipe inputs done counted named none =
-    let report = report_of recipe inputs done in
+    let report = bench_report recipe inputs done in
     let stages = stages_fault recipe (comes_to recipe (contents inputs done)) (at_first inputs) recipe.stages (stage_lines recipe recipe.stages done) in
     ap (λ b. if b then first_of_both (inputs_fault 1 inputs (input_lines recipe.inputs inputs)) stages else Some (part.Header, 0))
     (is-header recipe report (record {

@@ -19,7 +19,7 @@ use Rattle.mem_files.specs.Names.{begins_with_dot_slash, bytes_cmp, is_file_name
 use Rattle.guest_run.specs.Setting.{FileMap, PlacesIn, place_refusal}
 use Rattle.recipe.specs.declared.parts.StageFile.{StageFile}
 use Rattle.recipe.specs.declared.contents.Said.{Said}
-use Rattle.wheeler.specs.Contents.{Contents, content, with_file}
+use Rattle.wheeler.specs.Contents.{Contents, content, with_stage_file}
 use Rattle.verifier.specs.Inside.Holdings.{CanPlace}
 
 -- ---- one file
@@ -112,12 +112,12 @@ place-rest held file rest content can = record {
 
 -- one turn of the loop over files
 pub turn : (recipe : Said) (all : Contents) (held new : FileMap) (files : List StageFile) (index : ℕ) (file : StageFile) (whole : FileMap) → index < length files
-    → file ≡ get_or files index file → CanPlace held (drop index files) → fold (with_file recipe all) held (drop index files) ≡ whole
+    → file ≡ get_or files index file → CanPlace held (drop index files) → fold (with_stage_file recipe all) held (drop index files) ≡ whole
     → new ≡ finite.insert held file.path (content recipe all file.from)
-    → CanPlace new (drop (index + 1) files) × (fold (with_file recipe all) new (drop (index + 1) files) ≡ whole)
+    → CanPlace new (drop (index + 1) files) × (fold (with_stage_file recipe all) new (drop (index + 1) files) ≡ whole)
 turn recipe all held new files index file whole less is can same placed =
     let next : drop index files ≡ file ∷ drop (index + 1) files = at_drop_more (λ l. l) files index file less ∙ ap (λ f. f ∷ drop (index + 1) files) (sym is) in
     let rest = place-rest held file (drop (index + 1) files) (content recipe all file.from) (subst (CanPlace held) next can) in (
       subst (λ n. CanPlace n (drop (index + 1) files)) (sym placed) rest,
-      ap (λ n. fold (with_file recipe all) n (drop (index + 1) files)) placed ∙ sym (ap (fold (with_file recipe all) held) next) ∙ same,
+      ap (λ n. fold (with_stage_file recipe all) n (drop (index + 1) files)) placed ∙ sym (ap (fold (with_stage_file recipe all) held) next) ∙ same,
     )

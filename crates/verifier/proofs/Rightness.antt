@@ -15,7 +15,7 @@ use Rattle.recipe.specs.declared.parts.Source.{Source}
 use Rattle.recipe.specs.declared.parts.SourceLanguage.TheVariants.{Defined}
 use Rattle.recipe.specs.declared.parts.Stage.{Stage}
 use Rattle.recipe.specs.Lookups.{source_named}
-use Rattle.wheeler.specs.SourceCheck.Checks.{check, checked, differs, first_other_item, hex_value, joined, same_item}
+use Rattle.wheeler.specs.SourceCheck.Checks.{check, checked, differs, first_other_item, hex_value, joined_files, same_item}
 use Rattle.wheeler.specs.Contents.{Contents, check_of, defined, source_check, text_check, text_of}
 
 -- equal bytes have no difference
@@ -108,7 +108,7 @@ item-turn (x' ∷ xs) (y' ∷ ys) (suc index) x y is is' =
 
 pub check-is : (recipe : Said) (all : Contents) (stage : Stage) (name : List ℕ) (source : Source) (language : Language) (made : List ℕ)
     → stage.check ≡ Some name → source_named recipe.sources name ≡ Some source → source.lang ≡ Defined language
-    → check_of recipe all stage made ≡ check language source.base (joined (text_of recipe all source).files) made
+    → check_of recipe all stage made ≡ check language source.base (joined_files (text_of recipe all source).files) made
 unfolding check_of text_of
 check-is recipe all stage name source language made named found defined_is =
     ap (λ o. source_check recipe all (option_and_then (source_named recipe.sources) o) made) named

@@ -114,9 +114,9 @@ or_fails part None = Err part
 or_fails part (Some found) = Ok found
 
 -- an artefact in which its check found nothing wrong
-abbrev pub assembled : List ℕ → Option CheckCause → Result (List ℕ) Part
-assembled made None = Ok made
-assembled made (Some why) = Err part.Assembled
+abbrev pub checked_artefact : List ℕ → Option CheckCause → Result (List ℕ) Part
+checked_artefact made None = Ok made
+checked_artefact made (Some why) = Err part.Assembled
 
 infixl 10 ◌>>=◌
 abbrev pub ◌>>=◌ : {A B : Type 0} → Result A Part → (A → Result B Part) → Result B Part
@@ -128,7 +128,7 @@ unfoldable pub replayed : Said → Contents → Stage → StageLine → Result (
 replayed recipe so_far stage line = do
   world ← or_fails part.Run (left_at (start_of (program_of recipe so_far stage) (box_of recipe so_far stage)) stage.steps line.steps)
   made ← or_fails part.Files (recorded so_far stage line world)
-  assembled made (check_of recipe so_far stage made)
+  checked_artefact made (check_of recipe so_far stage made)
 
 -- ---- comparison: the line says what the bytes say
 
@@ -153,14 +153,14 @@ abbrev pub with_artefact : Contents → List ℕ → Contents
 with_artefact so_far made = record { inputs = so_far.inputs; artefacts = so_far.artefacts ++ made ∷ [] }
 
 -- the stage of this number is right and what follows is judged, or it has the first fault
-abbrev pub after_stage : ℕ → Result (List ℕ) Part → (List ℕ → Option (Part × ℕ)) → Option (Part × ℕ)
-after_stage number (Err part) rest = Some (part, number)
-after_stage number (Ok made) rest = rest made
+abbrev pub fault_after_stage : ℕ → Result (List ℕ) Part → (List ℕ → Option (Part × ℕ)) → Option (Part × ℕ)
+fault_after_stage number (Err part) rest = Some (part, number)
+fault_after_stage number (Ok made) rest = rest made
 
 -- the first fault of the stages that are left, and of the comparison after them; a header says that there are as many lines
 abbrev pub stages_fault : Said → Compared → Contents → List Stage → List StageLine → Option (Part × ℕ)
 stages_fault recipe compare so_far (stage ∷ stages) (line ∷ lines) =
-    after_stage (length so_far.artefacts + 1) (replayed recipe so_far stage line) (λ made. stages_fault recipe compare (with_artefact so_far made) stages lines)
+    fault_after_stage (length so_far.artefacts + 1) (replayed recipe so_far stage line) (λ made. stages_fault recipe compare (with_artefact so_far made) stages lines)
 stages_fault recipe compare so_far _ _ = compare_fault recipe so_far compare
 
 -- the former fault, where there is one, else the latter

@@ -1,13 +1,13 @@
 //! Whether an artefact is what its source stands for.
 
-ghost use Rattle.hex_langs.specs.Items.Reading.{Reads, items_of};
+ghost use Rattle.hex_langs.specs.Items.Reading.{ReadsItems, items_of};
 ghost use Rattle.hex_langs.specs.declared.items.item.Item.{Item as RowItem};
 ghost use Rattle.hex_langs.specs.declared.items.reader.HexRefusal.{HexRefusal as Refusal};
 ghost use Rattle.hex_langs.specs.declared.items.token.Dialect.TheVariants as dialect;
 ghost use Rattle.hex_langs.specs.Link.Link.{Links};
 ghost use Rattle.hex_langs.specs.Link.Values.{linked};
 ghost use Rattle.wheeler.specs.SourceCheck.Causes.{cause_of_hex, cause_of_m1};
-ghost use Rattle.wheeler.specs.SourceCheck.Checks.{check, checked, first_other_item, hex_value, items_against, joined, m1_value, same_item, same_kind};
+ghost use Rattle.wheeler.specs.SourceCheck.Checks.{check, checked, first_other_item, hex_value, items_against, joined_files, m1_value, same_item, same_kind};
 ghost use Rattle.std.specs.Prelude.{◌≡◌, ◌≤◌, ◌^◌, bytes_eq, is_none, ℕ, List, Result, IfOk};
 ghost use Rattle.verifier.specs.Inside.Holdings.{IsHeld, so_far};
 ghost use Rattle.wheeler.specs.Contents.{check_of, text_of};
@@ -55,7 +55,7 @@ fn gives_text(
     made: &[u8],
 ) -> Result<bool, OutOfMemory>
     requires { source.now.base ≤ 2 ^ 37 }
-    ensures { IfOk result (λ right. right ≡ is_none (check language source.now.base (joined (text_of held.now.recipe.now (so_far held.now) source.now).files) made.now)) }
+    ensures { IfOk result (λ right. right ≡ is_none (check language source.now.base (joined_files (text_of held.now.recipe.now (so_far held.now) source.now).files) made.now)) }
 {
     if let [only] = source.files.as_slice() {
         return gives(alloc, language, source.base, held.bytes(only), made);
@@ -67,7 +67,7 @@ fn gives_text(
 /// The text of a source: its files, with one LF between neighbours.
 #[tactic(auto, unfolding(wheeler::specs::Contents::text_of))]
 fn joined(alloc: Global, held: &Held<'_>, source: &Source) -> Result<Bytes, OutOfMemory>
-    ensures { IfOk result (λ text. text ≡ joined (text_of held.now.recipe.now (so_far held.now) source.now).files) }
+    ensures { IfOk result (λ text. text ≡ joined_files (text_of held.now.recipe.now (so_far held.now) source.now).files) }
 {
     let [first, others @ ..] = source.files.as_slice() else {
         return Ok(Bytes::new(alloc));
@@ -120,7 +120,7 @@ fn links_to(
     made: &[u8],
 ) -> Result<bool, OutOfMemory>
     requires { base ≤ 2 ^ 37 }
-    ensures { (meant : Result (List RowItem) Refusal) → Reads meant items.entry → IfOk result (λ right. right ≡ is_none (checked (hex_value (linked base meant)) made.now)) }
+    ensures { (meant : Result (List RowItem) Refusal) → ReadsItems meant items.entry → IfOk result (λ right. right ≡ is_none (checked (hex_value (linked base meant)) made.now)) }
 {
     match items {
         Ok(items) => is_value(link(alloc, &items, base), made),

@@ -6,7 +6,7 @@ ghost use Rattle.std.specs.FinMap as map;
 ghost use Rattle.std.specs.List.{fold};
 ghost use Rattle.std.specs.Prelude.{◌≡◌, ◌<◌, ◌≤◌, false, length, Contains, IfOk, IsTrue, OnOk};
 ghost use Rattle.verifier.specs.Inside.Holdings.{CanPlace, IsHeld, so_far};
-ghost use Rattle.wheeler.specs.Contents.{box_of, with_file};
+ghost use Rattle.wheeler.specs.Contents.{box_of, with_stage_file};
 
 use crate::held::Held;
 use ddc_base::OutOfMemory;
@@ -45,7 +45,7 @@ fn place_files<'a>(
 ) -> Result<(), OutOfMemory>
     requires held { IsHeld held.now }
     requires free { CanPlace given.old.files files.now }
-    ensures { OnOk result (given.new ≡ record given.old { files = fold (with_file held.now.recipe.now (so_far held.now)) given.old.files files.now }) }
+    ensures { OnOk result (given.new ≡ record given.old { files = fold (with_stage_file held.now.recipe.now (so_far held.now)) given.old.files files.now }) }
 {
     for file in files {
         place(given, file.path.as_slice(), held.bytes(&file.from))?;

@@ -1,6 +1,6 @@
 //! Laws of the definitions. Each law is the contract of a function that does nothing.
 
-ghost use Rattle.guest_run.specs.Program.{Run};
+ghost use Rattle.guest_run.specs.Program.{ProgramRun};
 ghost use Rattle.guest_run.specs.Setting.{Setting};
 ghost use Rattle.guest_run.specs.Start.{start_of};
 ghost use Rattle.mem_files.specs.World.{World};
@@ -24,5 +24,5 @@ pub fn one_report()
 /// by an exit with 0, and leaves these files.
 pub fn a_judged_run_is_a_run()
     ensures { (program : List ℕ) (setting : Setting) (limit step : ℕ) (world : World)
-        → (left_at (start_of program setting) limit step ≡ Some world) ↔ ((1 ≤ step) × (step ≤ limit) × Run program setting step 0 world) }
+        → (left_at (start_of program setting) limit step ≡ Some world) ↔ ((1 ≤ step) × (step ≤ limit) × ProgramRun program setting step 0 world) }
 {}

@@ -13,16 +13,16 @@ use Rattle.command_plan.specs.declared.status.Status.TheVariants.{Refuted}
 use Rattle.command_plan.specs.Plan.{answers}
 use Rattle.command_plan.specs.Steps.{Says}
 use Rattle.verify_command.specs.Texts.{refuted_line}
-use Rattle.verify_command.specs.Verify.{judged}
+use Rattle.verify_command.specs.Verify.{judged_report}
 
 module _ (recipe : Said) (compare : CompareLine) (result : Result Answer Stop) where
   -- no fault is told as a yes, or as a difference
-  pub no_fault_equal : (fault : Option (Part × ℕ)) → Judges fault compare.result verdict.Yes → Says (judged recipe compare None) result → Says (judged recipe compare fault) result
+  pub no_fault_equal : (fault : Option (Part × ℕ)) → Judges fault compare.result verdict.Yes → Says (judged_report recipe compare None) result → Says (judged_report recipe compare fault) result
   no_fault_equal None is said = said
   no_fault_equal (Some (part, place)) is said = absurd cc
 
-  pub no_fault_differs : (fault : Option (Part × ℕ)) → Judges fault compare.result verdict.TrueButDiffers → Says (judged recipe compare None) result
-      → Says (judged recipe compare fault) result
+  pub no_fault_differs : (fault : Option (Part × ℕ)) → Judges fault compare.result verdict.TrueButDiffers → Says (judged_report recipe compare None) result
+      → Says (judged_report recipe compare fault) result
   no_fault_differs None is said = said
   no_fault_differs (Some (part, place)) is said = absurd cc
 
@@ -31,7 +31,7 @@ module _ (recipe : Said) (compare : CompareLine) (result : Result Answer Stop) w
   never_true (Differs offset made given) part place is = cc
 
   pub fault : (found : Option (Part × ℕ)) (part : Part) (place : ℕ) → Judges found compare.result (verdict.Refuted part place)
-      → Says (answers Refuted (refuted_line part place)) result → Says (judged recipe compare found) result
+      → Says (answers Refuted (refuted_line part place)) result → Says (judged_report recipe compare found) result
   fault None part place is said = absurd (never_true compare.result part place is)
   fault (Some (first, at)) part place is said =
       let part_is : part ≡ first = cc in

@@ -14,12 +14,12 @@ use Rattle.recipe_plan.specs.Reports.{compared_status, needs_report}
 use Rattle.verify_command.specs.Texts.{refuted_line, true_text}
 
 -- a report without a fault is true, and its comparison is said, with what is assumed; of any other the first part that is not true is named
-abbrev pub judged : Said → CompareLine → Option (Part × ℕ) → Plan
-judged recipe compare None = answers (compared_status compare.result) (true_text recipe compare)
-judged recipe compare (Some (part, place)) = answers Refuted (refuted_line part place)
+abbrev pub judged_report : Said → CompareLine → Option (Part × ℕ) → Plan
+judged_report recipe compare None = answers (compared_status compare.result) (true_text recipe compare)
+judged_report recipe compare (Some (part, place)) = answers Refuted (refuted_line part place)
 
 abbrev pub verified : Said → List (List ℕ) → Report → Plan
-verified recipe inputs report = judged recipe report.compare (first_fault recipe inputs report)
+verified recipe inputs report = judged_report recipe report.compare (first_fault recipe inputs report)
 
 -- the recipe, a report that is none of its inputs, what the report says, the inputs, and then the judgement
 unfoldable pub verify_files : List ℕ → List ℕ → Plan

@@ -7,7 +7,7 @@ ghost use Rattle.command_plan.specs.declared.status.Status.TheVariants.{Refuted}
 ghost use Rattle.command_plan.specs.Performs.{Performs};
 ghost use Rattle.command_plan.specs.Plan.{answers};
 ghost use Rattle.command_plan.specs.Steps.{Says};
-ghost use Rattle.verify_command.specs.Verify.{judged, verified, verify_files, verify_plan};
+ghost use Rattle.verify_command.specs.Verify.{judged_report, verified, verify_files, verify_plan};
 ghost use Rattle.verify_command.specs.Texts.{refuted_line};
 
 use crate::texts;
@@ -77,7 +77,7 @@ fn answer<M: Meaning>(
 
 /// The answer to a report that is true.
 fn accepted(alloc: Global, recipe: &Recipe, compare: &CompareLine) -> Result<Answer, Stop>
-    ensures { Says (judged recipe.now compare.now None) result }
+    ensures { Says (judged_report recipe.now compare.now None) result }
 {
     let text = texts::accepted(alloc, recipe, compare)?;
     match compare.result {

@@ -11,7 +11,7 @@ use Rattle.wheeler.specs.declared.answer.Answer.{Answer}
 use Rattle.wheeler.specs.declared.answer.Answer.TheVariants.{Completes}
 use Rattle.wheeler.specs.Bench.{bench}
 use Rattle.wheeler.specs.Positions.{Position, Standing, On, Over, beginning, continue, finish, forward, forward_from, position, todo}
-use Rattle.wheeler.specs.Valid.{IsAnswer, IsAt, IsInputs, IsPosition, IsStanding, limits}
+use Rattle.wheeler.specs.Valid.{IsAuditAnswer, IsAt, IsInputs, IsPosition, IsStanding, limits}
 use Rattle.wheeler.proofs.Continues.{AllMayStep, IsPlace, enter-place, forward-continue, position-bench}
 use Rattle.wheeler.proofs.Enough.{enough}
 use Rattle.wheeler.proofs.Here.{IsHere}
@@ -71,10 +71,10 @@ beginning-enough recipe inputs is =
 pub bench-report : (recipe : Said) (inputs : List (List ℕ)) (report : Report) → kept.IsRecipe recipe → IsInputs recipe inputs
     → bench recipe inputs ≡ Completes report → IsReport report
 bench-report recipe inputs report is given comes =
-    subst IsAnswer comes (subst (IsStanding recipe) (beginning-enough recipe inputs is)
+    subst IsAuditAnswer comes (subst (IsStanding recipe) (beginning-enough recipe inputs is)
     (from-standing recipe is inputs given (beginning recipe inputs) (beginning-standing recipe is inputs given) (2 ^ 64 - 1)))
 
 pub position-report : (recipe : Said) (inputs : List (List ℕ)) (p : Position) (report : Report) → kept.IsRecipe recipe → IsInputs recipe inputs
     → IsPosition recipe p → continue recipe inputs p ≡ Completes report → IsReport report
 position-report recipe inputs p report is given ok comes =
-    subst IsAnswer comes (subst (IsStanding recipe) (advance-enough recipe inputs p is ok) (forward-standing recipe is inputs given p ok (2 ^ 64 - 1)))
+    subst IsAuditAnswer comes (subst (IsStanding recipe) (advance-enough recipe inputs p is ok) (forward-standing recipe is inputs given p ok (2 ^ 64 - 1)))

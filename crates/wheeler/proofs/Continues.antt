@@ -22,7 +22,7 @@ use Rattle.wheeler.specs.declared.answer.Fault.{Fault}
 use Rattle.wheeler.specs.declared.answer.Answer.{Answer}
 use Rattle.wheeler.specs.Stages.{by_end, by_start, contents, ending, start_stage}
 use Rattle.wheeler.specs.Bench.{after_stage, bench, bench_from}
-use Rattle.wheeler.specs.Positions.{Position, Standing, On, Over, at, beginning, closed, continue, continue_among, enter, entered, finish, forward, onward, position, step, todo}
+use Rattle.wheeler.specs.Positions.{Position, Standing, On, Over, at, beginning, stage_closed, continue, continue_among, enter, entered, finish, forward, onward, position, step, todo}
 use Rattle.wheeler.proofs.Slices.{step-next, went-on, went-spent}
 use Rattle.wheeler.proofs.Here.{IsHere}
 
@@ -91,7 +91,7 @@ enter-bench recipe inputs done (stage ∷ stages) left = by_begin (start_stage r
 -- and where a stage is closed
 closed-bench : (recipe : Said) (inputs : List (List ℕ)) (done : List Finished) (stage : Stage) (stages : List Stage) → todo recipe done ≡ stage ∷ stages
     → (r : Result Finished Fault)
-    → finish recipe inputs (closed recipe inputs done stages r) ≡ after_stage (suc (length done)) r (λ f. bench_from recipe inputs (done ++ f ∷ []) stages)
+    → finish recipe inputs (stage_closed recipe inputs done stages r) ≡ after_stage (suc (length done)) r (λ f. bench_from recipe inputs (done ++ f ∷ []) stages)
 closed-bench recipe inputs done stage stages left (Err fault) = refl
 closed-bench recipe inputs done stage stages left (Ok f) = enter-bench recipe inputs (done ++ f ∷ []) stages (todo-next recipe done f stage stages left)
 
@@ -162,7 +162,7 @@ enter-place recipe all inputs done (stage ∷ stages) left = by_begin (start_sta
       (stage, stages, record { left = left; within = omega arith })
 
 closed-place : (recipe : Said) → AllMayStep recipe → (inputs : List (List ℕ)) (done : List Finished) (stage : Stage) (stages : List Stage) → todo recipe done ≡ stage ∷ stages
-    → (r : Result Finished Fault) → IsPlace recipe (closed recipe inputs done stages r)
+    → (r : Result Finished Fault) → IsPlace recipe (stage_closed recipe inputs done stages r)
 closed-place recipe all inputs done stage stages left (Err fault) = tt
 closed-place recipe all inputs done stage stages left (Ok f) = enter-place recipe all inputs (done ++ f ∷ []) stages (todo-next recipe done f stage stages left)
 

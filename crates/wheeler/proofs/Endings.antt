@@ -27,25 +27,25 @@ use Rattle.wheeler.specs.declared.answer.Fault.TheVariants.{Runs}
 use Rattle.wheeler.specs.declared.answer.Finished.{Finished}
 use Rattle.wheeler.specs.declared.cause.RunCause.TheVariants as run
 use Rattle.wheeler.specs.Contents.{check_of}
-use Rattle.wheeler.specs.Stages.{artefact_bytes, checked_by, contents, ending, finished, left_line, made_by, mark_of, output_of}
+use Rattle.wheeler.specs.Stages.{artefact_bytes, checked_by, contents, ending, finished, marked_left, made_by, mark_of, output_of}
 use Rattle.wheeler.specs.Valid.{HasMark, IsFinished, IsLeftLine}
 use Rattle.wheeler.proofs.Marks.{mark-small}
 
 -- names that rise do so as lines
-lines-ascend : (files : List (List ℕ × List ℕ)) → IsTrue (is_sorted bytes_cmp files) → IsTrue (ascend (map left_line files))
+lines-ascend : (files : List (List ℕ × List ℕ)) → IsTrue (is_sorted bytes_cmp files) → IsTrue (ascend (map marked_left files))
 lines-ascend [] rise = refl
 lines-ascend (a ∷ []) rise = refl
 lines-ascend (a ∷ (b ∷ files)) rise =
     let parts = and_parts (below_all bytes_cmp a.0 (b ∷ files)) (is_sorted bytes_cmp (b ∷ files)) rise in
     let first = and_parts (is_lt (bytes_cmp a.0 b.0)) (below_all bytes_cmp a.0 files) parts.0 in
-    and_from (is_lt (bytes_cmp a.0 b.0)) (ascend (map left_line (b ∷ files))) first.0 (lines-ascend (b ∷ files) parts.1)
+    and_from (is_lt (bytes_cmp a.0 b.0)) (ascend (map marked_left (b ∷ files))) first.0 (lines-ascend (b ∷ files) parts.1)
 
 contains-line : (files : List (List ℕ × List ℕ)) (path content : List ℕ) → Contains files (path, content)
-    → Contains (map left_line files) (record { name = path; mark = mark_of content })
+    → Contains (map marked_left files) (record { name = path; mark = mark_of content })
 contains-line files path content there = (
   there.0,
-  omega (arith, there.1, length-map files left_line),
-  get_or-map left_line files there.0 (path, content) ∙ ap left_line there.2,
+  omega (arith, there.1, length-map files marked_left),
+  get_or-map marked_left files there.0 (path, content) ∙ ap marked_left there.2,
 )
 
 -- the artefact has the mark of the output
@@ -54,7 +54,7 @@ unfolding finished
 marked Stream steps w made sound is = ap mark_of (same_Some w.stream1 made is)
 marked (File path) steps w made sound is = contains-line (left w) path made (path-left w path made sound is)
 
-left-line-is : (file : List ℕ × List ℕ) → IsLeftFile file → IsLeftLine (left_line file)
+left-line-is : (file : List ℕ × List ℕ) → IsLeftFile file → IsLeftLine (marked_left file)
 left-line-is file is = record { named = is.named; name_bytes = is.name_bytes; mark = mark-small file.1 is.content }
 
 pub finished-is : (stage : Stage) (steps : ℕ) (w : World) (made : List ℕ) → IsSound w → 1 ≤ steps → steps ≤ stage.steps
@@ -68,8 +68,8 @@ finished-is stage steps w made sound some few is =
       few_steps = few;
       stream1 = mark-small w.stream1 streams.0;
       stream2 = mark-small w.stream2 streams.1;
-      each_left = All-map IsLeftLine left_line (left w) (All-weaker IsLeftFile (λ file. IsLeftLine (left_line file)) left-line-is (left w) files.each);
-      few_left = omega (arith, files.few, length-map (left w) left_line);
+      each_left = All-map IsLeftLine marked_left (left w) (All-weaker IsLeftFile (λ file. IsLeftLine (marked_left file)) left-line-is (left w) files.each);
+      few_left = omega (arith, files.few, length-map (left w) marked_left);
       ascending = lines-ascend (left w) files.ascending;
       made = output-is w (output_of stage.output) made sound is;
       output = marked stage.output steps w made sound is;

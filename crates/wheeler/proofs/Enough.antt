@@ -11,7 +11,7 @@ use Rattle.wheeler.specs.declared.answer.Finished.{Finished}
 use Rattle.wheeler.specs.declared.answer.Fault.{Fault}
 use Rattle.wheeler.specs.declared.answer.Answer.{Answer}
 use Rattle.wheeler.specs.Stages.{contents, ending, start_stage}
-use Rattle.wheeler.specs.Positions.{Position, Standing, On, Over, at, closed, enter, entered, forward, onward, step, todo}
+use Rattle.wheeler.specs.Positions.{Position, Standing, On, Over, at, stage_closed, enter, entered, forward, onward, step, todo}
 use Rattle.wheeler.specs.Valid.{limits}
 use Rattle.wheeler.proofs.Here.{IsHere}
 use Rattle.wheeler.proofs.Forwards.{forward-over, forward-sum}
@@ -64,7 +64,7 @@ enough recipe all inputs (suc fuel) p stage stages ok le =
       by_rest done [] left le' is again = over _ is
       by_rest done (stage' ∷ stages') left le' is again = by_begin done stage' stages' (start_stage recipe (contents inputs done) stage') left le' refl is again
 
-      by_result : (r : Result Finished Fault) → step recipe inputs p ≡ closed recipe inputs p.done stages r → Again → IsOver recipe inputs p (suc fuel)
+      by_result : (r : Result Finished Fault) → step recipe inputs p ≡ stage_closed recipe inputs p.done stages r → Again → IsOver recipe inputs p (suc fuel)
       by_result (Err fault) is again = over _ is
       by_result (Ok f) is again = by_rest (p.done ++ f ∷ []) stages (todo-next recipe p.done f stage stages ok.left) rest is again
 

@@ -20,8 +20,8 @@ use Rattle.recipe.specs.declared.parts.Content.TheVariants.{Input, Stage as Arte
 use Rattle.recipe.specs.declared.parts.Stage.{Stage}
 use Rattle.recipe.specs.declared.parts.StageFile.{StageFile}
 use Rattle.wheeler.proofs.Rules as kept
-use Rattle.recipe.specs.Lookups.{content_of}
-use Rattle.wheeler.specs.Contents.{Contents, box_of, bytes_named, content, with_file}
+use Rattle.recipe.specs.Lookups.{content_named}
+use Rattle.wheeler.specs.Contents.{Contents, box_of, bytes_named, content, with_stage_file}
 
 -- contents that keep their limits
 pub record AreContents (all : Contents) : Type 0 where
@@ -39,7 +39,7 @@ among contents index all = elim (cases_lt index (length contents)) [
 
 pub content-is : (recipe : Said) (all : Contents) (name : List ℕ) → AreContents all → IsContent (content recipe all name)
 unfolding content
-content-is recipe all name are = by_found (content_of recipe.inputs recipe.stages name) where
+content-is recipe all name are = by_found (content_named recipe.inputs recipe.stages name) where
   by_found : (found : Option Content) → IsContent (bytes_named all found)
   by_found None = no-content
   by_found (Some (Input index)) = among all.inputs index are.inputs
@@ -60,7 +60,7 @@ record AreFiles (held : FileMap) (most : ℕ) : Type 0 where
   few : fin.len held ≤ most
 
 file-added : (recipe : Said) (all : Contents) (held : FileMap) (most : ℕ) (file : StageFile) → AreContents all → AreFiles held most → kept.IsStageFile file
-    → AreFiles (with_file recipe all held file) (most + 1)
+    → AreFiles (with_stage_file recipe all held file) (most + 1)
 file-added recipe all held most file are files is =
     let made = content-is recipe all file.from are in
     record {
@@ -69,16 +69,16 @@ file-added recipe all held most file are files is =
           (record { named = is.path.name; name_bytes = is.path.bytes; small = made.small; content_bytes = made.bytes }) files.each);
       few = by_name (fin.contains_key held file.path) (fin.len-insert nat_list_cmp_total held file.path (content recipe all file.from));
     } where
-      by_name : (b : Bool) → fin.len (with_file recipe all held file) ≡ cond b (fin.len held) (fin.len held + 1) → fin.len (with_file recipe all held file) ≤ most + 1
+      by_name : (b : Bool) → fin.len (with_stage_file recipe all held file) ≡ cond b (fin.len held) (fin.len held + 1) → fin.len (with_stage_file recipe all held file) ≤ most + 1
       by_name true is = omega (arith, files.few)
       by_name false is = omega (arith, files.few)
 
 -- all files of a stage
 files-added : (recipe : Said) (all : Contents) (held : FileMap) (most : ℕ) (files : List StageFile) → AreContents all → AreFiles held most → All kept.IsStageFile files
-    → AreFiles (fold (with_file recipe all) held files) (most + length files)
+    → AreFiles (fold (with_stage_file recipe all) held files) (most + length files)
 files-added recipe all held most [] are files is = record { each = files.each; few = omega (arith, files.few) }
 files-added recipe all held most (file ∷ rest) are files is =
-    let more = files-added recipe all (with_file recipe all held file) (most + 1) rest are
+    let more = files-added recipe all (with_stage_file recipe all held file) (most + 1) rest are
     (file-added recipe all held most file are files (All-head kept.IsStageFile file rest is)) (All-tail kept.IsStageFile file rest is) in
     record { each = more.each; few = omega (arith, more.few) }
 

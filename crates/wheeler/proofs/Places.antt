@@ -30,7 +30,7 @@ use Rattle.wheeler.specs.declared.answer.Fault.{Fault}
 use Rattle.wheeler.specs.declared.answer.Finished.{Finished}
 use Rattle.wheeler.specs.Contents.{Contents, box_of, content}
 use Rattle.wheeler.specs.Stages.{artefact_bytes, contents, ending, finished, start_stage}
-use Rattle.wheeler.specs.Positions.{Position, Standing, On, Over, beginning, closed, enter, entered, forward, forward_from, onward, step, todo}
+use Rattle.wheeler.specs.Positions.{Position, Standing, On, Over, beginning, stage_closed, enter, entered, forward, forward_from, onward, step, todo}
 use Rattle.wheeler.specs.Valid.{AreDone, AreFinished, IsAt, IsFinished, IsInputs, IsPosition, IsStanding}
 use Rattle.wheeler.proofs.Continues.{todo-next}
 use Rattle.wheeler.proofs.Endings.{ended, finished-is}
@@ -75,7 +75,7 @@ heap_after_call guest (call.exits status) keeps to is = cc
 heap_after_call guest (call.is_unknown number) keeps to is = cc
 
 heap_after : (guest : GuestState) → IsValid guest → (an_act : Act) → (to : GuestState) → step_of_act guest an_act ≡ Goes to → to.heap.limit ≡ guest.heap.limit
-heap_after guest valid (hart.Goes h) to is = sym (ap limit_of is) where
+heap_after guest valid (hart.GoesOn h) to is = sym (ap limit_of is) where
   limit_of : Next → ℕ
   limit_of (Goes g) = g.heap.limit
   limit_of (Ends end) = 0
@@ -163,9 +163,9 @@ module _ (recipe : Said) (is : kept.IsRecipe recipe) (inputs : List (List ℕ)) 
 
   -- a stage's end: the next stage is entered, or the audit is over
   pub closed-standing : (p : Position) (stage : Stage) (stages : List Stage) (end : End) → IsAt recipe p stage stages
-      → IsStanding recipe (closed recipe inputs p.done stages (ending recipe inputs p.done stage end p.at))
+      → IsStanding recipe (stage_closed recipe inputs p.done stages (ending recipe inputs p.done stage end p.at))
   closed-standing p stage stages end ok = by_result (ending recipe inputs p.done stage end p.at) refl where
-    by_result : (r : Result Finished Fault) → ending recipe inputs p.done stage end p.at ≡ r → IsStanding recipe (closed recipe inputs p.done stages r)
+    by_result : (r : Result Finished Fault) → ending recipe inputs p.done stage end p.at ≡ r → IsStanding recipe (stage_closed recipe inputs p.done stages r)
     by_result (Err fault) comes = tt
     by_result (Ok f) comes =
         enter-standing (p.done ++ f ∷ []) stages (done-more p stage stages end f ok comes) (todo-next recipe p.done f stage stages ok.left)

@@ -13,7 +13,7 @@ use Rattle.wheeler.specs.declared.answer.Finished.{Finished}
 use Rattle.wheeler.specs.declared.answer.Fault.TheVariants.{Runs}
 use Rattle.wheeler.specs.declared.answer.Answer.TheVariants.{Fails}
 use Rattle.wheeler.specs.Stages.{ending}
-use Rattle.wheeler.specs.Positions.{Position, On, Over, at, closed, forward, onward, step, step_among, moved, todo, went}
+use Rattle.wheeler.specs.Positions.{Position, On, Over, at, stage_closed, forward, onward, step, step_among, moved, todo, went}
 
 -- a step, by the guest's
 pub step-next : (recipe : Said) (inputs : List (List ℕ)) (p : Position) (stage : Stage) (stages : List Stage) (n : Next)
@@ -86,7 +86,7 @@ end-place guest most end is =
 -- an end within the limit
 pub slice-end : (recipe : Said) (inputs : List (List ℕ)) (done : List Finished) (stage : Stage) (stages : List Stage)
     → todo recipe done ≡ stage ∷ stages → (guest last : GuestState) (most : ℕ) (end : End) → first_end guest most ≡ Some (end, last) → guest.steps + most ≤ stage.steps
-    → forward recipe inputs (at done guest) (suc (last.steps - guest.steps)) ≡ closed recipe inputs done stages (ending recipe inputs done stage end last)
+    → forward recipe inputs (at done guest) (suc (last.steps - guest.steps)) ≡ stage_closed recipe inputs done stages (ending recipe inputs done stage end last)
 slice-end recipe inputs done stage stages left guest last most end is le =
     let place = end-place guest most (end, last) is in
     let counted = after-counted guest last place.0 place.2 in

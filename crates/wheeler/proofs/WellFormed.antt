@@ -15,11 +15,11 @@ use Rattle.recipe.specs.declared.parts.Input.{Input}
 use Rattle.recipe.specs.declared.parts.Stage.{Stage}
 use Rattle.wheeler.proofs.Rules as kept
 use Rattle.report.specs.declared.types.LeftLine.{LeftLine}
-use Rattle.report.specs.Reports.{IsCompared, IsInput, IsLeft, IsReport, IsStage}
+use Rattle.report.specs.Reports.{IsCompared, IsInputLine, IsLeft, IsReport, IsStageLine}
 use Rattle.wheeler.specs.declared.answer.Finished.{Finished}
 use Rattle.wheeler.specs.Contents.{content}
 use Rattle.wheeler.specs.Stages.{contents}
-use Rattle.wheeler.specs.Bench.{compared, compared_at, input_lines, report_of, stage_line, stage_lines}
+use Rattle.wheeler.specs.Bench.{compared, compared_at, input_lines, bench_report, stage_line, stage_lines}
 use Rattle.wheeler.specs.Positions.{todo}
 use Rattle.wheeler.specs.Valid.{AreDone, AreFinished, IsFinished, IsInputs, IsLeftLine}
 use Rattle.wheeler.proofs.GivenBoxes.{AreContents, content-is}
@@ -27,14 +27,14 @@ use Rattle.wheeler.proofs.Marks.{mark-is, small-mark}
 
 -- the lines of the inputs
 all-inputs : (inputs : List Input) (given : List (List ℕ)) → length given ≡ length inputs → All kept.IsInput inputs → All IsContent given
-    → (length (input_lines inputs given) ≡ length inputs) × All IsInput (input_lines inputs given)
-all-inputs [] [] same names small = (refl, All-nil IsInput)
+    → (length (input_lines inputs given) ≡ length inputs) × All IsInputLine (input_lines inputs given)
+all-inputs [] [] same names small = (refl, All-nil IsInputLine)
 all-inputs [] (bytes ∷ given) same names small = absurd (omega (arith, same))
 all-inputs (input ∷ inputs) [] same names small = absurd (omega (arith, same))
 all-inputs (input ∷ inputs) (bytes ∷ given) same names small =
     let rest = all-inputs inputs given (omega (arith, same)) (All-tail kept.IsInput input inputs names) (All-tail IsContent bytes given small) in (
       omega (arith, rest.0),
-      All-cons IsInput _ _ (record {
+      All-cons IsInputLine _ _ (record {
         name = (All-head kept.IsInput input inputs names).name;
         mark = mark-is bytes (All-head IsContent bytes given small);
       }) rest.1,
@@ -51,7 +51,7 @@ named-long name is =
 left-is : (file : LeftLine) → IsLeftLine file → IsLeft file
 left-is file is = record { count = named-long file.name is.named; bytes = is.name_bytes; mark = small-mark file.mark is.mark }
 
-stage-is : (recipe : Said) (stage : Stage) (f : Finished) → kept.IsStage stage → IsFinished stage f → IsStage (stage_line recipe stage f)
+stage-is : (recipe : Said) (stage : Stage) (f : Finished) → kept.IsStage stage → IsFinished stage f → IsStageLine (stage_line recipe stage f)
 stage-is recipe stage f rules is = record {
   name = rules.name;
   steps = omega (arith, is.few_steps, rules.few_steps);
@@ -64,13 +64,13 @@ stage-is recipe stage f rules is = record {
 }
 
 all-stages : (recipe : Said) (stages : List Stage) (done : List Finished) → length done ≡ length stages → All kept.IsStage stages → AreFinished stages done
-    → (length (stage_lines recipe stages done) ≡ length stages) × All IsStage (stage_lines recipe stages done)
-all-stages recipe [] [] same rules are = (refl, All-nil IsStage)
+    → (length (stage_lines recipe stages done) ≡ length stages) × All IsStageLine (stage_lines recipe stages done)
+all-stages recipe [] [] same rules are = (refl, All-nil IsStageLine)
 all-stages recipe [] (f ∷ done) same rules are = absurd are
 all-stages recipe (stage ∷ stages) [] same rules are = absurd (omega (arith, same))
 all-stages recipe (stage ∷ stages) (f ∷ done) same rules are =
     let rest = all-stages recipe stages done (omega (arith, same)) (All-tail kept.IsStage stage stages rules) are.1 in
-    (omega (arith, rest.0), All-cons IsStage _ _ (stage-is recipe stage f (All-head kept.IsStage stage stages rules) are.0) rest.1)
+    (omega (arith, rest.0), All-cons IsStageLine _ _ (stage-is recipe stage f (All-head kept.IsStage stage stages rules) are.0) rest.1)
 
 -- as many stages are done as there are
 fewer : (stages : List Stage) (done : List Finished) → AreFinished stages done → length done ≤ length stages
@@ -117,8 +117,8 @@ compared-is a b small smaller = by_difference (first_difference a b) refl where
       }
 
 pub report-is : (recipe : Said) → kept.IsRecipe recipe → (inputs : List (List ℕ)) → IsInputs recipe inputs → (done : List Finished) → AreDone recipe done
-    → AreContents (contents inputs done) → todo recipe done ≡ [] → IsReport (report_of recipe inputs done)
-unfolding report_of
+    → AreContents (contents inputs done) → todo recipe done ≡ [] → IsReport (bench_report recipe inputs done)
+unfolding bench_report
 report-is recipe is inputs given done are all left =
     let few = fewer recipe.stages done are.each in
     let none : length (drop (length done) recipe.stages) ≡ 0 = ap length left in

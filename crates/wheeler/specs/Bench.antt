@@ -48,20 +48,20 @@ abbrev pub compared : List ℕ → List ℕ → Compared
 compared made binary = compared_at (first_difference made binary) made binary
 
 -- what the recipe asks to compare
-abbrev pub comparison : Said → Contents → CompareLine
-comparison recipe all = record {
+abbrev pub compare_line : Said → Contents → CompareLine
+compare_line recipe all = record {
   stage = recipe.compare.stage;
   binary = recipe.compare.binary;
   result = compared (content recipe all recipe.compare.stage) (content recipe all recipe.compare.binary);
 }
 
 -- the report of all stages
-unfoldable pub report_of : Said → List (List ℕ) → List Finished → Report
-report_of recipe inputs done = record {
+unfoldable pub bench_report : Said → List (List ℕ) → List Finished → Report
+bench_report recipe inputs done = record {
   recipe = recipe.digest;
   inputs = input_lines recipe.inputs inputs;
   stages = stage_lines recipe recipe.stages done;
-  compare = comparison recipe (contents inputs done);
+  compare = compare_line recipe (contents inputs done);
 }
 
 -- the stage of this number is done and what follows goes on, or the audit is over
@@ -71,7 +71,7 @@ after_stage number (Ok f) next = next f
 
 -- what the stages that are left come to, after those that are done
 abbrev pub bench_from : Said → List (List ℕ) → List Finished → List Stage → Answer
-bench_from recipe inputs done [] = Completes (report_of recipe inputs done)
+bench_from recipe inputs done [] = Completes (bench_report recipe inputs done)
 bench_from recipe inputs done (stage ∷ stages) =
     after_stage (suc (length done)) (stage_result recipe inputs done stage) (λ f. bench_from recipe inputs (done ++ f ∷ []) stages)
 

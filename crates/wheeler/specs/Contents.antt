@@ -13,9 +13,9 @@ use Rattle.recipe.specs.declared.parts.SourceLanguage.{SourceLanguage}
 use Rattle.recipe.specs.declared.parts.SourceLanguage.TheVariants.{Defined, Other}
 use Rattle.recipe.specs.declared.parts.Stage.{Stage}
 use Rattle.recipe.specs.declared.parts.StageFile.{StageFile}
-use Rattle.recipe.specs.Lookups.{content_of, source_named}
+use Rattle.recipe.specs.Lookups.{content_named, source_named}
 use Rattle.wheeler.specs.declared.source_check.cause.CheckCause.{CheckCause}
-use Rattle.wheeler.specs.SourceCheck.Checks.{check, joined}
+use Rattle.wheeler.specs.SourceCheck.Checks.{check, joined_files}
 
 -- the bytes of the inputs and of the artefacts so far, each in the recipe's order
 pub record Contents : Type 0 where
@@ -23,28 +23,28 @@ pub record Contents : Type 0 where
   pub artefacts : List (List ℕ)
 
 -- the bytes of an input or of an artefact, by its index from 0
-abbrev pub bytes_at : Contents → Content → List ℕ
-bytes_at contents (Input index) = get_or contents.inputs index []
-bytes_at contents (Artefact index) = get_or contents.artefacts index []
+abbrev pub bytes_of_content : Contents → Content → List ℕ
+bytes_of_content contents (Input index) = get_or contents.inputs index []
+bytes_of_content contents (Artefact index) = get_or contents.artefacts index []
 
 -- the bytes that a name stands for; [] for a name that stands for none so far, which a recipe's rules exclude
 abbrev pub bytes_named : Contents → Option Content → List ℕ
 bytes_named contents None = []
-bytes_named contents (Some found) = bytes_at contents found
+bytes_named contents (Some found) = bytes_of_content contents found
 
 unfoldable pub content : Said → Contents → List ℕ → List ℕ
-content recipe contents name = bytes_named contents (content_of recipe.inputs recipe.stages name)
+content recipe contents name = bytes_named contents (content_named recipe.inputs recipe.stages name)
 
 -- files with one more, at its path
-abbrev pub with_file : Said → Contents → FileMap → StageFile → FileMap
-with_file recipe contents held file = files.insert held file.path (content recipe contents file.from)
+abbrev pub with_stage_file : Said → Contents → FileMap → StageFile → FileMap
+with_stage_file recipe contents held file = files.insert held file.path (content recipe contents file.from)
 
 -- what a stage's program is given
 unfoldable pub box_of : Said → Contents → Stage → Setting
 box_of recipe contents stage = record {
   args = stage.args;
   env = stage.env;
-  files = fold (with_file recipe contents) files.empty stage.files;
+  files = fold (with_stage_file recipe contents) files.empty stage.files;
   heap = stage.heap;
 }
 
@@ -81,7 +81,7 @@ check_language recipe stage = option_and_then (λ (source : Source). defined sou
 -- what is wrong with an artefact of a text
 abbrev pub text_check : SourceText → Option Language → List ℕ → Option CheckCause
 text_check text None made = None
-text_check text (Some language) made = check language text.base (joined text.files) made
+text_check text (Some language) made = check language text.base (joined_files text.files) made
 
 -- what is wrong with a stage's artefact by its check's source; nothing where it is right, or unchecked
 abbrev pub source_check : Said → Contents → Option Source → List ℕ → Option CheckCause

@@ -12,7 +12,7 @@ use Rattle.wheeler.specs.declared.answer.Fault.TheVariants.{Runs}
 use Rattle.wheeler.specs.declared.answer.Finished.{Finished}
 use Rattle.wheeler.specs.declared.cause.RunCause.TheVariants as run
 use Rattle.wheeler.specs.Stages.{by_end, contents, ending, start_cause, start_stage}
-use Rattle.wheeler.specs.Bench.{after_stage, bench_from, report_of}
+use Rattle.wheeler.specs.Bench.{after_stage, bench_from, bench_report}
 
 -- the stages that are done, and the guest of the one after them
 pub record Position : Type 0 where
@@ -37,13 +37,13 @@ entered done (Ok guest) = On (at done guest)
 entered done (Err why) = Over (Fails (suc (length done)) (Runs (run.Start (start_cause why)) 0))
 
 abbrev pub enter : Said → List (List ℕ) → List Finished → List Stage → Standing
-enter recipe inputs done [] = Over (Completes (report_of recipe inputs done))
+enter recipe inputs done [] = Over (Completes (bench_report recipe inputs done))
 enter recipe inputs done (stage ∷ stages) = entered done (start_stage recipe (contents inputs done) stage)
 
 -- a stage's run has ended: the next stage is entered, or the audit is over
-abbrev pub closed : Said → List (List ℕ) → List Finished → List Stage → Result Finished Fault → Standing
-closed recipe inputs done stages (Ok f) = enter recipe inputs (done ++ f ∷ []) stages
-closed recipe inputs done stages (Err fault) = Over (Fails (suc (length done)) fault)
+abbrev pub stage_closed : Said → List (List ℕ) → List Finished → List Stage → Result Finished Fault → Standing
+stage_closed recipe inputs done stages (Ok f) = enter recipe inputs (done ++ f ∷ []) stages
+stage_closed recipe inputs done stages (Err fault) = Over (Fails (suc (length done)) fault)
 
 -- the guest went on: a step that reaches the stage's limit spends it
 abbrev pub went : List Finished → Stage → GuestState → Standing
@@ -53,7 +53,7 @@ went done stage guest =
 
 abbrev pub moved : Said → List (List ℕ) → Position → Stage → List Stage → Next → Standing
 moved recipe inputs p stage stages (Goes guest) = went p.done stage guest
-moved recipe inputs p stage stages (Ends end) = closed recipe inputs p.done stages (ending recipe inputs p.done stage end p.at)
+moved recipe inputs p stage stages (Ends end) = stage_closed recipe inputs p.done stages (ending recipe inputs p.done stage end p.at)
 
 abbrev pub step_among : Said → List (List ℕ) → Position → List Stage → Standing
 step_among recipe inputs p [] = On p
@@ -88,7 +88,7 @@ position recipe inputs count = forward_from recipe inputs (beginning recipe inpu
 -- the answer to which a position comes with as many steps as the limits allow: the first end of the present run within what is left
 -- of its stage's limit, and then the bench
 abbrev pub continue_among : Said → List (List ℕ) → Position → List Stage → Answer
-continue_among recipe inputs p [] = Completes (report_of recipe inputs p.done)
+continue_among recipe inputs p [] = Completes (bench_report recipe inputs p.done)
 continue_among recipe inputs p (stage ∷ stages) =
     after_stage (suc (length p.done)) (by_end recipe inputs p.done stage (first_end p.at (stage.steps - p.at.steps)))
     (λ f. bench_from recipe inputs (p.done ++ f ∷ []) stages)

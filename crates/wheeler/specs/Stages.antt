@@ -36,13 +36,13 @@ abbrev pub artefact_bytes : List Finished → ℕ
 artefact_bytes done = sum_by (λ (f : Finished). length f.made) done
 
 -- where a stage's artefact is: at its output
-abbrev pub output_of : Output → outputs.Output
+abbrev pub output_of : Output → outputs.OutputPlace
 output_of Stream = FirstStream
 output_of (File path) = AtPath path
 
 -- a file that is left, with its mark
-abbrev pub left_line : List ℕ × List ℕ → LeftLine
-left_line file = record { name = file.0; mark = mark_of file.1 }
+abbrev pub marked_left : List ℕ × List ℕ → LeftLine
+marked_left file = record { name = file.0; mark = mark_of file.1 }
 
 -- a stage whose program exited at a step, left these files and made this artefact
 unfoldable pub finished : ℕ → World → List ℕ → Finished
@@ -50,7 +50,7 @@ finished steps world made = record {
   steps = steps;
   stream1 = mark_of world.stream1;
   stream2 = mark_of world.stream2;
-  left = map left_line (left world);
+  left = map marked_left (left world);
   made = made;
 }
 

@@ -77,14 +77,14 @@ abbrev pub IsPosition : Said → Position → Type 0
 IsPosition recipe p = (stage : Stage) × (stages : List Stage) × IsAt recipe p stage stages
 
 -- an answer: a report is well formed
-abbrev pub IsAnswer : Answer → Type 0
-IsAnswer (Completes report) = IsReport report
-IsAnswer (Fails number fault) = Unit {0}
+abbrev pub IsAuditAnswer : Answer → Type 0
+IsAuditAnswer (Completes report) = IsReport report
+IsAuditAnswer (Fails number fault) = Unit {0}
 
 -- where an audit stands: at a position, or it is over with an answer
 abbrev pub IsStanding : Said → Standing → Type 0
 IsStanding recipe (On p) = IsPosition recipe p
-IsStanding recipe (Over answer) = IsAnswer answer
+IsStanding recipe (Over answer) = IsAuditAnswer answer
 
 -- the steps that these stages may take together
 abbrev pub limits : List Stage → ℕ

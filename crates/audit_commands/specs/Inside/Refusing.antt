@@ -8,8 +8,8 @@ use Rattle.command_plan.specs.declared.stop.Stop.{Stop}
 use Rattle.command_plan.specs.declared.stop.Stop.TheVariants as stop
 use Rattle.command_plan.specs.Plan.{answers}
 use Rattle.command_plan.specs.Steps.{Says}
-use Rattle.audit_commands.specs.PauseTexts.{refused_line}
+use Rattle.audit_commands.specs.PauseTexts.{save_refused_line}
 
 abbrev pub Refuses : SaveRefusal → Result Answer Stop → Type 0
 Refuses refusal.OutOfMemory result = result ≡ Err stop.OutOfMemory
-Refuses why result = Says (answers SaveRefused (refused_line why)) result
+Refuses why result = Says (answers SaveRefused (save_refused_line why)) result

@@ -2,7 +2,7 @@
 use Rattle.std.proofs.Common.{◌≡◌, ℕ, Option, Some, Result, Ok, Err, IsErr, IfOk, List, refl, sym, ap, ◌∙◌, subst}
 use Rattle.std.proofs.lemmas.Bool.{false≢true}
 use Rattle.ddc_base.specs.declared.byte_list.OutOfMemory.{OutOfMemory}
-use Rattle.hex_langs.specs.Items.Reading.{Reads}
+use Rattle.hex_langs.specs.Items.Reading.{ReadsItems}
 use Rattle.hex_langs.specs.declared.items.item.Item.{Item}
 use Rattle.hex_langs.specs.declared.items.reader.HexRefusal.{HexRefusal}
 use Rattle.hex_langs.specs.declared.items.reader.HexRefusal.TheVariants as hex
@@ -27,7 +27,7 @@ answer-is : (meant : Option CheckCause) (result : Answer) → result ≡ Ok mean
 answer-is meant result is = subst (λ (r : Answer). IfOk r (λ found. found ≡ meant)) (sym is) refl
 
 pub read-refused : (base : ℕ) (made : List ℕ) (meant : Result (List Item) HexRefusal) (refusal : HexRefusal) (result : Answer)
-    → Reads meant (Err refusal) → RefusesHex (λ why. Some (cause.Hex why)) refusal result → IfOk result (λ found. found ≡ checked (hex_value (linked base meant)) made)
+    → ReadsItems meant (Err refusal) → RefusesHex (λ why. Some (cause.Hex why)) refusal result → IfOk result (λ found. found ≡ checked (hex_value (linked base meant)) made)
 read-refused base made meant hex.OutOfMemory result is refused = no-answer _ result refused
 read-refused base made meant _ result is refused = answer-is (checked (hex_value (linked base meant)) made) result (refused ∙ ap (λ m. Ok (checked (hex_value (linked base m)) made)) (sym is))
 
@@ -37,7 +37,7 @@ link-refused made meant hex.OutOfMemory result is refused = no-answer _ result r
 link-refused made meant _ result is refused = answer-is (checked (hex_value meant) made) result (refused ∙ ap (λ m. Ok (checked (hex_value m) made)) is)
 
 pub found-refused : (items : List Item) (meant : Result (List Item) HexRefusal) (refusal : HexRefusal) (result : Answer)
-    → Reads meant (Err refusal) → RefusesHex (λ why. Some (cause.NotItems why)) refusal result → IfOk result (λ found. found ≡ items_against items meant)
+    → ReadsItems meant (Err refusal) → RefusesHex (λ why. Some (cause.NotItems why)) refusal result → IfOk result (λ found. found ≡ items_against items meant)
 found-refused items meant hex.OutOfMemory result is refused = no-answer _ result refused
 found-refused items meant _ result is refused = answer-is (items_against items meant) result (refused ∙ ap (λ m. Ok (items_against items m)) (sym is))
 

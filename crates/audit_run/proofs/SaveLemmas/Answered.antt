@@ -12,12 +12,12 @@ use Rattle.recipe.specs.declared.parts.Stage.{Stage}
 use Rattle.report.specs.declared.types.LeftLine.{LeftLine}
 use Rattle.report.specs.declared.types.Mark.{Mark}
 use Rattle.report.specs.Reports.{IsDigest, ascend}
-use Rattle.save_text.specs.SaveText.{SaveText, formed}
+use Rattle.save_text.specs.SaveText.{SaveText, parsed_save}
 use Rattle.wheeler.specs.declared.answer.Finished.{Finished}
 use Rattle.wheeler.specs.Positions.{Position, todo}
 use Rattle.wheeler.specs.Stages.{artefact_bytes, mark_of}
 use Rattle.wheeler.specs.Valid.{AreDone, AreFinished, HasMark, IsFinished, IsLeftLine, IsSmallMark}
-use Rattle.audit_run.specs.Save.Saves.{Answer, IsOf, IsPlace, IsPlaceIn, Resumes, digest_of, done_in, position_of}
+use Rattle.audit_run.specs.Save.Saves.{SaveAnswer, IsOf, IsPlace, IsPlaceIn, Resumes, digest_of, done_in, position_of}
 use Rattle.audit_run.specs.declared.save.reading.SaveRefusal.{SaveRefusal}
 use Rattle.audit_run.specs.declared.save.reading.SaveRefusal.TheVariants.{Form, OtherRecipe, State, OutOfMemory}
 
@@ -94,15 +94,15 @@ module _ (recipe : Said) (inputs : List (List ℕ)) (text : List ℕ) where
   abbrev IsAnswer : Result Position SaveRefusal → Type 0
   IsAnswer result = Resumes recipe inputs text result × (result ≢ Err OutOfMemory)
 
-  judges : (said : Result SaveText ℕ) → formed text ≡ said → IsAnswer (judged said)
+  judges : (said : Result SaveText ℕ) → parsed_save text ≡ said → IsAnswer (judged said)
   judges (Err offset) is = (is, λ e. cc)
   judges (Ok save) is =
       by_case IsAnswer (is_of recipe inputs save) _ _
       (λ of. by_case IsAnswer (is_place recipe save) _ _ (λ place. ((save, is, of, place, refl), λ e. cc)) (λ not. ((save, is, of, not), λ e. cc)))
       (λ not. ((save, is, not), λ e. cc))
 
-  pub answered : Answer recipe inputs text
-  answered = let judges = judges (formed text) refl in record { result = judged (formed text); resumes = judges.0; settled = judges.1 }
+  pub answered : SaveAnswer recipe inputs text
+  answered = let judges = judges (parsed_save text) refl in record { result = judged (parsed_save text); resumes = judges.0; settled = judges.1 }
 
   pub is_answer : (result : Result Position SaveRefusal) → Resumes recipe inputs text result → result ≢ Err OutOfMemory → answered.result ≡ result
   unfolding answered
@@ -112,5 +112,5 @@ module _ (recipe : Said) (inputs : List (List ℕ)) (text : List ℕ) where
   is_answer (Err State) (save, is, of, not) settled = ap judged is ∙ chosen (is_of recipe inputs save) _ _ of ∙ passed (is_place recipe save) _ _ not
   is_answer (Err OutOfMemory) resumes settled = absurd (settled refl)
 
-  pub one_answer : (first second : Answer recipe inputs text) → first.result ≡ second.result
+  pub one_answer : (first second : SaveAnswer recipe inputs text) → first.result ≡ second.result
   one_answer first second = sym (is_answer first.result first.resumes first.settled) ∙ is_answer second.result second.resumes second.settled

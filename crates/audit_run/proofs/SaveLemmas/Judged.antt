@@ -6,12 +6,12 @@ use Rattle.recipe.specs.declared.parts.Stage.{Stage}
 use Rattle.report.specs.declared.types.LeftLine.{LeftLine}
 use Rattle.report.specs.Reports.{ascend}
 use Rattle.save_text.specs.SaveText.{after_left}
-use Rattle.save_text.specs.Spelled.{IsLeft}
+use Rattle.save_text.specs.Spelled.{IsSavedLeft}
 use Rattle.wheeler.specs.declared.answer.Finished.{Finished}
 use Rattle.wheeler.specs.Valid.{HasMark, IsFinished, IsLeftLine, IsSmallMark}
 
 -- names that follow one another in a text ascend
-pub ascending : (files : List LeftLine) (last : Option (List ℕ)) → InTurn IsLeft after_left last files → IsTrue (ascend files)
+pub ascending : (files : List LeftLine) (last : Option (List ℕ)) → InTurn IsSavedLeft after_left last files → IsTrue (ascend files)
 ascending [] last turn = refl
 ascending (f ∷ []) last turn = refl
 ascending (f ∷ (g ∷ files)) last turn = let rest = ascending (g ∷ files) (after_left f) turn.1 in rw turn.1.0.behind rest

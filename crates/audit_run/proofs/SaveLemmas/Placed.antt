@@ -8,7 +8,7 @@ use Rattle.recipe.specs.declared.contents.Said.{Said}
 use Rattle.recipe.specs.declared.parts.Stage.{Stage}
 use Rattle.save_text.specs.declared.parts.StagePart.{StagePart}
 use Rattle.save_text.specs.SaveText.{after_left}
-use Rattle.save_text.specs.Spelled.{IsLeft, IsStage}
+use Rattle.save_text.specs.Spelled.{IsSavedLeft, IsStageText}
 use Rattle.save_text.specs.Seen.{stage_view}
 use Rattle.wheeler.specs.declared.answer.Finished.{Finished}
 use Rattle.wheeler.specs.Positions.{todo}
@@ -16,9 +16,9 @@ use Rattle.audit_run.specs.Save.Saves.{finished_of}
 
 -- the names of each stage's left files are in order
 abbrev pub IsOrdered : Finished → Type 0
-IsOrdered f = InTurn IsLeft after_left None f.left
+IsOrdered f = InTurn IsSavedLeft after_left None f.left
 
-pub each_ordered : (parts : List StagePart) (any : ℕ) → InTurn (λ (any : ℕ). IsStage) (λ stage. 0) any (map stage_view parts) → All IsOrdered (map (λ part. finished_of (stage_view part)) parts)
+pub each_ordered : (parts : List StagePart) (any : ℕ) → InTurn (λ (any : ℕ). IsStageText) (λ stage. 0) any (map stage_view parts) → All IsOrdered (map (λ part. finished_of (stage_view part)) parts)
 each_ordered [] any turn = All-nil IsOrdered
 each_ordered (part ∷ parts) any turn =
     All-cons IsOrdered (finished_of (stage_view part)) (map (λ part. finished_of (stage_view part)) parts) turn.0.left.1 (each_ordered parts 0 turn.1)

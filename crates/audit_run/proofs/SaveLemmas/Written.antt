@@ -13,7 +13,7 @@ use Rattle.report.specs.declared.types.Mark.{Mark}
 use Rattle.report.specs.Reports.{ascend}
 use Rattle.report.proofs.Marks.{is_digest}
 use Rattle.save_text.specs.SaveText.{after_left, is_behind}
-use Rattle.save_text.specs.Spelled.{IsDigest, IsLeft, IsMark, IsShort, IsStage, IsText}
+use Rattle.save_text.specs.Spelled.{IsSavedDigest, IsSavedLeft, IsSavedMark, IsShortStage, IsStageText, IsSaveText}
 use Rattle.save_text.proofs.Written.{is_short}
 use Rattle.wheeler.specs.declared.answer.Finished.{Finished}
 use Rattle.wheeler.specs.Positions.{Position}
@@ -34,17 +34,17 @@ first_two a b e = (and_left a b e, and_right a b e) where
   and_right true b e = e
   and_right false b e = absurd cc
 
-mark_of : (mark : Mark) → IsSmallMark mark → IsMark mark
+mark_of : (mark : Mark) → IsSmallMark mark → IsSavedMark mark
 mark_of mark small = record { length = small.length; digest = record { full = small.digest.count } }
 
-left_of : (last : Option (List ℕ)) (file : LeftLine) → IsLeftLine file → is_behind last file.name ≡ true → IsLeft last file
+left_of : (last : Option (List ℕ)) (file : LeftLine) → IsLeftLine file → is_behind last file.name ≡ true → IsSavedLeft last file
 left_of last file line behind = let most = (short_name file.name line.named).1 in record { short = omega arith; behind = behind; mark = mark_of file.mark line.mark }
 
 abbrev IsBegun : Option (List ℕ) → List LeftLine → Type 0
 IsBegun last [] = Unit {0}
 IsBegun last (file ∷ files) = is_behind last file.name ≡ true
 
-in_turn : (last : Option (List ℕ)) (files : List LeftLine) → All IsLeftLine files → IsTrue (ascend files) → IsBegun last files → InTurn IsLeft after_left last files
+in_turn : (last : Option (List ℕ)) (files : List LeftLine) → All IsLeftLine files → IsTrue (ascend files) → IsBegun last files → InTurn IsSavedLeft after_left last files
 in_turn last [] lines up begun = tt
 in_turn last (f ∷ []) lines up begun = (left_of last f (All-head IsLeftLine f [] lines) begun, tt)
 in_turn last (f ∷ (g ∷ files)) lines up begun =
@@ -55,10 +55,10 @@ begun : (files : List LeftLine) → IsBegun None files
 begun [] = tt
 begun (file ∷ files) = refl
 
-pub in_order : (f : Finished) (stage : Stage) → IsFinished stage f → InTurn IsLeft after_left None f.left
+pub in_order : (f : Finished) (stage : Stage) → IsFinished stage f → InTurn IsSavedLeft after_left None f.left
 in_order f stage is = in_turn None f.left is.each_left is.ascending (begun f.left)
 
-stage_is : (stage : Stage) (f : Finished) → stage.steps ≤ 2 ^ 48 → IsFinished stage f → IsStage (stage_of f)
+stage_is : (stage : Stage) (f : Finished) → stage.steps ≤ 2 ^ 48 → IsFinished stage f → IsStageText (stage_of f)
 stage_is stage f few is =
     let steps = is.few_steps in
     let left = is.few_left in
@@ -74,7 +74,7 @@ stage_is stage f few is =
 abbrev HasFew : Stage → Type 0
 HasFew stage = stage.steps ≤ 2 ^ 48
 
-stages_turn : (stages : List Stage) (done : List Finished) (any : ℕ) → All HasFew stages → AreFinished stages done → InTurn (λ (any : ℕ). IsStage) (λ stage. 0) any (map stage_of done)
+stages_turn : (stages : List Stage) (done : List Finished) (any : ℕ) → All HasFew stages → AreFinished stages done → InTurn (λ (any : ℕ). IsStageText) (λ stage. 0) any (map stage_of done)
 stages_turn stages [] any few are = tt
 stages_turn [] (f ∷ done) any few are = absurd are
 stages_turn (stage ∷ stages) (f ∷ done) any few are =
@@ -85,14 +85,14 @@ few_done stages [] are = omega arith
 few_done [] (f ∷ done) are = absurd are
 few_done (stage ∷ stages) (f ∷ done) are = let rest = few_done stages done are.1 in omega arith
 
-digests_turn : (inputs : List (List ℕ)) (any : ℕ) → InTurn (λ (any : ℕ). IsDigest) (λ input. 0) any (map digest_of inputs)
+digests_turn : (inputs : List (List ℕ)) (any : ℕ) → InTurn (λ (any : ℕ). IsSavedDigest) (λ input. 0) any (map digest_of inputs)
 digests_turn [] any = tt
 digests_turn (input ∷ inputs) any = (record { full = (is_digest input).count }, digests_turn inputs 0)
 
 few_steps : (recipe : Said) → rule.IsRecipe recipe → All HasFew recipe.stages
 few_steps recipe is k d less = (is.stages k d less).few_steps
 
-pub has_text : (recipe : Said) (inputs : List (List ℕ)) (p : Position) → kept.IsRecipe recipe → IsInputs recipe inputs → IsPosition recipe p → IsText (save_of recipe inputs p)
+pub has_text : (recipe : Said) (inputs : List (List ℕ)) (p : Position) → kept.IsRecipe recipe → IsInputs recipe inputs → IsPosition recipe p → IsSaveText (save_of recipe inputs p)
 has_text recipe inputs p is given (stage, stages, ok) =
     let rules = rule.rules recipe is in
     let few = few_steps recipe rules in
@@ -109,12 +109,12 @@ has_text recipe inputs p is given (stage, stages, ok) =
       state = states.is_text p.at ok.valid (omega arith);
     }
 
-short_in : (stages : List Stage) (done : List Finished) → All HasFew stages → AreFinished stages done → All (λ f. IsShort (stage_of f)) done
-short_in stages [] few are = All-nil (λ (f : Finished). IsShort (stage_of f))
+short_in : (stages : List Stage) (done : List Finished) → All HasFew stages → AreFinished stages done → All (λ f. IsShortStage (stage_of f)) done
+short_in stages [] few are = All-nil (λ (f : Finished). IsShortStage (stage_of f))
 short_in [] (f ∷ done) few are = absurd are
 short_in (stage ∷ stages) (f ∷ done) few are =
-    All-cons (λ (f : Finished). IsShort (stage_of f)) f done (is_short (stage_of f) (stage_is stage f (All-head HasFew stage stages few) are.0))
+    All-cons (λ (f : Finished). IsShortStage (stage_of f)) f done (is_short (stage_of f) (stage_is stage f (All-head HasFew stage stages few) are.0))
     (short_in stages done (All-tail HasFew stage stages few) are.1)
 
-pub short_done : (recipe : Said) (p : Position) → kept.IsRecipe recipe → IsPosition recipe p → All (λ f. IsShort (stage_of f)) p.done
+pub short_done : (recipe : Said) (p : Position) → kept.IsRecipe recipe → IsPosition recipe p → All (λ f. IsShortStage (stage_of f)) p.done
 short_done recipe p is (stage, stages, ok) = short_in recipe.stages p.done (few_steps recipe (rule.rules recipe is)) ok.done.each

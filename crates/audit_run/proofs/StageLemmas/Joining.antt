@@ -1,15 +1,15 @@
 -- Files that are joined one by one.
 use Rattle.std.proofs.Common.{◌≡◌, ℕ, zero, suc, ◌+◌, ◌<◌, ◌≤◌, List, [], ◌∷◌, ◌++◌, length, map, take, get_or, append_assoc, sym, ap, ◌∙◌, arith}
-use Rattle.wheeler.specs.SourceCheck.Checks.{joined}
+use Rattle.wheeler.specs.SourceCheck.Checks.{joined_files}
 
 -- what a file more is put behind
-joined-push : (files : List (List ℕ)) (file : List ℕ) → 1 ≤ length files → joined (files ++ file ∷ []) ≡ (joined files ++ 10 ∷ []) ++ file
+joined-push : (files : List (List ℕ)) (file : List ℕ) → 1 ≤ length files → joined_files (files ++ file ∷ []) ≡ (joined_files files ++ 10 ∷ []) ++ file
 joined-push [] file some = absurd (omega (arith, some))
 joined-push (a ∷ []) file some = sym (append_assoc a (10 ∷ []) file)
 joined-push (a ∷ (b ∷ files)) file some =
     ap (λ rest. a ++ 10 ∷ rest) (joined-push (b ∷ files) file (omega arith))
-    ∙ sym (append_assoc a (10 ∷ (joined (b ∷ files) ++ 10 ∷ [])) file)
-    ∙ ap (λ front. front ++ file) (sym (append_assoc a (10 ∷ joined (b ∷ files)) (10 ∷ [])))
+    ∙ sym (append_assoc a (10 ∷ (joined_files (b ∷ files) ++ 10 ∷ [])) file)
+    ∙ ap (λ front. front ++ file) (sym (append_assoc a (10 ∷ joined_files (b ∷ files)) (10 ∷ [])))
 
 module _ (content : List ℕ → List ℕ) where
   -- the contents of the first so many names, and one more
@@ -25,18 +25,18 @@ module _ (content : List ℕ → List ℕ) where
   some-taken (x ∷ names) (suc index) some less = omega arith
 
   pub joined-more : (names : List (List ℕ)) (index : ℕ) (name : List ℕ) → 1 ≤ index → index < length names → name ≡ get_or names index name
-      → joined (map content (take (index + 1) names)) ≡ (joined (map content (take index names)) ++ 10 ∷ []) ++ content name
+      → joined_files (map content (take (index + 1) names)) ≡ (joined_files (map content (take index names)) ++ 10 ∷ []) ++ content name
   joined-more names index name some less is =
       let next : index + 1 ≡ suc index = omega arith in
-      ap (λ n. joined (map content (take n names))) next
-      ∙ ap joined (mapped-take names index name less is)
+      ap (λ n. joined_files (map content (take n names))) next
+      ∙ ap joined_files (mapped-take names index name less is)
       ∙ joined-push (map content (take index names)) (content name) (some-taken names index some less)
 
   pub joined-first : (names : List (List ℕ)) (index : ℕ) (name : List ℕ) → index ≡ 0 → index < length names → name ≡ get_or names index name
-      → joined (map content (take (index + 1) names)) ≡ joined (map content (take index names)) ++ content name
+      → joined_files (map content (take (index + 1) names)) ≡ joined_files (map content (take index names)) ++ content name
   joined-first names index name first less is =
       let next : index + 1 ≡ suc index = omega arith in
-      ap (λ n. joined (map content (take n names))) next
-      ∙ ap joined (mapped-take names index name less is)
-      ∙ ap (λ n. joined (map content (take n names) ++ content name ∷ [])) first
-      ∙ ap (λ n. joined (map content (take n names)) ++ content name) (sym first)
+      ap (λ n. joined_files (map content (take n names))) next
+      ∙ ap joined_files (mapped-take names index name less is)
+      ∙ ap (λ n. joined_files (map content (take n names) ++ content name ∷ [])) first
+      ∙ ap (λ n. joined_files (map content (take n names)) ++ content name) (sym first)

@@ -23,7 +23,7 @@ use Rattle.recipe.specs.declared.parts.Stage.{Stage}
 use Rattle.recipe.specs.declared.parts.StageFile.{StageFile}
 use Rattle.recipe.specs.Kept as kept
 use Rattle.wheeler.specs.declared.answer.Finished.{Finished}
-use Rattle.wheeler.specs.Contents.{Contents, check_source, content, with_file}
+use Rattle.wheeler.specs.Contents.{Contents, check_source, content, with_stage_file}
 use Rattle.wheeler.specs.Stages.{contents}
 use Rattle.wheeler.proofs.GivenBoxes.{AreContents, content-is}
 
@@ -46,10 +46,10 @@ stripped-same path is = by_path path (and_parts (is_file_name path) (not (begins
 
 -- a path that no earlier file has is not held yet
 unheld : (recipe : Said) (all : Contents) (files : List StageFile) (held : FileMap) (path : List ℕ) → fin.get held path ≡ None
-    → ((index : ℕ) (file : StageFile) → slice_get files index ≡ Some file → path ≢ file.path) → fin.get (fold (with_file recipe all) held files) path ≡ None
+    → ((index : ℕ) (file : StageFile) → slice_get files index ≡ Some file → path ≢ file.path) → fin.get (fold (with_stage_file recipe all) held files) path ≡ None
 unheld recipe all [] held path absent apart = absent
 unheld recipe all (file ∷ files) held path absent apart =
-    unheld recipe all files (with_file recipe all held file) path
+    unheld recipe all files (with_stage_file recipe all held file) path
     (name_there held file.path (content recipe all file.from) path (apart 0 file refl) ∙ absent)
     (λ index other at. apart (suc index) other at)
 
@@ -81,7 +81,7 @@ slice_get-take (x ∷ files) (suc count) (suc index) file at =
 
 pub not-held : (recipe : Said) (all : Contents) (files : List StageFile) (index : ℕ) (file : StageFile)
     → IsDistinct bytes_eq (map (λ (f : StageFile). f.path) files) → slice_get files index ≡ Some file
-    → fin.get (fold (with_file recipe all) fin.empty (take index files)) file.path ≡ None
+    → fin.get (fold (with_stage_file recipe all) fin.empty (take index files)) file.path ≡ None
 not-held recipe all files index file distinct at =
     unheld recipe all (take index files) fin.empty file.path (fin.get-empty bytes_cmp file.path)
     (λ i other there same.
@@ -89,14 +89,14 @@ not-held recipe all files index file distinct at =
     false≢true (sym (apart-at files i index other file distinct before.0 before.1 at) ∙ (bytes_eq-Decides other.path file.path).1 (sym same)))
 
 -- how many are held
-few-held : (recipe : Said) (all : Contents) (files : List StageFile) (held : FileMap) → fin.len (fold (with_file recipe all) held files) ≤ fin.len held + length files
+few-held : (recipe : Said) (all : Contents) (files : List StageFile) (held : FileMap) → fin.len (fold (with_stage_file recipe all) held files) ≤ fin.len held + length files
 few-held recipe all [] held = omega arith
 few-held recipe all (file ∷ files) held =
-    let rest = few-held recipe all files (with_file recipe all held file) in
+    let rest = few-held recipe all files (with_stage_file recipe all held file) in
     by_name (fin.contains_key held file.path) (fin.len-insert nat_list_cmp_total held file.path (content recipe all file.from)) rest where
-      by_name : (b : Bool) → fin.len (with_file recipe all held file) ≡ cond b (fin.len held) (fin.len held + 1)
-          → fin.len (fold (with_file recipe all) (with_file recipe all held file) files) ≤ fin.len (with_file recipe all held file) + length files
-          → fin.len (fold (with_file recipe all) held (file ∷ files)) ≤ fin.len held + length (file ∷ files)
+      by_name : (b : Bool) → fin.len (with_stage_file recipe all held file) ≡ cond b (fin.len held) (fin.len held + 1)
+          → fin.len (fold (with_stage_file recipe all) (with_stage_file recipe all held file) files) ≤ fin.len (with_stage_file recipe all held file) + length files
+          → fin.len (fold (with_stage_file recipe all) held (file ∷ files)) ≤ fin.len held + length (file ∷ files)
       by_name true is rest = omega (arith, is, rest)
       by_name false is rest = omega (arith, is, rest)
 
@@ -131,7 +131,7 @@ are-contents inputs done small made = record { inputs = small; artefacts = All-m
 pub file-fits : (recipe : Said) (inputs : List (List ℕ)) (done : List Finished) (stage : Stage) (earlier : List Stage) (items : List StageFile) (index : ℕ) (file : StageFile)
     → kept.IsStage recipe earlier stage → All IsContent inputs → All (λ (f : Finished). IsContent f.made) done
     → items ≡ stage.files → index < length items → file ≡ get_or items index file
-    → place_refusal (fold (with_file recipe (contents inputs done)) fin.empty (take index stage.files)) file.path (content recipe (contents inputs done) file.from) ≡ None
+    → place_refusal (fold (with_stage_file recipe (contents inputs done)) fin.empty (take index stage.files)) file.path (content recipe (contents inputs done) file.from) ≡ None
 file-fits recipe inputs done stage earlier items index file rules small made same less is =
     let there : slice_get items index ≡ Some file = slice_get-get_or items index file less ∙ ap Some (sym is) in
     let at : slice_get stage.files index ≡ Some file = subst (λ list. slice_get list index ≡ Some file) same there in

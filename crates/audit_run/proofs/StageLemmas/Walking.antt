@@ -7,11 +7,11 @@ use Rattle.mem_files.specs.Outputs.{left}
 use Rattle.mem_files.specs.World.{World}
 use Rattle.mem_files.proofs.Walks.{named_at, names-left, names-rise, walk-end, walk-turn}
 use Rattle.report.specs.declared.types.LeftLine.{LeftLine}
-use Rattle.wheeler.specs.Stages.{left_line}
+use Rattle.wheeler.specs.Stages.{marked_left}
 
 -- the line of what is left under a name
 abbrev pub line_at : World → List ℕ → LeftLine
-line_at w name = left_line (name, unwrap_or (content_at w name) [])
+line_at w name = marked_left (name, unwrap_or (content_at w name) [])
 
 pub lines-step : (w : World) (given : Option (List ℕ)) (name : List ℕ) (lines whole : List LeftLine) → find (is_after given) (finite.keys w.names) ≡ Some name
     → lines ++ map (line_at w) (filter (is_after given) (finite.keys w.names)) ≡ whole
@@ -20,13 +20,13 @@ lines-step w given name lines whole found before =
     let turn = walk-turn given name (finite.keys w.names) (names-rise w) found in
     append_assoc lines (line_at w name ∷ []) (map (line_at w) (filter (is_after (Some name)) (finite.keys w.names))) ∙ (rw turn at before)
 
-lines-named : (w : World) (names : List (List ℕ)) → map (line_at w) names ≡ map left_line (map (named_at w) names)
+lines-named : (w : World) (names : List (List ℕ)) → map (line_at w) names ≡ map marked_left (map (named_at w) names)
 lines-named w [] = refl
 lines-named w (name ∷ names) = ap (λ rest. line_at w name ∷ rest) (lines-named w names)
 
 pub lines-whole : (w : World) (given : Option (List ℕ)) (lines : List LeftLine) → find (is_after given) (finite.keys w.names) ≡ None
     → lines ++ map (line_at w) (filter (is_after given) (finite.keys w.names)) ≡ map (line_at w) (finite.keys w.names)
-    → lines ≡ map left_line (left w)
+    → lines ≡ map marked_left (left w)
 lines-whole w given lines none before =
     let end = walk-end given (finite.keys w.names) none in
-    sym (append-nil lines) ∙ (rw end at before) ∙ lines-named w (finite.keys w.names) ∙ ap (map left_line) (names-left w)
+    sym (append-nil lines) ∙ (rw end at before) ∙ lines-named w (finite.keys w.names) ∙ ap (map marked_left) (names-left w)

@@ -5,7 +5,7 @@ use Rattle.guest_run.specs.State.{GuestState}
 use Rattle.recipe.specs.declared.contents.Said.{Said}
 use Rattle.recipe.specs.declared.parts.Stage.{Stage}
 use Rattle.wheeler.specs.declared.answer.Finished.{Finished}
-use Rattle.wheeler.specs.Positions.{Standing, On, Over, at, beginning, closed, forward, forward_from}
+use Rattle.wheeler.specs.Positions.{Standing, On, Over, at, beginning, stage_closed, forward, forward_from}
 use Rattle.wheeler.specs.Valid.{AreDone, IsInputs, IsStanding}
 use Rattle.audit_run.specs.declared.place.Place.{Place}
 use Rattle.audit_run.specs.declared.place.Place.TheVariants as place
@@ -39,10 +39,10 @@ later recipe done = drop (length done + 1) recipe.stages
 abbrev pub SlicesBy : Said → List (List ℕ) → List Finished → List Stage → GuestState → ℕ → Moved → GuestState → Type 0
 SlicesBy recipe inputs done stages old taken moved.Goes new = forward recipe inputs (at done old) taken ≡ On (at done new)
 SlicesBy recipe inputs done stages old taken (moved.Ended (Ok f)) new =
-    (forward recipe inputs (at done old) taken ≡ closed recipe inputs done stages (Ok f))
+    (forward recipe inputs (at done old) taken ≡ stage_closed recipe inputs done stages (Ok f))
     × (forward recipe inputs (at done old) (taken - 1) ≡ On (at done new)) × Wants recipe (at done new) × AreDone recipe (done ++ f ∷ [])
 SlicesBy recipe inputs done stages old taken (moved.Ended (Err fault)) new =
-    forward recipe inputs (at done old) taken ≡ closed recipe inputs done stages (Err fault)
+    forward recipe inputs (at done old) taken ≡ stage_closed recipe inputs done stages (Err fault)
 
 abbrev pub Slices : Said → List (List ℕ) → List Finished → List Stage → GuestState → ℕ → Result (ℕ × Moved) OutOfMemory → GuestState → Type 0
 Slices recipe inputs done stages old most (Ok step) new =

@@ -5,7 +5,7 @@ use Rattle.ddc_base.specs.declared.digests.Digest.{Digest}
 use Rattle.recipe.specs.declared.contents.Said.{Said}
 use Rattle.recipe.specs.declared.parts.Stage.{Stage}
 use Rattle.checkpoints.specs.Checkpoint.{IsInRange, IsJoined, guest_of, state_of}
-use Rattle.save_text.specs.SaveText.{SaveText, StageText, formed}
+use Rattle.save_text.specs.SaveText.{SaveText, StageText, parsed_save}
 use Rattle.wheeler.specs.declared.answer.Finished.{Finished}
 use Rattle.wheeler.specs.Positions.{Position, at, todo}
 use Rattle.wheeler.specs.Valid.{AreDone}
@@ -66,15 +66,15 @@ Stands recipe save (Err OtherRecipe) = ⊥
 
 -- what becomes of a text: its form is judged first, then whether it is of this recipe and these inputs, then whether it is a place
 abbrev pub Resumes : Said → List (List ℕ) → List ℕ → Result Position SaveRefusal → Type 0
-Resumes recipe inputs text (Ok p) = (save : SaveText) × (formed text ≡ Ok save) × IsOf recipe inputs save × IsPlace recipe save × (p ≡ position_of save)
-Resumes recipe inputs text (Err (Form offset)) = formed text ≡ Err offset
-Resumes recipe inputs text (Err OtherRecipe) = (save : SaveText) × (formed text ≡ Ok save) × ¬ (IsOf recipe inputs save)
-Resumes recipe inputs text (Err State) = (save : SaveText) × (formed text ≡ Ok save) × IsOf recipe inputs save × ¬ (IsPlace recipe save)
+Resumes recipe inputs text (Ok p) = (save : SaveText) × (parsed_save text ≡ Ok save) × IsOf recipe inputs save × IsPlace recipe save × (p ≡ position_of save)
+Resumes recipe inputs text (Err (Form offset)) = parsed_save text ≡ Err offset
+Resumes recipe inputs text (Err OtherRecipe) = (save : SaveText) × (parsed_save text ≡ Ok save) × ¬ (IsOf recipe inputs save)
+Resumes recipe inputs text (Err State) = (save : SaveText) × (parsed_save text ≡ Ok save) × IsOf recipe inputs save × ¬ (IsPlace recipe save)
 Resumes recipe inputs text (Err OutOfMemory) = Unit {0}
 
 -- the answer to a text: what the rules allow of it where memory is not wanting, of which there is exactly one
 -- (`laws::every_text_has_one_answer`)
-pub record Answer (recipe : Said) (inputs : List (List ℕ)) (text : List ℕ) : Type 0 where
+pub record SaveAnswer (recipe : Said) (inputs : List (List ℕ)) (text : List ℕ) : Type 0 where
   pub result : Result Position SaveRefusal
   pub resumes : Resumes recipe inputs text result
   pub settled : result ≢ Err OutOfMemory

@@ -7,8 +7,8 @@ use Rattle.recipe.specs.Kept as kept
 use Rattle.wheeler.specs.declared.answer.Finished.{Finished}
 
 -- a stage of a recipe that keeps its rules
-abbrev pub IsStage : Said → Stage → Type 0
-IsStage recipe stage = (earlier : List Stage) × kept.IsStage recipe earlier stage
+abbrev pub IsStageOf : Said → Stage → Type 0
+IsStageOf recipe stage = (earlier : List Stage) × kept.IsStage recipe earlier stage
 
 -- the artefacts keep the limit of contents
 abbrev pub AreMade : List Finished → Type 0

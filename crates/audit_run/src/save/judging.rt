@@ -7,7 +7,7 @@ ghost use Rattle.mem_files.specs.Outputs.{IsContent};
 ghost use Rattle.mem_files.specs.Sound.{AreBytes};
 ghost use Rattle.report.specs.Reports.{ascend};
 ghost use Rattle.save_text.specs.SaveText.{after_left};
-ghost use Rattle.save_text.specs.Spelled.{IsLeft};
+ghost use Rattle.save_text.specs.Spelled.{IsSavedLeft};
 ghost use Rattle.wheeler.specs.Stages.{artefact_bytes};
 ghost use Rattle.wheeler.specs.Valid.{AreDone, AreFinished, HasMark, IsFinished, IsLeftLine, IsSmallMark};
 
@@ -19,7 +19,7 @@ use wheeler::MAX_ARTEFACTS;
 
 /// Whether these can be the first stages of the recipe that are done.
 pub(crate) fn are_done(recipe: &Recipe, done: &[Done]) -> bool
-    requires { All (λ f. InTurn IsLeft after_left None f.left) done.now }
+    requires { All (λ f. InTurn IsSavedLeft after_left None f.left) done.now }
     ensures { IsTrue result ↔ AreDone recipe.now done.now }
 {
     are_small(done) && are_finished(recipe.stages().as_slice(), done)
@@ -49,7 +49,7 @@ fn left_after(done: &[Done], most: u64) -> Option<u64>
 
 /// Whether each stage that is done is one of these, in order.
 fn are_finished(stages: &[Stage], done: &[Done]) -> bool
-    requires { All (λ f. InTurn IsLeft after_left None f.left) done.now }
+    requires { All (λ f. InTurn IsSavedLeft after_left None f.left) done.now }
     ensures { IsTrue result ↔ AreFinished stages.now done.now }
 {
     match done {
@@ -63,7 +63,7 @@ fn are_finished(stages: &[Stage], done: &[Done]) -> bool
 
 /// Whether a stage can be done so.
 fn is_finished(stage: &Stage, done: &Done) -> bool
-    requires { InTurn IsLeft after_left None done.now.left }
+    requires { InTurn IsSavedLeft after_left None done.now.left }
     ensures { IsTrue result ↔ IsFinished stage.now done.now }
 {
     let finished = done.finished();
@@ -111,7 +111,7 @@ fn is_content(bytes: &[u8]) -> bool
 
 /// Whether a program can have left these files.
 fn are_left(files: &[LeftLine]) -> bool
-    requires { InTurn IsLeft after_left None files.now }
+    requires { InTurn IsSavedLeft after_left None files.now }
     ensures { IsTrue result ↔ (All IsLeftLine files.now × (length files.now ≤ 4_096) × IsTrue (ascend files.now)) }
 {
     if files.len() > MAX_NAMES {

@@ -5,8 +5,8 @@ ghost use Rattle.audit_run.specs.Save.Saves.{IsResumedAs, Resumes, Stands, diges
 ghost use Rattle.audit_run.specs.Save.Inside.Seen.{AreDigests};
 ghost use Rattle.guest_run.specs.Valid.{IsValid};
 ghost use Rattle.recipe.specs.Kept.{IsRecipe};
-ghost use Rattle.save_text.specs.Spelled.{IsText, text_of};
-ghost use Rattle.save_text.specs.Seen.{stage_view, view};
+ghost use Rattle.save_text.specs.Spelled.{IsSaveText, text_of_save};
+ghost use Rattle.save_text.specs.Seen.{stage_view, save_view};
 ghost use Rattle.wheeler.specs.Positions.{Position, at};
 ghost use Rattle.wheeler.specs.Valid.{IsInputs, IsPosition};
 
@@ -87,9 +87,9 @@ pub fn read(
     requires { IsInputs recipe.now inputs.now }
     // What is read is a place in the audit, and has this text.
     ensures place { IfOk result (λ p. IsPosition recipe.now p) }
-    ensures found { IfOk result (λ p. text.now ≡ text_of (save_of recipe.now inputs.now p)) }
+    ensures found { IfOk result (λ p. text.now ≡ text_of_save (save_of recipe.now inputs.now p)) }
     // The save of every place in the audit, reached or not, is read as that place, unless memory runs out.
-    ensures only { (p : Position) → IsPosition recipe.now p → text.now ≡ text_of (save_of recipe.now inputs.now p) → IsResumedAs p result }
+    ensures only { (p : Position) → IsPosition recipe.now p → text.now ≡ text_of_save (save_of recipe.now inputs.now p) → IsResumedAs p result }
     // When each refusal comes.
     ensures exact { Resumes recipe.now inputs.now text.now result }
 {
@@ -157,8 +157,8 @@ fn is_digest_of(part: &InputPart, input: &Bytes) -> bool
 
 /// The place in a recipe's audit that a save says.
 fn place_of(alloc: Global, recipe: &Recipe, parts: Parts<'_>) -> Result<Resumed, SaveRefusal>
-    requires { IsText (view parts) }
-    ensures stands { Stands recipe.now (view parts.entry) result }
+    requires { IsSaveText (save_view parts) }
+    ensures stands { Stands recipe.now (save_view parts.entry) result }
     ensures valid { IfOk result (λ p. IsValid p.at) }
 {
     let Parts {

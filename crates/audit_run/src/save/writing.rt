@@ -3,7 +3,7 @@
 ghost use Rattle.std.specs.Prelude.{◌≡◌, ◌<◌, ◌^◌, ◌++◌, All, IfOk, OnOk, length, map};
 ghost use Rattle.audit_run.specs.Save.Saves.{digest_of, save_of, stage_of};
 ghost use Rattle.save_text.specs.ByteFields.Spelling.{list_text};
-ghost use Rattle.save_text.specs.Spelled.{IsShort, digest_text, stage_text, text_of};
+ghost use Rattle.save_text.specs.Spelled.{IsShortStage, digest_text, stage_text, text_of_save};
 ghost use Rattle.wheeler.specs.Positions.{at};
 ghost use Rattle.wheeler.specs.Valid.{IsInputs, IsPosition};
 
@@ -17,7 +17,7 @@ use save_text::{MAGIC, put_stage};
 use std::alloc::Global;
 
 /// The one text of an audit that stands in a stage.
-#[tactic(auto, using(crate::proofs::SaveLemmas::Written::written), unfolding(save_text::specs::Spelled::text_of))]
+#[tactic(auto, using(crate::proofs::SaveLemmas::Written::written), unfolding(save_text::specs::Spelled::text_of_save))]
 pub fn write(
     alloc: Global,
     recipe: &Recipe,
@@ -27,7 +27,7 @@ pub fn write(
 ) -> Result<Bytes, OutOfMemory>
     requires given { IsInputs recipe.now inputs.now }
     requires position { IsPosition recipe.now (at done.now guest.now) }
-    ensures { IfOk result (λ text. text ≡ text_of (save_of recipe.now inputs.now (at done.now guest.now))) }
+    ensures { IfOk result (λ text. text ≡ text_of_save (save_of recipe.now inputs.now (at done.now guest.now))) }
 {
     let mut out = Bytes::new(alloc);
     out.extend(&MAGIC)?;
@@ -51,7 +51,7 @@ fn put_inputs(out: &mut Bytes, inputs: &[Bytes]) -> Result<(), OutOfMemory>
 
 fn put_done(out: &mut Bytes, done: &[Done]) -> Result<(), OutOfMemory>
     requires few { length done.now < 2 ^ 32 }
-    requires short { All (λ f. IsShort (stage_of f)) done.now }
+    requires short { All (λ f. IsShortStage (stage_of f)) done.now }
     ensures { OnOk result (out.new ≡ out.old ++ list_text stage_text (map stage_of done.now)) }
 {
     put_u32(out, done.len() as u32)?;
@@ -62,7 +62,7 @@ fn put_done(out: &mut Bytes, done: &[Done]) -> Result<(), OutOfMemory>
 }
 
 fn put_one(out: &mut Bytes, stage: &Done) -> Result<(), OutOfMemory>
-    requires { IsShort (stage_of stage.now) }
+    requires { IsShortStage (stage_of stage.now) }
     ensures { OnOk result (out.new ≡ out.old ++ stage_text (stage_of stage.now)) }
 {
     let finished = stage.finished();

@@ -1,5 +1,5 @@
 ghost use Rattle.std.specs.Prelude.{◌≡◌, [], get_or};
-ghost use Rattle.wheeler.specs.Contents.{bytes_at, content};
+ghost use Rattle.wheeler.specs.Contents.{bytes_of_content, content};
 ghost use Rattle.wheeler.specs.Stages.{contents};
 
 use crate::stage::done::Done;
@@ -20,7 +20,7 @@ pub fn content<'a>(recipe: &Recipe, inputs: &'a [Bytes], done: &'a [Done], name:
 
 /// The bytes of an input or of an artefact.
 fn bytes_at<'a>(inputs: &'a [Bytes], done: &'a [Done], found: Content) -> &'a [u8]
-    ensures { result.now ≡ bytes_at (contents inputs.now done.now) found }
+    ensures { result.now ≡ bytes_of_content (contents inputs.now done.now) found }
 {
     match found {
         Content::Input(index) => match inputs.get(index) {

@@ -1,7 +1,7 @@
 //! The end of a stage's run.
 
 ghost use Rattle.audit_run.specs.Stage.Makes.{Makes};
-ghost use Rattle.audit_run.specs.Stage.Rules.{IsStage};
+ghost use Rattle.audit_run.specs.Stage.Rules.{IsStageOf};
 ghost use Rattle.mem_files.specs.Outputs.{out};
 ghost use Rattle.mem_files.specs.Sound.{IsSound};
 ghost use Rattle.recipe.specs.Kept as kept;
@@ -33,7 +33,7 @@ pub fn exited(
     step: u64,
 ) -> Result<Result<Done, Fault>, OutOfMemory>
     requires recipe { kept.IsRecipe recipe.now }
-    requires stage { IsStage recipe.now stage.now }
+    requires stage { IsStageOf recipe.now stage.now }
     requires small { artefact_bytes done.now ≤ 1_073_741_824 }
     ensures answer { IfOk result (λ r. r ≡ exited_with recipe.now inputs.now done.now stage.now status step files.now) }
     ensures want { OnErr result (Makes stage.now done.now status files.now) }

@@ -1,6 +1,6 @@
 //! What a stage's program is given, and its start.
 
-ghost use Rattle.audit_run.specs.Stage.Rules.{AreMade, IsStage};
+ghost use Rattle.audit_run.specs.Stage.Rules.{AreMade, IsStageOf};
 ghost use Rattle.audit_run.specs.Stage.Begins.{Begins};
 ghost use Rattle.guest_run.specs.Setting.{place_refusal};
 ghost use Rattle.mem_files.specs.Names.{stripped};
@@ -27,7 +27,7 @@ pub fn box_of<'a>(
     inputs: &'a [Bytes],
     done: &'a [Done],
 ) -> Result<RunBox<'a>, OutOfMemory>
-    requires stage { IsStage recipe.now stage.now }
+    requires stage { IsStageOf recipe.now stage.now }
     requires inputs { All IsContent inputs.now }
     requires done { AreMade done.now }
     ensures { IfOk result (λ given. given ≡ box_of recipe.now (contents inputs.now done.now) stage.now) }
@@ -69,7 +69,7 @@ pub fn start_stage(
     inputs: &[Bytes],
     done: &[Done],
 ) -> Result<Result<Guest<RunRam>, StartCause>, OutOfMemory>
-    requires stage { IsStage recipe.now stage.now }
+    requires stage { IsStageOf recipe.now stage.now }
     requires inputs { All IsContent inputs.now }
     requires done { AreMade done.now }
     ensures { IfOk result (λ begun. Begins (start_stage recipe.now (contents inputs.now done.now) stage.now) begun) }

@@ -5,7 +5,7 @@ ghost use Rattle.mem_files.specs.Calls.{content_at};
 ghost use Rattle.mem_files.specs.Names.{is_stripped_name};
 ghost use Rattle.mem_files.specs.Outputs.{left};
 ghost use Rattle.mem_files.specs.Sound.{IsSound};
-ghost use Rattle.wheeler.specs.Stages.{left_line, mark_of};
+ghost use Rattle.wheeler.specs.Stages.{marked_left, mark_of};
 
 use crate::stage::marks::mark_of;
 use ddc_base::{Bytes, OutOfMemory};
@@ -28,7 +28,7 @@ pub(crate) fn left_lines(
 ) -> Result<LeftLines, OutOfMemory>
     requires sound { IsSound files.now }
     requires known { IfSome known.now (λ k. k.mark ≡ mark_of (unwrap_or (content_at files.now k.path.now) [])) }
-    ensures { IfOk result (λ lines. lines ≡ map left_line (left files.now)) }
+    ensures { IfOk result (λ lines. lines ≡ map marked_left (left files.now)) }
 {
     let mut lines = LeftLines::new(alloc);
     let mut last: Option<&[u8]> = None;
@@ -48,7 +48,7 @@ fn line_of(
 ) -> Result<LeftLine, OutOfMemory>
     requires name { IsTrue (is_stripped_name name.now) }
     requires known { IfSome known.now (λ k. k.mark ≡ mark_of (unwrap_or (content_at files.now k.path.now) [])) }
-    ensures { IfOk result (λ line. line ≡ left_line (name.now, unwrap_or (content_at files.now name.now) [])) }
+    ensures { IfOk result (λ line. line ≡ marked_left (name.now, unwrap_or (content_at files.now name.now) [])) }
 {
     let mark = match known {
         Some(known) if known.path == name => known.mark,

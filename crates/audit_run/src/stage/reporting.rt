@@ -2,7 +2,7 @@
 
 ghost use Rattle.ddc_base.specs.Difference.{first_difference as difference_of};
 ghost use Rattle.std.specs.Prelude.{◌≡◌, IfOk, length};
-ghost use Rattle.wheeler.specs.Bench.{compared, comparison, input_lines, report_of, stage_line, stage_lines};
+ghost use Rattle.wheeler.specs.Bench.{compared, compare_line, input_lines, bench_report, stage_line, stage_lines};
 ghost use Rattle.wheeler.specs.Contents.{check_language};
 ghost use Rattle.wheeler.specs.Stages.{contents, mark_of};
 
@@ -20,14 +20,14 @@ use report::{
 use std::alloc::Global;
 
 /// The report of all stages, with the comparison.
-#[tactic(auto, unfolding(wheeler::specs::Bench::report_of))]
+#[tactic(auto, unfolding(wheeler::specs::Bench::bench_report))]
 pub fn report_of(
     alloc: Global,
     recipe: &Recipe,
     inputs: &[Bytes],
     done: &[Done],
 ) -> Result<Report, OutOfMemory>
-    ensures { IfOk result (λ report. report ≡ report_of recipe.now inputs.now done.now) }
+    ensures { IfOk result (λ report. report ≡ bench_report recipe.now inputs.now done.now) }
 {
     Ok(Report {
         recipe: *recipe.digest(),
@@ -115,7 +115,7 @@ fn check_language(recipe: &Recipe, stage: &Stage) -> Option<Language>
 
 /// What the recipe asks to compare.
 fn comparison(recipe: &Recipe, inputs: &[Bytes], done: &[Done]) -> CompareLine
-    ensures { result ≡ comparison recipe.now (contents inputs.now done.now) }
+    ensures { result ≡ compare_line recipe.now (contents inputs.now done.now) }
 {
     let asked = recipe.compare();
     CompareLine {

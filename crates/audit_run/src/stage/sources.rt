@@ -2,7 +2,7 @@
 
 ghost use Rattle.std.specs.Prelude.{◌≡◌, ◌≤◌, ◌^◌, IfOk, map, option_map};
 ghost use Rattle.recipe.specs.Kept as kept;
-ghost use Rattle.wheeler.specs.SourceCheck.Checks.{joined};
+ghost use Rattle.wheeler.specs.SourceCheck.Checks.{joined_files};
 ghost use Rattle.wheeler.specs.Contents.{check_language, check_of, check_source, content, defined, text_check, text_of};
 ghost use Rattle.wheeler.specs.Stages.{contents};
 
@@ -94,7 +94,7 @@ fn joined(
     inputs: &[Bytes],
     done: &[Done],
 ) -> Result<Bytes, OutOfMemory>
-    ensures { IfOk result (λ text. text ≡ joined (map (content recipe.now (contents inputs.now done.now)) names.now)) }
+    ensures { IfOk result (λ text. text ≡ joined_files (map (content recipe.now (contents inputs.now done.now)) names.now)) }
 {
     let mut text = Bytes::new(alloc);
     for (index, name) in names.iter().enumerate() {

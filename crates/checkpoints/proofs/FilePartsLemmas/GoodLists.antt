@@ -16,7 +16,7 @@ use Rattle.mem_files.specs.Names.{bytes_cmp}
 use Rattle.mem_files.specs.World.{World, is_named, is_of, is_open}
 use Rattle.mem_files.specs.Sound.{IsSound}
 use Rattle.mem_files.specs.Outputs.{IsContent}
-use Rattle.mem_files.specs.Lists.{ListedFile, named, with_name, name_of, listed_file, lists_of, is_listed, is_used, AreOrdered, AreInRange, AreJoined}
+use Rattle.mem_files.specs.Lists.{ListedFile, named, with_name, name_of_file, listed_file, lists_of, is_listed, is_used, AreOrdered, AreInRange, AreJoined}
 use Rattle.mem_files.proofs.Directory.{equal, bytes_cmp-IsAntisymmetric}
 use Rattle.mem_files.proofs.ListRules.{any_value, or_cases, or_left, or_right, two_sum, values_sum}
 use Rattle.mem_files.proofs.Maps.{both, find_apart, find_here, head_above, rest_above}
@@ -66,7 +66,7 @@ module _ (w : World) (sound : IsSound w) where
 
   named_above : (a : ℕ) (es : List (ℕ × List ℕ)) → All (λ e. a < e.0) es → All (λ e. a < e.1) (named (shown es))
   named_above a [] all = All-nil (λ e. a < e.1)
-  named_above a (e ∷ es) all = at (name_of w e.0) (named_above a es (All-tail (λ e. a < e.0) e es all))
+  named_above a (e ∷ es) all = at (name_of_file w e.0) (named_above a es (All-tail (λ e. a < e.0) e es all))
     where
       at : (o : Option (List ℕ)) → All (λ e. a < e.1) (named (shown es)) → All (λ e. a < e.1) (with_name o e.0 (named (shown es)))
       at None rest = rest
@@ -75,7 +75,7 @@ module _ (w : World) (sound : IsSound w) where
   once : (es : List (ℕ × List ℕ)) → T (fin.is_sorted nat_cmp es) → IsDistinct (eq_by_cmp bytes_cmp) (map (λ e. e.0) (named (shown es)))
   unfolding IsDistinct
   once [] sorted = tt
-  once (e ∷ es) sorted = at (name_of w e.0) (right_name w e.0 (name_of w e.0) refl) (once es parts.1)
+  once (e ∷ es) sorted = at (name_of_file w e.0) (right_name w e.0 (name_of_file w e.0) refl) (once es parts.1)
     where
       parts : T (below_all nat_cmp e.0 es) × T (fin.is_sorted nat_cmp es)
       parts = both (below_all nat_cmp e.0 es) (fin.is_sorted nat_cmp es) sorted
@@ -145,10 +145,10 @@ module _ (w : World) (sound : IsSound w) where
   some_name None = refl
   some_name (Some e) = refl
 
-  file_used : (n : ℕ) → IsSome (fin.get w.files n) → (is_some (name_of w n) || list_any (λ e. is_of n e.1) (fin.entries w.slots)) ≡ true
+  file_used : (n : ℕ) → IsSome (fin.get w.files n) → (is_some (name_of_file w n) || list_any (λ e. is_of n e.1) (fin.entries w.slots)) ≡ true
   file_used n held = or_cases (is_named w n) (is_open w n) (sound.joined.used n held)
-      (λ named. or_left (is_some (name_of w n)) _ (some_name (find (λ e. eqb e.1 n) (fin.entries w.names)) ∙ is_some-found n (fin.entries w.names) ∙ named))
-      (λ opened. or_right (is_some (name_of w n)) _ (sym (any_value n (fin.entries w.slots)) ∙ opened))
+      (λ named. or_left (is_some (name_of_file w n)) _ (some_name (find (λ e. eqb e.1 n) (fin.entries w.names)) ∙ is_some-found n (fin.entries w.names) ∙ named))
+      (λ opened. or_right (is_some (name_of_file w n)) _ (sym (any_value n (fin.entries w.slots)) ∙ opened))
 
   pub good_join : AreJoined (lists_of w)
   good_join = record {

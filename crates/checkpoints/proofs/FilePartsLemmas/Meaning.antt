@@ -13,7 +13,7 @@ use Rattle.mem_files.specs.Names.{bytes_cmp}
 use Rattle.mem_files.specs.Limits.{most_content, most_names, most_total}
 use Rattle.mem_files.specs.Sound.{AreBytes, IsSlotAt}
 use Rattle.mem_files.specs.Outputs.{IsContent}
-use Rattle.mem_files.specs.Lists.{ListedFile, FileLists, named, with_name, IsName, is_listed, is_used, AreInRange, AreJoined}
+use Rattle.mem_files.specs.Lists.{ListedFile, FileLists, named, with_name, IsHeldName, is_listed, is_used, AreInRange, AreJoined}
 use Rattle.checkpoints.specs.FileParts.Inside.Judged.{is_good_name, is_good_file, is_slot_at, is_good_slot, is_called, is_taken, have_own_names, size, in_range, are_joined}
 use Rattle.checkpoints.specs.FileParts.Views.{AreParts, HasBytes}
 
@@ -45,29 +45,29 @@ alone : {A : Type 0} (P R : A → Type 0) (xs : List A) → ((x : A) → P x →
 alone P R xs f p k d less = f _ (p k d less)
 
 -- names
-name_good : (o : Option (List ℕ)) → is_good_name o ≡ true → IfSome o AreBytes → IfSome o IsName
+name_good : (o : Option (List ℕ)) → is_good_name o ≡ true → IfSome o AreBytes → IfSome o IsHeldName
 name_good None h b = tt
 name_good (Some name) h b = (h, b)
 
-good_name : (o : Option (List ℕ)) → IfSome o IsName → is_good_name o ≡ true
+good_name : (o : Option (List ℕ)) → IfSome o IsHeldName → is_good_name o ≡ true
 good_name None h = refl
 good_name (Some name) h = h.0
 
-names_all : (files : List ListedFile) → All (λ f. IfSome f.name IsName) files → All (λ e. IsName e.0) (named files)
-names_all [] all = All-nil (λ e. IsName e.0)
-names_all (f ∷ files) all = at f.name (All-head (λ f. IfSome f.name IsName) f files all) (names_all files (All-tail (λ f. IfSome f.name IsName) f files all))
+names_all : (files : List ListedFile) → All (λ f. IfSome f.name IsHeldName) files → All (λ e. IsHeldName e.0) (named files)
+names_all [] all = All-nil (λ e. IsHeldName e.0)
+names_all (f ∷ files) all = at f.name (All-head (λ f. IfSome f.name IsHeldName) f files all) (names_all files (All-tail (λ f. IfSome f.name IsHeldName) f files all))
   where
-    at : (o : Option (List ℕ)) → IfSome o IsName → All (λ e. IsName e.0) (named files) → All (λ e. IsName e.0) (with_name o f.number (named files))
+    at : (o : Option (List ℕ)) → IfSome o IsHeldName → All (λ e. IsHeldName e.0) (named files) → All (λ e. IsHeldName e.0) (with_name o f.number (named files))
     at None h rest = rest
-    at (Some name) h rest = All-cons (λ e. IsName e.0) (name, f.number) (named files) h rest
+    at (Some name) h rest = All-cons (λ e. IsHeldName e.0) (name, f.number) (named files) h rest
 
-all_names : (files : List ListedFile) → All (λ e. IsName e.0) (named files) → All (λ f. IfSome f.name IsName) files
-all_names [] all = All-nil (λ f. IfSome f.name IsName)
-all_names (f ∷ files) all = let parts = at f.name all in All-cons (λ f. IfSome f.name IsName) f files parts.0 (all_names files parts.1)
+all_names : (files : List ListedFile) → All (λ e. IsHeldName e.0) (named files) → All (λ f. IfSome f.name IsHeldName) files
+all_names [] all = All-nil (λ f. IfSome f.name IsHeldName)
+all_names (f ∷ files) all = let parts = at f.name all in All-cons (λ f. IfSome f.name IsHeldName) f files parts.0 (all_names files parts.1)
   where
-    at : (o : Option (List ℕ)) → All (λ e. IsName e.0) (with_name o f.number (named files)) → IfSome o IsName × All (λ e. IsName e.0) (named files)
+    at : (o : Option (List ℕ)) → All (λ e. IsHeldName e.0) (with_name o f.number (named files)) → IfSome o IsHeldName × All (λ e. IsHeldName e.0) (named files)
     at None all = (tt, all)
-    at (Some name) all = (All-head (λ e. IsName e.0) (name, f.number) (named files) all, All-tail (λ e. IsName e.0) (name, f.number) (named files) all)
+    at (Some name) all = (All-head (λ e. IsHeldName e.0) (name, f.number) (named files) all, All-tail (λ e. IsHeldName e.0) (name, f.number) (named files) all)
 
 -- names that stand once
 untaken : (name : List ℕ) (files : List ListedFile) → list_any (λ file. is_called name file.name) files ≡ false → AllByRecursion (λ other. eq_by_cmp bytes_cmp name other ≡ false) (map (λ e. e.0) (named files))
@@ -188,7 +188,7 @@ module _ (lists : FileLists) (parts : AreParts lists) where
       let streams = passes (λ stream. nat_le (length stream) most_content) lists.streams (second (files_good && slots_good) streams_good h3) in
       record {
         few_names = at_most (length (named lists.files)) most_names (second (files_good && slots_good && streams_good) names_few h2);
-        good_names = names_all lists.files (with_bytes (λ f. is_good_file f ≡ true) HasBytes (λ f. IfSome f.name IsName) lists.files (λ f good bytes. name_good f.name (file_name f good) bytes.name) files parts.file_bytes);
+        good_names = names_all lists.files (with_bytes (λ f. is_good_file f ≡ true) HasBytes (λ f. IfSome f.name IsHeldName) lists.files (λ f good bytes. name_good f.name (file_name f good) bytes.name) files parts.file_bytes);
         distinct = own_names lists.files (second (files_good && slots_good && streams_good && names_few && all_small) own h);
         low_numbers = alone (λ f. is_good_file f ≡ true) (λ f. f.number < 5120) lists.files file_number files;
         good_files = with_bytes (λ f. is_good_file f ≡ true) HasBytes (λ f. IsContent f.content) lists.files (λ f good bytes. record { bytes = bytes.content; small = file_content f good }) files parts.file_bytes;

@@ -10,7 +10,7 @@ use Rattle.std.specs.FinMap.Entries.{below_all}
 use Rattle.std.proofs.lemmas.List.{map-append}
 use Rattle.std.proofs.lemmas.List.Elements.{All-head, All-tail, All-append, All-cons, All-nil, All-map}
 use Rattle.mem_files.specs.declared.slot.Slot.{Slot}
-use Rattle.mem_files.specs.Lists.{ListedFile, FileLists, contents}
+use Rattle.mem_files.specs.Lists.{ListedFile, FileLists, numbered_contents}
 use Rattle.checkpoints.specs.FileParts.Views.{AreParts, HasBytes}
 
 under : (a k : ℕ) (r : Ordering) → MatchOrdering r (a < k) (a ≡ k) (k < a) → a < k → is_lt r ≡ true
@@ -46,12 +46,12 @@ risen_more k v (e ∷ es) rise low =
 pub all_more : {A : Type 0} (P : A → Type 0) (xs : List A) (x : A) → All P xs → P x → All P (xs ++ x ∷ [])
 all_more P xs x all one = All-append P xs (x ∷ []) all (All-cons P x [] one (All-nil P))
 
-pub files_risen : (f : ListedFile) (files : List ListedFile) → fin.is_sorted nat_cmp (contents files) ≡ true → All (λ file. file.number < f.number) files → fin.is_sorted nat_cmp (contents (files ++ f ∷ [])) ≡ true
+pub files_risen : (f : ListedFile) (files : List ListedFile) → fin.is_sorted nat_cmp (numbered_contents files) ≡ true → All (λ file. file.number < f.number) files → fin.is_sorted nat_cmp (numbered_contents (files ++ f ∷ [])) ≡ true
 files_risen f files rise low =
     ap (λ (es : List (ℕ × List ℕ)). fin.is_sorted nat_cmp es) (map-append (λ (file : ListedFile). (file.number, file.content)) files (f ∷ []))
-    ∙ risen_more f.number f.content (contents files) rise (low_contents files low)
+    ∙ risen_more f.number f.content (numbered_contents files) rise (low_contents files low)
   where
-    low_contents : (files : List ListedFile) → All (λ file. file.number < f.number) files → All (λ e. e.0 < f.number) (contents files)
+    low_contents : (files : List ListedFile) → All (λ file. file.number < f.number) files → All (λ e. e.0 < f.number) (numbered_contents files)
     low_contents files low = All-map (λ e. e.0 < f.number) (λ (file : ListedFile). (file.number, file.content)) files low
 
 pub slot_pushed : (fd : ℕ) (slot : Slot) (lists : FileLists) → AreParts lists → All (λ held. held.0 < fd) lists.slots → AreParts (record lists { slots = lists.slots ++ (fd, slot) ∷ [] })

@@ -12,7 +12,7 @@ use Rattle.std.proofs.lemmas.Option.{same_Some}
 use Rattle.std.proofs.lemmas.List.Elements.{All-head, All-tail}
 use Rattle.mem_files.specs.Names.{bytes_cmp}
 use Rattle.mem_files.specs.World.{is_named}
-use Rattle.mem_files.specs.Lists.{ListedFile, FileLists, named, with_name, contents, name_of, listed_file, lists_of, world_of, AreOrdered, AreInRange}
+use Rattle.mem_files.specs.Lists.{ListedFile, FileLists, named, with_name, numbered_contents, name_of_file, listed_file, lists_of, world_of, AreOrdered, AreInRange}
 use Rattle.mem_files.proofs.ListRules.{entries_risen, name_held, one_name}
 use Rattle.mem_files.proofs.ListWorlds.{at_place, later}
 use Rattle.mem_files.proofs.Maps.{any_at, both, find_low, head_above, key_of_any, rest_above}
@@ -36,20 +36,20 @@ found_at (x ∷ xs) ys f name is once = at x.name once (found_at xs ys f name is
         ap (λ b. cond b (Some x.number) (fin.find bytes_cmp name (named (xs ++ f ∷ ys)))) ((eq_by_cmp_equiv nat_list_cmp_total).symm name n ∙ later (λ y. eq_by_cmp bytes_cmp n y ≡ false) xs ys f name is once.0)
         ∙ next once.1
 
-under : (a : ℕ) (xs ys : List ListedFile) (f : ListedFile) → T (below_all nat_cmp a (contents (xs ++ f ∷ ys))) → a < f.number
-under a [] ys f below = head_above a (f.number, f.content) (contents ys) below
-under a (x ∷ xs) ys f below = under a xs ys f (rest_above a (x.number, x.content) (contents (xs ++ f ∷ ys)) below)
+under : (a : ℕ) (xs ys : List ListedFile) (f : ListedFile) → T (below_all nat_cmp a (numbered_contents (xs ++ f ∷ ys))) → a < f.number
+under a [] ys f below = head_above a (f.number, f.content) (numbered_contents ys) below
+under a (x ∷ xs) ys f below = under a xs ys f (rest_above a (x.number, x.content) (numbered_contents (xs ++ f ∷ ys)) below)
 
 -- the number of a file without a name has none
-nameless : (xs ys : List ListedFile) (f : ListedFile) → T (fin.is_sorted nat_cmp (contents (xs ++ f ∷ ys))) → f.name ≡ None → (name : List ℕ) → fin.find bytes_cmp name (named (xs ++ f ∷ ys)) ≡ Some f.number → ⊥
+nameless : (xs ys : List ListedFile) (f : ListedFile) → T (fin.is_sorted nat_cmp (numbered_contents (xs ++ f ∷ ys))) → f.name ≡ None → (name : List ℕ) → fin.find bytes_cmp name (named (xs ++ f ∷ ys)) ≡ Some f.number → ⊥
 nameless [] ys f sorted none name found =
-    let parts = both (below_all nat_cmp f.number (contents ys)) (fin.is_sorted nat_cmp (contents ys)) sorted in
+    let parts = both (below_all nat_cmp f.number (numbered_contents ys)) (fin.is_sorted nat_cmp (numbered_contents ys)) sorted in
     let behind : fin.find bytes_cmp name (named ys) ≡ Some f.number = sym (ap (λ o. fin.find bytes_cmp name (with_name o f.number (named ys))) none) ∙ found in
-    false≢true (sym (ap is_some (find_low f.number f.number (contents ys) (omega arith) parts.0)) ∙ name_held ys name f.number behind)
+    false≢true (sym (ap is_some (find_low f.number f.number (numbered_contents ys) (omega arith) parts.0)) ∙ name_held ys name f.number behind)
 nameless (x ∷ xs) ys f sorted none name found = at x.name found (nameless xs ys f parts.1 none name)
   where
-    parts : T (below_all nat_cmp x.number (contents (xs ++ f ∷ ys))) × T (fin.is_sorted nat_cmp (contents (xs ++ f ∷ ys)))
-    parts = both (below_all nat_cmp x.number (contents (xs ++ f ∷ ys))) (fin.is_sorted nat_cmp (contents (xs ++ f ∷ ys))) sorted
+    parts : T (below_all nat_cmp x.number (numbered_contents (xs ++ f ∷ ys))) × T (fin.is_sorted nat_cmp (numbered_contents (xs ++ f ∷ ys)))
+    parts = both (below_all nat_cmp x.number (numbered_contents (xs ++ f ∷ ys))) (fin.is_sorted nat_cmp (numbered_contents (xs ++ f ∷ ys))) sorted
 
     apart : x.number ≡ f.number → ⊥
     apart same = let less = under x.number xs ys f parts.0 in absurd (omega arith)
@@ -62,13 +62,13 @@ nameless (x ∷ xs) ys f sorted none name found = at x.name found (nameless xs y
     ] found
 
 module _ (lists : FileLists) (order : AreOrdered lists) (range : AreInRange lists) where
-  sorted_files : T (fin.is_sorted nat_cmp (contents lists.files))
+  sorted_files : T (fin.is_sorted nat_cmp (numbered_contents lists.files))
   sorted_files = subst T (sym order.files_rise) tt
 
   looked : (name : List ℕ) → fin.get (world_of lists).names name ≡ fin.find bytes_cmp name (named lists.files)
   looked name = fin.get-from_entries nat_list_cmp_total (named lists.files) name
 
-  name_at : (k : ℕ) (d : ListedFile) → k < length lists.files → (o : Option (List ℕ)) → (get_or lists.files k d).name ≡ o → name_of (world_of lists) (get_or lists.files k d).number ≡ o
+  name_at : (k : ℕ) (d : ListedFile) → k < length lists.files → (o : Option (List ℕ)) → (get_or lists.files k d).name ≡ o → name_of_file (world_of lists) (get_or lists.files k d).number ≡ o
   name_at k d inside (Some name) is =
       let f : ListedFile = get_or lists.files k d in
       let whole = at_place lists.files k d inside in
@@ -83,16 +83,16 @@ module _ (lists : FileLists) (order : AreOrdered lists) (range : AreInRange list
         | true ↦ λ held.
             let key = key_of_any nat_list_cmp_total (λ held. eqb held f.number) (world_of lists).names held in
             let found : fin.find bytes_cmp key.0 (named lists.files) ≡ Some f.number = sym (looked key.0) ∙ key.2 ∙ ap (λ n. Some n) (eqb-true key.1 f.number key.3) in
-            absurd (nameless (take k lists.files) (drop (k + 1) lists.files) f (subst (λ files. T (fin.is_sorted nat_cmp (contents files))) (sym whole) sorted_files) is key.0
+            absurd (nameless (take k lists.files) (drop (k + 1) lists.files) f (subst (λ files. T (fin.is_sorted nat_cmp (numbered_contents files))) (sym whole) sorted_files) is key.0
             (subst (λ files. fin.find bytes_cmp key.0 (named files) ≡ Some f.number) (sym whole) found))
         | false ↦ λ _. refl
       ] refl)
 
-  shown_again : (files : List ListedFile) → All (λ f. name_of (world_of lists) f.number ≡ f.name) files → map (listed_file (world_of lists)) (contents files) ≡ files
+  shown_again : (files : List ListedFile) → All (λ f. name_of_file (world_of lists) f.number ≡ f.name) files → map (listed_file (world_of lists)) (numbered_contents files) ≡ files
   shown_again [] all = refl
   shown_again (f ∷ files) all =
-      let name = All-head (λ f. name_of (world_of lists) f.number ≡ f.name) f files all in
-      let rest = shown_again files (All-tail (λ f. name_of (world_of lists) f.number ≡ f.name) f files all) in
+      let name = All-head (λ f. name_of_file (world_of lists) f.number ≡ f.name) f files all in
+      let rest = shown_again files (All-tail (λ f. name_of_file (world_of lists) f.number ≡ f.name) f files all) in
       λ i. record { number = f.number; name = name i; content = f.content } ∷ rest i
 
   two : (streams : List (List ℕ)) → length streams ≡ 2 → get_or streams 0 [] ∷ get_or streams 1 [] ∷ [] ≡ streams
@@ -103,7 +103,7 @@ module _ (lists : FileLists) (order : AreOrdered lists) (range : AreInRange list
 
   pub same_lists : lists_of (world_of lists) ≡ lists
   same_lists =
-      let files = ap (map (listed_file (world_of lists))) (entries_risen nat_cmp_total fin.nat_cmp-IsAntisymmetric (contents lists.files) order.files_rise)
+      let files = ap (map (listed_file (world_of lists))) (entries_risen nat_cmp_total fin.nat_cmp-IsAntisymmetric (numbered_contents lists.files) order.files_rise)
       ∙ shown_again lists.files (λ k d inside. name_at k d inside (get_or lists.files k d).name refl) in
       let slots = entries_risen nat_cmp_total fin.nat_cmp-IsAntisymmetric lists.slots order.slots_rise in
       let streams = two lists.streams order.two_streams in

@@ -11,7 +11,7 @@ use Rattle.std.proofs.lemmas.List.Elements.{All-cons, All-nil}
 use Rattle.mem_files.specs.Names.{bytes_cmp}
 use Rattle.mem_files.specs.World.{World}
 use Rattle.mem_files.specs.Sound.{IsSound}
-use Rattle.mem_files.specs.Lists.{named, with_name, contents, name_of, listed_file, lists_of, world_of}
+use Rattle.mem_files.specs.Lists.{named, with_name, numbered_contents, name_of_file, listed_file, lists_of, world_of}
 use Rattle.mem_files.proofs.Directory.{bytes_cmp-IsAntisymmetric, same_name_map}
 use Rattle.mem_files.proofs.Entries.{some_of}
 use Rattle.mem_files.proofs.Leftovers.{all_names}
@@ -19,7 +19,7 @@ use Rattle.mem_files.proofs.ListRules.{chosen_some, found_all}
 use Rattle.mem_files.proofs.Maps.{any_at, same_nat_map}
 use Rattle.mem_files.proofs.Shown.{found_entry, name-some}
 
-pub contents_listed : (w : World) (es : List (ℕ × List ℕ)) → contents (map (listed_file w) es) ≡ es
+pub contents_listed : (w : World) (es : List (ℕ × List ℕ)) → numbered_contents (map (listed_file w) es) ≡ es
 contents_listed w [] = refl
 contents_listed w (e ∷ es) = ap (λ rest. e ∷ rest) (contents_listed w es)
 
@@ -28,7 +28,7 @@ pub from_its_entries : {X : Type 0} (m : fin.FinMap nat_cmp X) → fin.from_entr
 from_its_entries m = same_nat_map _ m (λ q. fin.get-from_entries nat_cmp_total (fin.entries m) q ∙ sym (fin.get-entries m q))
 
 module _ (w : World) where
-  pub right_name : (n : ℕ) (o : Option (List ℕ)) → name_of w n ≡ o → IfSome o (λ name. fin.get w.names name ≡ Some n)
+  pub right_name : (n : ℕ) (o : Option (List ℕ)) → name_of_file w n ≡ o → IfSome o (λ name. fin.get w.names name ≡ Some n)
   right_name n o is = at (find (λ e. eqb e.1 n) (fin.entries w.names)) refl o is
     where
       at : (e : Option (List ℕ × ℕ)) → find (λ e. eqb e.1 n) (fin.entries w.names) ≡ e → (o : Option (List ℕ)) → option_map (λ e. e.0) e ≡ o → IfSome o (λ name. fin.get w.names name ≡ Some n)
@@ -41,7 +41,7 @@ module _ (w : World) where
 
   pub names_right : (es : List (ℕ × List ℕ)) → All (λ e. fin.get w.names e.0 ≡ Some e.1) (named (map (listed_file w) es))
   names_right [] = All-nil (λ e. fin.get w.names e.0 ≡ Some e.1)
-  names_right (e ∷ es) = at (name_of w e.0) (right_name e.0 (name_of w e.0) refl) (names_right es)
+  names_right (e ∷ es) = at (name_of_file w e.0) (right_name e.0 (name_of_file w e.0) refl) (names_right es)
     where
       at : (o : Option (List ℕ)) → IfSome o (λ name. fin.get w.names name ≡ Some e.0) → All (λ e. fin.get w.names e.0 ≡ Some e.1) (named (map (listed_file w) es))
           → All (λ e. fin.get w.names e.0 ≡ Some e.1) (with_name o e.0 (named (map (listed_file w) es)))
@@ -52,15 +52,15 @@ module _ (w : World) where
   found_right name n is = found_all bytes_cmp-IsAntisymmetric (λ e. fin.get w.names e.0 ≡ Some e.1) (named (map (listed_file w) (fin.entries w.files))) name n (names_right (fin.entries w.files)) is
 
   module _ (sound : IsSound w) where
-    its_name : (name : List ℕ) (n : ℕ) → fin.get w.names name ≡ Some n → name_of w n ≡ Some name
+    its_name : (name : List ℕ) (n : ℕ) → fin.get w.names name ≡ Some n → name_of_file w n ≡ Some name
     its_name name n held =
         name-some w n name (any_at nat_list_cmp_total (λ held. eqb held n) w.names name n held (eq-eqb n n refl)) (λ other also. sound.joined.named_once other name n also held)
 
-    present : (name : List ℕ) (n : ℕ) → name_of w n ≡ Some name → (es : List (ℕ × List ℕ)) → IsSome (fin.find nat_cmp n es) → IsSome (fin.find bytes_cmp name (named (map (listed_file w) es)))
+    present : (name : List ℕ) (n : ℕ) → name_of_file w n ≡ Some name → (es : List (ℕ × List ℕ)) → IsSome (fin.find nat_cmp n es) → IsSome (fin.find bytes_cmp name (named (map (listed_file w) es)))
     present name n is [] held = absurd (false≢true held)
-    present name n is (e ∷ es) held = elim (eq_by_cmp nat_cmp n e.0) as (λ b. eq_by_cmp nat_cmp n e.0 ≡ b → IsSome (cond b (Some e.1) (fin.find nat_cmp n es)) → IsSome (fin.find bytes_cmp name (with_name (name_of w e.0) e.0 (named (map (listed_file w) es))))) [
-      | true ↦ λ tie _. first (name_of w e.0) (ap (name_of w) (sym (eqb-true n e.0 (sym (unsigned_tied n e.0) ∙ tie))) ∙ is)
-      | false ↦ λ _ later. behind (name_of w e.0) (present name n is es later)
+    present name n is (e ∷ es) held = elim (eq_by_cmp nat_cmp n e.0) as (λ b. eq_by_cmp nat_cmp n e.0 ≡ b → IsSome (cond b (Some e.1) (fin.find nat_cmp n es)) → IsSome (fin.find bytes_cmp name (with_name (name_of_file w e.0) e.0 (named (map (listed_file w) es))))) [
+      | true ↦ λ tie _. first (name_of_file w e.0) (ap (name_of_file w) (sym (eqb-true n e.0 (sym (unsigned_tied n e.0) ∙ tie))) ∙ is)
+      | false ↦ λ _ later. behind (name_of_file w e.0) (present name n is es later)
     ] refl held
       where
         first : (o : Option (List ℕ)) → o ≡ Some name → IsSome (fin.find bytes_cmp name (with_name o e.0 (named (map (listed_file w) es))))

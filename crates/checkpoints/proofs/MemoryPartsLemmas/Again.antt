@@ -11,7 +11,7 @@ use Rattle.paged_mem.proofs.Mapped.{length-zeros}
 use Rattle.paged_mem.proofs.MemoryLaws.{get-zeros, get-past}
 use Rattle.save_text.specs.declared.state_text.parts.Run.{Run}
 use Rattle.save_text.specs.StateText.StateText.{PageText, is_page}
-use Rattle.checkpoints.specs.MemoryParts.Canonical.{is_mapped, with_page, runs_from, runs_of, listed, pages_from, pages_of, filled}
+use Rattle.checkpoints.specs.MemoryParts.Canonical.{is_mapped, with_page, runs_from, runs_of, listed_page, page_texts_from, pages_of, with_pages}
 use Rattle.checkpoints.specs.MemoryParts.Inside.Zeros.{zero_runs, memory_from}
 
 pub zero_in : (m : Memory) (first pages a : ℕ) → first ≤ a / 4096 → a / 4096 < first + pages → get (with_bytes m (4096 * first) (zeros (4096 * pages))) a ≡ Some 0
@@ -88,23 +88,23 @@ zero_each (b ∷ bs) e i = both (zero_each bs) (eqb b 0) refl e i
     both later true was e (suc i) = later e i
     both later false was e i = absurd cc
 
-page_elsewhere : (m0 : Memory) (page : ℕ) (o : Option (List ℕ)) (ps : List PageText) (a : ℕ) → ((bytes : List ℕ) → o ≡ Some bytes → length bytes ≡ 4096) → a / 4096 ≢ page → get (filled m0 (listed page o ++ ps)) a ≡ get (filled m0 ps) a
-unfolding filled
+page_elsewhere : (m0 : Memory) (page : ℕ) (o : Option (List ℕ)) (ps : List PageText) (a : ℕ) → ((bytes : List ℕ) → o ≡ Some bytes → length bytes ≡ 4096) → a / 4096 ≢ page → get (with_pages m0 (listed_page page o ++ ps)) a ≡ get (with_pages m0 ps) a
+unfolding with_pages
 page_elsewhere m0 page None ps a long ne = refl
 page_elsewhere m0 page (Some bytes) ps a long ne = both (is_page bytes)
   where
     len : length bytes ≡ 4096
     len = long bytes refl
 
-    both : (b : Bool) → get (filled m0 (cond b (record { number = page; bytes = bytes } ∷ []) [] ++ ps)) a ≡ get (filled m0 ps) a
+    both : (b : Bool) → get (with_pages m0 (cond b (record { number = page; bytes = bytes } ∷ []) [] ++ ps)) a ≡ get (with_pages m0 ps) a
     both true = elim (cases_lt (a / 4096) page) [
-      | inl lt ↦ get-with_bytes_below (filled m0 ps) (4096 * page) bytes a (omega arith)
-      | inr le ↦ get-with_bytes_above (filled m0 ps) (4096 * page) bytes a (omega (arith, len))
+      | inl lt ↦ get-with_bytes_below (with_pages m0 ps) (4096 * page) bytes a (omega arith)
+      | inr le ↦ get-with_bytes_above (with_pages m0 ps) (4096 * page) bytes a (omega (arith, len))
     ]
     both false = refl
 
-page_here : (m0 m : Memory) (page : ℕ) (o : Option (List ℕ)) (ps : List PageText) (a : ℕ) → bytes_at m (4096 * page) 4096 ≡ o → a / 4096 ≡ page → get (filled m0 ps) a ≡ get m a ⊎ ((get (filled m0 ps) a ≡ Some 0) × (is_some o ≡ true)) → get (filled m0 (listed page o ++ ps)) a ≡ get m a
-unfolding filled
+page_here : (m0 m : Memory) (page : ℕ) (o : Option (List ℕ)) (ps : List PageText) (a : ℕ) → bytes_at m (4096 * page) 4096 ≡ o → a / 4096 ≡ page → get (with_pages m0 ps) a ≡ get m a ⊎ ((get (with_pages m0 ps) a ≡ Some 0) × (is_some o ≡ true)) → get (with_pages m0 (listed_page page o ++ ps)) a ≡ get m a
+unfolding with_pages
 page_here m0 m page None ps a at is (inl same) = same
 page_here m0 m page None ps a at is (inr zero_there) = absurd (cc (zero_there.1))
 page_here m0 m page (Some bytes) ps a at is which = both (is_page bytes) refl which
@@ -119,38 +119,38 @@ page_here m0 m page (Some bytes) ps a at is which = both (is_page bytes) refl wh
     all true e = refl
     all false e = absurd cc
 
-    both : (b : Bool) → is_page bytes ≡ b → get (filled m0 ps) a ≡ get m a ⊎ ((get (filled m0 ps) a ≡ Some 0) × (is_some (Some bytes) ≡ true)) → get (filled m0 (cond b (record { number = page; bytes = bytes } ∷ []) [] ++ ps)) a ≡ get m a
-    both true was w = get-with_bytes (filled m0 ps) (4096 * page) bytes a (omega arith) (omega (arith, len)) ∙ sym from_m
+    both : (b : Bool) → is_page bytes ≡ b → get (with_pages m0 ps) a ≡ get m a ⊎ ((get (with_pages m0 ps) a ≡ Some 0) × (is_some (Some bytes) ≡ true)) → get (with_pages m0 (cond b (record { number = page; bytes = bytes } ∷ []) [] ++ ps)) a ≡ get m a
+    both true was w = get-with_bytes (with_pages m0 ps) (4096 * page) bytes a (omega arith) (omega (arith, len)) ∙ sym from_m
     both false was (inl same) = same
     both false was (inr z) = z.0 ∙ ap Some (sym (zero_each bytes (all (list_all (λ b. b == 0) bytes) was) (a - 4096 * page))) ∙ sym from_m
 
 -- where the memory below agrees, so does the filled one
-pub filled_same : (m0 m : Memory) (page count a : ℕ) → get m0 a ≡ get m a → get (filled m0 (pages_from m page count)) a ≡ get m a
-unfolding pages_from filled
+pub filled_same : (m0 m : Memory) (page count a : ℕ) → get m0 a ≡ get m a → get (with_pages m0 (page_texts_from m page count)) a ≡ get m a
+unfolding page_texts_from with_pages
 filled_same m0 m page zero a same = same
 filled_same m0 m page (suc count) a same = both (cases_eq (a / 4096) page) (filled_same m0 m (page + 1) count a same)
   where
-    both : (a / 4096 ≡ page) ⊎ (a / 4096 ≢ page) → get (filled m0 (pages_from m (page + 1) count)) a ≡ get m a → get (filled m0 (listed page (bytes_at m (4096 * page) 4096) ++ pages_from m (page + 1) count)) a ≡ get m a
-    both (inl e) later = page_here m0 m page (bytes_at m (4096 * page) 4096) (pages_from m (page + 1) count) a refl e (inl later)
-    both (inr ne) later = page_elsewhere m0 page (bytes_at m (4096 * page) 4096) (pages_from m (page + 1) count) a (length_of_bytes_at m (4096 * page) 4096) ne ∙ later
+    both : (a / 4096 ≡ page) ⊎ (a / 4096 ≢ page) → get (with_pages m0 (page_texts_from m (page + 1) count)) a ≡ get m a → get (with_pages m0 (listed_page page (bytes_at m (4096 * page) 4096) ++ page_texts_from m (page + 1) count)) a ≡ get m a
+    both (inl e) later = page_here m0 m page (bytes_at m (4096 * page) 4096) (page_texts_from m (page + 1) count) a refl e (inl later)
+    both (inr ne) later = page_elsewhere m0 page (bytes_at m (4096 * page) 4096) (page_texts_from m (page + 1) count) a (length_of_bytes_at m (4096 * page) 4096) ne ∙ later
 
 -- pages behind an address leave it
-filled_later : (m0 m : Memory) (page count a : ℕ) → a / 4096 < page → get (filled m0 (pages_from m page count)) a ≡ get m0 a
-unfolding pages_from filled
+filled_later : (m0 m : Memory) (page count a : ℕ) → a / 4096 < page → get (with_pages m0 (page_texts_from m page count)) a ≡ get m0 a
+unfolding page_texts_from with_pages
 filled_later m0 m page zero a lt = refl
 filled_later m0 m page (suc count) a lt =
-    page_elsewhere m0 page (bytes_at m (4096 * page) 4096) (pages_from m (page + 1) count) a (length_of_bytes_at m (4096 * page) 4096) (λ e. omega arith)
+    page_elsewhere m0 page (bytes_at m (4096 * page) 4096) (page_texts_from m (page + 1) count) a (length_of_bytes_at m (4096 * page) 4096) (λ e. omega arith)
     ∙ filled_later m0 m (page + 1) count a (omega arith)
 
 -- a mapped page that was zero becomes what it is
-pub filled_in : (m0 m : Memory) (page count a : ℕ) → page ≤ a / 4096 → a / 4096 < page + count → get m0 a ≡ Some 0 → is_some (bytes_at m (4096 * (a / 4096)) 4096) ≡ true → get (filled m0 (pages_from m page count)) a ≡ get m a
-unfolding pages_from filled
+pub filled_in : (m0 m : Memory) (page count a : ℕ) → page ≤ a / 4096 → a / 4096 < page + count → get m0 a ≡ Some 0 → is_some (bytes_at m (4096 * (a / 4096)) 4096) ≡ true → get (with_pages m0 (page_texts_from m page count)) a ≡ get m a
+unfolding page_texts_from with_pages
 filled_in m0 m page zero a from to z full = absurd (omega arith)
 filled_in m0 m page (suc count) a from to z full = both (cases_eq (a / 4096) page) (λ ne. filled_in m0 m (page + 1) count a (omega arith) (omega arith) z full)
   where
-    both : (a / 4096 ≡ page) ⊎ (a / 4096 ≢ page) → (a / 4096 ≢ page → get (filled m0 (pages_from m (page + 1) count)) a ≡ get m a) → get (filled m0 (listed page (bytes_at m (4096 * page) 4096) ++ pages_from m (page + 1) count)) a ≡ get m a
-    both (inl e) later = page_here m0 m page (bytes_at m (4096 * page) 4096) (pages_from m (page + 1) count) a refl e (inr (filled_later m0 m (page + 1) count a (omega arith) ∙ z, ap (λ (n : ℕ). is_some (bytes_at m (4096 * n) 4096)) (sym e) ∙ full))
-    both (inr ne) later = page_elsewhere m0 page (bytes_at m (4096 * page) 4096) (pages_from m (page + 1) count) a (length_of_bytes_at m (4096 * page) 4096) ne ∙ later ne
+    both : (a / 4096 ≡ page) ⊎ (a / 4096 ≢ page) → (a / 4096 ≢ page → get (with_pages m0 (page_texts_from m (page + 1) count)) a ≡ get m a) → get (with_pages m0 (listed_page page (bytes_at m (4096 * page) 4096) ++ page_texts_from m (page + 1) count)) a ≡ get m a
+    both (inl e) later = page_here m0 m page (bytes_at m (4096 * page) 4096) (page_texts_from m (page + 1) count) a refl e (inr (filled_later m0 m (page + 1) count a (omega arith) ∙ z, ap (λ (n : ℕ). is_some (bytes_at m (4096 * n) 4096)) (sym e) ∙ full))
+    both (inr ne) later = page_elsewhere m0 page (bytes_at m (4096 * page) 4096) (page_texts_from m (page + 1) count) a (length_of_bytes_at m (4096 * page) 4096) ne ∙ later ne
 
 -- what a memory's runs and pages say is that memory
 pub same_again : (m : Memory) → IsWhole m → memory_from (runs_of m) (pages_of m) ≡ m

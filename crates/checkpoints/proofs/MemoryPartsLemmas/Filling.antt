@@ -9,7 +9,7 @@ use Rattle.paged_mem.proofs.Maps.{same_memory}
 use Rattle.save_text.specs.declared.state_text.parts.Page.{Page}
 use Rattle.save_text.specs.StateText.StateText.{PageText, after_page}
 use Rattle.save_text.specs.StateText.Seen.{page_view}
-use Rattle.checkpoints.specs.MemoryParts.Canonical.{filled, filled_on, AreShown}
+use Rattle.checkpoints.specs.MemoryParts.Canonical.{with_pages, filled_on, AreShown}
 
 -- bytes at two places, one behind the other
 swapped : (m : Memory) (low high : ℕ) (xs ys : List ℕ) → low + length xs ≤ high → with_bytes (with_bytes m low xs) high ys ≡ with_bytes (with_bytes m high ys) low xs
@@ -22,16 +22,16 @@ swapped m low high xs ys apart = same_memory _ _ (λ a. each a (cases_lt a low) 
     each a (inr p) (inr q) (inr r) (inl s) = get-with_bytes (with_bytes m low xs) high ys a r s ∙ sym (get-with_bytes_above (with_bytes m high ys) low xs a q ∙ get-with_bytes m high ys a r s)
     each a (inr p) (inr q) (inr r) (inr s) = get-with_bytes_above (with_bytes m low xs) high ys a s ∙ get-with_bytes_above m low xs a q ∙ sym (get-with_bytes_above (with_bytes m high ys) low xs a q ∙ get-with_bytes_above m high ys a s)
 
-first_last : (m : Memory) (pages : List PageText) (least low : ℕ) (xs : List ℕ) → AreShown least pages → low + length xs ≤ 4096 * least → filled (with_bytes m low xs) pages ≡ with_bytes (filled m pages) low xs
-unfolding filled
+first_last : (m : Memory) (pages : List PageText) (least low : ℕ) (xs : List ℕ) → AreShown least pages → low + length xs ≤ 4096 * least → with_pages (with_bytes m low xs) pages ≡ with_bytes (with_pages m pages) low xs
+unfolding with_pages
 first_last m [] least low xs shown le = refl
 first_last m (p ∷ ps) least low xs shown le =
     let from : least ≤ p.number = shown.0.from in
     ap (λ (v : Memory). with_bytes v (4096 * p.number) p.bytes) (first_last m ps (after_page p) low xs shown.1 (omega arith))
-    ∙ swapped (filled m ps) low (4096 * p.number) xs p.bytes (omega arith)
+    ∙ swapped (with_pages m ps) low (4096 * p.number) xs p.bytes (omega arith)
 
-pub any_order : (m : Memory) (pages : List PageText) (least : ℕ) → AreShown least pages → filled_on m pages ≡ filled m pages
-unfolding filled filled_on
+pub any_order : (m : Memory) (pages : List PageText) (least : ℕ) → AreShown least pages → filled_on m pages ≡ with_pages m pages
+unfolding with_pages filled_on
 any_order m [] least shown = refl
 any_order m (p ∷ ps) least shown =
     let full : length p.bytes ≡ 4096 = shown.0.full in

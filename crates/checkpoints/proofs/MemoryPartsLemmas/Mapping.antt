@@ -5,7 +5,7 @@ use Rattle.std.proofs.lemmas.List.{drop_all}
 use Rattle.paged_mem.specs.Memory.{Memory, IsFree, with_bytes, zeros}
 use Rattle.save_text.specs.declared.state_text.parts.Run.{Run}
 use Rattle.save_text.specs.StateText.StateText.{after_run}
-use Rattle.checkpoints.specs.MemoryParts.Canonical.{mapped_runs, IsPlaced, ArePlaced}
+use Rattle.checkpoints.specs.MemoryParts.Canonical.{mapped_runs, IsNextRun, ArePlaced}
 use Rattle.checkpoints.proofs.MemoryPartsLemmas.Again.{zero_out}
 
 -- the runs from an index on are to be mapped, behind all that is mapped
@@ -20,7 +20,7 @@ no_run = record { first = 0; pages = 0 }
 next_of : (runs : List Run) (i : ℕ) (run : Run) → i < length runs → run ≡ get_or runs i no_run → drop i runs ≡ run ∷ drop (i + 1) runs
 next_of runs i run lt is = let e = drop-cons runs i no_run lt in rw (add-one) (e ∙ ap (λ (r : Run). r ∷ drop (suc i) runs) (sym is))
 
-pub room : (m whole : Memory) (runs : List Run) (i least : ℕ) (run : Run) → i < length runs → run ≡ get_or runs i no_run → IsReady m whole runs i least → IsPlaced least run
+pub room : (m whole : Memory) (runs : List Run) (i least : ℕ) (run : Run) → i < length runs → run ≡ get_or runs i no_run → IsReady m whole runs i least → IsNextRun least run
 room m whole runs i least run lt is ready = (subst (ArePlaced least) (next_of runs i run lt is) ready.placed).0
 
 pub is_free : (m whole : Memory) (runs : List Run) (i least : ℕ) (run : Run) → i < length runs → run ≡ get_or runs i no_run → IsReady m whole runs i least → IsFree m (4096 * run.first) (4096 * run.pages)

@@ -7,7 +7,7 @@ use Rattle.paged_mem.specs.Memory.{Memory, bytes_at, zeros}
 use Rattle.paged_mem.specs.Ram.{IsRun, RunsFrom}
 use Rattle.paged_mem.proofs.Maps.{bytes_at-none}
 use Rattle.save_text.specs.StateText.StateText.{PageText}
-use Rattle.checkpoints.specs.MemoryParts.Canonical.{listed, pages_from}
+use Rattle.checkpoints.specs.MemoryParts.Canonical.{listed_page, page_texts_from}
 
 all_zero : (count : ℕ) → list_all (λ b. b == 0) (zeros count) ≡ true
 unfolding zeros
@@ -15,67 +15,67 @@ all_zero zero = refl
 all_zero (suc count) = all_zero count
 
 -- a page of zeros is not listed
-pub zeros_unlisted : (page count : ℕ) → listed page (Some (zeros count)) ≡ []
+pub zeros_unlisted : (page count : ℕ) → listed_page page (Some (zeros count)) ≡ []
 zeros_unlisted page count = rw (all_zero count) refl
 
-pub zero_unlisted : (page : ℕ) (bytes : List ℕ) → list_all (λ b. b == 0) bytes ≡ true → listed page (Some bytes) ≡ []
+pub zero_unlisted : (page : ℕ) (bytes : List ℕ) → list_all (λ b. b == 0) bytes ≡ true → listed_page page (Some bytes) ≡ []
 zero_unlisted page bytes e = rw e refl
 
-pub other_listed : (page : ℕ) (bytes : List ℕ) → list_all (λ b. b == 0) bytes ≡ false → listed page (Some bytes) ≡ record { number = page; bytes = bytes } ∷ []
+pub other_listed : (page : ℕ) (bytes : List ℕ) → list_all (λ b. b == 0) bytes ≡ false → listed_page page (Some bytes) ≡ record { number = page; bytes = bytes } ∷ []
 other_listed page bytes e = rw e refl
 
-pub same_pages : (m : Memory) (p q a b : ℕ) → p ≡ q → a ≡ b → pages_from m p a ≡ pages_from m q b
-same_pages m p q a b e f = λ i. pages_from m (e i) (f i)
+pub same_pages : (m : Memory) (p q a b : ℕ) → p ≡ q → a ≡ b → page_texts_from m p a ≡ page_texts_from m q b
+same_pages m p q a b e f = λ i. page_texts_from m (e i) (f i)
 
-pub pages_parts : (m : Memory) (page a b : ℕ) → pages_from m page (a + b) ≡ pages_from m page a ++ pages_from m (page + a) b
-unfolding pages_from
+pub pages_parts : (m : Memory) (page a b : ℕ) → page_texts_from m page (a + b) ≡ page_texts_from m page a ++ page_texts_from m (page + a) b
+unfolding page_texts_from
 pages_parts m page zero b = same_pages m page (page + 0) (0 + b) b (omega arith) (omega arith)
 pages_parts m page (suc a) b =
-    let here : List PageText = listed page (bytes_at m (4096 * page) 4096) in
+    let here : List PageText = listed_page page (bytes_at m (4096 * page) 4096) in
     same_pages m page page (suc a + b) (suc (a + b)) refl (omega arith)
-    ∙ ap (λ (v : List PageText). here ++ v) (pages_parts m (page + 1) a b ∙ ap (λ (v : List PageText). pages_from m (page + 1) a ++ v) (same_pages m (page + 1 + a) (page + suc a) b b (omega arith) refl))
-    ∙ sym (append_assoc here (pages_from m (page + 1) a) (pages_from m (page + suc a) b))
+    ∙ ap (λ (v : List PageText). here ++ v) (pages_parts m (page + 1) a b ∙ ap (λ (v : List PageText). page_texts_from m (page + 1) a ++ v) (same_pages m (page + 1 + a) (page + suc a) b b (omega arith) refl))
+    ∙ sym (append_assoc here (page_texts_from m (page + 1) a) (page_texts_from m (page + suc a) b))
 
-pub none_listed : (m : Memory) (page count : ℕ) → ((k : ℕ) → k < count → get m (4096 * (page + k)) ≡ None) → pages_from m page count ≡ []
-unfolding pages_from
+pub none_listed : (m : Memory) (page count : ℕ) → ((k : ℕ) → k < count → get m (4096 * (page + k)) ≡ None) → page_texts_from m page count ≡ []
+unfolding page_texts_from
 none_listed m page zero free = refl
 none_listed m page (suc count) free =
     let here : bytes_at m (4096 * page) 4096 ≡ None = bytes_at-none m (4096 * page) 4096 (4096 * (page + 0)) (omega arith) (omega arith) (free 0 (omega arith)) in
-    ap (λ (o : Option (List ℕ)). listed page o ++ pages_from m (page + 1) count) here
+    ap (λ (o : Option (List ℕ)). listed_page page o ++ page_texts_from m (page + 1) count) here
     ∙ none_listed m (page + 1) count (λ k lt. ap (get m) (omega arith) ∙ free (suc k) (omega arith))
 
 -- one page more
-pub page_more : (m : Memory) (front now all : List PageText) (first i number : ℕ) → number ≡ first + i → now ≡ front ++ listed number (bytes_at m (4096 * number) 4096) → front ≡ all ++ pages_from m first i → now ≡ all ++ pages_from m first (i + 1)
+pub page_more : (m : Memory) (front now all : List PageText) (first i number : ℕ) → number ≡ first + i → now ≡ front ++ listed_page number (bytes_at m (4096 * number) 4096) → front ≡ all ++ page_texts_from m first i → now ≡ all ++ page_texts_from m first (i + 1)
 page_more m front now all first i number is now_is so_far =
-    let one : pages_from m (first + i) 1 ≡ listed (first + i) (bytes_at m (4096 * (first + i)) 4096) = single (first + i) in
-    now_is ∙ ap (λ (n : ℕ). front ++ listed n (bytes_at m (4096 * n) 4096)) is
-    ∙ ap (λ (v : List PageText). v ++ listed (first + i) (bytes_at m (4096 * (first + i)) 4096)) so_far
-    ∙ append_assoc all (pages_from m first i) (listed (first + i) (bytes_at m (4096 * (first + i)) 4096))
-    ∙ ap (λ (v : List PageText). all ++ v) (ap (λ (v : List PageText). pages_from m first i ++ v) (sym one) ∙ sym (pages_parts m first i 1))
+    let one : page_texts_from m (first + i) 1 ≡ listed_page (first + i) (bytes_at m (4096 * (first + i)) 4096) = single (first + i) in
+    now_is ∙ ap (λ (n : ℕ). front ++ listed_page n (bytes_at m (4096 * n) 4096)) is
+    ∙ ap (λ (v : List PageText). v ++ listed_page (first + i) (bytes_at m (4096 * (first + i)) 4096)) so_far
+    ∙ append_assoc all (page_texts_from m first i) (listed_page (first + i) (bytes_at m (4096 * (first + i)) 4096))
+    ∙ ap (λ (v : List PageText). all ++ v) (ap (λ (v : List PageText). page_texts_from m first i ++ v) (sym one) ∙ sym (pages_parts m first i 1))
   where
-    single : (page : ℕ) → pages_from m page 1 ≡ listed page (bytes_at m (4096 * page) 4096)
-    single page = unfold pages_from in append-nil (listed page (bytes_at m (4096 * page) 4096))
+    single : (page : ℕ) → page_texts_from m page 1 ≡ listed_page page (bytes_at m (4096 * page) 4096)
+    single page = unfold page_texts_from in append-nil (listed_page page (bytes_at m (4096 * page) 4096))
 
-pub run_pages : (m : Memory) (page first count : ℕ) (found now whole : List PageText) → page ≤ 2 ^ 26 → IsRun m (4096 * page) first count → now ≡ found ++ pages_from m (first / 4096) count
-    → found ++ pages_from m page (2 ^ 26 - page) ≡ whole → now ++ pages_from m (first / 4096 + count) (2 ^ 26 - (first / 4096 + count)) ≡ whole
+pub run_pages : (m : Memory) (page first count : ℕ) (found now whole : List PageText) → page ≤ 2 ^ 26 → IsRun m (4096 * page) first count → now ≡ found ++ page_texts_from m (first / 4096) count
+    → found ++ page_texts_from m page (2 ^ 26 - page) ≡ whole → now ++ page_texts_from m (first / 4096 + count) (2 ^ 26 - (first / 4096 + count)) ≡ whole
 run_pages m page first count found now whole le run is so_far =
     let gap : ℕ = first / 4096 - page in
     let rest : ℕ = 2 ^ 26 - (first / 4096 + count) in
     let aligned : first % 4096 ≡ 0 = run.aligned in
     let from : page ≤ first / 4096 = omega (arith, run.from) in
     let low : first / 4096 + count ≤ 2 ^ 26 = omega (arith, run.low) in
-    let none : pages_from m page gap ≡ [] = none_listed m page gap (λ k lt. run.before (4096 * (page + k)) (omega arith) (omega arith)) in
-    let parts : pages_from m page (2 ^ 26 - page) ≡ pages_from m (first / 4096) count ++ pages_from m (first / 4096 + count) rest =
+    let none : page_texts_from m page gap ≡ [] = none_listed m page gap (λ k lt. run.before (4096 * (page + k)) (omega arith) (omega arith)) in
+    let parts : page_texts_from m page (2 ^ 26 - page) ≡ page_texts_from m (first / 4096) count ++ page_texts_from m (first / 4096 + count) rest =
     same_pages m page page (2 ^ 26 - page) (gap + (count + rest)) refl (omega arith)
     ∙ pages_parts m page gap (count + rest)
-    ∙ ap (λ (v : List PageText). v ++ pages_from m (page + gap) (count + rest)) none
+    ∙ ap (λ (v : List PageText). v ++ page_texts_from m (page + gap) (count + rest)) none
     ∙ same_pages m (page + gap) (first / 4096) (count + rest) (count + rest) (omega arith) refl
     ∙ pages_parts m (first / 4096) count rest in
-    ap (λ (v : List PageText). v ++ pages_from m (first / 4096 + count) rest) is
-    ∙ append_assoc found (pages_from m (first / 4096) count) (pages_from m (first / 4096 + count) rest)
+    ap (λ (v : List PageText). v ++ page_texts_from m (first / 4096 + count) rest) is
+    ∙ append_assoc found (page_texts_from m (first / 4096) count) (page_texts_from m (first / 4096 + count) rest)
     ∙ ap (λ (v : List PageText). found ++ v) (sym parts) ∙ so_far
 
-pub no_more_pages : (m : Memory) (page : ℕ) (found whole : List PageText) → RunsFrom m (4096 * page) None → found ++ pages_from m page (2 ^ 26 - page) ≡ whole → found ≡ whole
+pub no_more_pages : (m : Memory) (page : ℕ) (found whole : List PageText) → RunsFrom m (4096 * page) None → found ++ page_texts_from m page (2 ^ 26 - page) ≡ whole → found ≡ whole
 no_more_pages m page found whole free so_far =
-    let none : pages_from m page (2 ^ 26 - page) ≡ [] = none_listed m page (2 ^ 26 - page) (λ k lt. free (4096 * (page + k)) (omega arith)) in
+    let none : page_texts_from m page (2 ^ 26 - page) ≡ [] = none_listed m page (2 ^ 26 - page) (λ k lt. free (4096 * (page + k)) (omega arith)) in
     sym (append-nil found) ∙ ap (λ (v : List PageText). found ++ v) (sym none) ∙ so_far

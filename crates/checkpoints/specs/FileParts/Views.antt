@@ -8,7 +8,7 @@ use Rattle.mem_files.specs.declared.slot.Slot.{Slot}
 use Rattle.mem_files.specs.contracts.slot.Slot as slot
 use Rattle.mem_files.specs.declared.view.FileView.{FileView}
 use Rattle.mem_files.specs.Sound.{AreBytes}
-use Rattle.mem_files.specs.Lists.{ListedFile, FileLists, listed, contents}
+use Rattle.mem_files.specs.Lists.{ListedFile, FileLists, listed, numbered_contents}
 
 abbrev pub view_of : List FileView → List (ℕ × Slot) → List (Bor (List ℕ)) → FileLists
 view_of files slots streams = record { files = map listed files; slots = slots; streams = map (λ stream. stream.now) streams }
@@ -23,7 +23,7 @@ pub record HasBytes (file : ListedFile) : Type 0 where
 
 -- what all parts keep: numbers and descriptors rise, there are at most two streams, and everything is bytes
 pub record AreParts (lists : FileLists) : Type 0 where
-  pub files_rise : IsTrue (fin.is_sorted nat_cmp (contents lists.files))
+  pub files_rise : IsTrue (fin.is_sorted nat_cmp (numbered_contents lists.files))
   pub slots_rise : IsTrue (fin.is_sorted nat_cmp lists.slots)
   pub few_streams : length lists.streams ≤ 2
   pub file_bytes : All HasBytes lists.files

@@ -20,19 +20,19 @@ runs_from mapped page zero = []
 runs_from mapped page (suc count) = if mapped page then with_page page (runs_from mapped (page + 1) count) else runs_from mapped (page + 1) count
 
 -- a page that is mapped and not all zero is listed
-abbrev pub listed : ℕ → Option (List ℕ) → List PageText
-listed page None = []
-listed page (Some bytes) = if is_page bytes then record { number = page; bytes = bytes } ∷ [] else []
+abbrev pub listed_page : ℕ → Option (List ℕ) → List PageText
+listed_page page None = []
+listed_page page (Some bytes) = if is_page bytes then record { number = page; bytes = bytes } ∷ [] else []
 
-unfoldable pub pages_from : Memory → ℕ → ℕ → List PageText
-pages_from m page zero = []
-pages_from m page (suc count) = listed page (bytes_at m (4096 * page) 4096) ++ pages_from m (page + 1) count
+unfoldable pub page_texts_from : Memory → ℕ → ℕ → List PageText
+page_texts_from m page zero = []
+page_texts_from m page (suc count) = listed_page page (bytes_at m (4096 * page) 4096) ++ page_texts_from m (page + 1) count
 
 abbrev pub runs_of : Memory → List Run
 runs_of m = runs_from (is_mapped m) 0 (2 ^ 26)
 
 abbrev pub pages_of : Memory → List PageText
-pages_of m = pages_from m 0 (2 ^ 26)
+pages_of m = page_texts_from m 0 (2 ^ 26)
 
 -- ---- the memory that runs and pages say
 
@@ -42,18 +42,18 @@ mapped_runs m [] = m
 mapped_runs m (run ∷ runs) = mapped_runs (with_bytes m (4096 * run.first) (zeros (4096 * run.pages))) runs
 
 -- the memory with these pages written over it
-unfoldable pub filled : Memory → List PageText → Memory
-filled m [] = m
-filled m (page ∷ pages) = with_bytes (filled m pages) (4096 * page.number) page.bytes
+unfoldable pub with_pages : Memory → List PageText → Memory
+with_pages m [] = m
+with_pages m (page ∷ pages) = with_bytes (with_pages m pages) (4096 * page.number) page.bytes
 
 -- a run behind the earlier ones, below the end of memory
-pub record IsPlaced (least : ℕ) (run : Run) : Type 0 where
+pub record IsNextRun (least : ℕ) (run : Run) : Type 0 where
   pub from : least ≤ run.first
   pub some : 1 ≤ run.pages
   pub low : run.first + run.pages ≤ 2 ^ 26
 
 abbrev pub ArePlaced : ℕ → List Run → Type 0
-ArePlaced least runs = InTurn IsPlaced after_run least runs
+ArePlaced least runs = InTurn IsNextRun after_run least runs
 
 -- is a page in one of the runs?
 abbrev pub in_run : Run → ℕ → Bool

@@ -5,11 +5,11 @@ ghost use Rattle.std.specs.FinMap as finite;
 ghost use Rattle.paged_mem.specs.Memory.{Memory, IsWhole};
 ghost use Rattle.save_text.specs.declared.state_text.parts.Run.{Run};
 ghost use Rattle.save_text.specs.StateText.StateText.{PageText};
-ghost use Rattle.checkpoints.specs.MemoryParts.Canonical.{runs_of, filled, filled_on, mapped_runs, ArePlaced, AreShown, pages_of};
+ghost use Rattle.checkpoints.specs.MemoryParts.Canonical.{runs_of, with_pages, filled_on, mapped_runs, ArePlaced, AreShown, pages_of};
 
 /// The runs and pages of a memory say that memory.
 pub fn runs_and_pages_say_the_memory()
-    ensures { (m : Memory) → IsWhole m → filled (mapped_runs finite.empty (runs_of m)) (pages_of m) ≡ m }
+    ensures { (m : Memory) → IsWhole m → with_pages (mapped_runs finite.empty (runs_of m)) (pages_of m) ≡ m }
 {}
 
 /// Runs that are mapped are the runs of that memory.
@@ -20,10 +20,10 @@ pub fn mapped_runs_are_the_runs()
 /// Pages that are filled are the pages of that memory.
 pub fn filled_pages_are_the_pages()
     ensures { (runs : List Run) (pages : List PageText) → ArePlaced 0 runs → AreShown 0 pages
-        → pages_of (filled (mapped_runs finite.empty runs) pages) ≡ pages }
+        → pages_of (with_pages (mapped_runs finite.empty runs) pages) ≡ pages }
 {}
 
 /// The order in which pages are written does not matter.
 pub fn order_of_pages_is_free()
-    ensures { (m : Memory) (pages : List PageText) → AreShown 0 pages → filled_on m pages ≡ filled m pages }
+    ensures { (m : Memory) (pages : List PageText) → AreShown 0 pages → filled_on m pages ≡ with_pages m pages }
 {}

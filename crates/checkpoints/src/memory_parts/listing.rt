@@ -4,7 +4,7 @@ ghost use Rattle.std.specs.Prelude.{◌≡◌, ◌≤◌, ◌+◌, ◌*◌, ◌^
 ghost use Rattle.std.specs.List.{list_all};
 ghost use Rattle.paged_mem.specs.Memory.{bytes_at};
 ghost use Rattle.save_text.specs.StateText.Seen.{page_view};
-ghost use Rattle.checkpoints.specs.MemoryParts.Canonical.{runs_of, listed, pages_from, pages_of};
+ghost use Rattle.checkpoints.specs.MemoryParts.Canonical.{runs_of, listed_page, page_texts_from, pages_of};
 
 use ddc_base::OutOfMemory;
 use paged_mem::{PAGE, PageView, Ram};
@@ -48,7 +48,7 @@ fn push_pages<'a, R: Ram>(
     found: &mut Vec<Page<'a>>,
 ) -> Result<(), OutOfMemory>
     requires { first + count ≤ 2 ^ 26 }
-    ensures { OnOk result (map page_view found.new.items ≡ map page_view found.old.items ++ pages_from (R.bytes ram.now) first count) }
+    ensures { OnOk result (map page_view found.new.items ≡ map page_view found.old.items ++ page_texts_from (R.bytes ram.now) first count) }
 {
     for i in 0..count {
         let number = (first + i) as u32;
@@ -61,7 +61,7 @@ fn push_pages<'a, R: Ram>(
 
 /// The bytes of a page that is listed.
 fn listed_bytes<R: Ram>(ram: &R, number: u32) -> Option<&[u8]>
-    ensures { MatchOption result (listed number (bytes_at (R.bytes ram.now) (4096 * number) 4096) ≡ []) (λ bytes. listed number (bytes_at (R.bytes ram.now) (4096 * number) 4096) ≡ record { number = number; bytes = bytes.now } ∷ []) }
+    ensures { MatchOption result (listed_page number (bytes_at (R.bytes ram.now) (4096 * number) 4096) ≡ []) (λ bytes. listed_page number (bytes_at (R.bytes ram.now) (4096 * number) 4096) ≡ record { number = number; bytes = bytes.now } ∷ []) }
 {
     match ram.page(PAGE * u64::from(number)) {
         PageView::Unmapped => None,

@@ -9,7 +9,7 @@ use Rattle.ddc_base.specs.declared.outside.Call.{Call}
 use Rattle.ddc_base.specs.contracts.outside.Call as call
 use Rattle.ddc_base.specs.declared.memory.MemShelf.TheInside as shelf
 use Rattle.ddc_base.specs.declared.memory.MemSink.TheInside as sink
-use Rattle.ddc_base.specs.Outside.{Files}
+use Rattle.ddc_base.specs.Outside.{NamedFiles}
 use Rattle.ddc_base.specs.Inside.MemoryFiles.{files_of}
 use Rattle.ddc_base.specs.Inside.FailedCall.{told_call}
 use Rattle.ddc_base.specs.Memory.{MemoryShelf, MemorySink}
@@ -30,7 +30,7 @@ shelf_view a = record {
 abbrev pub shelf_code : Coded MemoryShelf
 shelf_code =
     let numbers = coded_list coded_ℕ in
-    code_by (Files × (List Call × (ℕ × (ℕ × (List ℕ × (List ℕ × (ℕ × Option (Operation × List ℕ))))))))
+    code_by (NamedFiles × (List Call × (ℕ × (ℕ × (List ℕ × (List ℕ × (ℕ × Option (Operation × List ℕ))))))))
     (coded× (finite.code numbers numbers) (coded× (coded_list call.the_row.coded) (coded× coded_ℕ (coded× coded_ℕ (coded× numbers (coded× numbers (coded× coded_ℕ (coded_option (coded× operation.the_row.coded numbers)))))))))
     (λ s. (s.files, (s.calls, (s.loads, (s.saves, (s.failing_loads, (s.failing_saves, (s.faults, s.last_failed))))))))
     (λ p. record { files = p.0; calls = p.1.0; loads = p.1.1.0; saves = p.1.1.1.0; failing_loads = p.1.1.1.1.0; failing_saves = p.1.1.1.1.1.0; faults = p.1.1.1.1.1.1.0; last_failed = p.1.1.1.1.1.1.1 })

@@ -18,7 +18,7 @@ use Rattle.hex_langs.specs.declared.items.reader.HexRefusal.TheVariants.{TooLong
 use Rattle.hex_langs.specs.Items.Tokens.{gap_from, gap_length, is_blank, opens_gap, pair_at, token_at}
 use Rattle.hex_langs.specs.Hex0.{begins_comment}
 use Rattle.hex_langs.specs.Items.Words.{Step, taken, Takes}
-use Rattle.hex_langs.specs.Items.Reading.{answer, Ending, Ends, Faulty, Formed, fault_at, formed, behind_step, Halted, halted, items_of, judged, Reading, Reads, reading, Then, with_front}
+use Rattle.hex_langs.specs.Items.Reading.{answer, Ending, NoToken, Faulty, Formed, fault_at, formed, behind_step, Halted, halted, items_of, limited_items, Reading, ReadsItems, reading, Then, with_front}
 
 -- what is read already is passed over
 pub reading-inside : (dialect : Dialect) (at inside : ℕ) (left : List ℕ)
@@ -133,28 +133,28 @@ pub takes-ok : (meant : Step) (next : Option Open) (old new : List Item) → Tak
 takes-ok (Ok step) next old new takes = (step.0, ap (λ (word : Option Open). Ok (step.0, word)) (sym takes.1), takes.0)
 takes-ok (Err why) next old new takes = absurd takes
 
-judged-few : (whole : Formed Fault) → length whole.items ≤ 33554432 → judged whole ≡ answer whole.items whole.end
+judged-few : (whole : Formed Fault) → length whole.items ≤ 33554432 → limited_items whole ≡ answer whole.items whole.end
 judged-few whole few = let fits : nat_lt 33554432 (length whole.items) ≡ false = grind (arith, nat_tests) in cond-false _ _ _ fits
 
-judged-many : (whole : Formed Fault) → 33554432 < length whole.items → judged whole ≡ Err TooLong
+judged-many : (whole : Formed Fault) → 33554432 < length whole.items → limited_items whole ≡ Err TooLong
 judged-many whole many = let over : nat_lt 33554432 (length whole.items) ≡ true = grind (arith, nat_tests) in cond-true _ _ _ over
 
 -- the items so far are few, and nothing comes behind them
 pub judged-end : (whole : Formed Fault) (items : List Item) (end : Ending Fault) → whole ≡ with_front items (record { items = []; end = end })
-    → length items ≤ 33554432 → judged whole ≡ answer items end
+    → length items ≤ 33554432 → limited_items whole ≡ answer items end
 judged-end whole items end is few =
     let all : whole ≡ record { items = items; end = end } = is ∙ ap (λ (all : List Item). record { items = all; end = end }) (append-nil items) in
-    ap judged all ∙ judged-few (record { items = items; end = end }) few
+    ap limited_items all ∙ judged-few (record { items = items; end = end }) few
 
 judged-more : (whole : Formed Fault) (items more : List Item) (later : Formed Fault) → whole ≡ with_front items (with_front more later)
-    → 33554432 < length items + length more → judged whole ≡ Err TooLong
+    → 33554432 < length items + length more → limited_items whole ≡ Err TooLong
 judged-more whole items more later is many =
     rw is (judged-many (with_front items (with_front more later)) (omega (arith, length-append {A = Item})))
 
 -- a token that has no place, or one item too many
 too_long : (whole : Formed Fault) (items new : List Item) (word : Option Open) (at : ℕ) (token : Token) (later : Reading Fault) (meant : Step)
     → whole ≡ with_front items (formed word (Then at token later)) → taken word at token ≡ meant
-    → Takes (Err halt.TooLong) meant items new → length items ≤ 33554432 → judged whole ≡ Err TooLong
+    → Takes (Err halt.TooLong) meant items new → length items ≤ 33554432 → limited_items whole ≡ Err TooLong
 too_long whole items new word at token later (Ok step) is means takes few =
     judged-more whole items step.0 (formed step.1 later) (is ∙ ap (with_front items) (formed-token word step.1 at token later step.0 means)) takes
 too_long whole items new word at token later (Err why) is means takes few =
@@ -162,7 +162,7 @@ too_long whole items new word at token later (Err why) is means takes few =
 
 pub refuses : (whole : Formed Fault) (items new : List Item) (word : Option Open) (at : ℕ) (token : Token) (later : Reading Fault) (why : Halt)
     → whole ≡ with_front items (formed word (Then at token later)) → Takes (Err why) (taken word at token) items new
-    → length items ≤ 33554432 → Reads (judged whole) (Err (halted why))
+    → length items ≤ 33554432 → ReadsItems (limited_items whole) (Err (halted why))
 refuses whole items new word at token later (halt.Dangling first) is takes few =
     judged-end whole items (Halted (halt.Dangling first)) (is ∙ ap (with_front items) (formed-halt word at token later (halt.Dangling first) takes)) few
 refuses whole items new word at token later (halt.Second place) is takes few =
@@ -171,7 +171,7 @@ refuses whole items new word at token later halt.TooLong is takes few = too_long
 refuses whole items new word at token later halt.OutOfMemory is takes few = tt
 
 pub items_of-judged : (dialect : Dialect) (source : List ℕ) → length source ≤ 67108864
-    → items_of dialect source ≡ judged (formed None (reading dialect 0 0 source))
+    → items_of dialect source ≡ limited_items (formed None (reading dialect 0 0 source))
 unfolding items_of
 items_of-judged dialect source short = let fits : nat_lt 67108864 (length source) ≡ false = grind (arith, nat_tests) in cond-false _ _ _ fits
 
@@ -179,13 +179,13 @@ pub items_of-long : (dialect : Dialect) (source : List ℕ) → 67108864 < lengt
 unfolding items_of
 items_of-long dialect source long = let over : nat_lt 67108864 (length source) ≡ true = grind (arith, nat_tests) in cond-true _ _ _ over
 
-pub reads-fault : (meant : Result (List Item) HexRefusal) (why : Fault) (at : ℕ) → meant ≡ Err (fault_at why at) → Reads meant (Err (fault_at why at))
+pub reads-fault : (meant : Result (List Item) HexRefusal) (why : Fault) (at : ℕ) → meant ≡ Err (fault_at why at) → ReadsItems meant (Err (fault_at why at))
 reads-fault meant fault.OddDigits at is = is
 reads-fault meant fault.BadField at is = is
 
-pub reads-by : (meant same : Result (List Item) HexRefusal) (result : Result (List Item) HexRefusal) → meant ≡ same → Reads same result → Reads meant result
-reads-by meant same result is reads = subst (λ (m : Result (List Item) HexRefusal). Reads m result) (sym is) reads
+pub reads-by : (meant same : Result (List Item) HexRefusal) (result : Result (List Item) HexRefusal) → meant ≡ same → ReadsItems same result → ReadsItems meant result
+reads-by meant same result is reads = subst (λ (m : Result (List Item) HexRefusal). ReadsItems m result) (sym is) reads
 
-pub reading-end : (dialect : Dialect) (at : ℕ) → reading dialect at 0 [] ≡ Ends
+pub reading-end : (dialect : Dialect) (at : ℕ) → reading dialect at 0 [] ≡ NoToken
 unfolding reading
 reading-end dialect at = refl

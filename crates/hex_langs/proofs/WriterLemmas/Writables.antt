@@ -10,7 +10,7 @@ use Rattle.hex_langs.specs.declared.items.words.Open.{Open}
 use Rattle.hex_langs.specs.declared.items.words.Begun.{Begun}
 use Rattle.hex_langs.specs.declared.items.words.Begun.TheVariants.{Nothing, One, Two, Three}
 use Rattle.hex_langs.specs.Items.Words.{byte_in, field_in, reference_in, Step, taken, word_items}
-use Rattle.hex_langs.specs.Items.Reading.{Ends, Faulty, formed, Formed, behind_step, Reading, Then}
+use Rattle.hex_langs.specs.Items.Reading.{NoToken, Faulty, formed, Formed, behind_step, Reading, Then}
 use Rattle.hex_langs.specs.Writer.Writable.{AreWritable, IsHexName, IsWritable}
 
 abbrev pub IsGood : Token → Type 0
@@ -93,7 +93,7 @@ goes-on (Err why) rest fits later = tt
 
 -- the items of good tokens have lines
 pub formed-writable : {F : Type 0} (word : Option Open) (reading : Reading F) → OpenFits word → AreGood reading → AreWritable (formed word reading).items
-formed-writable word Ends fits good = tt
+formed-writable word NoToken fits good = tt
 formed-writable word (Faulty why at) fits good = tt
 formed-writable word (Then at token later) fits good =
     goes-on (taken word at token) (λ next. formed next later) (step-fits word at token fits good.0) (λ next next_fits. formed-writable next later next_fits good.1)

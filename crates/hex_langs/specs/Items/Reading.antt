@@ -17,13 +17,13 @@ use Rattle.hex_langs.specs.Items.Words.{taken, Step}
 
 -- the tokens of a source with their offsets, up to its end or to the first place that has no token
 pub data Reading (F : Type 0) : Type 0 where
-  Ends : Reading F
+  NoToken : Reading F
   Faulty : (why : F) (at : ℕ) → Reading F
   Then : (at : ℕ) (token : Token) (later : Reading F) → Reading F
 
 -- what stands from an offset on, of which the first bytes belong to a token or gap that is already read
 unfoldable pub reading : Dialect → ℕ → ℕ → List ℕ → Reading Fault
-reading dialect at inside [] = Ends
+reading dialect at inside [] = NoToken
 reading dialect at (suc inside) (byte ∷ left) = reading dialect (at + 1) inside left
 reading dialect at zero (byte ∷ left) =
     if opens_gap byte then reading dialect (at + 1) (gap_length (byte ∷ left) - 1) left
@@ -58,7 +58,7 @@ behind_step (Err why) rest = record { items = []; end = Halted why }
 
 -- the items of tokens, behind an open word or none
 abbrev pub formed : {F : Type 0} → Option Open → Reading F → Formed F
-formed word Ends = record { items = []; end = word_end word }
+formed word NoToken = record { items = []; end = word_end word }
 formed word (Faulty why at) = record { items = []; end = Faulted why at }
 formed word (Then at token later) = behind_step (taken word at token) (λ next. formed next later)
 
@@ -79,16 +79,16 @@ answer items (Halted why) = Err (halted why)
 answer items (Faulted why at) = Err (fault_at why at)
 
 -- more items than a list may have are refused where the first one too many would be formed
-abbrev pub judged : Formed Fault → Result (List Item) HexRefusal
-judged formed = if nat_lt 33554432 (length formed.items) then Err TooLong else answer formed.items formed.end
+abbrev pub limited_items : Formed Fault → Result (List Item) HexRefusal
+limited_items formed = if nat_lt 33554432 (length formed.items) then Err TooLong else answer formed.items formed.end
 
 -- the items of a source, or its first refusal
 unfoldable pub items_of : Dialect → List ℕ → Result (List Item) HexRefusal
 items_of dialect source =
     if nat_lt 67108864 (length source) then Err TooLong
-    else judged (formed None (reading dialect 0 0 source))
+    else limited_items (formed None (reading dialect 0 0 source))
 
 -- what a reader answers: this, or want of memory
-abbrev pub Reads : Result (List Item) HexRefusal → Result (List Item) HexRefusal → Type 0
-Reads meant (Err OutOfMemory) = Unit {0}
-Reads meant result = meant ≡ result
+abbrev pub ReadsItems : Result (List Item) HexRefusal → Result (List Item) HexRefusal → Type 0
+ReadsItems meant (Err OutOfMemory) = Unit {0}
+ReadsItems meant result = meant ≡ result

@@ -1,7 +1,7 @@
 //! Sources of hex1 and hex2, read to items.
 
-ghost use Rattle.hex_langs.specs.Items.Reading.{items_of, Reads, fault_at, halted};
-ghost use Rattle.hex_langs.specs.Items.Refusals.{refusal_number, refusal_place};
+ghost use Rattle.hex_langs.specs.Items.Reading.{items_of, ReadsItems, fault_at, halted};
+ghost use Rattle.hex_langs.specs.Items.Refusals.{hex_refusal_number, hex_refusal_place};
 ghost use Rattle.hex_langs.specs.declared.items.token.Dialect.TheVariants.{Hex1, Hex2};
 ghost use Rattle.std.specs.Prelude.{◌≡◌, ◌++◌, ◌≤◌, ◌<◌, length};
 
@@ -44,7 +44,7 @@ impl From<OutOfMemory> for HexRefusal {
 impl HexRefusal {
     /// The number of the refusal, from 1.
     pub fn number(&self) -> u8
-        ensures { result ≡ refusal_number self.now }
+        ensures { result ≡ hex_refusal_number self.now }
     {
         match self {
             HexRefusal::OddDigits(_) => 1,
@@ -60,7 +60,7 @@ impl HexRefusal {
 
     /// The offset or the item's number that it holds, and 0 where it holds none.
     pub fn place(&self) -> u64
-        ensures { result ≡ refusal_place self.now }
+        ensures { result ≡ hex_refusal_place self.now }
     {
         match self {
             HexRefusal::OddDigits(at)
@@ -81,7 +81,7 @@ pub const LONGEST_SOURCE: usize = 67_108_864;
 ///
 /// Public source: the language hex1 of stage0-posix. docs/reference/hex1.md has the rules of this project's profile.
 pub fn items1<'s>(alloc: Global, source: &'s [u8]) -> Result<Items<'s>, HexRefusal>
-    ensures { Reads (items_of Hex1 source.now) result }
+    ensures { ReadsItems (items_of Hex1 source.now) result }
 {
     items_of(alloc, Dialect::Hex1, source)
 }
@@ -90,14 +90,14 @@ pub fn items1<'s>(alloc: Global, source: &'s [u8]) -> Result<Items<'s>, HexRefus
 ///
 /// Public source: the language hex2 of stage0-posix and mescc-tools. docs/reference/hex2.md has the rules of this project's profile.
 pub fn items2<'s>(alloc: Global, source: &'s [u8]) -> Result<Items<'s>, HexRefusal>
-    ensures { Reads (items_of Hex2 source.now) result }
+    ensures { ReadsItems (items_of Hex2 source.now) result }
 {
     items_of(alloc, Dialect::Hex2, source)
 }
 
 /// The items of a source.
 fn items_of<'s>(alloc: Global, dialect: Dialect, source: &'s [u8]) -> Result<Items<'s>, HexRefusal>
-    ensures { Reads (items_of dialect source.now) result }
+    ensures { ReadsItems (items_of dialect source.now) result }
 {
     if source.len() > LONGEST_SOURCE {
         return Err(HexRefusal::TooLong);

@@ -15,11 +15,11 @@ use Rattle.m1_lang.specs.Words.Ahead.{words_at}
 use Rattle.m1_lang.specs.Words.Forms.{Tokens}
 use Rattle.m1_lang.specs.declared.refusal.M1Refusal.{M1Refusal}
 use Rattle.m1_lang.specs.declared.refusal.M1Refusal.TheVariants as refusal
-use Rattle.m1_lang.specs.Definitions.{Cut, Defined, Defines, is_value, parts, Part, Plain, plain_words, value_in}
+use Rattle.m1_lang.specs.Definitions.{Cut, Defined, Defines, is_value, parts, SourcePart, Plain, plain_words, value_in}
 use Rattle.m1_lang.specs.Expansion.{at_once, counted_items, halt_refusal, then_read, words_reading}
 
 -- the parts of a source from an offset on
-abbrev pub parts_at : List ℕ → ℕ → List Part
+abbrev pub parts_at : List ℕ → ℕ → List SourcePart
 parts_at source at = parts (word_list (words_at source at))
 
 -- where a quote is open from an offset on
@@ -50,7 +50,7 @@ with_values (Ok values) rest = rest values
 with_values (Err why) rest = Err why
 
 -- what the definitions give words that are among parts, behind those so far, or the first that is refused
-abbrev pub valued : Values → List Part → Result Values M1Refusal
+abbrev pub valued : Values → List SourcePart → Result Values M1Refusal
 valued values [] = Ok values
 valued values (Defines at name value ∷ rest) = with_values (valued_with values at name value) (λ more. valued more rest)
 valued values (Cut at ∷ rest) = Err (refusal.BadDefine at)

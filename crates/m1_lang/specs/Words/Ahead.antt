@@ -1,7 +1,7 @@
 -- What stands from an offset of a source on, past blanks and comments: a word, a quote that isn't closed, or nothing more.
 -- docs/reference/m1.md says the same for people.
 use Rattle.std.specs.Prelude.{◌≡◌, ℕ, ◌+◌, ◌<◌, ◌≤◌, List, length, drop}
-use Rattle.m1_lang.specs.Words.Words.{Words, words_from, Over, Unclosed, Found}
+use Rattle.m1_lang.specs.Words.Words.{Words, words_from, NoWord, Unclosed, Found}
 use Rattle.m1_lang.specs.declared.words.splitting.Ahead.{Ahead}
 use Rattle.m1_lang.specs.declared.words.splitting.Ahead.TheVariants as next
 
@@ -11,7 +11,7 @@ words_at source at = words_from at 0 (drop at source)
 
 -- the next word from an offset on; the offset behind it is that of its last byte and 1
 abbrev pub FindsAhead : Ahead → List ℕ → ℕ → Type 0
-FindsAhead next.End source at = words_at source at ≡ Over
+FindsAhead next.End source at = words_at source at ≡ NoWord
 FindsAhead (next.Open place) source at = words_at source at ≡ Unclosed place
 FindsAhead (next.Word start text after) source at =
     (words_at source at ≡ Found (record { at = start; text = text.now }) (words_at source after)) × (at < after) × (after ≤ length source)

@@ -11,7 +11,7 @@ pub record Word : Type 0 where
 
 -- the words of a source, up to its end or to the first quote that isn't closed
 pub data Words : Type 0 where
-  Over : Words
+  NoWord : Words
   Unclosed : (at : ℕ) → Words
   Found : (word : Word) (later : Words) → Words
 
@@ -32,7 +32,7 @@ word_more byte left =
 
 -- what stands from an offset on, of which the first bytes belong to a word, or to blanks and comments, already read
 unfoldable pub words_from : ℕ → ℕ → List ℕ → Words
-words_from at inside [] = Over
+words_from at inside [] = NoWord
 words_from at (suc inside) (byte ∷ left) = words_from (at + 1) inside left
 words_from at zero (byte ∷ left) =
     if opens_gap byte then words_from (at + 1) (gap_length (byte ∷ left) - 1) left
@@ -47,12 +47,12 @@ words_of source = words_from 0 0 source
 
 -- the words before the end, or before the open quote
 abbrev pub word_list : Words → List Word
-word_list Over = []
+word_list NoWord = []
 word_list (Unclosed at) = []
 word_list (Found word later) = word ∷ word_list later
 
 -- where a quote is open
 abbrev pub open_quote : Words → Option ℕ
-open_quote Over = None
+open_quote NoWord = None
 open_quote (Unclosed at) = Some at
 open_quote (Found word later) = open_quote later

@@ -40,10 +40,10 @@ table_word table.Stage = codes "stage"
 table_word table.Compare = codes "compare"
 
 -- whether a text is one of the keys
-abbrev pub is_listed : List Key → List ℕ → Bool
-is_listed keys text = list_any (λ key. bytes_eq (key_word key) text) keys
+abbrev pub is_known_key : List Key → List ℕ → Bool
+is_known_key keys text = list_any (λ key. bytes_eq (key_word key) text) keys
 
 -- whether a table has no other keys than these
 abbrev pub are_listed : List Key → Members → Bool
 are_listed keys no_members = true
-are_listed keys (member text value more) = is_listed keys text && are_listed keys more
+are_listed keys (member text value more) = is_known_key keys text && are_listed keys more

@@ -5,30 +5,30 @@ use Rattle.recipe.specs.declared.text.keys.Place.{Place}
 use Rattle.recipe.specs.declared.text.refusal.RecipeRefusal.{RecipeRefusal}
 use Rattle.recipe.specs.declared.text.refusal.RecipeRefusal.TheVariants.{NotToml, Missing, Unknown, BadName, DoubleName, NotMadeYet, BadPath, BadNumber, TooMany, OutOfMemory}
 
-abbrev pub refusal_number : RecipeRefusal → ℕ
-refusal_number NotToml = 1
-refusal_number (Missing place key) = 2
-refusal_number (Unknown place) = 3
-refusal_number (BadName place key) = 4
-refusal_number (DoubleName place key) = 5
-refusal_number (NotMadeYet place key) = 6
-refusal_number (BadPath place key) = 7
-refusal_number (BadNumber place key) = 8
-refusal_number (TooMany place key) = 9
-refusal_number OutOfMemory = 10
+abbrev pub recipe_refusal_number : RecipeRefusal → ℕ
+recipe_refusal_number NotToml = 1
+recipe_refusal_number (Missing place key) = 2
+recipe_refusal_number (Unknown place) = 3
+recipe_refusal_number (BadName place key) = 4
+recipe_refusal_number (DoubleName place key) = 5
+recipe_refusal_number (NotMadeYet place key) = 6
+recipe_refusal_number (BadPath place key) = 7
+recipe_refusal_number (BadNumber place key) = 8
+recipe_refusal_number (TooMany place key) = 9
+recipe_refusal_number OutOfMemory = 10
 
 -- the table that is refused
-abbrev pub refusal_place : RecipeRefusal → Option Place
-refusal_place NotToml = None
-refusal_place (Missing place key) = Some place
-refusal_place (Unknown place) = Some place
-refusal_place (BadName place key) = Some place
-refusal_place (DoubleName place key) = Some place
-refusal_place (NotMadeYet place key) = Some place
-refusal_place (BadPath place key) = Some place
-refusal_place (BadNumber place key) = Some place
-refusal_place (TooMany place key) = Some place
-refusal_place OutOfMemory = None
+abbrev pub recipe_refusal_place : RecipeRefusal → Option Place
+recipe_refusal_place NotToml = None
+recipe_refusal_place (Missing place key) = Some place
+recipe_refusal_place (Unknown place) = Some place
+recipe_refusal_place (BadName place key) = Some place
+recipe_refusal_place (DoubleName place key) = Some place
+recipe_refusal_place (NotMadeYet place key) = Some place
+recipe_refusal_place (BadPath place key) = Some place
+recipe_refusal_place (BadNumber place key) = Some place
+recipe_refusal_place (TooMany place key) = Some place
+recipe_refusal_place OutOfMemory = None
 
 -- the key that is refused
 abbrev pub refusal_key : RecipeRefusal → Option Key

@@ -5,7 +5,7 @@ ghost use Rattle.std.specs.List.{list_all};
 ghost use Rattle.std.specs.BTreeMap.{keys as map_keys};
 ghost use Rattle.toml.specs.Data.{get_member};
 ghost use Rattle.toml.specs.View.{view, table_view};
-ghost use Rattle.recipe.specs.Text.Keys.{key_word, is_listed, are_listed};
+ghost use Rattle.recipe.specs.Text.Keys.{key_word, is_known_key, are_listed};
 ghost use Rattle.recipe.specs.Text.Reading.{Gives, NeverWants, or_refused, required, optional, a_name, a_number, no_other_key};
 ghost use Rattle.recipe.specs.declared.text.refusal.RecipeRefusal.TheVariants.{Missing as Absent};
 
@@ -116,7 +116,7 @@ fn are_listed(keys: &[Key], table: &Table) -> bool
 
 /// The same, over the keys of the map that a table is.
 fn are_keys_listed(keys: &[Key], table: &Table) -> bool
-    ensures { result ≡ list_all (λ k. is_listed keys.now (string_bytes k)) (map_keys table.now) }
+    ensures { result ≡ list_all (λ k. is_known_key keys.now (string_bytes k)) (map_keys table.now) }
 {
     table
         .keys()
@@ -125,7 +125,7 @@ fn are_keys_listed(keys: &[Key], table: &Table) -> bool
 
 /// Whether a text is one of the keys.
 fn is_listed(keys: &[Key], text: &[u8]) -> bool
-    ensures { result ≡ is_listed keys.now text.now }
+    ensures { result ≡ is_known_key keys.now text.now }
 {
     keys.iter().any(|key| key.word().as_bytes() == text)
 }

@@ -1,5 +1,5 @@
 ghost use Rattle.std.specs.Prelude.{◌≡◌};
-ghost use Rattle.recipe.specs.Text.Refusals.{refusal_number, refusal_place, refusal_key};
+ghost use Rattle.recipe.specs.Text.Refusals.{recipe_refusal_number, recipe_refusal_place, refusal_key};
 ghost use Rattle.recipe.specs.declared.text.refusal.RecipeRefusal.TheVariants.{OutOfMemory as Wanting};
 
 use crate::text::keys::{Key, Place};
@@ -43,7 +43,7 @@ pub enum RecipeRefusal {
 impl RecipeRefusal {
     /// Its number, from 1 to 10 in the order of the variants.
     pub fn number(&self) -> u8
-        ensures { result ≡ refusal_number self.now }
+        ensures { result ≡ recipe_refusal_number self.now }
     {
         match self {
             RecipeRefusal::NotToml => 1,
@@ -61,7 +61,7 @@ impl RecipeRefusal {
 
     /// The table that is refused, where there is one.
     pub fn place(&self) -> Option<Place>
-        ensures { result ≡ refusal_place self.now }
+        ensures { result ≡ recipe_refusal_place self.now }
     {
         match self {
             RecipeRefusal::NotToml | RecipeRefusal::OutOfMemory => None,

@@ -29,14 +29,14 @@ after zero bytes = Some (Start, bytes)
 after (suc n) bytes = after n bytes >>= one_more
 
 -- what lines lead to where none goes on with them, and the number of the line that does not
-abbrev pub ended : ℕ → State → List ℕ → Result Report ℕ
-ended number (Ended report) [] = Ok report
-ended number _ _ = Err number
+abbrev pub ended_report : ℕ → State → List ℕ → Result Report ℕ
+ended_report number (Ended report) [] = Ok report
+ended_report number _ _ = Err number
 
 -- the lines from a number on, as long as they go on
 unfoldable pub read_on : ℕ → ℕ → State × List ℕ → Result Report ℕ
-read_on zero number at = ended number at.0 at.1
-read_on (suc more) number at = option_map_or (λ next. read_on more (number + 1) next) (one_more at) (ended number at.0 at.1)
+read_on zero number at = ended_report number at.0 at.1
+read_on (suc more) number at = option_map_or (λ next. read_on more (number + 1) next) (one_more at) (ended_report number at.0 at.1)
 
 -- all lines of a text
 abbrev pub read_all : List ℕ → Result Report ℕ

@@ -3,13 +3,13 @@ use Rattle.std.proofs.Common.{◌≡◌, ℕ, suc, ◌-◌, ◌+◌, ◌≤◌, 
 use Rattle.std.proofs.lemmas.List.{append-nil}
 use Rattle.save_text.specs.declared.byte_fields.cursor.Stop.{Stop}
 use Rattle.save_text.specs.declared.byte_fields.cursor.Stop.TheVariants as stop
-use Rattle.save_text.specs.ByteFields.Reader.{Read, Reader, onward, done, several, Fails}
+use Rattle.save_text.specs.ByteFields.Reader.{Read, Reader, read_onward, done, several, FailsField}
 
 -- what was read before, and what is still read
 abbrev pub with_front : {A : Type 0} → List A → Read (List A) → Read (List A)
-with_front front read = onward read (λ xs. done (front ++ xs))
+with_front front read = read_onward read (λ xs. done (front ++ xs))
 
-regroup : {A : Type 0} (front : List A) (x : A) (read : Read (List A)) → with_front front (onward read (λ xs. done (x ∷ xs))) ≡ with_front (front ++ x ∷ []) read
+regroup : {A : Type 0} (front : List A) (x : A) (read : Read (List A)) → with_front front (read_onward read (λ xs. done (x ∷ xs))) ≡ with_front (front ++ x ∷ []) read
 regroup front x (Ok r) = ap (λ xs. Ok (xs, r.1)) (simp append_assoc)
 regroup front x (Err at) = refl
 
@@ -22,8 +22,8 @@ goes_on {A} {S} item next s after_x front count i left x after total lt h is so_
     ap (λ (t : S). with_front (front ++ x ∷ []) (several item next t (count - (i + 1)) after)) (sym is) ∙ sym one ∙ so_far
 
 -- an item that fails ends it
-pub fails : {A S : Type 0} (item : S → Reader A) (next : A → S) (s : S) (e : Stop) (front : List A) (count i : ℕ) (left : List ℕ) (total : Read (List A)) → i < count → Fails e (item s left)
-    → with_front front (several item next s (count - i) left) ≡ total → Fails e total
+pub fails : {A S : Type 0} (item : S → Reader A) (next : A → S) (s : S) (e : Stop) (front : List A) (count i : ℕ) (left : List ℕ) (total : Read (List A)) → i < count → FailsField e (item s left)
+    → with_front front (several item next s (count - i) left) ≡ total → FailsField e total
 unfolding several
 fails item next s stop.OutOfMemory front count i left total lt h so_far = tt
 fails item next s (stop.Wrong at) front count i left total lt h so_far =

@@ -8,7 +8,7 @@ use Rattle.std.proofs.lemmas.List.Concat.{flat_map-cons}
 use Rattle.std.proofs.lemmas.Nat.{le_bytes_2, le_bytes_4, le_bytes_8, from_le_bytes-to_le_bytes_2, from_le_bytes-to_le_bytes_4, from_le_bytes-to_le_bytes_8}
 use Rattle.std.specs.Str.{bytes_eq}
 use Rattle.std.specs.Cmp.Lexicographic.{same_text, nat_list_eq_equiv}
-use Rattle.save_text.specs.ByteFields.Reader.{Read, begun, Reader, onward, ◌>>=◌, done, number, byte, bytes, tested, that, blob, several, alike, counted, ended, placed_in, whole, u32, u32_from, u64}
+use Rattle.save_text.specs.ByteFields.Reader.{Read, begun, Reader, read_onward, ◌>>=◌, done, number_of_width, byte, bytes, tested, that, blob, several, alike, counted, ended, placed_in, whole, u32, u32_from, u64}
 use Rattle.save_text.specs.ByteFields.Spelling.{number_text, blob_text, list_text, InTurn, Alike, Counted, IsBlob}
 
 -- each is a byte
@@ -48,12 +48,12 @@ same_value {A} x y a b e = let p : ◌≡◌ {A = A × List ℕ} (x, a) (y, b) =
 pub same_rest : {A : Type 0} (x y : A) (a b : List ℕ) → read_so x a ≡ read_so y b → a ≡ b
 same_rest {A} x y a b e = let p : ◌≡◌ {A = A × List ℕ} (x, a) (y, b) = cc in ap (λ (q : A × List ℕ). q.1) p
 
-onward_ok : {A B : Type 0} (r : Read A) (next : A → Reader B) (y : B) (rest : List ℕ) → onward r next ≡ Ok (y, rest) → (x : A) × (left : List ℕ) × (r ≡ Ok (x, left)) × (next x left ≡ Ok (y, rest))
+onward_ok : {A B : Type 0} (r : Read A) (next : A → Reader B) (y : B) (rest : List ℕ) → read_onward r next ≡ Ok (y, rest) → (x : A) × (left : List ℕ) × (r ≡ Ok (x, left)) × (next x left ≡ Ok (y, rest))
 onward_ok (Ok x) next y rest e = (x.0, x.1, refl, e)
 onward_ok (Err at) next y rest e = absurd cc
 
 -- two fields in a row go wrong in the first or in the second
-stops : {A B : Type 0} (r : Read A) (next : A → Reader B) (at : ℕ) → onward r next ≡ Err at → (r ≡ Err at) ⊎ ((x : A) × (rest : List ℕ) × (r ≡ Ok (x, rest)) × (next x rest ≡ Err at))
+stops : {A B : Type 0} (r : Read A) (next : A → Reader B) (at : ℕ) → read_onward r next ≡ Err at → (r ≡ Err at) ⊎ ((x : A) × (rest : List ℕ) × (r ≡ Ok (x, rest)) × (next x rest ≡ Err at))
 stops (Ok x) next at e = inr (x.0, x.1, refl, e)
 stops {A} (Err left) next at e = let same : left ≡ at = cc in inl (ap (wrong_at {A = A}) same)
 
@@ -78,8 +78,8 @@ then {A} {B} {field} {text} {F} {next} {t} {G} {K} part first others = record {
       (record { parts = subst (λ (x : A). left ≡ (text x ++ t y) ++ rest) same whole; rest_fits = q.0.rest_fits }, (known.0, (subst F same p.1, q.1.1)));
   again = λ y rest fits.
       let regrouped : (text (part y) ++ t y) ++ rest ≡ text (part y) ++ (t y ++ rest) = append_assoc (text (part y)) (t y) rest in
-      ap (λ (w : List ℕ). onward (field w) next) regrouped
-      ∙ ap (λ (r : Read A). onward r next) (first.again (part y) (t y ++ rest) fits.1.0)
+      ap (λ (w : List ℕ). read_onward (field w) next) regrouped
+      ∙ ap (λ (r : Read A). read_onward r next) (first.again (part y) (t y ++ rest) fits.1.0)
       ∙ (others (part y) fits.1.0).again y rest ((fits.0, refl), fits.1.1);
   within = λ left at fits e.
       elim (stops (field left) next at e) [
@@ -153,8 +153,8 @@ wide64 = record {
   below = λ xs fits. omega (arith, fits 0, fits 1, fits 2, fits 3, fits 4, fits 5, fits 6, fits 7);
 }
 
-pub spells_number : (w : Width) (limit : ℕ) → IsWide w limit → Spells (number w) (number_text w) (λ n. n < limit)
-unfolding number number_text
+pub spells_number : (w : Width) (limit : ℕ) → IsWide w limit → Spells (number_of_width w) (number_text w) (λ n. n < limit)
+unfolding number_of_width number_text
 spells_number w limit wide = record {
   takes = λ left n rest fits e.
       let g = guard_ok (ltb (length left) (byte_len w)) (length left) (from_le_bytes w (take (byte_len w) left)) n (drop (byte_len w) left) rest e in
@@ -247,7 +247,7 @@ spells_blob w limit wide =
     spells (spells_bytes count) (λ xs g. refl) (λ xs g. ((tt, sym g.long), tt)) (λ xs g. record { long = sym g.0.1 })))
     (λ xs f. refl) (λ xs f. record { short = f.1.0 }) (λ xs f. (tt, (f.short, tt)))
 
-second : {A : Type 0} (r : Read (List A)) (x : A) (size at : ℕ) → (r ≡ Err at → at ≤ size) → onward r (λ ys. done (x ∷ ys)) ≡ Err at → at ≤ size
+second : {A : Type 0} (r : Read (List A)) (x : A) (size at : ℕ) → (r ≡ Err at → at ≤ size) → read_onward r (λ ys. done (x ∷ ys)) ≡ Err at → at ≤ size
 second (Ok ys) x size at within e = absurd cc
 second {A} (Err left) x size at within e = let same : left ≡ at = cc in within (ap (wrong_at {A = List A}) same)
 

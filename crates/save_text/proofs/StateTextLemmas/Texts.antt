@@ -14,9 +14,9 @@ use Rattle.mem_files.specs.declared.slot.Slot.TheVariants.{Input, Stream1, Strea
 use Rattle.std.specs.Prelude.{IfOk}
 use Rattle.save_text.specs.declared.state_text.parts.Parts.{Parts}
 use Rattle.save_text.specs.declared.state_text.reading.TextRefusal.{TextRefusal}
-use Rattle.save_text.specs.StateText.Seen.{Reads, view}
-use Rattle.save_text.specs.StateText.StateText.{StateText, formed, access_at, access_of, after_descriptor, after_file, after_page, after_run, are_flags, body_at, descriptor_at, file_at, heap_at, is_page, magic, name_of, page_at, run_at, slot_at, state_at}
-use Rattle.save_text.specs.StateText.Spelled.{IsDescriptor, IsFile, IsHeap, IsName, IsPage, IsRun, IsSlot, IsText, body_text, descriptor_text, file_text, flags_of, heap_text, kind_of, name_bytes, page_text, run_text, slot_text, text_of, u64s}
+use Rattle.save_text.specs.StateText.Seen.{ReadsStateText, state_view}
+use Rattle.save_text.specs.StateText.StateText.{StateText, parsed_state, access_at, access_of_code, after_descriptor, after_file, after_page, after_run, are_flags, body_at, descriptor_at, file_at, heap_at, is_page, state_magic, optional_name, page_at, run_at, slot_at, state_at}
+use Rattle.save_text.specs.StateText.Spelled.{IsDescriptor, IsFile, IsHeap, IsNameText, IsPage, IsSavedRun, IsSlot, IsStateText, body_text, descriptor_text, file_text, flags_of, heap_text, kind_of, name_bytes, page_text, run_text, slot_text, text_of_state, u64s}
 
 pub spells_heap : Spells heap_at heap_text IsHeap
 unfolding heap_at
@@ -30,7 +30,7 @@ spells_heap =
     (λ h f. record { first = f.1.0; now = f.1.1.0; limit = f.1.1.1.0 })
     (λ h f. (tt, (f.first, (f.now, (f.limit, tt)))))
 
-pub spells_run : (least : ℕ) → Spells (run_at least) run_text (IsRun least)
+pub spells_run : (least : ℕ) → Spells (run_at least) run_text (IsSavedRun least)
 unfolding run_at
 spells_run least =
     spells (
@@ -54,20 +54,20 @@ spells_page least =
 
 -- ---- a file
 
-again_named : (name : Option (List ℕ)) (bytes : List ℕ) → IsName name → bytes ≡ name_bytes name → name_of bytes ≡ name
-again_named None bytes f e = ap name_of e
+again_named : (name : Option (List ℕ)) (bytes : List ℕ) → IsNameText name → bytes ≡ name_bytes name → optional_name bytes ≡ name
+again_named None bytes f e = ap optional_name e
 again_named (Some []) bytes f e = absurd (omega (arith, f.0))
-again_named (Some (byte ∷ more)) bytes f e = ap name_of e
+again_named (Some (byte ∷ more)) bytes f e = ap optional_name e
 
-named_bytes : (bytes : List ℕ) → name_bytes (name_of bytes) ≡ bytes
+named_bytes : (bytes : List ℕ) → name_bytes (optional_name bytes) ≡ bytes
 named_bytes [] = refl
 named_bytes (byte ∷ more) = refl
 
-is_named : (bytes : List ℕ) → IsBlob (2 ^ 16) bytes → IsName (name_of bytes)
+is_named : (bytes : List ℕ) → IsBlob (2 ^ 16) bytes → IsNameText (optional_name bytes)
 is_named [] f = tt
 is_named (byte ∷ more) f = (omega arith, f.short)
 
-short_name : (name : Option (List ℕ)) → IsName name → IsBlob (2 ^ 16) (name_bytes name)
+short_name : (name : Option (List ℕ)) → IsNameText name → IsBlob (2 ^ 16) (name_bytes name)
 short_name None f = record { short = omega arith }
 short_name (Some name) f = record { short = f.1 }
 
@@ -80,9 +80,9 @@ unfolding file_at
 spells_file least =
     spells (
     then {K = Nothing} (λ p. p.number) (spells_from least) (λ number f.
-    then {G = λ p. IsName p.name × (IsBlob (2 ^ 32) p.content × Unit {0})} (λ p. name_bytes p.name) spells_blob16 (λ name g.
-    spells (then {K = λ p. ((Unit {0} × (number ≡ p.number)) × (name ≡ name_bytes p.name)) × IsName p.name} (λ p. p.content) spells_blob32 (λ content h.
-    all_read (record { number = number; name = name_of name; content = content })
+    then {G = λ p. IsNameText p.name × (IsBlob (2 ^ 32) p.content × Unit {0})} (λ p. name_bytes p.name) spells_blob16 (λ name g.
+    spells (then {K = λ p. ((Unit {0} × (number ≡ p.number)) × (name ≡ name_bytes p.name)) × IsNameText p.name} (λ p. p.content) spells_blob32 (λ content h.
+    all_read (record { number = number; name = optional_name name; content = content })
     (λ p k. λ i. record { number = k.0.0.0.1 i; name = again_named p.name name k.0.1 k.0.0.1 i; content = k.1 i })
     ((((tt, refl), sym (named_bytes name)), is_named name g), refl)))
     (λ p f. refl) (λ p f. (f.0.0, (f.0.1, f.1))) (λ p f. ((f.0, f.1.0), f.1.1)))))
@@ -96,7 +96,7 @@ small : (n : ℕ) → are_flags n ≡ true → n < 8
 small n e = elim (cases_lt n 8) [ inl lt ↦ lt | inr le ↦ (let big : ltb n 8 ≡ false = le-ltb _ _ le in let no : are_flags n ≡ false = rw big refl in absurd cc) ]
 
 -- flags are those of what they mean
-flags_again : (n : ℕ) → are_flags n ≡ true → flags_of (access_of n) ≡ n
+flags_again : (n : ℕ) → are_flags n ≡ true → flags_of (access_of_code n) ≡ n
 flags_again zero e = absurd cc
 flags_again (suc zero) e = refl
 flags_again (suc (suc zero)) e = refl
@@ -110,10 +110,10 @@ flags_again (suc (suc (suc (suc (suc (suc (suc (suc n)))))))) e = let lt = small
 abbrev made : Mode → Bool → Access
 made m b = record { mode = m; appends = b }
 
-meant : (access : Access) → (access_of (flags_of access) ≡ access) × ((flags_of access < 256) × (are_flags (flags_of access) ≡ true))
+meant : (access : Access) → (access_of_code (flags_of access) ≡ access) × ((flags_of access < 256) × (are_flags (flags_of access) ≡ true))
 meant access = by access.mode access.appends
   where
-    by : (m : Mode) (b : Bool) → (access_of (flags_of (made m b)) ≡ made m b) × ((flags_of (made m b) < 256) × (are_flags (flags_of (made m b)) ≡ true))
+    by : (m : Mode) (b : Bool) → (access_of_code (flags_of (made m b)) ≡ made m b) × ((flags_of (made m b) < 256) × (are_flags (flags_of (made m b)) ≡ true))
     by mode.Read true = (refl, (omega arith, refl))
     by mode.Read false = (refl, (omega arith, refl))
     by mode.Write true = (refl, (omega arith, refl))
@@ -129,7 +129,7 @@ unfolding access_at
 spells_access =
     spells (
     then {K = Nothing} flags_of (spells_that are_flags spells_byte) (λ flags f.
-    all_read (access_of flags) (λ access k. ap access_of k.1 ∙ (meant access).0) (tt, sym (flags_again flags f.1))))
+    all_read (access_of_code flags) (λ access k. ap access_of_code k.1 ∙ (meant access).0) (tt, sym (flags_again flags f.1))))
     (λ access f. refl)
     (λ access f. tt)
     (λ access f. (tt, ((meant access).1, tt)))
@@ -148,9 +148,9 @@ cursor_in Stream2 = 0
 
 abbrev access_in : Slot → Access
 access_in (File number cursor access) = access
-access_in Input = access_of 1
-access_in Stream1 = access_of 1
-access_in Stream2 = access_of 1
+access_in Input = access_of_code 1
+access_in Stream1 = access_of_code 1
+access_in Stream2 = access_of_code 1
 
 abbrev IsSlotOf : ℕ → Slot → Type 0
 IsSlotOf kind slot = IsSlot slot × (kind ≡ kind_of slot)
@@ -253,7 +253,7 @@ spells_descriptor least =
 spells_registers : Spells (alike u64 31) u64s (λ ns. (length ns ≡ 31) × Alike (λ n. n < 2 ^ 64) ns)
 spells_registers = spells_alike spells_u64 31
 
-pub spells_body : Spells body_at body_text IsText
+pub spells_body : Spells body_at body_text IsStateText
 unfolding body_at body_text
 spells_body =
     spells (
@@ -274,21 +274,21 @@ spells_body =
     (λ s f. let g = f.1 in record { steps = g.0; pc = g.1.0; registers = g.1.1.0.0; register = g.1.1.0.1; heap = g.1.1.1.0; runs = g.1.1.1.1.0; pages = g.1.1.1.1.1.0; files = g.1.1.1.1.1.1.0; descriptors = g.1.1.1.1.1.1.1.0; stream1 = g.1.1.1.1.1.1.1.1.0; stream2 = g.1.1.1.1.1.1.1.1.1.0 })
     (λ s f. (tt, (f.steps, (f.pc, ((f.registers, f.register), (f.heap, (f.runs, (f.pages, (f.files, (f.descriptors, (f.stream1, (f.stream2, tt))))))))))))
 
-pub spells_state : Spells state_at text_of IsText
+pub spells_state : Spells state_at text_of_state IsStateText
 unfolding state_at
 spells_state =
     spells (
-    then {K = Nothing} (λ s. tt) (spells_begun magic refl) (λ begun f.
+    then {K = Nothing} (λ s. tt) (spells_begun state_magic refl) (λ begun f.
     spells spells_body (λ s g. refl) (λ s g. ((tt, refl), g)) (λ s g. g.1)))
     (λ s f. refl) (λ s f. f.1.1) (λ s f. (tt, (tt, f)))
 
 -- ---- with nothing behind it
 
-pub formed_again : (s : StateText) → IsText s → formed (text_of s) ≡ Ok s
-unfolding formed
+pub formed_again : (s : StateText) → IsStateText s → parsed_state (text_of_state s) ≡ Ok s
+unfolding parsed_state
 formed_again s fits = whole_again spells_state s fits
 
-pub is_found : (text : List ℕ) (r : Result Parts TextRefusal) → AreBytes text → Reads r (formed text) → IfOk r (λ p. IsText (view p) × (text ≡ text_of (view p)))
-unfolding formed
-is_found text (Ok p) fits given = whole_takes spells_state text (view p) fits given
+pub is_found : (text : List ℕ) (r : Result Parts TextRefusal) → AreBytes text → ReadsStateText r (parsed_state text) → IfOk r (λ p. IsStateText (state_view p) × (text ≡ text_of_state (state_view p)))
+unfolding parsed_state
+is_found text (Ok p) fits given = whole_takes spells_state text (state_view p) fits given
 is_found text (Err e) fits given = tt

@@ -12,29 +12,29 @@ Read A = Result (A × List ℕ) ℕ
 abbrev pub Reader : Type 0 → Type 0
 Reader A = List ℕ → Read A
 
-abbrev pub onward : {A B : Type 0} → Read A → (A → Reader B) → Read B
-onward (Ok x) next = next x.0 x.1
-onward (Err left) next = Err left
+abbrev pub read_onward : {A B : Type 0} → Read A → (A → Reader B) → Read B
+read_onward (Ok x) next = next x.0 x.1
+read_onward (Err left) next = Err left
 
 infixl 10 ◌>>=◌
 abbrev pub ◌>>=◌ : {A B : Type 0} → Reader A → (A → Reader B) → Reader B
-(field >>= next) left = onward (field left) next
+(field >>= next) left = read_onward (field left) next
 
 abbrev pub done : {A : Type 0} → A → Reader A
 done x left = Ok (x, left)
 
 -- a little-endian number
-unfoldable pub number : Width → Reader ℕ
-number w left = if nat_lt (length left) (byte_len w) then Err (length left) else Ok (from_le_bytes w (take (byte_len w) left), drop (byte_len w) left)
+unfoldable pub number_of_width : Width → Reader ℕ
+number_of_width w left = if nat_lt (length left) (byte_len w) then Err (length left) else Ok (from_le_bytes w (take (byte_len w) left), drop (byte_len w) left)
 
 abbrev pub u16 : Reader ℕ
-u16 = number w16
+u16 = number_of_width w16
 
 abbrev pub u32 : Reader ℕ
-u32 = number w32
+u32 = number_of_width w32
 
 abbrev pub u64 : Reader ℕ
-u64 = number w64
+u64 = number_of_width w64
 
 -- one byte
 unfoldable pub byte : Reader ℕ
@@ -65,7 +65,7 @@ begun magic = do
 -- a length, and that many bytes
 unfoldable pub blob : Width → Reader (List ℕ)
 blob w = do
-  count ← number w
+  count ← number_of_width w
   bytes count
 
 -- so many items, each read in the light of the one before it
@@ -83,7 +83,7 @@ alike item count = several (λ (before : Unit {0}). item) (λ x. tt) tt count
 -- a count, and that many items
 abbrev pub counted : {A S : Type 0} → (S → Reader A) → (A → S) → S → Reader (List A)
 counted item next s = do
-  count ← number w32
+  count ← number_of_width w32
   several item next s count
 
 -- nothing is left behind the value
@@ -101,10 +101,10 @@ abbrev pub whole : {A : Type 0} → Reader A → List ℕ → Result A ℕ
 whole field text = placed_in (length text) (ended (field text))
 
 -- what a function returned, seen by view, with what it left, is what reading gives; want of memory aside
-abbrev pub Fails : {Y : Type 0} → Stop → Read Y → Type 0
-Fails (Wrong at) read = read ≡ Err at
-Fails OutOfMemory read = Unit {0}
+abbrev pub FailsField : {Y : Type 0} → Stop → Read Y → Type 0
+FailsField (Wrong at) read = read ≡ Err at
+FailsField OutOfMemory read = Unit {0}
 
-abbrev pub Gives : {X Y : Type 0} → (X → Y) → Result X Stop → List ℕ → Read Y → Type 0
-Gives view (Ok x) left read = read ≡ Ok (view x, left)
-Gives view (Err e) left read = Fails e read
+abbrev pub GivesField : {X Y : Type 0} → (X → Y) → Result X Stop → List ℕ → Read Y → Type 0
+GivesField view (Ok x) left read = read ≡ Ok (view x, left)
+GivesField view (Err e) left read = FailsField e read

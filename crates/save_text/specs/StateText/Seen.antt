@@ -20,8 +20,8 @@ file_view f = record { number = f.number; name = option_copied f.name; content =
 abbrev pub descriptor_view : Descriptor → ℕ × Slot
 descriptor_view d = (d.fd, d.slot)
 
-abbrev pub view : Parts → StateText
-view p = record {
+abbrev pub state_view : Parts → StateText
+state_view p = record {
   steps = p.steps;
   pc = p.pc;
   registers = p.registers;
@@ -35,7 +35,7 @@ view p = record {
 }
 
 -- what was read is what the text says; want of memory says nothing of it
-abbrev pub Reads : Result Parts TextRefusal → Result StateText ℕ → Type 0
-Reads (Ok p) read = read ≡ Ok (view p)
-Reads (Err (Form offset)) read = read ≡ Err offset
-Reads (Err OutOfMemory) read = Unit {0}
+abbrev pub ReadsStateText : Result Parts TextRefusal → Result StateText ℕ → Type 0
+ReadsStateText (Ok p) read = read ≡ Ok (state_view p)
+ReadsStateText (Err (Form offset)) read = read ≡ Err offset
+ReadsStateText (Err OutOfMemory) read = Unit {0}

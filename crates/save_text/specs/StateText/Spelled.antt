@@ -11,7 +11,7 @@ use Rattle.mem_files.specs.declared.slot.Mode.TheVariants as mode
 use Rattle.mem_files.specs.declared.slot.Access.{Access}
 use Rattle.linux_calls.specs.declared.Heap.{Heap}
 use Rattle.save_text.specs.declared.state_text.parts.Run.{Run}
-use Rattle.save_text.specs.StateText.StateText.{PageText, StateText, after_descriptor, after_file, after_page, after_run, is_page, magic}
+use Rattle.save_text.specs.StateText.StateText.{PageText, StateText, after_descriptor, after_file, after_page, after_run, is_page, state_magic}
 
 -- ---- how it is spelled
 
@@ -35,8 +35,8 @@ abbrev pub file_text : ListedFile → List ℕ
 file_text file = number_text w32 file.number ++ (blob_text w16 (name_bytes file.name) ++ blob_text w32 file.content)
 
 -- its name and its content have few enough bytes
-abbrev pub IsShort : ListedFile → Type 0
-IsShort file = (length (name_bytes file.name) < 2 ^ 16) × (length file.content < 2 ^ 32)
+abbrev pub IsShortFile : ListedFile → Type 0
+IsShortFile file = (length (name_bytes file.name) < 2 ^ 16) × (length file.content < 2 ^ 32)
 
 abbrev pub mode_bits : Mode → ℕ
 mode_bits mode.Read = 1
@@ -67,8 +67,8 @@ body_text s =
     ++ (list_text run_text s.runs ++ (list_text page_text s.pages ++ (list_text file_text s.files ++ (list_text descriptor_text s.descriptors
     ++ (blob_text w32 s.stream1 ++ blob_text w32 s.stream2))))))))
 
-abbrev pub text_of : StateText → List ℕ
-text_of s = magic ++ body_text s
+abbrev pub text_of_state : StateText → List ℕ
+text_of_state s = state_magic ++ body_text s
 
 -- ---- which have a text
 
@@ -77,7 +77,7 @@ pub record IsHeap (heap : Heap) : Type 0 where
   pub now : heap.now < 2 ^ 64
   pub limit : heap.limit < 2 ^ 64
 
-pub record IsRun (least : ℕ) (run : Run) : Type 0 where
+pub record IsSavedRun (least : ℕ) (run : Run) : Type 0 where
   pub from : least ≤ run.first
   pub first : run.first < 2 ^ 32
   pub some : 1 ≤ run.pages
@@ -90,14 +90,14 @@ pub record IsPage (least : ℕ) (page : PageText) : Type 0 where
   pub some : IsTrue (is_page page.bytes)
 
 -- a name has a byte
-abbrev pub IsName : Option (List ℕ) → Type 0
-IsName None = Unit {0}
-IsName (Some name) = (1 ≤ length name) × (length name < 2 ^ 16)
+abbrev pub IsNameText : Option (List ℕ) → Type 0
+IsNameText None = Unit {0}
+IsNameText (Some name) = (1 ≤ length name) × (length name < 2 ^ 16)
 
 pub record IsFile (least : ℕ) (file : ListedFile) : Type 0 where
   pub from : least ≤ file.number
   pub number : file.number < 2 ^ 32
-  pub name : IsName file.name
+  pub name : IsNameText file.name
   pub content : IsBlob (2 ^ 32) file.content
 
 abbrev pub IsSlot : Slot → Type 0
@@ -111,13 +111,13 @@ pub record IsDescriptor (least : ℕ) (d : ℕ × Slot) : Type 0 where
   pub fd : d.0 < 2 ^ 32
   pub slot : IsSlot d.1
 
-pub record IsText (s : StateText) : Type 0 where
+pub record IsStateText (s : StateText) : Type 0 where
   pub steps : s.steps < 2 ^ 64
   pub pc : s.pc < 2 ^ 64
   pub registers : length s.registers ≡ 31
   pub register : Alike (λ n. n < 2 ^ 64) s.registers
   pub heap : IsHeap s.heap
-  pub runs : Counted IsRun after_run 0 s.runs
+  pub runs : Counted IsSavedRun after_run 0 s.runs
   pub pages : Counted IsPage after_page 0 s.pages
   pub files : Counted IsFile after_file 0 s.files
   pub descriptors : Counted IsDescriptor after_descriptor 0 s.descriptors

@@ -34,8 +34,8 @@ pub record StateText : Type 0 where
 -- ---- how it is read
 
 -- the eight bytes that begin each text: `ddcstat1`
-abbrev pub magic : List ℕ
-magic = 100 ∷ 100 ∷ 99 ∷ 115 ∷ 116 ∷ 97 ∷ 116 ∷ 49 ∷ []
+abbrev pub state_magic : List ℕ
+state_magic = 100 ∷ 100 ∷ 99 ∷ 115 ∷ 116 ∷ 97 ∷ 116 ∷ 49 ∷ []
 
 unfoldable pub heap_at : Reader Heap
 heap_at = do
@@ -69,16 +69,16 @@ abbrev pub after_page : PageText → ℕ
 after_page page = page.number + 1
 
 -- no bytes: the file has no name
-abbrev pub name_of : List ℕ → Option (List ℕ)
-name_of [] = None
-name_of (byte ∷ more) = Some (byte ∷ more)
+abbrev pub optional_name : List ℕ → Option (List ℕ)
+optional_name [] = None
+optional_name (byte ∷ more) = Some (byte ∷ more)
 
 unfoldable pub file_at : ℕ → Reader ListedFile
 file_at least = do
   number ← u32_from least
   name ← blob w16
   content ← blob w32
-  done (record { number = number; name = name_of name; content = content })
+  done (record { number = number; name = optional_name name; content = content })
 
 abbrev pub after_file : ListedFile → ℕ
 after_file file = file.number + 1
@@ -87,18 +87,18 @@ after_file file = file.number + 1
 abbrev pub are_flags : ℕ → Bool
 are_flags flags = nat_lt flags 8 && not (flags % 4 == 0)
 
-abbrev pub mode_of : ℕ → Mode
-mode_of (suc zero) = mode.Read
-mode_of (suc (suc zero)) = mode.Write
-mode_of _ = mode.ReadWrite
+abbrev pub mode_of_code : ℕ → Mode
+mode_of_code (suc zero) = mode.Read
+mode_of_code (suc (suc zero)) = mode.Write
+mode_of_code _ = mode.ReadWrite
 
-abbrev pub access_of : ℕ → Access
-access_of flags = record { mode = mode_of (flags % 4); appends = nat_le 4 flags }
+abbrev pub access_of_code : ℕ → Access
+access_of_code flags = record { mode = mode_of_code (flags % 4); appends = nat_le 4 flags }
 
 unfoldable pub access_at : Reader Access
 access_at = do
   flags ← that are_flags byte
-  done (access_of flags)
+  done (access_of_code flags)
 
 -- what a descriptor stands for, by its kind
 unfoldable pub slot_at : ℕ → Reader Slot
@@ -138,9 +138,9 @@ body_at = do
 
 unfoldable pub state_at : Reader StateText
 state_at = do
-  start ← begun magic
+  start ← begun state_magic
   body_at
 
 -- what a text says, or the offset of its first wrong field: nothing follows the state
-unfoldable pub formed : List ℕ → Result StateText ℕ
-formed text = whole state_at text
+unfoldable pub parsed_state : List ℕ → Result StateText ℕ
+parsed_state text = whole state_at text

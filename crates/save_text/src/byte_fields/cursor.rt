@@ -1,7 +1,7 @@
 ghost use Rattle.std.specs.Prelude.{◌≡◌, ℕ, List, length, nat_le, ◌≤◌, IfOk};
 ghost use Rattle.std.specs.Int.{w16, w32, w64};
 ghost use Rattle.save_text.specs.declared.byte_fields.cursor.Stop.TheVariants.{OutOfMemory};
-ghost use Rattle.save_text.specs.ByteFields.Reader.{Gives, begun, byte, bytes, blob, number, u16, u32, u32_from, u64};
+ghost use Rattle.save_text.specs.ByteFields.Reader.{GivesField, begun, byte, bytes, blob, number_of_width, u16, u32, u32_from, u64};
 
 use std::alloc::{AllocError, AllocFailed};
 use std::marker::Model;
@@ -69,7 +69,7 @@ impl<'a> Cursor<'a> {
     /// The next byte.
     #[tactic(auto, unfolding(crate::specs::ByteFields::Reader::byte))]
     pub fn byte(&mut self) -> Result<u8, Stop>
-        ensures { Gives (λ x. x) result self.new (byte self.old) }
+        ensures { GivesField (λ x. x) result self.new (byte self.old) }
     {
         if self.left.len() < 1 {
             return Err(Stop::Wrong(self.left.len()));
@@ -82,7 +82,7 @@ impl<'a> Cursor<'a> {
     /// The next `count` bytes.
     #[tactic(auto, unfolding(crate::specs::ByteFields::Reader::bytes))]
     pub fn bytes(&mut self, count: usize) -> Result<&'a [u8], Stop>
-        ensures read { Gives (λ x. x.now) result self.new (bytes count self.old) }
+        ensures read { GivesField (λ x. x.now) result self.new (bytes count self.old) }
         ensures long { IfOk result (λ x. length x.now ≡ count) }
     {
         if self.left.len() < count {
@@ -95,7 +95,7 @@ impl<'a> Cursor<'a> {
 
     /// The eight bytes that begin each text of a form.
     pub fn begins_with(&mut self, magic: &[u8; 8]) -> Result<(), Stop>
-        ensures { Gives (λ x. x) result self.new (begun magic.now self.old) }
+        ensures { GivesField (λ x. x) result self.new (begun magic.now self.old) }
     {
         let start = self.len();
         let found = self.bytes(8)?;
@@ -106,9 +106,9 @@ impl<'a> Cursor<'a> {
     }
 
     /// A number of 2 bytes.
-    #[tactic(auto, unfolding(crate::specs::ByteFields::Reader::number))]
+    #[tactic(auto, unfolding(crate::specs::ByteFields::Reader::number_of_width))]
     pub fn u16(&mut self) -> Result<u16, Stop>
-        ensures { Gives (λ x. x) result self.new (u16 self.old) }
+        ensures { GivesField (λ x. x) result self.new (u16 self.old) }
     {
         if self.left.len() < 2 {
             return Err(Stop::Wrong(self.left.len()));
@@ -120,9 +120,9 @@ impl<'a> Cursor<'a> {
     }
 
     /// A number of 4 bytes.
-    #[tactic(auto, unfolding(crate::specs::ByteFields::Reader::number))]
+    #[tactic(auto, unfolding(crate::specs::ByteFields::Reader::number_of_width))]
     pub fn u32(&mut self) -> Result<u32, Stop>
-        ensures { Gives (λ x. x) result self.new (u32 self.old) }
+        ensures { GivesField (λ x. x) result self.new (u32 self.old) }
     {
         if self.left.len() < 4 {
             return Err(Stop::Wrong(self.left.len()));
@@ -135,7 +135,7 @@ impl<'a> Cursor<'a> {
 
     /// A number of 4 bytes that is at least `least`.
     pub fn u32_from(&mut self, least: u64) -> Result<u32, Stop>
-        ensures { Gives (λ x. x) result self.new (u32_from least self.old) }
+        ensures { GivesField (λ x. x) result self.new (u32_from least self.old) }
     {
         let at = self.len();
         let number = self.u32()?;
@@ -146,9 +146,9 @@ impl<'a> Cursor<'a> {
     }
 
     /// A number of 8 bytes.
-    #[tactic(auto, unfolding(crate::specs::ByteFields::Reader::number))]
+    #[tactic(auto, unfolding(crate::specs::ByteFields::Reader::number_of_width))]
     pub fn u64(&mut self) -> Result<u64, Stop>
-        ensures { Gives (λ x. x) result self.new (u64 self.old) }
+        ensures { GivesField (λ x. x) result self.new (u64 self.old) }
     {
         if self.left.len() < 8 {
             return Err(Stop::Wrong(self.left.len()));
@@ -162,7 +162,7 @@ impl<'a> Cursor<'a> {
     /// A length of 2 bytes, and that many bytes.
     #[tactic(auto, unfolding(crate::specs::ByteFields::Reader::blob))]
     pub fn blob16(&mut self) -> Result<&'a [u8], Stop>
-        ensures { Gives (λ x. x.now) result self.new (blob w16 self.old) }
+        ensures { GivesField (λ x. x.now) result self.new (blob w16 self.old) }
     {
         let count = self.u16()?;
         self.bytes(count as usize)
@@ -171,7 +171,7 @@ impl<'a> Cursor<'a> {
     /// A length of 4 bytes, and that many bytes.
     #[tactic(auto, unfolding(crate::specs::ByteFields::Reader::blob))]
     pub fn blob32(&mut self) -> Result<&'a [u8], Stop>
-        ensures { Gives (λ x. x.now) result self.new (blob w32 self.old) }
+        ensures { GivesField (λ x. x.now) result self.new (blob w32 self.old) }
     {
         let count = self.u32()?;
         self.bytes(count as usize)

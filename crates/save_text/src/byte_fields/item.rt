@@ -1,5 +1,5 @@
 ghost use Rattle.std.specs.Prelude.{◌≡◌, ◌<◌, ◌^◌, ℕ, List, ◌++◌, All, OnOk, length, map};
-ghost use Rattle.save_text.specs.ByteFields.Reader.{Reader, Gives, counted, several};
+ghost use Rattle.save_text.specs.ByteFields.Reader.{Reader, GivesField, counted, several};
 ghost use Rattle.save_text.specs.ByteFields.Spelling.{list_text};
 
 use crate::byte_fields::cursor::{Cursor, Stop};
@@ -27,7 +27,7 @@ pub trait Item<'a>: Sized + Drop {
 
     /// Reads it, where its first number must not be below `least`.
     fn take(alloc: Global, cursor: &mut Cursor<'a>, least: u64) -> Result<Self, Stop>
-        ensures { Gives seen result cursor.new (read_from least cursor.old) };
+        ensures { GivesField seen result cursor.new (read_from least cursor.old) };
 
     /// The least number of the item behind it.
     fn least_after(&self) -> u64
@@ -45,7 +45,7 @@ pub fn items<'a, T: Item<'a>>(
     cursor: &mut Cursor<'a>,
     count: u32,
 ) -> Result<Vec<T>, Stop>
-    ensures { Gives (λ v. map T.seen v.items) result cursor.new (several T.read_from T.next_least 0 count cursor.old) }
+    ensures { GivesField (λ v. map T.seen v.items) result cursor.new (several T.read_from T.next_least 0 count cursor.old) }
 {
     let mut items = Vec::new(alloc);
     let mut least = 0;
@@ -59,7 +59,7 @@ pub fn items<'a, T: Item<'a>>(
 
 /// A count of 4 bytes, and that many items.
 pub fn counted<'a, T: Item<'a>>(alloc: Global, cursor: &mut Cursor<'a>) -> Result<Vec<T>, Stop>
-    ensures { Gives (λ v. map T.seen v.items) result cursor.new (counted T.read_from T.next_least 0 cursor.old) }
+    ensures { GivesField (λ v. map T.seen v.items) result cursor.new (counted T.read_from T.next_least 0 cursor.old) }
 {
     let count = cursor.u32()?;
     items(alloc, cursor, count)

@@ -2,8 +2,8 @@
 
 ghost use Rattle.std.specs.Prelude.{◌≡◌, ◌++◌, ◌∷◌, ◌==◌, OnOk, nat_le};
 ghost use Rattle.std.specs.List.{list_all};
-ghost use Rattle.save_text.specs.ByteFields.Reader.{Gives, byte, bytes, that};
-ghost use Rattle.save_text.specs.StateText.StateText.{access_at, access_of, are_flags, is_page, mode_of, slot_at};
+ghost use Rattle.save_text.specs.ByteFields.Reader.{GivesField, byte, bytes, that};
+ghost use Rattle.save_text.specs.StateText.StateText.{access_at, access_of_code, are_flags, is_page, mode_of_code, slot_at};
 ghost use Rattle.save_text.specs.StateText.Spelled.{flags_of, kind_of, slot_text};
 
 use crate::byte_fields::{Cursor, Item, Stop, put_blob16, put_blob32, put_u32, put_u64};
@@ -88,7 +88,7 @@ fn is_zero(bytes: &[u8]) -> bool
 
 /// The bytes of a page.
 fn page_bytes<'a>(cursor: &mut Cursor<'a>) -> Result<&'a [u8], Stop>
-    ensures { Gives (λ x. x.now) result cursor.new (that is_page (bytes 4096) cursor.old) }
+    ensures { GivesField (λ x. x.now) result cursor.new (that is_page (bytes 4096) cursor.old) }
 {
     let at = cursor.len();
     let bytes = cursor.bytes(4096)?;
@@ -101,7 +101,7 @@ fn page_bytes<'a>(cursor: &mut Cursor<'a>) -> Result<&'a [u8], Stop>
 impl<'a> Item<'a> for File<'a> {
     ghost use Rattle.mem_files.specs.Lists.{ListedFile};
     ghost use Rattle.save_text.specs.StateText.StateText.{after_file, file_at};
-    ghost use Rattle.save_text.specs.StateText.Spelled.{IsShort, file_text};
+    ghost use Rattle.save_text.specs.StateText.Spelled.{IsShortFile, file_text};
     ghost use Rattle.save_text.specs.StateText.Seen.{file_view};
 
     ghost Seen = { ListedFile };
@@ -114,7 +114,7 @@ impl<'a> Item<'a> for File<'a> {
 
     ghost text = { file_text };
 
-    ghost IsShort = { IsShort };
+    ghost IsShort = { IsShortFile };
 
     #[tactic(auto, unfolding(crate::specs::StateText::StateText::file_at))]
     fn take(_alloc: Global, cursor: &mut Cursor<'a>, least: u64) -> Result<File<'a>, Stop> {
@@ -140,11 +140,11 @@ impl<'a> Item<'a> for File<'a> {
 }
 
 ghost use Rattle.std.specs.Option.{option_copied};
-ghost use Rattle.save_text.specs.StateText.StateText.{name_of};
+ghost use Rattle.save_text.specs.StateText.StateText.{optional_name};
 
 /// The name of a file: no bytes are none.
 fn name_of(bytes: &[u8]) -> Option<&[u8]>
-    ensures { option_copied result ≡ name_of bytes.now }
+    ensures { option_copied result ≡ optional_name bytes.now }
 {
     match bytes {
         [] => None,
@@ -190,7 +190,7 @@ impl<'a> Item<'a> for Descriptor {
 }
 
 fn kind_of(cursor: &mut Cursor<'_>) -> Result<u8, Stop>
-    ensures { Gives (λ x. x) result cursor.new (that (λ kind. nat_le kind 3) byte cursor.old) }
+    ensures { GivesField (λ x. x) result cursor.new (that (λ kind. nat_le kind 3) byte cursor.old) }
 {
     let at = cursor.len();
     let kind = cursor.byte()?;
@@ -203,7 +203,7 @@ fn kind_of(cursor: &mut Cursor<'_>) -> Result<u8, Stop>
 /// What a descriptor of this kind stands for.
 #[tactic(auto, unfolding(crate::specs::StateText::StateText::slot_at))]
 fn slot_of(cursor: &mut Cursor<'_>, kind: u8) -> Result<Slot, Stop>
-    ensures { Gives (λ x. x) result cursor.new (slot_at kind cursor.old) }
+    ensures { GivesField (λ x. x) result cursor.new (slot_at kind cursor.old) }
 {
     match kind {
         0 => Ok(Slot::Input),
@@ -223,7 +223,7 @@ fn slot_of(cursor: &mut Cursor<'_>, kind: u8) -> Result<Slot, Stop>
 }
 
 fn flags_at(cursor: &mut Cursor<'_>) -> Result<u8, Stop>
-    ensures { Gives (λ x. x) result cursor.new (that are_flags byte cursor.old) }
+    ensures { GivesField (λ x. x) result cursor.new (that are_flags byte cursor.old) }
 {
     let at = cursor.len();
     let flags = cursor.byte()?;
@@ -237,7 +237,7 @@ fn flags_at(cursor: &mut Cursor<'_>) -> Result<u8, Stop>
 /// How a file may be used.
 #[tactic(auto, unfolding(crate::specs::StateText::StateText::access_at))]
 fn access_of(cursor: &mut Cursor<'_>) -> Result<Access, Stop>
-    ensures { Gives (λ x. x) result cursor.new (access_at cursor.old) }
+    ensures { GivesField (λ x. x) result cursor.new (access_at cursor.old) }
 {
     let flags = flags_at(cursor)?;
     let mode = mode_of(flags % 4);
@@ -248,7 +248,7 @@ fn access_of(cursor: &mut Cursor<'_>) -> Result<Access, Stop>
 }
 
 fn mode_of(bits: u8) -> Mode
-    ensures { result ≡ mode_of bits }
+    ensures { result ≡ mode_of_code bits }
 {
     match bits {
         1 => Mode::Read,

@@ -1,8 +1,8 @@
 ghost use Rattle.std.specs.Prelude.{◌≡◌, ◌≤◌, length, IfOk, Ok, Err};
-ghost use Rattle.save_text.specs.ByteFields.Reader.{Gives, alike, u64};
-ghost use Rattle.save_text.specs.StateText.StateText.{StateText, body_at, formed, heap_at, state_at};
-ghost use Rattle.save_text.specs.StateText.Spelled.{IsText, text_of};
-ghost use Rattle.save_text.specs.StateText.Seen.{Reads, view};
+ghost use Rattle.save_text.specs.ByteFields.Reader.{GivesField, alike, u64};
+ghost use Rattle.save_text.specs.StateText.StateText.{StateText, body_at, parsed_state, heap_at, state_at};
+ghost use Rattle.save_text.specs.StateText.Spelled.{IsStateText, text_of_state};
+ghost use Rattle.save_text.specs.StateText.Seen.{ReadsStateText, state_view};
 
 use crate::byte_fields::{Cursor, Stop, counted};
 use crate::state_text::parts::Parts;
@@ -21,7 +21,7 @@ pub enum TextRefusal {
 }
 
 fn registers_of(cursor: &mut Cursor<'_>) -> Result<[u64; 31], Stop>
-    ensures { Gives (λ x. x) result cursor.new (alike u64 31 cursor.old) }
+    ensures { GivesField (λ x. x) result cursor.new (alike u64 31 cursor.old) }
 {
     let mut registers = [0; 31];
     for index in 0..31usize {
@@ -32,7 +32,7 @@ fn registers_of(cursor: &mut Cursor<'_>) -> Result<[u64; 31], Stop>
 
 #[tactic(auto, unfolding(crate::specs::StateText::StateText::heap_at))]
 fn heap_of(cursor: &mut Cursor<'_>) -> Result<Heap, Stop>
-    ensures { Gives (λ x. x) result cursor.new (heap_at cursor.old) }
+    ensures { GivesField (λ x. x) result cursor.new (heap_at cursor.old) }
 {
     let first = cursor.u64()?;
     let now = cursor.u64()?;
@@ -43,7 +43,7 @@ fn heap_of(cursor: &mut Cursor<'_>) -> Result<Heap, Stop>
 /// What stands behind the magic.
 #[tactic(auto, unfolding(crate::specs::StateText::StateText::body_at))]
 fn body_of<'a>(alloc: Global, cursor: &mut Cursor<'a>) -> Result<Parts<'a>, Stop>
-    ensures { Gives view result cursor.new (body_at cursor.old) }
+    ensures { GivesField state_view result cursor.new (body_at cursor.old) }
 {
     let steps = cursor.u64()?;
     let pc = cursor.u64()?;
@@ -72,7 +72,7 @@ fn body_of<'a>(alloc: Global, cursor: &mut Cursor<'a>) -> Result<Parts<'a>, Stop
 /// A state's text at the front of what is left.
 #[tactic(auto, unfolding(crate::specs::StateText::StateText::state_at))]
 pub fn parts_at<'a>(alloc: Global, cursor: &mut Cursor<'a>) -> Result<Parts<'a>, Stop>
-    ensures { Gives view result cursor.new (state_at cursor.old) }
+    ensures { GivesField state_view result cursor.new (state_at cursor.old) }
 {
     cursor.begins_with(&MAGIC)?;
     body_of(alloc, cursor)
@@ -81,18 +81,18 @@ pub fn parts_at<'a>(alloc: Global, cursor: &mut Cursor<'a>) -> Result<Parts<'a>,
 /// What the text of a state says. Each field is judged given those before it, so an offset is that of the first wrong one.
 pub fn read(alloc: Global, text: &[u8]) -> Result<Parts<'_>, TextRefusal>
     // What is read is spelled so.
-    ensures found { IfOk result (λ p. IsText (view p) × (text.now ≡ text_of (view p))) }
+    ensures found { IfOk result (λ p. IsStateText (state_view p) × (text.now ≡ text_of_state (state_view p))) }
     // What is spelled so is read, unless memory runs out.
-    ensures only { (s : StateText) → IsText s → text.now ≡ text_of s → Reads result (Ok s) }
+    ensures only { (s : StateText) → IsStateText s → text.now ≡ text_of_state s → ReadsStateText result (Ok s) }
     // Which field is the first wrong one.
-    ensures exact { Reads result (formed text.now) }
+    ensures exact { ReadsStateText result (parsed_state text.now) }
 {
     all(alloc, text)
 }
 
-#[tactic(auto, unfolding(crate::specs::StateText::StateText::formed))]
+#[tactic(auto, unfolding(crate::specs::StateText::StateText::parsed_state))]
 fn all(alloc: Global, text: &[u8]) -> Result<Parts<'_>, TextRefusal>
-    ensures { Reads result (formed text.now) }
+    ensures { ReadsStateText result (parsed_state text.now) }
 {
     let mut cursor = Cursor::new(text);
     let parts = match parts_at(alloc, &mut cursor) {

@@ -1,7 +1,7 @@
 ghost use Rattle.std.specs.Prelude.{◌≡◌, ◌<◌, ◌^◌, ◌++◌, All, OnOk, IfOk, length, map};
 ghost use Rattle.save_text.specs.ByteFields.Spelling.{list_text};
-ghost use Rattle.save_text.specs.StateText.Spelled.{IsShort, IsText, body_text, file_text, heap_text, text_of, u64s};
-ghost use Rattle.save_text.specs.StateText.Seen.{file_view, view};
+ghost use Rattle.save_text.specs.StateText.Spelled.{IsShortFile, IsStateText, body_text, file_text, heap_text, text_of_state, u64s};
+ghost use Rattle.save_text.specs.StateText.Seen.{file_view, state_view};
 
 use crate::byte_fields::{put_blob32, put_counted, put_u64};
 use crate::state_text::parts::{File, Parts};
@@ -29,7 +29,7 @@ fn put_heap(out: &mut Bytes, heap: Heap) -> Result<(), OutOfMemory>
 
 fn put_files(out: &mut Bytes, files: &[File<'_>]) -> Result<(), OutOfMemory>
     requires few { length files.now < 2 ^ 32 }
-    requires short { All (λ f. IsShort (file_view f)) files.now }
+    requires short { All (λ f. IsShortFile (file_view f)) files.now }
     ensures { OnOk result (out.new ≡ out.old ++ list_text file_text (map file_view files.now)) }
 {
     put_counted(out, files)
@@ -38,8 +38,8 @@ fn put_files(out: &mut Bytes, files: &[File<'_>]) -> Result<(), OutOfMemory>
 /// What stands behind the magic.
 #[tactic(auto, using(crate::proofs::StateTextLemmas::Written::written), unfolding(crate::specs::StateText::Spelled::body_text))]
 fn put_body(out: &mut Bytes, parts: &Parts<'_>) -> Result<(), OutOfMemory>
-    requires { IsText (view parts.now) }
-    ensures { OnOk result (out.new ≡ out.old ++ body_text (view parts.now)) }
+    requires { IsStateText (state_view parts.now) }
+    ensures { OnOk result (out.new ≡ out.old ++ body_text (state_view parts.now)) }
 {
     put_u64(out, parts.steps)?;
     put_u64(out, parts.pc)?;
@@ -56,8 +56,8 @@ fn put_body(out: &mut Bytes, parts: &Parts<'_>) -> Result<(), OutOfMemory>
 /// Adds the text of a state.
 #[tactic(auto, using(crate::proofs::StateTextLemmas::Written::written))]
 pub fn put_parts(out: &mut Bytes, parts: &Parts<'_>) -> Result<(), OutOfMemory>
-    requires { IsText (view parts.now) }
-    ensures { OnOk result (out.new ≡ out.old ++ text_of (view parts.now)) }
+    requires { IsStateText (state_view parts.now) }
+    ensures { OnOk result (out.new ≡ out.old ++ text_of_state (state_view parts.now)) }
 {
     out.extend(&MAGIC)?;
     put_body(out, parts)
@@ -65,8 +65,8 @@ pub fn put_parts(out: &mut Bytes, parts: &Parts<'_>) -> Result<(), OutOfMemory>
 
 /// The one text of what a state says.
 pub fn write(alloc: Global, parts: &Parts<'_>) -> Result<Bytes, OutOfMemory>
-    requires { IsText (view parts.now) }
-    ensures { IfOk result (λ text. text ≡ text_of (view parts.now)) }
+    requires { IsStateText (state_view parts.now) }
+    ensures { IfOk result (λ text. text ≡ text_of_state (state_view parts.now)) }
 {
     let mut out = Bytes::new(alloc);
     put_parts(&mut out, parts)?;

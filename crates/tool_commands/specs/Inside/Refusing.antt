@@ -2,7 +2,7 @@
 use Rattle.std.specs.Prelude.{◌≡◌, Result, Err}
 use Rattle.hex_langs.specs.declared.items.reader.HexRefusal.{HexRefusal}
 use Rattle.hex_langs.specs.declared.items.reader.HexRefusal.TheVariants as refusal
-use Rattle.hex_langs.specs.Items.Refusals.{refusal_number, refusal_place}
+use Rattle.hex_langs.specs.Items.Refusals.{hex_refusal_number, hex_refusal_place}
 use Rattle.m1_lang.specs.declared.refusal.M1Refusal.{M1Refusal}
 use Rattle.m1_lang.specs.declared.refusal.M1Refusal.TheVariants as m1
 use Rattle.m1_lang.specs.Refusals.{m1_refusal_number, m1_refusal_place}
@@ -16,7 +16,7 @@ use Rattle.tool_commands.specs.Asm.{refused_line}
 
 abbrev pub Refuses : HexRefusal → Result Answer Stop → Type 0
 Refuses refusal.OutOfMemory result = result ≡ Err stop.OutOfMemory
-Refuses why result = Says (answers CheckFailed (refused_line (refusal_number why) (refusal_place why))) result
+Refuses why result = Says (answers CheckFailed (refused_line (hex_refusal_number why) (hex_refusal_place why))) result
 
 abbrev pub RefusesM1 : M1Refusal → Result Answer Stop → Type 0
 RefusesM1 m1.OutOfMemory result = result ≡ Err stop.OutOfMemory

@@ -14,7 +14,7 @@ use Rattle.hex_langs.specs.declared.items.words.Begun.TheVariants.{Nothing, One,
 use Rattle.hex_langs.specs.declared.items.words.Halt.{Halt}
 use Rattle.hex_langs.specs.declared.items.words.Halt.TheVariants as halt
 use Rattle.hex_langs.specs.declared.items.words.Open.{Open}
-use Rattle.hex_langs.specs.Items.Reading.{Ending, Ends, Faulted, Faulty, Formed, Halted, Reading, Then, Whole, answer, behind_step, formed, items_of, judged, reading}
+use Rattle.hex_langs.specs.Items.Reading.{Ending, NoToken, Faulted, Faulty, Formed, Halted, Reading, Then, Whole, answer, behind_step, formed, items_of, limited_items, reading}
 use Rattle.hex_langs.specs.Items.Words.{Step, byte_in, field_in, reference_in, taken}
 use Rattle.hex_langs.specs.declared.link.number.Miss.{Miss}
 use Rattle.hex_langs.specs.declared.link.number.Miss.TheVariants.{NoLabel, OutOfReach}
@@ -25,8 +25,8 @@ use Rattle.m1_lang.specs.declared.words.meaning.WordFault.TheVariants as word
 use Rattle.m1_lang.specs.Words.Words.{Word, Words, open_quote, words_of, word_list}
 use Rattle.m1_lang.specs.declared.refusal.M1Refusal.{M1Refusal}
 use Rattle.m1_lang.specs.declared.refusal.M1Refusal.TheVariants as m1
-use Rattle.m1_lang.specs.Definitions.{Cut, Defined, Defines, Part, Plain, defined_with, definitions, definitions_in, is_value, parts, plain_words, unless_open, value_in, with_defined}
-use Rattle.m1_lang.specs.Expansion.{expansion_by, expansion_of, unless_refused, words_reading}
+use Rattle.m1_lang.specs.Definitions.{Cut, Defined, Defines, SourcePart, Plain, defined_with, definitions, definitions_in, is_value, parts, plain_words, unless_open, value_in, with_defined}
+use Rattle.m1_lang.specs.Expansion.{expansion_by, expansion_of, items_unless_refused, words_reading}
 
 -- a word's halt that is none for want of memory
 abbrev NotHalt : Halt → Type 0
@@ -72,8 +72,8 @@ behind-not (Ok step) rest fine later = later step.1
 behind-not (Err why) rest fine later = fine
 
 formed-not : {F : Type 0} (word : Option Open) (r : Reading F) → NotEnding (formed word r).end
-formed-not None Ends = tt
-formed-not (Some word) Ends = tt
+formed-not None NoToken = tt
+formed-not (Some word) NoToken = tt
 formed-not word (Faulty why at) = tt
 formed-not word (Then at token later) = behind-not (taken word at token) (λ next. formed next later) (taken-not word at token) (λ next. formed-not next later)
 
@@ -105,7 +105,7 @@ items-not : (dialect : Dialect) (source : List ℕ) → NotHex (items_of dialect
 unfolding items_of
 items-not dialect source =
     let all = formed None (reading dialect 0 0 source) in
-    choice-not (nat_lt 67108864 (length source)) (judged all)
+    choice-not (nat_lt 67108864 (length source)) (limited_items all)
     (choice-not (nat_lt 33554432 (length all.items)) (answer all.items all.end) (answer-not all.items all.end (formed-not None (reading dialect 0 0 source))))
 
 onto-not : (front : List ℕ) (r : Result (List ℕ) HexRefusal) → NotHex r → NotHex (onto front r)
@@ -147,17 +147,17 @@ abbrev NotM1 : {A : Type 0} → Result A M1Refusal → Type 0
 NotM1 (Err m1.OutOfMemory) = ⊥
 NotM1 _ = Unit {0}
 
-m1-halted : (items : List Item) (why : Halt) → NotHalt why → NotM1 (unless_refused items (Halted why))
+m1-halted : (items : List Item) (why : Halt) → NotHalt why → NotM1 (items_unless_refused items (Halted why))
 m1-halted items halt.OutOfMemory fine = fine
 m1-halted items (halt.Dangling first) fine = tt
 m1-halted items (halt.Second at) fine = tt
 m1-halted items halt.TooLong fine = tt
 
-m1-faulted : (items : List Item) (why : WordFault) (at : ℕ) → NotM1 (unless_refused items (Faulted why at))
+m1-faulted : (items : List Item) (why : WordFault) (at : ℕ) → NotM1 (items_unless_refused items (Faulted why at))
 m1-faulted items word.UnknownWord at = tt
 m1-faulted items word.NumberRange at = tt
 
-m1-answer : (items : List Item) (end : Ending WordFault) → NotEnding end → NotM1 (unless_refused items end)
+m1-answer : (items : List Item) (end : Ending WordFault) → NotEnding end → NotM1 (items_unless_refused items end)
 m1-answer items Whole fine = tt
 m1-answer items (Halted why) fine = m1-halted items why fine
 m1-answer items (Faulted why at) fine = m1-faulted items why at
@@ -178,7 +178,7 @@ one-not seen at name value = by_tests (not (is_value value)) (is_some (value_in 
   by_tests false true = tt
   by_tests false false = tt
 
-defined-not : (seen : Defined) (all : List Part) → NotM1 (definitions seen all)
+defined-not : (seen : Defined) (all : List SourcePart) → NotM1 (definitions seen all)
 defined-not seen [] = tt
 defined-not seen (Defines at name value ∷ rest) = with-not (defined_with seen at name value) (λ more. definitions more rest) (one-not seen at name value) (λ more. defined-not more rest)
 defined-not seen (Cut at ∷ rest) = tt
@@ -194,7 +194,7 @@ in-not words = open-not (open_quote words) (definitions [] (parts (word_list wor
 by-not : (r : Result Defined M1Refusal) (words : List Word) → NotM1 r → NotM1 (expansion_by r words)
 by-not (Ok defined) words fine =
     let all = formed None (words_reading (value_in defined) words) in
-    m1-choice (nat_lt 33554432 (length all.items)) (unless_refused all.items all.end) (m1-answer all.items all.end (formed-not None (words_reading (value_in defined) words)))
+    m1-choice (nat_lt 33554432 (length all.items)) (items_unless_refused all.items all.end) (m1-answer all.items all.end (formed-not None (words_reading (value_in defined) words)))
 by-not (Err m1.OutOfMemory) words fine = fine
 by-not (Err _) words fine = tt
 

@@ -21,28 +21,28 @@ use Rattle.wheeler.specs.declared.source_check.cause.CheckCause.TheVariants as c
 use Rattle.wheeler.specs.SourceCheck.Causes.{cause_of_hex, cause_of_m1}
 
 -- the text of a source's files: one LF between neighbours
-abbrev pub joined : List (List ℕ) → List ℕ
-joined files = join_with_byte 10 files
+abbrev pub joined_files : List (List ℕ) → List ℕ
+joined_files files = join_with_byte 10 files
 
 -- what a source stands for: bytes, or in M1 items, which no base has placed yet
-pub data Value : Type 0 where
-  Bytes : List ℕ → Value
-  Items : List Item → Value
+pub data SourceValue : Type 0 where
+  ValueBytes : List ℕ → SourceValue
+  ValueItems : List Item → SourceValue
 
-abbrev pub hex_value : Result (List ℕ) HexRefusal → Result Value CheckCause
-hex_value (Ok bytes) = Ok (Bytes bytes)
+abbrev pub hex_value : Result (List ℕ) HexRefusal → Result SourceValue CheckCause
+hex_value (Ok bytes) = Ok (ValueBytes bytes)
 hex_value (Err why) = Err (cause.Hex (cause_of_hex why))
 
-abbrev pub m1_value : Result (List Item) M1Refusal → Result Value CheckCause
-m1_value (Ok items) = Ok (Items items)
+abbrev pub m1_value : Result (List Item) M1Refusal → Result SourceValue CheckCause
+m1_value (Ok items) = Ok (ValueItems items)
 m1_value (Err why) = Err (cause.M1 (cause_of_m1 why))
 
 -- the value of a source in a language at a base, or the language's refusal; hex0 and M1 know no base
-abbrev pub value_of : Language → ℕ → List ℕ → Result Value CheckCause
-value_of Hex0 base source = Ok (Bytes (hex0_of source))
-value_of Hex1 base source = hex_value (linked base (items_of dialect.Hex1 source))
-value_of Hex2 base source = hex_value (linked base (items_of dialect.Hex2 source))
-value_of M1 base source = m1_value (expansion_of source)
+abbrev pub source_value_of : Language → ℕ → List ℕ → Result SourceValue CheckCause
+source_value_of Hex0 base source = Ok (ValueBytes (hex0_of source))
+source_value_of Hex1 base source = hex_value (linked base (items_of dialect.Hex1 source))
+source_value_of Hex2 base source = hex_value (linked base (items_of dialect.Hex2 source))
+source_value_of M1 base source = m1_value (expansion_of source)
 
 -- whether two items are the same
 abbrev pub same_kind : Kind → Kind → Bool
@@ -81,15 +81,15 @@ items_against items (Err why) = Some (cause.NotItems (cause_of_hex why))
 
 -- what is wrong with an artefact that is to be this value: bytes are compared as they are; against items the artefact is read as a
 -- hex2 text, since that is what M1's assembler writes, in whatever layout
-abbrev pub value_against : Value → List ℕ → Option CheckCause
-value_against (Bytes value) made = differs (first_difference value made)
-value_against (Items items) made = items_against items (items_of dialect.Hex2 made)
+abbrev pub value_against : SourceValue → List ℕ → Option CheckCause
+value_against (ValueBytes value) made = differs (first_difference value made)
+value_against (ValueItems items) made = items_against items (items_of dialect.Hex2 made)
 
-abbrev pub checked : Result Value CheckCause → List ℕ → Option CheckCause
+abbrev pub checked : Result SourceValue CheckCause → List ℕ → Option CheckCause
 checked (Err why) made = Some why
 checked (Ok value) made = value_against value made
 
 -- what is wrong with an artefact, of a source in a language at a base: the language's refusal; for M1 the refusal of the artefact's own
 -- items; the first unequal offset or item; or nothing
 unfoldable pub check : Language → ℕ → List ℕ → List ℕ → Option CheckCause
-check language base source made = checked (value_of language base source) made
+check language base source made = checked (source_value_of language base source) made

@@ -7,7 +7,7 @@ ghost use Rattle.hex_langs.specs.Link.Values.{linked};
 ghost use Rattle.ddc_base.specs.declared.languages.Language.TheVariants.{Hex0};
 ghost use Rattle.m1_lang.specs.declared.refusal.M1Refusal.TheVariants as m1;
 ghost use Rattle.m1_lang.specs.Expansion.{expansion_of};
-ghost use Rattle.wheeler.specs.SourceCheck.Checks.{check, joined};
+ghost use Rattle.wheeler.specs.SourceCheck.Checks.{check, joined_files};
 ghost use Rattle.wheeler.specs.declared.source_check.cause.CheckCause.TheVariants.{Differs};
 ghost use Rattle.std.specs.Prelude.{◌≡◌, ◌≢◌, [], ◌∷◌, ℕ, List, None, Some, Err, codes};
 
@@ -25,5 +25,5 @@ pub fn worked_rows()
     ensures differs { (base : ℕ) → check Hex0 base (codes "4142") (65 ∷ 67 ∷ []) ≡ Some (Differs 1) }
     ensures ended { (base : ℕ) → check Hex0 base (codes "4142") (65 ∷ []) ≡ Some (Differs 1) }
     ensures goes_on { (base : ℕ) → check Hex0 base (codes "41") (65 ∷ 66 ∷ []) ≡ Some (Differs 1) }
-    ensures joined { (base : ℕ) → check Hex0 base (joined (codes "#1" ∷ codes "42" ∷ [])) (66 ∷ []) ≡ None }
+    ensures joined { (base : ℕ) → check Hex0 base (joined_files (codes "#1" ∷ codes "42" ∷ [])) (66 ∷ []) ≡ None }
 {}

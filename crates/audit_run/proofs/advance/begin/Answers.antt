@@ -4,8 +4,8 @@ use Rattle.audit_run.specs.Inside.Parts.{entry_standing}
 use Rattle.audit_run.proofs.Stretching.{entry-stands, ready-done}
 use Rattle.audit_run.proofs.advance.begin.Goals as goal
 
-pub returns-in-Ok-Started-clause-stands : goal.returns-in-Ok-Started-clause-stands
-returns-in-Ok-Started-clause-stands c =
-    subst (λ e. IsStanding c.args.recipe.now (entry_standing c.args.done.now e)) c.in-Ok-Started.field-0-is
-    (entry-stands c.args.recipe.now c.args.inputs.now c.args.done.now c.in-Ok-Started.field-0 c.enter.ensures.kept c.requires.given
-    (ready-done c.args.recipe.now c.args.done.now c.args.place.now c.in-Ready.is c.requires.place) c.in-Ok-Started.ensures.entered)
+pub returns-in-Started-clause-stands : goal.returns-in-Started-clause-stands
+returns-in-Started-clause-stands c =
+    subst (λ e. IsStanding c.args.recipe.now (entry_standing c.args.done.now e)) c.in-Started.is
+    (entry-stands c.args.recipe.now c.args.inputs.now c.args.done.now c.in_ok-guest-in-Ready.field-0 c.enter.ensures.kept c.requires.given
+    (ready-done c.args.recipe.now c.args.done.now c.args.place.now c.in-Ready.is c.requires.place) c.in_ok-guest-in-Ready.ensures.entered)

@@ -1,4 +1,5 @@
 use Rattle.std.proofs.Common.{◌+◌, ◌-◌, Err, arith, ap, ◌∙◌, subst}
+use Rattle.std.proofs.lemmas.Result.{err_from_is_err_and}
 use Rattle.guest_run.specs.Run.{Exited, Trapped, UnknownCall}
 use Rattle.wheeler.specs.declared.answer.Fault.TheVariants.{Runs}
 use Rattle.wheeler.specs.declared.cause.RunCause.TheVariants as run
@@ -39,17 +40,19 @@ returns-in-UnknownCall c =
     (omega (arith, c.steps-step-in-UnknownCall.ensures.value, c.steps-before.ensures.value))
     (ap (λ n. Err (Runs (run.Call c.in-UnknownCall.number) (n + 1))) c.steps-step-in-UnknownCall.ensures.value)
 
-pub returns-in-Ok : goal.returns-in-Ok
-returns-in-Ok c =
+pub returns-in_ok-result-in-Exited : goal.returns-in_ok-result-in-Exited
+returns-in_ok-result-in-Exited c =
     slices-end _ _ _ _ _ _ _ c.requires.stands c.requires.recipe c.requires.given c.args.most c.min-slice.result (c.steps-step-in-Exited.result + 1 - c.steps-before.result) (Exited c.in-Exited.status)
-    c.in-Ok.result c.in-Exited.ensures.answer
+    c.in_ok-result-in-Exited.result c.in-Exited.ensures.answer
     (omega (arith, c.min-slice.ensures)) (omega (arith, c.min-slice.ensures, c.steps-before.ensures.value, c.requires.stands.within))
     (omega (arith, c.steps-step-in-Exited.ensures.value, c.steps-before.ensures.value))
-    (c.in-Ok.ensures.answer
+    (c.in_ok-result-in-Exited.ensures.answer
     ∙ (λ i. exited_with c.args.recipe.now c.args.inputs.now c.args.done.now c.args.stage.now c.in-Exited.status (c.steps-step-in-Exited.ensures.value i + 1) (c.files.ensures i)))
 
-pub returns-in-Err : goal.returns-in-Err
-returns-in-Err c =
+pub returns-in_err-result-in-Exited : goal.returns-in_err-result-in-Exited
+returns-in_err-result-in-Exited c =
+    let p = err_from_is_err_and c.from_residual.result c.from_residual.ensures.1 in
+    rw (p.1) (
     slices-end-out _ _ _ _ _ _ _ c.requires.stands c.requires.recipe c.requires.given c.args.most c.min-slice.result c.in-Exited.status _ c.in-Exited.ensures.answer
     (omega (arith, c.min-slice.ensures)) (omega (arith, c.min-slice.ensures, c.steps-before.ensures.value, c.requires.stands.within))
-    (subst (Makes c.args.stage.now c.args.done.now c.in-Exited.status) c.files.ensures c.in-Err.ensures.want)
+    (subst (Makes c.args.stage.now c.args.done.now c.in-Exited.status) c.files.ensures c.in_err-result-in-Exited.ensures.want))

@@ -1,4 +1,5 @@
 use Rattle.std.proofs.Common.{◌-◌, arith, sym, ap, ◌∙◌}
+use Rattle.std.proofs.lemmas.Result.{err_from_is_err_and}
 use Rattle.wheeler.specs.Positions.{forward_from}
 use Rattle.wheeler.proofs.Forwards.{forward_from-none, forward_from-sum}
 use Rattle.audit_run.proofs.Stretching.{stops-later}
@@ -10,14 +11,16 @@ loop-left-init c = (omega arith, c.requires.started, c.requires.stands, sym (for
 pub loop-left-preserved : goal.loop-left-preserved
 loop-left-preserved c = (
   omega (arith, c.loop-left.invariant.0),
-  c.in-Ok.ensures.started,
-  c.in-Ok.ensures.stands,
-  c.in-Ok.ensures.steps.0
-      ∙ ap (λ from. forward_from c.args.recipe.now c.args.inputs.now from c.in-Ok.taken) c.loop-left.invariant.3
-      ∙ forward_from-sum _ _ _ (c.args.most - c.loop-left.left) c.in-Ok.taken (c.args.most - (c.loop-left.left - c.in-Ok.taken))
-      (omega (arith, c.loop-left.invariant.0, c.in-Ok.ensures.steps.2)),
+  c.in_ok-left.ensures.started,
+  c.in_ok-left.ensures.stands,
+  c.in_ok-left.ensures.steps.0
+      ∙ ap (λ from. forward_from c.args.recipe.now c.args.inputs.now from c.in_ok-left.field-0) c.loop-left.invariant.3
+      ∙ forward_from-sum _ _ _ (c.args.most - c.loop-left.left) c.in_ok-left.field-0 (c.args.most - (c.loop-left.left - c.in_ok-left.field-0))
+      (omega (arith, c.loop-left.invariant.0, c.in_ok-left.ensures.steps.2)),
 )
 
-pub returns-in-Err-clause-err : goal.returns-in-Err-clause-err
-returns-in-Err-clause-err c =
-    stops-later _ _ _ _ _ (c.args.most - c.loop-left.left) c.args.most c.loop-left.left c.loop-left.invariant.3 (omega (arith, c.loop-left.invariant.0)) c.in-Err.ensures.steps
+pub returns-in_err-left-clause-err : goal.returns-in_err-left-clause-err
+returns-in_err-left-clause-err c =
+    let p = err_from_is_err_and c.from_residual.result c.from_residual.ensures.1 in
+    rw (p.1) (
+    stops-later _ _ _ _ _ (c.args.most - c.loop-left.left) c.args.most c.loop-left.left c.loop-left.invariant.3 (omega (arith, c.loop-left.invariant.0)) c.in_err-left.ensures.steps)

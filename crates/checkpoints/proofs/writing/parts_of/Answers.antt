@@ -4,7 +4,7 @@ use Rattle.mem_files.specs.Lists.{AreInRange, lists_of}
 use Rattle.mem_files.specs.World.{World}
 use Rattle.checkpoints.proofs.FilePartsLemmas.GoodLists.{good_range}
 use Rattle.checkpoints.specs.MemoryParts.Canonical.{pages_of, runs_of}
-use Rattle.save_text.specs.StateText.Spelled.{IsText}
+use Rattle.save_text.specs.StateText.Spelled.{IsStateText}
 use Rattle.checkpoints.proofs.States.{is_text, said}
 use Rattle.checkpoints.proofs.writing.parts_of.Goals as goal
 
@@ -34,4 +34,4 @@ returns-clause-seen g c =
 pub returns-clause-text : goal.returns-clause-text
 returns-clause-text g c =
     let few : c.args.guest.now.steps < 2 ^ 64 = omega (arith, c.steps-steps.ensures.value, c.steps-steps.type_inv) in
-    subst IsText (sym (returns-clause-seen g c)) (is_text c.args.guest.now c.steps-steps.ensures.valid few)
+    subst IsStateText (sym (returns-clause-seen g c)) (is_text c.args.guest.now c.steps-steps.ensures.valid few)

@@ -1,5 +1,5 @@
 use Rattle.std.proofs.Common.{arith, ap, sym, ◌∙◌}
-use Rattle.m1_lang.specs.Words.Words.{open_quote, Over, Word, word_list, Words}
+use Rattle.m1_lang.specs.Words.Words.{open_quote, NoWord, Word, word_list, Words}
 use Rattle.m1_lang.specs.Words.Ahead.{words_at}
 use Rattle.m1_lang.specs.Definitions.{parts}
 use Rattle.m1_lang.specs.Representation.Passes.{open_at, unless_quoted, valued, values_in}
@@ -41,8 +41,8 @@ returns-in-Err c =
     c.loop-at.table c.define.new.table _ meant c.in-Err.ensures)
 
 pub returns : goal.returns
-returns c = meant-by (values_in c.loop-at.table) c.args.source.now c.loop-at.at Over c.loop-at.invariant.quote c.loop-at.invariant.whole (words-end c.args.source.now c.loop-at.at (omega arith))
+returns c = meant-by (values_in c.loop-at.table) c.args.source.now c.loop-at.at NoWord c.loop-at.invariant.quote c.loop-at.invariant.whole (words-end c.args.source.now c.loop-at.at (omega arith))
 
 pub returns-in-End : goal.returns-in-End
 returns-in-End c =
-    meant-by (values_in c.loop-at.table) c.args.source.now c.loop-at.at Over c.loop-at.invariant.quote c.loop-at.invariant.whole c.in-End.ensures
+    meant-by (values_in c.loop-at.table) c.args.source.now c.loop-at.at NoWord c.loop-at.invariant.quote c.loop-at.invariant.whole c.in-End.ensures

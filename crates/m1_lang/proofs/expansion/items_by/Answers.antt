@@ -2,7 +2,7 @@ use Rattle.std.proofs.Common.{◌∙◌, ap, sym, arith, length}
 use Rattle.hex_langs.specs.Items.Reading.{formed, Reading, with_front, word_end}
 use Rattle.m1_lang.specs.declared.words.meaning.WordFault.{WordFault}
 use Rattle.m1_lang.specs.Words.Words.{Word, word_list}
-use Rattle.m1_lang.specs.Expansion.{unless_refused}
+use Rattle.m1_lang.specs.Expansion.{items_unless_refused}
 use Rattle.m1_lang.specs.Representation.Passes.{reading_at, values_in}
 use Rattle.m1_lang.proofs.Passing.{no-word, words-end}
 use Rattle.m1_lang.proofs.Expandings.{reading-define, reading-done, reading-over, reading-word, refused-word}
@@ -56,10 +56,10 @@ pub returns-in-None : goal.returns-in-None
 returns-in-None c =
     let values = values_in c.args.table.now in
     reading-done values c.args.source.now c.loop-at.at c.loop-at.word c.loop-at.items _ (omega arith) c.loop-at.invariant.few c.loop-at.invariant.whole
-    ∙ ap (λ word. unless_refused c.loop-at.items (word_end word)) c.in-None.is
+    ∙ ap (λ word. items_unless_refused c.loop-at.items (word_end word)) c.in-None.is
 
 pub returns : goal.returns
 returns c =
     let values = values_in c.args.table.now in
     reading-done values c.args.source.now c.loop-at.at c.loop-at.word c.loop-at.items _ (omega arith) c.loop-at.invariant.few c.loop-at.invariant.whole
-    ∙ ap (λ word. unless_refused c.loop-at.items (word_end word)) c.in-Some.is
+    ∙ ap (λ word. items_unless_refused c.loop-at.items (word_end word)) c.in-Some.is

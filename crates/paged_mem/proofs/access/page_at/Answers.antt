@@ -1,5 +1,5 @@
 use Rattle.std.proofs.Common.{Some, sym, ap, ◌∙◌, arith}
-use Rattle.paged_mem.specs.Entries.{content}
+use Rattle.paged_mem.specs.Entries.{page_content}
 use Rattle.paged_mem.proofs.Accessed.{few_entries, page_shown, placed}
 use Rattle.paged_mem.proofs.Maps.{bytes_at-none}
 use Rattle.paged_mem.proofs.Runs.{get_unplaced}
@@ -19,10 +19,10 @@ returns-in-None c =
 
 pub returns-in-None-entries : goal.returns-in-None-entries
 returns-in-None-entries c =
-    ap (λ entry. Some (content entry)) (sym c.in-None-entries.is)
+    ap (λ entry. Some (page_content entry)) (sym c.in-None-entries.is)
     ∙ page_shown c.args.pages.now c.args.entries.now c.requires.pages c.args.first c.in-Some.index c.index-entries-index.result c.requires.aligned (sym c.in-Some.ensures) c.index-entries-index.is
 
 pub returns-in-Some-entries : goal.returns-in-Some-entries
 returns-in-Some-entries c =
-    ap Some c.deref.ensures ∙ ap (λ entry. Some (content entry)) (sym c.in-Some-entries.is)
+    ap Some c.deref.ensures ∙ ap (λ entry. Some (page_content entry)) (sym c.in-Some-entries.is)
     ∙ page_shown c.args.pages.now c.args.entries.now c.requires.pages c.args.first c.in-Some.index c.index-entries-index.result c.requires.aligned (sym c.in-Some.ensures) c.index-entries-index.is

@@ -3,7 +3,7 @@ use Rattle.paged_mem.proofs.Flats.{get_or-all_zeros}
 use Rattle.std.proofs.lemmas.Grind.{same_number_lists}
 use Rattle.std.proofs.lemmas.List.{get_or-take, get_or-drop}
 use Rattle.paged_mem.specs.Memory.{zeros}
-use Rattle.paged_mem.specs.Entries.{content}
+use Rattle.paged_mem.specs.Entries.{page_content}
 use Rattle.paged_mem.proofs.Mapped.{length-zeros}
 use Rattle.paged_mem.proofs.entries.fill_from.Goals as goal
 
@@ -14,4 +14,4 @@ returns-in-None c =
     (λ k below.
     c.clear.ensures.zero k
     ∙ sym (get_or-take (length c.args.out.now) (drop c.args.low (zeros 4096)) k 0 (omega (arith, c.clear.ensures.len)) ∙ get_or-drop c.args.low (zeros 4096) k 0 ∙ get_or-all_zeros 4096 (c.args.low + k)))
-    ∙ ap (λ entry. take (length c.args.out.now) (drop c.args.low (content entry))) (sym c.in-None.is)
+    ∙ ap (λ entry. take (length c.args.out.now) (drop c.args.low (page_content entry))) (sym c.in-None.is)

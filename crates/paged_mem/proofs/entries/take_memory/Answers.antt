@@ -3,7 +3,7 @@ use Rattle.paged_mem.proofs.Flats.{AreFull-set, flat-set_same, held_pages-set}
 use Rattle.std.proofs.Math.ListN.{set}
 use Rattle.std.proofs.lemmas.Bool.{cases_eq}
 use Rattle.std.proofs.lemmas.List.{get_or_default}
-use Rattle.paged_mem.specs.Entries.{content}
+use Rattle.paged_mem.specs.Entries.{page_content}
 use Rattle.paged_mem.proofs.entries.take_memory.Goals as goal
 
 pub loop-index-preserved : goal.loop-index-preserved
@@ -15,7 +15,7 @@ loop-index-preserved c =
     let within : i < length entries = omega (arith, inv.0, c.requires.within, c.loop-index-test.true) in (
       length-set entries i entry ∙ inv.0,
       AreFull-set entries i entry inv.1 c.hold.ensures.full,
-      flat-set_same entries i entry (c.hold.ensures.bytes ∙ ap content (get_or_default entries i c.index-entries-index.result None within)) ∙ inv.2,
+      flat-set_same entries i entry (c.hold.ensures.bytes ∙ ap page_content (get_or_default entries i c.index-entries-index.result None within)) ∙ inv.2,
       λ pages. omega (arith, held_pages-set pages entries i entry, inv.3 pages, c.loop-index.auto.index),
       λ k from below. taken k from below (cases_eq k i),
       λ k from. get_or-set_other entries i k entry None (omega arith) ∙ inv.5 k (omega arith),

@@ -1,6 +1,6 @@
 use Rattle.std.proofs.Common.{ap, sym, subst, length, ◌≤◌, arith}
 use Rattle.save_text.proofs.ByteFieldsLemmas.Spells.{AreBytes, rest_within}
-use Rattle.save_text.specs.Seen.{view}
+use Rattle.save_text.specs.Seen.{save_view}
 use Rattle.save_text.proofs.Texts.{spells_save}
 use Rattle.save_text.proofs.reading.all.Goals as goal
 
@@ -13,5 +13,5 @@ overflow_sub-result c =
 pub overflow_sub-result-in_default : goal.overflow_sub-result-in_default
 overflow_sub-result-in_default c =
     let fits : AreBytes c.args.text.now = λ i. omega (arith, c.type_inv.text i) in
-    let within : length c.save_of.new.cursor ≤ length c.new-cursor.result = rest_within spells_save c.new-cursor.result (view c.in-Ok.parts) c.save_of.new.cursor (subst AreBytes (sym c.new-cursor.ensures) fits) c.in-Ok.ensures in
+    let within : length c.save_of.new.cursor ≤ length c.new-cursor.result = rest_within spells_save c.new-cursor.result (save_view c.in-Ok.parts) c.save_of.new.cursor (subst AreBytes (sym c.new-cursor.ensures) fits) c.in-Ok.ensures in
     omega (arith, within, c.len.ensures, ap length c.new-cursor.ensures)

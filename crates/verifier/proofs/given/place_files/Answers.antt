@@ -3,7 +3,7 @@ use Rattle.std.specs.FinMap as finite
 use Rattle.std.specs.List.{fold}
 use Rattle.mem_files.specs.Limits.{most_content}
 use Rattle.guest_run.specs.Setting.{Setting}
-use Rattle.wheeler.specs.Contents.{with_file}
+use Rattle.wheeler.specs.Contents.{with_stage_file}
 use Rattle.wheeler.proofs.GivenBoxes.{content-is}
 use Rattle.verifier.specs.Inside.Holdings.{so_far}
 use Rattle.verifier.proofs.Placing.{turn}
@@ -20,7 +20,7 @@ loop-file-preserved c =
     let done = c.in_ok-place.ensures in
     let next =
     turn c.args.held.now.recipe.now (so_far c.args.held.now) c.loop-file.given.files c.place.new.given.files c.args.files.now c.loop-file.file-index c.file-item.result
-    (fold (with_file c.args.held.now.recipe.now (so_far c.args.held.now)) c.args.given.now.files c.args.files.now)
+    (fold (with_stage_file c.args.held.now.recipe.now (so_far c.args.held.now)) c.args.given.now.files c.args.files.now)
     (omega arith) c.file-item.is c.loop-file.invariant.0 c.loop-file.invariant.1
     (ap (λ (s : Setting). s.files) done ∙ (λ i. finite.insert c.loop-file.given.files (c.as_slice.ensures i) (c.bytes.ensures i))) in (
       next.0,

@@ -1,20 +1,20 @@
 use Rattle.std.proofs.Common.{◌≡◌, ℕ, List, Ok, subst}
 use Rattle.audit_run.specs.Save.Saves.{Resumes, save_of}
-use Rattle.save_text.specs.Spelled.{text_of}
+use Rattle.save_text.specs.Spelled.{text_of_save}
 use Rattle.audit_run.specs.Saved.{standing_at}
 use Rattle.audit_run.proofs.audit.Audit.resume.Goals as goal
 
-pub returns-in-Ok-clause-found : goal.returns-in-Ok-clause-found
-returns-in-Ok-clause-found c = (
-  c.in-Ok.place,
+pub returns-clause-found : goal.returns-clause-found
+returns-clause-found c = (
+  c.in_ok-place.place,
   λ i. standing_at c.args.recipe c.args.inputs (c.into_parts-done.ensures i),
-  c.in-Ok.ensures.place,
-  subst (λ (inputs : List (List ℕ)). c.args.text.now ≡ text_of (save_of c.args.recipe inputs c.in-Ok.place)) c.as_slice.ensures c.in-Ok.ensures.found,
+  c.in_ok-place.ensures.place,
+  subst (λ (inputs : List (List ℕ)). c.args.text.now ≡ text_of_save (save_of c.args.recipe inputs c.in_ok-place.place)) c.as_slice.ensures c.in_ok-place.ensures.found,
 )
 
-pub returns-in-Ok-clause-exact : goal.returns-in-Ok-clause-exact
-returns-in-Ok-clause-exact c = (
-  c.in-Ok.place,
+pub returns-clause-exact : goal.returns-clause-exact
+returns-clause-exact c = (
+  c.in_ok-place.place,
   λ i. standing_at c.args.recipe c.args.inputs (c.into_parts-done.ensures i),
-  subst (λ (inputs : List (List ℕ)). Resumes c.args.recipe inputs c.args.text.now (Ok c.in-Ok.place)) c.as_slice.ensures c.in-Ok.ensures.exact,
+  subst (λ (inputs : List (List ℕ)). Resumes c.args.recipe inputs c.args.text.now (Ok c.in_ok-place.place)) c.as_slice.ensures c.in_ok-place.ensures.exact,
 )

@@ -1,5 +1,5 @@
 use Rattle.std.proofs.Common.{◌≡◌, ◌+◌, true, false, length, drop, All, refl, sym, ap, subst, ◌∙◌, arith}
-use Rattle.save_text.specs.Seen.{view}
+use Rattle.save_text.specs.Seen.{save_view}
 use Rattle.wheeler.specs.Positions.{at}
 use Rattle.wheeler.specs.Valid.{AreDone}
 use Rattle.audit_run.specs.Save.Saves.{done_in}
@@ -11,14 +11,14 @@ are_done-requires c = subst (All IsOrdered) (sym (c.as_slice.ensures.value ∙ c
 
 pub returns-then-not-are_done-clause-stands : goal.returns-then-not-are_done-clause-stands
 returns-then-not-are_done-clause-stands c = λ place.
-    let same : c.as_slice.result.now ≡ done_in (view c.args.parts) = c.as_slice.ensures.value ∙ c.in-Ok.ensures ∙ twice c.args.parts.done.items in
+    let same : c.as_slice.result.now ≡ done_in (save_view c.args.parts) = c.as_slice.ensures.value ∙ c.in-Ok.ensures ∙ twice c.args.parts.done.items in
     let no : false ≡ true = c.if-not-are_done.ensures.1 (subst (AreDone c.args.recipe.now) (sym same) place.2.done) in
     cc
 
 pub returns-in-Ok-guest_of-clause-stands : goal.returns-in-Ok-guest_of-clause-stands
 returns-in-Ok-guest_of-clause-stands c =
     let recipe = c.args.recipe.now in
-    let fs = done_in (view c.args.parts) in
+    let fs = done_in (save_view c.args.parts) in
     let same : c.in-Ok.done.items ≡ fs = c.in-Ok.ensures ∙ twice c.args.parts.done.items in
     let stage = c.in-Some.stage.now in
     let low = c.if-state-stage.false in (

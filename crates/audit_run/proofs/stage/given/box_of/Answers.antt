@@ -4,7 +4,7 @@ use Rattle.std.specs.FinMap as fin
 use Rattle.guest_run.specs.Setting.{IsText}
 use Rattle.recipe.specs.Text.Reading.{is_word}
 use Rattle.recipe.specs.Kept as kept
-use Rattle.wheeler.specs.Contents.{box_of, with_file}
+use Rattle.wheeler.specs.Contents.{box_of, with_stage_file}
 use Rattle.wheeler.specs.Stages.{contents}
 use Rattle.wheeler.proofs.Rules.{word-is}
 use Rattle.audit_run.proofs.StageLemmas.Placing.{each-at, file-fits, stripped-same}
@@ -38,6 +38,6 @@ returns c =
     ∙ ap (λ files. record {
       args = c.args.stage.now.args;
       env = c.args.stage.now.env;
-      files = fold (with_file c.args.recipe.now (contents c.args.inputs.now c.args.done.now)) fin.empty files;
+      files = fold (with_stage_file c.args.recipe.now (contents c.args.inputs.now c.args.done.now)) fin.empty files;
       heap = c.args.stage.now.heap;
     }) (take_all c.loop-file.file-index c.args.stage.now.files (omega (arith, c.loop-file-test.false, ap length c.as_slice-file-items.ensures)))

@@ -1,7 +1,7 @@
 use Rattle.std.proofs.Common.{◌≡◌, [], take}
 use Rattle.std.specs.FinMap as finite
 use Rattle.std.specs.List.{fold}
-use Rattle.wheeler.specs.Contents.{with_file}
+use Rattle.wheeler.specs.Contents.{with_stage_file}
 use Rattle.wheeler.specs.Stages.{contents}
 use Rattle.audit_run.proofs.stage.given.box_of.Given as goal
 
@@ -15,6 +15,6 @@ abbrev pub invariant-loop-file : goal.invariant-loop-file
 invariant-loop-file l = l.given ≡ record {
   args = l.stage.args;
   env = l.stage.env;
-  files = fold (with_file l.recipe (contents l.inputs l.done)) finite.empty (take l.file-index l.stage.files);
+  files = fold (with_stage_file l.recipe (contents l.inputs l.done)) finite.empty (take l.file-index l.stage.files);
   heap = l.stage.heap;
 }

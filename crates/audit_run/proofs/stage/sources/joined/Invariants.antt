@@ -1,8 +1,8 @@
 use Rattle.std.proofs.Common.{◌≡◌, map, take}
-use Rattle.wheeler.specs.SourceCheck.Checks.{joined}
+use Rattle.wheeler.specs.SourceCheck.Checks.{joined_files}
 use Rattle.wheeler.specs.Contents.{content}
 use Rattle.wheeler.specs.Stages.{contents}
 use Rattle.audit_run.proofs.stage.sources.joined.Given as goal
 
 abbrev pub invariant-loop-index : goal.invariant-loop-index
-invariant-loop-index l = l.text ≡ joined (map (content l.recipe (contents l.inputs l.done)) (take l.index l.names))
+invariant-loop-index l = l.text ≡ joined_files (map (content l.recipe (contents l.inputs l.done)) (take l.index l.names))

@@ -3,13 +3,13 @@ use Rattle.std.proofs.lemmas.List.{append-nil, map_push}
 use Rattle.paged_mem.specs.Memory.{Memory, bytes_at}
 use Rattle.save_text.specs.StateText.StateText.{PageText}
 use Rattle.save_text.specs.StateText.Seen.{page_view}
-use Rattle.checkpoints.specs.MemoryParts.Canonical.{listed, pages_from}
+use Rattle.checkpoints.specs.MemoryParts.Canonical.{listed_page, page_texts_from}
 use Rattle.checkpoints.proofs.MemoryPartsLemmas.PagesFound.{page_more}
 use Rattle.checkpoints.proofs.memory_parts.listing.push_pages.Goals as goal
 use Rattle.checkpoints.proofs.memory_parts.listing.push_pages.Goals.{in-Some+in_ok-push, in_default}
 
 pub loop-i-init : goal.loop-i-init
-unfolding pages_from
+unfolding page_texts_from
 loop-i-init g c = sym (append-nil (map page_view c.args.found.now.items))
 
 pub loop-i-preserved : goal.loop-i-preserved
@@ -20,11 +20,11 @@ loop-i-preserved g c =
     let more = page_more m front (map page_view c.match-listed_bytes.found.items) (map page_view c.args.found.now.items) c.args.first c.loop-i.i number refl in
     elim c.match-listed_bytes.branch [
       | in-Some+in_ok-push w ↦
-          let now_is : map page_view c.match-listed_bytes.found.items ≡ front ++ listed number (bytes_at m (4096 * number) 4096) =
+          let now_is : map page_view c.match-listed_bytes.found.items ≡ front ++ listed_page number (bytes_at m (4096 * number) 4096) =
           ap (map page_view) (ap (λ v. v.items) w.found-is ∙ w.in_ok-push.ensures.items) ∙ map_push page_view c.loop-i.found.items _ ∙ ap (λ (v : List PageText). front ++ v) (sym w.in-Some.ensures) in
           more now_is c.loop-i.invariant
       | in_default w ↦
-          let now_is : map page_view c.match-listed_bytes.found.items ≡ front ++ listed number (bytes_at m (4096 * number) 4096) =
+          let now_is : map page_view c.match-listed_bytes.found.items ≡ front ++ listed_page number (bytes_at m (4096 * number) 4096) =
           ap (map page_view) (ap (λ v. v.items) w.found-is) ∙ sym (append-nil front) ∙ ap (λ (v : List PageText). front ++ v) (sym w.in_default.ensures) in
           more now_is c.loop-i.invariant
     ]

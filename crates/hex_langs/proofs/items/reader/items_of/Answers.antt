@@ -2,7 +2,7 @@ use Rattle.std.proofs.Common.{arith, ◌≡◌, ◌+◌, length, drop, get_or, N
 use Rattle.std.proofs.lemmas.List.{at_drop_all, length-drop}
 use Rattle.hex_langs.specs.Items.Tokens.{gap_length, token_at}
 use Rattle.hex_langs.specs.declared.items.token.Token.TheVariants.{Byte}
-use Rattle.hex_langs.specs.Items.Reading.{word_end, Ends, Faulted, formed, reading, with_front, halted}
+use Rattle.hex_langs.specs.Items.Reading.{word_end, NoToken, Faulted, formed, reading, with_front, halted}
 use Rattle.hex_langs.proofs.ItemsLemmas.Readings.{items_of-judged, items_of-long, judged-end, moves-fault, moves-gap, moves-token, formed-token, reading-end, reads-by, reads-fault, refuses, rest_is, takes-ok, token-digit, with_front-twice}
 use Rattle.hex_langs.proofs.items.reader.items_of.Goals as goal
 
@@ -105,7 +105,7 @@ returns-in-None c =
     let source = c.args.source.now in
     let done = at_drop_all (reading c.args.dialect c.loop-at.at 0) source c.loop-at.at (omega arith) ∙ reading-end c.args.dialect c.loop-at.at in
     let whole = c.loop-at.invariant.whole ∙ ap (λ l. with_front c.loop-at.items (formed c.loop-at.word l)) done
-    ∙ ap (λ word. with_front c.loop-at.items (formed word Ends)) c.in-None.is in
+    ∙ ap (λ word. with_front c.loop-at.items (formed word NoToken)) c.in-None.is in
     items_of-judged c.args.dialect source (omega arith) ∙ judged-end _ c.loop-at.items (word_end None) whole c.loop-at.invariant.few
 
 pub returns : goal.returns
@@ -113,5 +113,5 @@ returns c =
     let source = c.args.source.now in
     let done = at_drop_all (reading c.args.dialect c.loop-at.at 0) source c.loop-at.at (omega arith) ∙ reading-end c.args.dialect c.loop-at.at in
     let whole = c.loop-at.invariant.whole ∙ ap (λ l. with_front c.loop-at.items (formed c.loop-at.word l)) done
-    ∙ ap (λ word. with_front c.loop-at.items (formed word Ends)) c.in-Some.is in
+    ∙ ap (λ word. with_front c.loop-at.items (formed word NoToken)) c.in-Some.is in
     items_of-judged c.args.dialect source (omega arith) ∙ judged-end _ c.loop-at.items (word_end (Some c.in-Some.word)) whole c.loop-at.invariant.few

@@ -1,6 +1,6 @@
 use Rattle.std.proofs.Common.{ap, sym, subst, length, ◌≤◌, arith}
 use Rattle.save_text.proofs.ByteFieldsLemmas.Spells.{AreBytes, rest_within}
-use Rattle.save_text.specs.StateText.Seen.{view}
+use Rattle.save_text.specs.StateText.Seen.{state_view}
 use Rattle.save_text.proofs.StateTextLemmas.Texts.{spells_state}
 use Rattle.save_text.proofs.state_text.reading.all.Goals as goal
 
@@ -13,5 +13,5 @@ overflow_sub-result c =
 pub overflow_sub-result-in_default : goal.overflow_sub-result-in_default
 overflow_sub-result-in_default c =
     let fits : AreBytes c.args.text.now = λ i. omega (arith, c.type_inv.text i) in
-    let within : length c.parts_at.new.cursor ≤ length c.new-cursor.result = rest_within spells_state c.new-cursor.result (view c.in-Ok.parts) c.parts_at.new.cursor (subst AreBytes (sym c.new-cursor.ensures) fits) c.in-Ok.ensures in
+    let within : length c.parts_at.new.cursor ≤ length c.new-cursor.result = rest_within spells_state c.new-cursor.result (state_view c.in-Ok.parts) c.parts_at.new.cursor (subst AreBytes (sym c.new-cursor.ensures) fits) c.in-Ok.ensures in
     omega (arith, within, c.len.ensures, ap length c.new-cursor.ensures)
