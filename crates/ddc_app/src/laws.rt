@@ -5,8 +5,13 @@ ghost use Rattle.ddc_app.specs.Pausing.{AreWords, IsStepCount, LeavesOthers, Lea
 ghost use Rattle.ddc_app.specs.Verified.{Verified};
 ghost use Rattle.command_plan.specs.declared.status.Status.TheVariants.{Paused};
 ghost use Rattle.ddc_base.specs.Outside.{NamedFiles};
+ghost use Rattle.ddc_base.specs.Lines.{line};
+ghost use Rattle.report.specs.Lines.{line_words};
+ghost use Rattle.report.specs.declared.line.Line.TheVariants.{Left, Stream1, Stream2};
 ghost use Rattle.std.specs.FinMap as map;
 ghost use Rattle.std.specs.Prelude.{◌≡◌, ◌+◌, [], ◌∷◌, All, IsTrue, List, sum, ℕ};
+ghost use Rattle.tool_commands.specs.RunProgram.{left_line, stream_line};
+ghost use Rattle.wheeler.specs.Stages.{mark_of};
 
 use meaning::Meaning;
 use verifier::conclusion::laws::a_true_report_shows;
@@ -70,4 +75,11 @@ pub fn pauses()
         → All IsStepCount (steps ∷ counts) → HoldBytes files → IsTrue (is_compared (in_pieces recipe save report steps counts files).status)
         → (verify recipe report (in_pieces recipe save report steps counts files).files).status
         ≡ (in_pieces recipe save report steps counts files).status }
+{}
+
+/// What `run` prints of a stream or of a file that is left is the line of a report, with the mark of its content.
+pub fn lines_of_a_run()
+    ensures first { (bytes : List ℕ) → stream_line 1 bytes ≡ line (line_words (Stream1 (mark_of bytes))) }
+    ensures second { (bytes : List ℕ) → stream_line 2 bytes ≡ line (line_words (Stream2 (mark_of bytes))) }
+    ensures left { (name content : List ℕ) → left_line (name, content) ≡ line (line_words (Left (record { name = name; mark = mark_of content }))) }
 {}
