@@ -6,7 +6,8 @@ use Rattle.std.proofs.lemmas.Bool.Decides.{nat_tests}
 use Rattle.std.proofs.lemmas.List.Folds.{list_any_at}
 use Rattle.elf_load.specs.declared.Segment.{Segment}
 use Rattle.paged_mem.specs.Memory.{page_up}
-use Rattle.elf_load.specs.Segments.{first_page, page_end, segment_end, is_out_of_range, share_page, any_share, IsLow}
+use Rattle.elf_load.specs.Segments.{first_page, page_end, segment_end, is_out_of_range, share_page, any_share}
+use Rattle.elf_load.specs.Inside.Checks.{IsLow}
 
 pub page_up_low : (n : ℕ) → n ≤ 2 ^ 37 → page_up n ≤ 2 ^ 37
 page_up_low n h = omega arith

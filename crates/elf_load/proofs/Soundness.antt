@@ -12,7 +12,8 @@ use Rattle.elf_load.specs.declared.refusal.ElfRefusal.{ElfRefusal}
 use Rattle.elf_load.specs.declared.refusal.ElfRefusal.TheVariants.{NoLoad, TooMany}
 use Rattle.elf_load.specs.Fields.{e_entry, p_memsz}
 use Rattle.paged_mem.specs.Memory.{page_up}
-use Rattle.elf_load.specs.Segments.{first_page, page_end, segment_end, is_out_of_range, is_load, paged_size, segment_at, share_page, any_share, holds_address, break_after, loads_among, segments_of, IsLow, AreApart}
+use Rattle.elf_load.specs.Segments.{first_page, page_end, segment_end, is_out_of_range, is_load, paged_size, segment_at, share_page, any_share, holds_address, break_after, loads_among, segments_of, AreApart}
+use Rattle.elf_load.specs.Inside.Checks.{IsLow}
 use Rattle.elf_load.specs.Image.{first_refusal, table_rules, placing_rules, entry_rules, accepted_image, IsLoadable}
 use Rattle.elf_load.proofs.Pages.{all_low, none_at, range_of, page_up_low}
 

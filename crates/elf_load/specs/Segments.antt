@@ -74,10 +74,6 @@ holds_address address segment = nat_le segment.at address && nat_lt address (seg
 abbrev pub break_after : List Segment → ℕ
 break_after segments = page_up (fold (λ most segment. max most (segment_end segment)) 0 segments)
 
--- the segment ends at most at 2^37
-abbrev pub IsLow : Segment → Type 0
-IsLow segment = segment_end segment ≤ 2 ^ 37
-
 -- the segment's bytes stand in a file of `size` bytes, and its pages below 2^37
 pub record IsPlaced (size : ℕ) (segment : Segment) : Type 0 where
   pub is_there : 0 < segment.in_memory

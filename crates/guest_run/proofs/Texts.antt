@@ -9,7 +9,8 @@ use Rattle.std.specs.List.{flat_map}
 use Rattle.std.proofs.lemmas.Grind.{flat_map-append}
 use Rattle.std.proofs.lemmas.List.Sums.{sum_by-cons}
 use Rattle.paged_mem.specs.Memory.{bytes_of, zeros}
-use Rattle.guest_run.specs.Stack.{addresses, cost, zero_ended, gap, ended_texts, stack_bytes, stack_end, start_size}
+use Rattle.guest_run.specs.Inside.Bounds.{cost}
+use Rattle.guest_run.specs.Stack.{addresses, zero_ended, gap, ended_texts, stack_bytes, stack_end, start_size}
 
 -- the text at an index, and those after it
 pub ended_texts-on : (texts : List (List ℕ)) (i : ℕ) (d : List ℕ) → i < length texts

@@ -1,9 +1,8 @@
 -- What a program is given when it starts.
 -- docs/reference/running.md says the same for people.
-use Rattle.std.specs.Prelude.{◌≡◌, ℕ, ◌^◌, ◌≤◌, ◌==◌, Bool, ◌||◌, nat_le, nat_lt, not, if◌then◌else◌, IsTrue, Option, Some, None, List, length, All, Result, Ok, Err, sum_by, refl}
+use Rattle.std.specs.Prelude.{◌≡◌, ℕ, ◌^◌, ◌≤◌, ◌==◌, Bool, ◌||◌, nat_le, nat_lt, not, if◌then◌else◌, IsTrue, Option, Some, None, List, length, All, Result, Ok, Err, sum_by}
 use Rattle.std.specs.List.{list_any}
 use Rattle.std.specs.FinMap as map
-use Rattle.std.specs.Coded.{Coded, code_by, coded×, coded_ℕ, coded_list}
 use Rattle.mem_files.specs.declared.slot.PlaceRefusal.{PlaceRefusal}
 use Rattle.mem_files.specs.declared.slot.PlaceRefusal.TheVariants.{BadName, Twice, Full, OutOfMemory}
 use Rattle.mem_files.specs.Limits.{most_content, most_names}
@@ -14,22 +13,12 @@ use Rattle.mem_files.specs.Sound.{AreBytes}
 abbrev pub FileMap : Type 0
 FileMap = map.FinMap bytes_cmp (List ℕ)
 
-abbrev pub file_map_code : Coded FileMap
-file_map_code = map.code (coded_list coded_ℕ) (coded_list coded_ℕ)
-
 -- arguments, environment, files, and the most bytes of the heap
 pub record Setting : Type 0 where
   pub args : List (List ℕ)
   pub env : List (List ℕ)
   pub files : FileMap
   pub heap : ℕ
-
--- a setting is stored as its four parts
-abbrev pub setting_code : Coded Setting
-setting_code =
-    code_by (List (List ℕ) × (List (List ℕ) × (FileMap × ℕ)))
-    (coded× (coded_list (coded_list coded_ℕ)) (coded× (coded_list (coded_list coded_ℕ)) (coded× file_map_code coded_ℕ)))
-    (λ s. (s.args, (s.env, (s.files, s.heap)))) (λ p. record { args = p.0; env = p.1.0; files = p.1.1.0; heap = p.1.1.1 }) (λ _. refl)
 
 -- a text has no zero byte
 abbrev pub is_text : List ℕ → Bool

@@ -54,7 +54,3 @@ gap args env = texts_at args env - 8 * word_count args env - stack_pointer args 
 -- the bytes from the stack pointer to the stack's end
 unfoldable pub stack_bytes : List (List ℕ) → List (List ℕ) → List ℕ
 stack_bytes args env = flat_map (bytes_of 8) (stack_words args env) ++ zeros (gap args env) ++ ended_texts args ++ ended_texts env
-
--- what a text takes of these bytes: its own, its zero byte and its address
-abbrev pub cost : List ℕ → ℕ
-cost text = length text + 9

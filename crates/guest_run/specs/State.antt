@@ -15,12 +15,12 @@ pub record GuestState : Type 0 where
 abbrev pub guest_state : HartState → World → Heap → ℕ → GuestState
 guest_state hart world heap steps = record { hart = hart; world = world; heap = heap; steps = steps }
 
+-- how the prover stores a heap, and a state: a crate above that stores a state names it
 abbrev pub heap_code : Coded Heap
 heap_code =
     code_by (ℕ × (ℕ × ℕ)) (coded× coded_ℕ (coded× coded_ℕ coded_ℕ)) (λ h. (h.first, (h.now, h.limit)))
     (λ p. record { first = p.0; now = p.1.0; limit = p.1.1 }) (λ _. refl)
 
--- a state is stored as its four parts
 abbrev pub guest_code : Coded GuestState
 guest_code =
     code_by (HartState × (World × (Heap × ℕ))) (coded× hart.code (coded× world_code (coded× heap_code coded_ℕ)))

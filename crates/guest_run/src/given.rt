@@ -26,7 +26,8 @@ pub(crate) struct GivenFiles<'a> {
 impl<'a> Model for GivenFiles<'a> {
     ghost use Rattle.std.specs.FinMap.{from_sorted};
     ghost use Rattle.mem_files.specs.Inside.Cells.{keyed};
-    ghost use Rattle.guest_run.specs.Setting.{FileMap, file_map_code};
+    ghost use Rattle.guest_run.specs.Inside.Codes.{file_map_code};
+    ghost use Rattle.guest_run.specs.Setting.{FileMap};
     ghost use Rattle.guest_run.specs.Inside.Given.{IsGiven};
 
     ghost Value = { FileMap };

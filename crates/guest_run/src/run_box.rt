@@ -25,7 +25,8 @@ pub struct RunBox<'a> {
 }
 
 impl<'a> Model for RunBox<'a> {
-    ghost use Rattle.guest_run.specs.Setting.{IsBox, Setting, setting_code};
+    ghost use Rattle.guest_run.specs.Inside.Codes.{setting_code};
+    ghost use Rattle.guest_run.specs.Setting.{IsBox, Setting};
 
     ghost Value = { Setting };
 

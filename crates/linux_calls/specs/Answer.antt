@@ -1,12 +1,9 @@
 -- How an answer that may also be out of memory fits what is meant.
 use Rattle.std.specs.Prelude.{◌≡◌, ℕ, ◌<◌, ◌⊎◌, Result, IsOk, IsOkAnd}
-use Rattle.mem_files.specs.World.{World}
-use Rattle.paged_mem.specs.Memory.{Memory, page_up}
-use Rattle.linux_calls.specs.declared.Heap.{Heap}
+use Rattle.paged_mem.specs.Memory.{page_up}
 use Rattle.linux_calls.specs.declared.CallEnd.{CallEnd}
 use Rattle.linux_calls.specs.declared.CallEnd.TheVariants.{Back, Exit, Unknown, OutOfMemory}
 use Rattle.linux_calls.specs.Linux.{sys_openat, sys_read, sys_write, sys_brk}
-use Rattle.linux_calls.specs.HeapOf.{break_heap, break_memory}
 use Rattle.linux_calls.specs.Calls.{CallState, CallOutcome, goes, exits, is_unknown, answer_of}
 
 -- the calls that take memory of the host: one that opens a file, one that moves bytes, one that gives the heap pages
@@ -25,15 +22,3 @@ IsAnswer number old new (goes answer next) OutOfMemory = TakesMemory number old 
 IsAnswer number old new (exits status) (Exit code) = (code ≡ status) × (new ≡ old)
 IsAnswer number old new (is_unknown n) (Unknown m) = (m ≡ n) × (new ≡ old)
 IsAnswer number old new meant end = ⊥
-
--- the same for a call on the files alone
-abbrev pub IsFilesAnswer : World → World → Result ℕ ℕ × World → CallEnd → Type 0
-IsFilesAnswer old new meant (Back value) = (value ≡ answer_of meant.0) × (new ≡ meant.1)
-IsFilesAnswer old new meant OutOfMemory = IsOk meant.0 × (new ≡ old)
-IsFilesAnswer old new meant end = ⊥
-
--- the same for brk, on the memory and the heap alone
-abbrev pub IsBreakAnswer : Memory → Heap → ℕ → Memory → Heap → CallEnd → Type 0
-IsBreakAnswer m heap to m' heap' (Back value) = (value ≡ (break_heap heap to).now) × (m' ≡ break_memory m heap to) × (heap' ≡ break_heap heap to)
-IsBreakAnswer m heap to m' heap' OutOfMemory = (page_up heap.now < page_up (break_heap heap to).now) × (m' ≡ m) × (heap' ≡ heap)
-IsBreakAnswer m heap to m' heap' end = ⊥

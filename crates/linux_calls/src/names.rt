@@ -3,7 +3,7 @@
 ghost use Rattle.std.specs.Prelude.{◌≡◌};
 ghost use Rattle.linux_calls.specs.Paths.{name_in_directory, name_at};
 ghost use Rattle.linux_calls.specs.Calls.{answer_of, unlinked, accessed, mode_changed, opened_as};
-ghost use Rattle.linux_calls.specs.Answer.{IsFilesAnswer};
+ghost use Rattle.linux_calls.specs.Inside.Parts.{IsFilesAnswer};
 
 use crate::CallEnd;
 use crate::path::{check_directory, low, read_path, read_path_in};

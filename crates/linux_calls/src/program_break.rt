@@ -3,7 +3,7 @@
 ghost use Rattle.std.specs.Prelude.{◌≡◌, ◌≤◌, ◌<◌, ◌+◌, ◌-◌, ◌%◌, ◌^◌, true, OnOk, OnErr};
 ghost use Rattle.paged_mem.specs.Memory.{IsFree, maps, page_up};
 ghost use Rattle.linux_calls.specs.HeapOf.{IsHeapOf, resized};
-ghost use Rattle.linux_calls.specs.Answer.{IsBreakAnswer};
+ghost use Rattle.linux_calls.specs.Inside.Parts.{IsBreakAnswer};
 
 use crate::{CallEnd, Heap};
 use ddc_base::OutOfMemory;

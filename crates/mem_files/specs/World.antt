@@ -49,7 +49,7 @@ first_gap n (key ∷ keys) = if key == n then first_gap (n + 1) keys else n
 abbrev pub lowest_unused : {X : Type 0} → map.FinMap nat_cmp X → ℕ
 lowest_unused m = first_gap 0 (map.keys m)
 
--- a world is stored as its parts
+-- how the prover stores a world, as its parts: a crate above that stores one names it
 abbrev pub world_code : Coded World
 world_code =
     code_by (map.FinMap bytes_cmp ℕ × (map.FinMap nat_cmp (List ℕ) × (map.FinMap nat_cmp Slot × (List ℕ × List ℕ))))

@@ -1,5 +1,6 @@
--- That the memory of sound pages is whole, as the values of both memories show, with the lemmas that this rests on. But for
--- `PagedMemory`, which contracts see of a `PagedRam`, no promise rests on its being read.
+-- `PagedMemory` is what contracts see of a `PagedRam`: a memory, the proof that it is whole, and the pages that are held. The lemmas and
+-- codes here serve that proof, which the two models carry; they stand in specs/, since a model may not name proofs/. No promise rests on
+-- their being read.
 use Rattle.std.proofs.Common.{◌≡◌, ◌≢◌, ℕ, suc, ◌+◌, ◌-◌, ◌*◌, ◌/◌, ◌%◌, ◌<◌, ◌≤◌, cond, Option, None, Some, is_some, List, [], ◌∷◌, length, get_or, take, drop, refl, sym, ap, ◌∙◌, arith, ◌⊎◌, inl, inr, length-drop, length-take}
 use Rattle.std.proofs.Props.{props}
 use Rattle.std.specs.Option.{option_map}

@@ -1,5 +1,5 @@
--- A heap's numbers in their bounds, whatever memory it stands in.
-use Rattle.std.specs.Prelude.{◌≡◌, ◌+◌, ◌-◌, ◌%◌, ◌^◌, ◌≤◌}
+-- A heap's numbers in their bounds, whatever memory it stands in, and what a text takes of the stack.
+use Rattle.std.specs.Prelude.{◌≡◌, ℕ, ◌+◌, ◌-◌, ◌%◌, ◌^◌, ◌≤◌, List, length}
 use Rattle.linux_calls.specs.declared.Heap.{Heap}
 
 pub record HasBounds (heap : Heap) : Type 0 where
@@ -8,3 +8,7 @@ pub record HasBounds (heap : Heap) : Type 0 where
   pub from : heap.first ≤ heap.now
   pub to : heap.now ≤ heap.first + heap.limit
   pub low : heap.first + heap.limit ≤ 2 ^ 38 - 8388608
+
+-- what a text takes of a program's stack: its bytes, its zero byte and its address
+abbrev pub cost : List ℕ → ℕ
+cost text = length text + 9

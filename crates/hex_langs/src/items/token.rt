@@ -151,10 +151,8 @@ pub(crate) fn pair_at(digit: u8, rest: &[u8]) -> Result<(u8, usize), Fault>
 fn byte_token<'s>(pair: Result<(u8, usize), Fault>) -> Result<(Token<'s>, usize), Fault>
     ensures { IsPair pair result }
 {
-    match pair {
-        Ok((value, more)) => Ok((Token::Byte(value), more)),
-        Err(fault) => Err(fault),
-    }
+    let (value, more) = pair?;
+    Ok((Token::Byte(value), more))
 }
 
 /// The byte of the digits at a place and after it.

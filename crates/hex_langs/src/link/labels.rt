@@ -149,10 +149,7 @@ fn sees_again<'s>(seen: &mut BTreeSet<Name<'s>>, item: &Item<'s>) -> Result<bool
     ensures { Sees result item.now seen.old seen.new }
 {
     match item {
-        Item::Label(name) => match seen.insert(Name::new(name.bytes())) {
-            Ok(is_new) => Ok(!is_new),
-            Err(_) => Err(OutOfMemory),
-        },
+        Item::Label(name) => Ok(!seen.insert(Name::new(name.bytes()))?),
         _ => Ok(false),
     }
 }

@@ -7,7 +7,7 @@ ghost use Rattle.hex_langs.specs.Link.Values.{value_of, linked};
 use crate::hex0;
 use crate::items::{HexRefusal, Items, items1, items2};
 use crate::link::joining::link;
-use ddc_base::{Bytes, OutOfMemory};
+use ddc_base::Bytes;
 use std::alloc::Global;
 
 /// A language in which a source stands for bytes.
@@ -31,10 +31,7 @@ pub fn value(
     ensures { Links result (value_of language base source.now) }
 {
     match language {
-        HexLanguage::Hex0 => match hex0(alloc, source) {
-            Ok(bytes) => Ok(bytes),
-            Err(OutOfMemory) => Err(HexRefusal::OutOfMemory),
-        },
+        HexLanguage::Hex0 => Ok(hex0(alloc, source)?),
         HexLanguage::Hex1 => linked(alloc, base, items1(alloc, source)),
         HexLanguage::Hex2 => linked(alloc, base, items2(alloc, source)),
     }
@@ -49,8 +46,5 @@ fn linked(
     requires { base ≤ 2 ^ 37 }
     ensures { Links result (linked base items.entry) }
 {
-    match items {
-        Ok(items) => link(alloc, &items, base),
-        Err(refusal) => Err(refusal),
-    }
+    link(alloc, &items?, base)
 }

@@ -5,7 +5,6 @@ use Rattle.std.specs.Option.{option_map}
 use Rattle.ddc_base.specs.Difference.{first_difference}
 use Rattle.ddc_base.specs.declared.languages.Language.{Language}
 use Rattle.ddc_base.specs.declared.languages.Language.TheVariants.{Hex0, Hex1, Hex2, M1}
-use Rattle.hex_langs.specs.Hex0.{hex0_of}
 use Rattle.hex_langs.specs.declared.items.item.Item.{Item}
 use Rattle.hex_langs.specs.declared.items.item.Item.TheVariants as item
 use Rattle.hex_langs.specs.declared.items.item.Kind.{Kind}
@@ -13,7 +12,8 @@ use Rattle.hex_langs.specs.declared.items.item.Kind.TheVariants.{I, B, J, U}
 use Rattle.hex_langs.specs.declared.items.reader.HexRefusal.{HexRefusal}
 use Rattle.hex_langs.specs.declared.items.token.Dialect.TheVariants as dialect
 use Rattle.hex_langs.specs.Items.Reading.{items_of}
-use Rattle.hex_langs.specs.Link.Values.{linked}
+use Rattle.hex_langs.specs.declared.link.values.HexLanguage.TheVariants as hex
+use Rattle.hex_langs.specs.Link.Values.{value_of as bytes_in}
 use Rattle.m1_lang.specs.declared.refusal.M1Refusal.{M1Refusal}
 use Rattle.m1_lang.specs.Expansion.{expansion_of}
 use Rattle.wheeler.specs.declared.source_check.cause.CheckCause.{CheckCause}
@@ -39,9 +39,9 @@ m1_value (Err why) = Err (cause.M1 (cause_of_m1 why))
 
 -- the value of a source in a language at a base, or the language's refusal; hex0 and M1 know no base
 abbrev pub source_value_of : Language → ℕ → List ℕ → Result SourceValue CheckCause
-source_value_of Hex0 base source = Ok (ValueBytes (hex0_of source))
-source_value_of Hex1 base source = hex_value (linked base (items_of dialect.Hex1 source))
-source_value_of Hex2 base source = hex_value (linked base (items_of dialect.Hex2 source))
+source_value_of Hex0 base source = hex_value (bytes_in hex.Hex0 base source)
+source_value_of Hex1 base source = hex_value (bytes_in hex.Hex1 base source)
+source_value_of Hex2 base source = hex_value (bytes_in hex.Hex2 base source)
 source_value_of M1 base source = m1_value (expansion_of source)
 
 -- whether two items are the same

@@ -1,6 +1,6 @@
 use Rattle.std.proofs.Common.{◌∙◌, ap}
 use Rattle.std.specs.Prelude.{nat_le, sum_by}
-use Rattle.guest_run.specs.Stack.{cost}
+use Rattle.guest_run.specs.Inside.Bounds.{cost}
 use Rattle.guest_run.proofs.Texts.{fits-first, fits-second, some_le}
 use Rattle.guest_run.proofs.stack.fits.Goals as goal
 

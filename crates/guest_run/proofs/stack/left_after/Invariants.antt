@@ -1,5 +1,5 @@
 use Rattle.std.proofs.Common.{◌≡◌, ◌+◌, drop, sum_by}
-use Rattle.guest_run.specs.Stack.{cost}
+use Rattle.guest_run.specs.Inside.Bounds.{cost}
 use Rattle.guest_run.proofs.stack.left_after.Given as goal
 
 abbrev pub invariant-loop-text : goal.invariant-loop-text
