@@ -4,9 +4,9 @@ use Rattle.std.specs.Prelude.{ℕ, ◌+◌, Bool, ◌&&◌, Result, List, [], �
 use Rattle.recipe.specs.declared.contents.Said.{Said}
 use Rattle.wheeler.specs.Positions.{Position, Standing, On, Over, forward, position}
 use Rattle.save_text.specs.Spelled.{text_of_save}
+use Rattle.audit_run.specs.Save.Judged.{judged}
 use Rattle.audit_run.specs.Save.Saves.{save_of}
 use Rattle.audit_run.specs.declared.save.reading.SaveRefusal.{SaveRefusal}
-use Rattle.audit_run.proofs.SaveLemmas.Answered.{answered}
 use Rattle.command_plan.specs.declared.status.Status.TheVariants.{Paused, SaveRefused}
 use Rattle.command_plan.specs.Words.{are_two_files, as_steps, or_usage, usage}
 use Rattle.command_plan.specs.Plan.{Plan, answers, needs, sets, unless_refused}
@@ -42,7 +42,7 @@ part_files recipe save report steps =
 
 -- what a text is as a save of a recipe and its inputs: the one result that the rules of saves allow, which is never want of memory
 unfoldable pub read_as : Said → List (List ℕ) → List ℕ → Result Position SaveRefusal
-read_as recipe inputs text = (answered recipe inputs text).result
+read_as recipe inputs text = judged recipe inputs text
 
 -- the position that a save says, reached or not; or the save is refused
 abbrev pub needs_position : Said → List (List ℕ) → List ℕ → (Position → Plan) → Plan

@@ -1,2 +1,3 @@
 pub mod Saves
+pub mod Judged
 pub mod Inside

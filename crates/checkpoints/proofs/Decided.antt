@@ -1,9 +1,10 @@
--- What makes a text's parts a state is decided.
-use Rattle.std.proofs.Common.{◌≡◌, ℕ, ◌+◌, ◌-◌, ◌*◌, ◌%◌, ◌^◌, Bool, true, false, None, List, [], ◌∷◌, length, map, sum_by, subst, arith}
+-- What makes a text's parts a state is decided by tests.
+use Rattle.std.proofs.Common.{◌≡◌, ℕ, ◌+◌, ◌-◌, ◌*◌, ◌%◌, ◌^◌, Bool, true, false, not, None, List, [], ◌∷◌, length, map, sum_by, refl, subst, arith}
+use Rattle.std.specs.Bool.{Decides}
 use Rattle.std.specs.FinMap.{get}
 use Rattle.std.specs.List.{IsDistinct}
-use Rattle.std.proofs.Math.Decide.{map_dec, dec_le, dec_lt, ℕ_discrete}
 use Rattle.std.specs.Ordering.{eq_by_cmp}
+use Rattle.std.proofs.lemmas.Bool.Decides.{Decides-below_and, Decides-eqb, Decides-like, Decides-ltb, Decides-not}
 use Rattle.std.proofs.lemmas.List.Elements.{All-from_recursion, recursion_from_All}
 use Rattle.paged_mem.specs.Memory.{Memory, IsFree, maps, page_up}
 use Rattle.mem_files.specs.declared.slot.Slot.{Slot}
@@ -17,79 +18,97 @@ use Rattle.linux_calls.specs.declared.Heap.{Heap}
 use Rattle.linux_calls.specs.HeapOf.{IsHeapOf}
 use Rattle.guest_run.specs.Stack.{stack_end, stack_size}
 use Rattle.guest_run.specs.Valid.{Fits, pages_beside}
+use Rattle.save_text.specs.declared.state_text.parts.Run.{Run}
 use Rattle.save_text.specs.StateText.StateText.{StateText}
-use Rattle.checkpoints.specs.Checkpoint.{IsInMemory, IsInRange, IsJoined, lists_in, mapped_of, memory_of}
-use Rattle.checkpoints.proofs.Decisions.{both, is_all, is_below, is_none, is_test}
+use Rattle.checkpoints.specs.Checkpoint.{AreMappable, IsInMemory, IsInRange, IsJoined, lists_in, mapped_of, memory_of}
+use Rattle.checkpoints.specs.FileParts.Inside.Judged.{is_slot_at}
+use Rattle.checkpoints.specs.Inside.Tests as test
+use Rattle.checkpoints.proofs.Decisions.{are_all, both, has_none, is_at_most, is_test}
 
 -- files
 
-pub are_bytes : (bytes : List ℕ) → Dec (AreBytes bytes)
-are_bytes bytes = is_all bytes (λ byte. dec_lt byte 256)
+pub are_bytes : (bytes : List ℕ) → Decides (test.are_bytes bytes) (AreBytes bytes)
+are_bytes bytes = are_all (λ byte. Decides-ltb byte 256) bytes
 
-pub is_content : (content : List ℕ) → Dec (IsContent content)
-is_content content = map_dec (λ h. assumption) (λ h. assumption) (both (are_bytes content) (dec_le (length content) most_content))
+pub is_content : (content : List ℕ) → Decides (test.is_content content) (IsContent content)
+is_content content = Decides-like _ (λ h. assumption) (λ h. assumption) (both (are_bytes content) (is_at_most (length content) most_content))
 
-is_slot_at : (fd : ℕ) (slot : Slot) → Dec (IsSlotAt fd slot)
-is_slot_at fd Input = ℕ_discrete fd 0
-is_slot_at fd Stream1 = ℕ_discrete fd 1
-is_slot_at fd Stream2 = ℕ_discrete fd 2
-is_slot_at fd (File number cursor access) = dec_lt cursor (2 ^ 63)
+slot_at : (fd : ℕ) (slot : Slot) → Decides (is_slot_at fd slot) (IsSlotAt fd slot)
+slot_at fd Input = Decides-eqb fd 0
+slot_at fd Stream1 = Decides-eqb fd 1
+slot_at fd Stream2 = Decides-eqb fd 2
+slot_at fd (File number cursor access) = Decides-ltb cursor (2 ^ 63)
 
-are_distinct : {A : Type 0} (same : A → A → Bool) (xs : List A) → Dec (IsDistinct same xs)
+is_false : (b : Bool) → Decides (not b) (b ≡ false)
+is_false true = (λ t. cc, λ e. cc)
+is_false false = (λ t. refl, λ e. refl)
+
+are_distinct : {A : Type 0} (same : A → A → Bool) (xs : List A) → Decides (test.are_distinct same xs) (IsDistinct same xs)
 unfolding IsDistinct
-are_distinct same [] = yes tt
+are_distinct same [] = (λ t. tt, λ h. refl)
 are_distinct same (x ∷ xs) =
-    both (map_dec (recursion_from_All (λ y. same x y ≡ false) xs) (All-from_recursion (λ y. same x y ≡ false) xs) (is_all xs (λ y. is_test (same x y) false)))
+    both (Decides-like _ (recursion_from_All (λ y. same x y ≡ false) xs) (All-from_recursion (λ y. same x y ≡ false) xs) (are_all (λ y. is_false (same x y)) xs))
     (are_distinct same xs)
 
-are_in_range : (lists : FileLists) → Dec (AreInRange lists)
+are_in_range : (lists : FileLists) → Decides (test.are_files_in_range lists) (AreInRange lists)
+unfolding test.are_files_in_range
 are_in_range lists =
-    map_dec (λ h. assumption) (λ h. assumption)
-    (both (dec_le (length (named lists.files)) most_names)
-    (both (is_all (named lists.files) (λ e. both (is_test (is_stripped_name e.0) true) (are_bytes e.0)))
+    Decides-like _ (λ h. assumption) (λ h. assumption)
+    (both (is_at_most (length (named lists.files)) most_names)
+    (both (are_all (λ e. both (is_test (is_stripped_name e.0)) (are_bytes e.0)) (named lists.files))
     (both (are_distinct (eq_by_cmp bytes_cmp) (map (λ e. e.0) (named lists.files)))
-    (both (is_all lists.files (λ file. dec_lt file.number 5120))
-    (both (is_all lists.files (λ file. is_content file.content))
-    (both (is_all lists.streams is_content)
-    (both (dec_le (sum_by length lists.streams + sum_by (λ file. length file.content) lists.files) most_total)
-    (both (is_all lists.slots (λ e. dec_lt e.0 most_descriptors)) (is_all lists.slots (λ e. is_slot_at e.0 e.1))))))))))
+    (both (are_all (λ file. Decides-ltb file.number 5120) lists.files)
+    (both (are_all (λ file. is_content file.content) lists.files)
+    (both (are_all is_content lists.streams)
+    (both (is_at_most (sum_by length lists.streams + sum_by (λ file. length file.content) lists.files) most_total)
+    (both (are_all (λ e. Decides-ltb e.0 most_descriptors) lists.slots) (are_all (λ e. slot_at e.0 e.1) lists.slots)))))))))
 
 -- memory
 
-is_free : (m : Memory) (at count : ℕ) → Dec (IsFree m at count)
+is_free : (m : Memory) (at count : ℕ) → Decides (test.is_free m at count) (IsFree m at count)
 is_free m at count =
-    map_dec (λ h address from to. subst (λ q. get m q ≡ None) (omega arith) (h (address - at) (omega arith))) (λ h k less. h (at + k) (omega arith) (omega arith))
-    (is_below count (λ k. is_none (get m (at + k))))
+    Decides-like _ (λ h address from to. subst (λ q. get m q ≡ None) (omega arith) (h (address - at) (omega arith))) (λ h k less. h (at + k) (omega arith) (omega arith))
+    (Decides-below_and _ (λ k. get m (at + k) ≡ None) (test.is_free m at) (λ k. has_none (get m (at + k))) refl (λ n. refl) count)
 
-is_heap_of : (m : Memory) (heap : Heap) → Dec (IsHeapOf m heap)
+is_heap_of : (m : Memory) (heap : Heap) → Decides (test.is_heap_of m heap) (IsHeapOf m heap)
+unfolding test.is_heap_of
 is_heap_of m heap =
-    map_dec (λ h. assumption) (λ h. assumption)
-    (both (ℕ_discrete (heap.first % 4096) 0)
-    (both (dec_le heap.limit (2 ^ 30))
-    (both (dec_le heap.first heap.now)
-    (both (dec_le heap.now (heap.first + heap.limit))
-    (both (dec_le (heap.first + heap.limit) (2 ^ 38 - 8388608))
-    (both (is_test (maps m heap.first (page_up heap.now - heap.first)) true) (is_free m (page_up heap.now) (page_up (heap.first + heap.limit) - page_up heap.now))))))))
+    Decides-like _ (λ h. assumption) (λ h. assumption)
+    (both (Decides-eqb (heap.first % 4096) 0)
+    (both (is_at_most heap.limit (2 ^ 30))
+    (both (is_at_most heap.first heap.now)
+    (both (is_at_most heap.now (heap.first + heap.limit))
+    (both (is_at_most (heap.first + heap.limit) (2 ^ 38 - 8388608))
+    (both (is_test (maps m heap.first (page_up heap.now - heap.first))) (is_free m (page_up heap.now) (page_up (heap.first + heap.limit) - page_up heap.now))))))))
 
-fits : (m : Memory) (heap : Heap) → Dec (Fits m heap)
+fits : (m : Memory) (heap : Heap) → Decides (test.is_fit m heap) (Fits m heap)
+unfolding test.is_fit
 fits m heap =
-    map_dec (λ h. assumption) (λ h. assumption)
-    (both (is_heap_of m heap) (both (is_test (maps m (stack_end - stack_size) stack_size) true) (dec_le (pages_beside m heap) 67584)))
+    Decides-like _ (λ h. assumption) (λ h. assumption)
+    (both (is_heap_of m heap) (both (is_test (maps m (stack_end - stack_size) stack_size)) (is_at_most (pages_beside m heap) 67584)))
 
-is_in_memory : (s : StateText) → Dec (IsInMemory s)
+are_mappable : (runs : List Run) → Decides (test.are_mappable runs) (AreMappable runs)
+unfolding test.are_mappable
+are_mappable runs =
+    Decides-like _ (λ h. assumption) (λ h. assumption)
+    (both (are_all (λ run. is_at_most (run.first + run.pages) (2 ^ 26)) runs) (is_at_most (sum_by (λ run. run.pages) runs) 329_728))
+
+is_in_memory : (s : StateText) → Decides (test.is_in_memory s) (IsInMemory s)
+unfolding test.is_in_memory
 is_in_memory s =
-    map_dec (λ h. assumption) (λ h. assumption)
-    (both (is_all s.runs (λ run. dec_le (run.first + run.pages) (2 ^ 26)))
-    (both (dec_le (sum_by (λ run. run.pages) s.runs) 329_728) (is_all s.pages (λ page. is_test (maps (mapped_of s) (4096 * page.number) 4096) true))))
+    Decides-like _ (λ h. assumption) (λ h. assumption)
+    (both (are_mappable s.runs) (are_all (λ page. is_test (maps (mapped_of s) (4096 * page.number) 4096)) s.pages))
 
 -- states
 
-pub is_in_range : (s : StateText) → Dec (IsInRange s)
+pub is_in_range : (s : StateText) → Decides (test.is_in_range s) (IsInRange s)
+unfolding test.is_in_range
 is_in_range s =
-    map_dec (λ h. assumption) (λ h. assumption)
-    (both (ℕ_discrete (s.pc % 4) 0) (both (is_in_memory s) (both (fits (memory_of s) s.heap) (are_in_range (lists_in s)))))
+    Decides-like _ (λ h. assumption) (λ h. assumption)
+    (both (Decides-eqb (s.pc % 4) 0) (both (is_in_memory s) (both (fits (memory_of s) s.heap) (are_in_range (lists_in s)))))
 
-pub is_joined : (s : StateText) → Dec (IsJoined s)
+pub is_joined : (s : StateText) → Decides (test.is_joined s) (IsJoined s)
+unfolding test.is_joined
 is_joined s =
-    map_dec (λ h. assumption) (λ h. assumption)
-    (both (is_all s.descriptors (λ e. is_test (is_listed s.files e.1) true)) (is_all s.files (λ file. is_test (is_used s.descriptors file) true)))
+    Decides-like _ (λ h. assumption) (λ h. assumption)
+    (both (are_all (λ e. is_test (is_listed s.files e.1)) s.descriptors) (are_all (λ file. is_test (is_used s.descriptors file)) s.files))

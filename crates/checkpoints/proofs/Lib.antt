@@ -12,3 +12,4 @@ pub mod TextLengths
 pub mod Turns
 pub mod FilePartsLemmas
 pub mod MemoryPartsLemmas
+pub mod Refused

@@ -5,8 +5,8 @@ use Rattle.std.specs.FinMap as finite
 use Rattle.std.proofs.lemmas.List.Elements.{All-from_recursion, All-head, All-tail}
 use Rattle.save_text.specs.ByteFields.Spelling.{InTurn}
 use Rattle.paged_mem.specs.Memory.{IsWhole, Memory, bytes_at, maps, prepended}
-use Rattle.checkpoints.specs.MemoryParts.Canonical.{AreShown, ArePlaced, with_pages, filled_on}
-use Rattle.checkpoints.proofs.MemoryPartsLemmas.Filling.{any_order}
+use Rattle.checkpoints.specs.MemoryParts.Canonical.{AreShown, ArePlaced, with_pages}
+use Rattle.checkpoints.proofs.MemoryPartsLemmas.Filling.{any_order, filled_on}
 use Rattle.save_text.specs.declared.state_text.parts.Page.{Page}
 use Rattle.save_text.specs.declared.state_text.parts.Run.{Run}
 use Rattle.save_text.specs.StateText.StateText.{PageText, StateText, after_page, after_run}

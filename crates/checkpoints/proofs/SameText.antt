@@ -15,9 +15,9 @@ use Rattle.paged_mem.proofs.Wholes.{same_after_write, whole-mapped}
 use Rattle.mem_files.specs.declared.slot.Slot.{Slot}
 use Rattle.mem_files.specs.Lists.{AreOrdered, ListedFile, lists_of, world_of}
 use Rattle.checkpoints.proofs.FilePartsLemmas.SameLists.{same_lists}
-use Rattle.checkpoints.specs.MemoryParts.Canonical.{ArePlaced, AreShown, with_pages, in_runs, mapped_runs, pages_of, runs_from, runs_of}
+use Rattle.checkpoints.specs.MemoryParts.Canonical.{ArePlaced, AreShown, with_pages, mapped_runs, pages_of, runs_from, runs_of}
 use Rattle.checkpoints.proofs.MemoryPartsLemmas.PagesAgain.{IsZeroed, pages_again}
-use Rattle.checkpoints.proofs.MemoryPartsLemmas.RunsAgain.{get-mapped_runs, same_runs_again}
+use Rattle.checkpoints.proofs.MemoryPartsLemmas.RunsAgain.{get-mapped_runs, in_runs, same_runs_again}
 use Rattle.save_text.specs.declared.state_text.parts.Run.{Run}
 use Rattle.save_text.specs.StateText.StateText.{PageText, StateText, after_page, after_run}
 use Rattle.save_text.specs.StateText.Spelled.{IsDescriptor, IsFile, IsPage, IsStateText}
@@ -30,16 +30,17 @@ use Rattle.guest_run.specs.Valid.{Fits}
 
 -- ---- memory
 
-filled_alike : (m : Memory) (pages : List PageText) (least : ℕ) → InTurn IsPage after_page least pages → All (IsMappedIn m) pages → Alike (with_pages m pages) m
+pub filled_alike : (Fits : ℕ → PageText → Type 0) → ((least : ℕ) (page : PageText) → Fits least page → length page.bytes ≡ 4096) → (m : Memory) (pages : List PageText) (least : ℕ)
+    → InTurn Fits after_page least pages → All (IsMappedIn m) pages → Alike (with_pages m pages) m
 unfolding with_pages
-filled_alike m [] least turn mapped q = refl
-filled_alike m (page ∷ pages) least turn mapped q =
-    let rest = filled_alike m pages (after_page page) turn.1 (All-tail (IsMappedIn m) page pages mapped) in
+filled_alike Fits full m [] least turn mapped q = refl
+filled_alike Fits full m (page ∷ pages) least turn mapped q =
+    let rest = filled_alike Fits full m pages (after_page page) turn.1 (All-tail (IsMappedIn m) page pages mapped) in
     let here : maps (with_pages m pages) (4096 * page.number) (length page.bytes) ≡ true =
-    ap (maps (with_pages m pages) (4096 * page.number)) turn.0.full ∙ maps-alike (with_pages m pages) m rest (4096 * page.number) 4096 ∙ All-head (IsMappedIn m) page pages mapped in
+    ap (maps (with_pages m pages) (4096 * page.number)) (full least page turn.0) ∙ maps-alike (with_pages m pages) m rest (4096 * page.number) 4096 ∙ All-head (IsMappedIn m) page pages mapped in
     same_after_write (with_pages m pages) (4096 * page.number) page.bytes here q ∙ rest q
 
-runs_same : (m n : Memory) → Alike m n → runs_of m ≡ runs_of n
+pub runs_same : (m n : Memory) → Alike m n → runs_of m ≡ runs_of n
 runs_same m n same = ap (λ (mapped : ℕ → Bool). runs_from mapped 0 (2 ^ 26)) (λ i page. same (4096 * page) i)
 
 -- ---- files
@@ -100,14 +101,14 @@ whole_runs m (run ∷ runs) least whole turn =
 -- the runs are those of the memory that the text says
 said_runs : (s : StateText) → IsStateText s → All EndsWithin s.runs → All (IsMappedIn (mapped_of s)) s.pages → runs_of (memory_of s) ≡ s.runs
 said_runs s text within listed =
-    runs_same (memory_of s) (mapped_of s) (filled_alike (mapped_of s) s.pages 0 text.pages.1 listed) ∙ same_runs_again s.runs (placed s.runs 0 text.runs.1 within)
+    runs_same (memory_of s) (mapped_of s) (filled_alike IsPage (λ least page is. is.full) (mapped_of s) s.pages 0 text.pages.1 listed) ∙ same_runs_again s.runs (placed s.runs 0 text.runs.1 within)
 
 pub same_text : (s : StateText) → IsStateText s → IsInRange s → state_of (guest_of s) ≡ s
 unfolding state_of guest_of
 same_text s text range =
-    let turn = placed s.runs 0 text.runs.1 range.memory.within in
+    let turn = placed s.runs 0 text.runs.1 range.memory.runs.within in
     let whole = whole_runs finite.empty s.runs 0 no_memory turn in
-    let runs : runs_of (memory_of s) ≡ s.runs = said_runs s text range.memory.within range.memory.listed in
+    let runs : runs_of (memory_of s) ≡ s.runs = said_runs s text range.memory.runs.within range.memory.listed in
     let pages : pages_of (memory_of s) ≡ s.pages = same_pages_again s.runs s.pages (shown (mapped_of s) s.pages 0 whole text.pages.1 range.memory.listed) in
     let files : lists_of (world_of (lists_in s)) ≡ lists_in s = same_lists (lists_in s) (ordered s text) range.files in
     λ i. record {

@@ -86,8 +86,7 @@ in_range g valid =
     record {
       aligned = valid.hart.aligned;
       memory = record {
-        within = ends_within 0 (runs_of m) (runs_placed m);
-        few = few_pages m g.heap valid.fits;
+        runs = record { within = ends_within 0 (runs_of m) (runs_placed m); few = few_pages m g.heap valid.fits };
         listed = listed_in m (mapped_runs finite.empty (runs_of m)) (pages_of m) (λ page mapped. maps-alike (mapped_runs finite.empty (runs_of m)) m (runs_alike m whole) _ _ ∙ mapped) (pages_mapped m);
       };
       fits = subst (λ (n : Memory). Fits n g.heap) (sym (said_memory m whole)) valid.fits;

@@ -6,14 +6,12 @@ use Rattle.mem_files.specs.Lists.{AreInRange, AreJoined, FileLists, lists_of, wo
 use Rattle.guest_run.specs.State.{GuestState}
 use Rattle.guest_run.specs.Valid.{Fits}
 use Rattle.checkpoints.specs.MemoryParts.Canonical.{with_pages, mapped_runs, pages_of, runs_of}
+use Rattle.save_text.specs.declared.state_text.parts.Run.{Run}
 use Rattle.save_text.specs.StateText.StateText.{StateText, parsed_state}
-use Rattle.mem_files.specs.World.{World}
 use Rattle.checkpoints.specs.declared.file_parts.restoring.RestoreRefusal.{RestoreRefusal}
 use Rattle.checkpoints.specs.declared.file_parts.restoring.RestoreRefusal.TheVariants as restored
 use Rattle.checkpoints.specs.declared.reading.StateRefusal.{StateRefusal}
 use Rattle.checkpoints.specs.declared.reading.StateRefusal.TheVariants as state
-use Rattle.checkpoints.specs.declared.memory.MemoryRefusal.{MemoryRefusal}
-use Rattle.checkpoints.specs.declared.memory.MemoryRefusal.TheVariants as memory
 
 -- what a guest's state says: its runs of mapped pages, its pages that are not all zeros, and its files and descriptors, in their order; x0 is not said
 unfoldable pub state_of : GuestState → StateText
@@ -50,16 +48,15 @@ guest_of s = record {
   steps = s.steps;
 }
 
--- what runs and pages say is a memory: runs end in it and have no more pages than a guest can have, 67,584 beside its heap and 262,144 of its
--- heap, and each listed page is in one of them
-pub record IsInMemory (s : StateText) : Type 0 where
-  pub within : All (λ run. run.first + run.pages ≤ 2 ^ 26) s.runs
-  pub few : sum_by (λ run. run.pages) s.runs ≤ 329_728
-  pub listed : All (λ page. IsTrue (maps (mapped_of s) (4096 * page.number) 4096)) s.pages
+-- what runs can be mapped: they end in memory, and have no more pages than a guest can have, 67,584 beside its heap and 262,144 of its heap
+pub record AreMappable (runs : List Run) : Type 0 where
+  pub within : All (λ run. run.first + run.pages ≤ 2 ^ 26) runs
+  pub few : sum_by (λ run. run.pages) runs ≤ 329_728
 
-abbrev pub RefusesMemory : StateText → MemoryRefusal → Type 0
-RefusesMemory s memory.Range = ¬ (IsInMemory s)
-RefusesMemory s memory.OutOfMemory = Unit {0}
+-- what runs and pages say is a memory: the runs can be mapped, and each listed page is in one of them
+pub record IsInMemory (s : StateText) : Type 0 where
+  pub runs : AreMappable s.runs
+  pub listed : All (λ page. IsTrue (maps (mapped_of s) (4096 * page.number) 4096)) s.pages
 
 -- what counts and ranges say: the pc is that of an instruction, runs and pages are a memory, which fits the heap, and files, descriptors and
 -- streams are in their limits
@@ -73,19 +70,13 @@ pub record IsInRange (s : StateText) : Type 0 where
 abbrev pub IsJoined : StateText → Type 0
 IsJoined s = AreJoined (lists_in s)
 
--- what becomes of the files that a text says; want of memory says nothing of them
-abbrev pub MakesFiles : FileLists → Result World RestoreRefusal → Type 0
-MakesFiles lists (Ok made) = AreInRange lists × AreJoined lists × (made ≡ world_of lists)
-MakesFiles lists (Err restored.Range) = ¬ (AreInRange lists)
-MakesFiles lists (Err restored.FileRef) = AreInRange lists × ¬ (AreJoined lists)
-MakesFiles lists (Err restored.OutOfMemory) = Unit {0}
-
--- what becomes of what a text says: the guest, where counts and ranges are right, and then references
+-- what becomes of what a text says: the guest, where counts and ranges are right, and then references. Want of memory comes only where the pc is
+-- that of an instruction and the runs can be mapped
 abbrev pub Becomes : StateText → Result GuestState RestoreRefusal → Type 0
 Becomes s (Ok guest) = IsInRange s × IsJoined s × (guest ≡ guest_of s)
 Becomes s (Err restored.Range) = ¬ (IsInRange s)
 Becomes s (Err restored.FileRef) = IsInRange s × ¬ (IsJoined s)
-Becomes s (Err restored.OutOfMemory) = Unit {0}
+Becomes s (Err restored.OutOfMemory) = (s.pc % 4 ≡ 0) × AreMappable s.runs
 
 -- what a text becomes: its form is judged first, then counts and ranges, then references
 abbrev pub ReadsState : List ℕ → Result GuestState StateRefusal → Type 0

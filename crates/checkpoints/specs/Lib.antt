@@ -1,3 +1,4 @@
 pub mod Checkpoint
 pub mod FileParts
+pub mod Inside
 pub mod MemoryParts

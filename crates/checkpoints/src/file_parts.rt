@@ -4,10 +4,8 @@
 
 mod judging;
 pub mod laws;
-mod listing;
 mod parts;
 mod restoring;
 
-pub use listing::{files_of, slots_of};
 pub use parts::FileParts;
 pub use restoring::{RestoreRefusal, restore};

@@ -1,15 +1,21 @@
 //! Laws about the definitions.
 
-ghost use Rattle.std.specs.Prelude.{◌+◌, ◌*◌, ◌^◌, ◌≤◌, All, IsTrue, sum_by};
-ghost use Rattle.guest_run.specs.Valid.{Fits};
+ghost use Rattle.std.specs.Prelude.{◌+◌, ◌*◌, ◌^◌, ◌≤◌, All, IsTrue, length, sum_by};
+ghost use Rattle.guest_run.specs.State.{GuestState};
+ghost use Rattle.guest_run.specs.Valid.{Fits, IsValid};
 ghost use Rattle.paged_mem.specs.Memory.{maps};
 ghost use Rattle.save_text.specs.StateText.StateText.{StateText};
-ghost use Rattle.save_text.specs.StateText.Spelled.{IsStateText};
-ghost use Rattle.checkpoints.specs.Checkpoint.{mapped_of, memory_of};
+ghost use Rattle.save_text.specs.StateText.Spelled.{IsStateText, text_of_state};
+ghost use Rattle.checkpoints.specs.Checkpoint.{mapped_of, memory_of, state_of};
 
 /// That runs have no more pages than a guest can have follows from the other rules, so that to count them first refuses nothing else.
 pub fn few_pages()
     ensures { (s : StateText) → IsStateText s → All (λ run. run.first + run.pages ≤ 2 ^ 26) s.runs
         → All (λ page. IsTrue (maps (mapped_of s) (4096 * page.number) 4096)) s.pages → Fits (memory_of s) s.heap
         → sum_by (λ run. run.pages) s.runs ≤ 329_728 }
+{}
+
+/// The text of every valid state has at most 1,892,769,088 bytes.
+pub fn texts_are_short()
+    ensures { (g : GuestState) → IsValid g → length (text_of_state (state_of g)) ≤ 1_892_769_088 }
 {}

@@ -3,10 +3,11 @@
 ghost use Rattle.std.specs.Prelude.{◌≡◌, ◌+◌, ◌-◌, ◌^◌, ◌≤◌, ◌↔◌, All, IsTrue, MatchResult, SomeIff, sum_by};
 ghost use Rattle.save_text.specs.StateText.Spelled.{IsStateText};
 ghost use Rattle.save_text.specs.StateText.Seen.{state_view};
-ghost use Rattle.checkpoints.specs.Checkpoint.{IsInMemory, RefusesMemory, memory_of};
+ghost use Rattle.checkpoints.specs.Checkpoint.{AreMappable, IsInMemory, memory_of};
+ghost use Rattle.checkpoints.specs.Inside.Parts.{RefusesMemory};
 
+use crate::file_parts::RestoreRefusal;
 use crate::memory_parts::{are_mapped, fill_pages, map_runs};
-use ddc_base::OutOfMemory;
 use paged_mem::Ram;
 use save_text::state_text::{Parts, Run};
 use std::alloc::Global;
@@ -14,43 +15,29 @@ use std::alloc::Global;
 /// How many pages a guest can have: 67,584 beside its heap, and 262,144 of its heap.
 const MOST_PAGES: u64 = 329_728;
 
-/// Why what a text says of memory is no guest's.
-#[derive(Clone, Copy, Debug, PartialEq, Eq)]
-pub enum MemoryRefusal {
-    /// A run ends past memory, the runs have too many pages, or a listed page is in none of them.
-    Range,
-    OutOfMemory,
-}
-
-impl From<OutOfMemory> for MemoryRefusal {
-    ghost use Rattle.checkpoints.specs.declared.memory.MemoryRefusal.TheVariants as refusal;
-
-    ghost from_gives = { λ _ why. why ≡ refusal.OutOfMemory };
-
-    fn from(_error: OutOfMemory) -> MemoryRefusal {
-        MemoryRefusal::OutOfMemory
-    }
-}
-
 /// The memory that a text says. Its runs are judged before anything is mapped, so that a short text asks for little memory.
-pub fn memory_of<R: Ram>(alloc: Global, parts: &Parts<'_>) -> Result<R, MemoryRefusal>
+pub fn memory_of<R: Ram>(alloc: Global, parts: &Parts<'_>) -> Result<R, RestoreRefusal>
     requires { IsStateText (state_view parts.now) }
     ensures { MatchResult result
         (λ ram. IsInMemory (state_view parts.now) × (R.bytes ram ≡ memory_of (state_view parts.now)))
         (RefusesMemory (state_view parts.now)) }
 {
-    if !are_within(&parts.runs) {
-        return Err(MemoryRefusal::Range);
-    }
-    if !are_few(&parts.runs) {
-        return Err(MemoryRefusal::Range);
+    if !are_mappable(&parts.runs) {
+        return Err(RestoreRefusal::Range);
     }
     let mut ram: R = map_runs(alloc, &parts.runs)?;
     if !are_mapped(&ram, &parts.pages) {
-        return Err(MemoryRefusal::Range);
+        return Err(RestoreRefusal::Range);
     }
     fill_pages(&mut ram, &parts.pages)?;
     Ok(ram)
+}
+
+/// Whether all runs end in memory and a guest can have so many pages.
+fn are_mappable(runs: &[Run]) -> bool
+    ensures { IsTrue result ↔ AreMappable runs.now }
+{
+    are_within(runs) && are_few(runs)
 }
 
 /// Whether all runs end in memory.

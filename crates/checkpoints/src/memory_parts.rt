@@ -7,4 +7,4 @@ mod listing;
 mod making;
 
 pub use listing::{pages, runs};
-pub use making::{are_full, are_mapped, fill_pages, map_runs};
+pub use making::{are_mapped, fill_pages, map_runs};

@@ -5,10 +5,11 @@ ghost use Rattle.save_text.specs.ByteFields.Spelling.{InTurn};
 ghost use Rattle.save_text.specs.StateText.StateText.{after_descriptor, after_file};
 ghost use Rattle.save_text.specs.StateText.Spelled.{IsDescriptor, IsFile, IsStateText};
 ghost use Rattle.save_text.specs.StateText.Seen.{descriptor_view, file_view, state_view};
-ghost use Rattle.checkpoints.specs.Checkpoint.{Becomes, MakesFiles, lists_in};
+ghost use Rattle.checkpoints.specs.Checkpoint.{Becomes, lists_in};
+ghost use Rattle.checkpoints.specs.Inside.Parts.{MakesFiles};
 
 use crate::file_parts::{FileParts, RestoreRefusal, restore};
-use crate::memory::{MemoryRefusal, memory_of};
+use crate::memory::memory_of;
 use ddc_base::OutOfMemory;
 use guest_run::{Guest, fit_together};
 use mem_files::Files;
@@ -25,21 +26,13 @@ pub fn guest_of<R: Ram>(alloc: Global, parts: &Parts<'_>) -> Result<Guest<R>, Re
     if parts.pc % 4 != 0 {
         return Err(RestoreRefusal::Range);
     }
-    let ram: R = match memory_of(alloc, parts) {
-        Ok(ram) => ram,
-        Err(MemoryRefusal::Range) => return Err(RestoreRefusal::Range),
-        Err(MemoryRefusal::OutOfMemory) => return Err(RestoreRefusal::OutOfMemory),
-    };
+    let ram: R = memory_of(alloc, parts)?;
     let hart = hart_of(ram, parts.pc, &parts.registers);
     if !fit_together(&hart, &parts.heap) {
         return Err(RestoreRefusal::Range);
     }
-    match files_of(alloc, parts) {
-        Ok(files) => Ok(Guest::restore(alloc, hart, files, parts.heap, parts.steps)),
-        Err(RestoreRefusal::Range) => Err(RestoreRefusal::Range),
-        Err(RestoreRefusal::FileRef) => Err(RestoreRefusal::FileRef),
-        Err(RestoreRefusal::OutOfMemory) => Err(RestoreRefusal::OutOfMemory),
-    }
+    let files = files_of(alloc, parts)?;
+    Ok(Guest::restore(alloc, hart, files, parts.heap, parts.steps))
 }
 
 /// A hart with these values in x1 to x31.
@@ -60,10 +53,7 @@ fn files_of(alloc: Global, parts: &Parts<'_>) -> Result<Files, RestoreRefusal>
     ensures { MakesFiles (lists_in (state_view parts.now)) result }
 {
     let mut list = FileParts::new(alloc);
-    match push_all(&mut list, parts) {
-        Ok(()) => {}
-        Err(OutOfMemory) => return Err(RestoreRefusal::OutOfMemory),
-    }
+    push_all(&mut list, parts)?;
     restore(alloc, &list)
 }
 

@@ -1,6 +1,6 @@
 //! The text of a guest.
 
-ghost use Rattle.std.specs.Prelude.{◌≡◌, ◌++◌, IfOk, OnOk, drop};
+ghost use Rattle.std.specs.Prelude.{◌≡◌, ◌++◌, IfOk, OnErr, OnOk, drop};
 ghost use Rattle.save_text.specs.StateText.Spelled.{IsStateText, text_of_state};
 ghost use Rattle.save_text.specs.StateText.Seen.{state_view};
 ghost use Rattle.checkpoints.specs.Checkpoint.{state_of};
@@ -22,13 +22,14 @@ pub fn write_state<R: Ram>(alloc: Global, guest: &Guest<R>) -> Result<Bytes, Out
     Ok(out)
 }
 
-/// Adds the text of a guest's state.
+/// Adds the text of a guest's state, all or none.
 pub fn put_state<R: Ram>(
     alloc: Global,
     out: &mut Bytes,
     guest: &Guest<R>,
 ) -> Result<(), OutOfMemory>
-    ensures { OnOk result (out.new ≡ out.old ++ text_of_state (state_of guest.now)) }
+    ensures ok { OnOk result (out.new ≡ out.old ++ text_of_state (state_of guest.now)) }
+    ensures err { OnErr result (out.new ≡ out.old) }
 {
     let parts = parts_of(alloc, guest)?;
     put_parts(out, &parts)

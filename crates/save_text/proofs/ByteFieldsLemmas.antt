@@ -1,2 +1,4 @@
 pub mod Loop
 pub mod Spells
+pub mod Kept
+pub mod Law

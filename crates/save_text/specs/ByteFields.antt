@@ -1,2 +1,3 @@
 pub mod Reader
 pub mod Spelling
+pub mod Law

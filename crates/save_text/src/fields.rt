@@ -1,15 +1,16 @@
 //! How each field of a save is read and written.
 
-ghost use Rattle.std.specs.Prelude.{◌≡◌, ◌<◌, ◌^◌, ◌++◌, All, None, OnOk, length};
+ghost use Rattle.std.specs.Prelude.{◌≡◌, ◌<◌, ◌^◌, ◌++◌, All, None, OnErr, OnOk, length};
+ghost use Rattle.std.specs.Io.{StartsWith};
 ghost use Rattle.std.specs.Option.{option_copied};
 ghost use Rattle.std.specs.Ordering.{is_lt, nat_cmp};
 ghost use Rattle.std.specs.Cmp.Lexicographic.{slice_cmp};
-ghost use Rattle.save_text.specs.ByteFields.Reader.{GivesField, counted, several};
+ghost use Rattle.save_text.specs.ByteFields.Reader.{Finds, GivesField, counted, several};
 ghost use Rattle.save_text.specs.ByteFields.Spelling.{list_text};
 ghost use Rattle.save_text.specs.SaveText.{after_left, digest_at, is_behind, saved_left_at, mark_at, saved_name_at};
 ghost use Rattle.save_text.specs.Spelled.{digest_text, left_text, mark_text};
 
-use crate::byte_fields::{Cursor, Item, Stop, put_blob16, put_u32};
+use crate::byte_fields::{Cursor, Item, Stop, WrongField, put_blob16, put_u32};
 use crate::parts::{InputPart, StagePart};
 use crate::writing::put_stage;
 use ddc_base::digests::Digest;
@@ -19,8 +20,8 @@ use std::alloc::Global;
 
 /// The 32 bytes of a digest.
 #[tactic(auto, unfolding(crate::specs::SaveText::digest_at))]
-pub(crate) fn digest_of(cursor: &mut Cursor<'_>) -> Result<Digest, Stop>
-    ensures { GivesField (λ x. x) result cursor.new (digest_at cursor.old) }
+pub(crate) fn digest_of(cursor: &mut Cursor<'_>) -> Result<Digest, WrongField>
+    ensures { Finds (λ x. x) result cursor.new (digest_at cursor.old) }
 {
     let bytes = cursor.bytes(32)?;
     let mut digest = [0; 32];
@@ -30,8 +31,8 @@ pub(crate) fn digest_of(cursor: &mut Cursor<'_>) -> Result<Digest, Stop>
 
 /// A length of 4 bytes, and a digest.
 #[tactic(auto, unfolding(crate::specs::SaveText::mark_at))]
-fn mark_of(cursor: &mut Cursor<'_>) -> Result<Mark, Stop>
-    ensures { GivesField (λ x. x) result cursor.new (mark_at cursor.old) }
+fn mark_of(cursor: &mut Cursor<'_>) -> Result<Mark, WrongField>
+    ensures { Finds (λ x. x) result cursor.new (mark_at cursor.old) }
 {
     let length = cursor.u32()?;
     let digest = digest_of(cursor)?;
@@ -42,10 +43,11 @@ fn mark_of(cursor: &mut Cursor<'_>) -> Result<Mark, Stop>
 }
 
 /// Adds a mark.
-#[tactic(auto, unfolding(crate::specs::Spelled::mark_text))]
+#[tactic(auto, using(crate::proofs::ByteFieldsLemmas::Kept::kept), unfolding(crate::specs::Spelled::mark_text))]
 pub(crate) fn put_mark(out: &mut Bytes, mark: Mark) -> Result<(), OutOfMemory>
     requires { mark.length < 2 ^ 32 }
-    ensures { OnOk result (out.new ≡ out.old ++ mark_text mark) }
+    ensures ok { OnOk result (out.new ≡ out.old ++ mark_text mark) }
+    ensures err { OnErr result (StartsWith out.new out.old) }
 {
     put_u32(out, mark.length as u32)?;
     out.extend(&mark.digest.0)
@@ -63,14 +65,14 @@ fn is_behind(last: Option<&[u8]>, name: &[u8]) -> bool
 
 /// A name that is behind the one before it.
 #[tactic(auto, unfolding(crate::specs::SaveText::saved_name_at))]
-fn name_of<'a>(cursor: &mut Cursor<'a>, last: Option<&[u8]>) -> Result<&'a [u8], Stop>
-    ensures { GivesField (λ x. x.now) result cursor.new (saved_name_at (option_copied last.entry) cursor.old) }
+fn name_of<'a>(cursor: &mut Cursor<'a>, last: Option<&[u8]>) -> Result<&'a [u8], WrongField>
+    ensures { Finds (λ x. x.now) result cursor.new (saved_name_at (option_copied last.entry) cursor.old) }
 {
     let count = cursor.u16()?;
     let at = cursor.len();
     let name = cursor.bytes(usize::from(count))?;
     if !is_behind(last, name) {
-        return Err(Stop::Wrong(at));
+        return Err(WrongField { left: at });
     }
     Ok(name)
 }
@@ -94,8 +96,8 @@ fn left_of(alloc: Global, cursor: &mut Cursor<'_>, count: u32) -> Result<LeftLin
 
 /// A file that a stage left: its name, lent, and its mark.
 #[tactic(auto, unfolding(crate::specs::SaveText::saved_left_at))]
-fn line_of<'a>(cursor: &mut Cursor<'a>, last: Option<&[u8]>) -> Result<(&'a [u8], Mark), Stop>
-    ensures { GivesField (λ x. record { name = x.0.now; mark = x.1 }) result cursor.new (saved_left_at (option_copied last.entry) cursor.old) }
+fn line_of<'a>(cursor: &mut Cursor<'a>, last: Option<&[u8]>) -> Result<(&'a [u8], Mark), WrongField>
+    ensures { Finds (λ x. record { name = x.0.now; mark = x.1 }) result cursor.new (saved_left_at (option_copied last.entry) cursor.old) }
 {
     let name = name_of(cursor, last)?;
     let mark = mark_of(cursor)?;
@@ -103,11 +105,13 @@ fn line_of<'a>(cursor: &mut Cursor<'a>, last: Option<&[u8]>) -> Result<(&'a [u8]
 }
 
 /// Adds the files that a stage left.
+#[tactic(auto, using(crate::proofs::ByteFieldsLemmas::Kept::kept))]
 pub(crate) fn put_left(out: &mut Bytes, files: &[LeftLine]) -> Result<(), OutOfMemory>
     requires few { length files.now < 2 ^ 32 }
     requires short { All (λ file. length file.name < 2 ^ 16) files.now }
     requires small { All (λ file. file.mark.length < 2 ^ 32) files.now }
-    ensures { OnOk result (out.new ≡ out.old ++ list_text left_text files.now) }
+    ensures ok { OnOk result (out.new ≡ out.old ++ list_text left_text files.now) }
+    ensures err { OnErr result (StartsWith out.new out.old) }
 {
     put_u32(out, files.len() as u32)?;
     for file in files {
@@ -116,10 +120,12 @@ pub(crate) fn put_left(out: &mut Bytes, files: &[LeftLine]) -> Result<(), OutOfM
     Ok(())
 }
 
+#[tactic(auto, using(crate::proofs::ByteFieldsLemmas::Kept::kept))]
 fn put_line(out: &mut Bytes, file: &LeftLine) -> Result<(), OutOfMemory>
     requires short { length file.now.name < 2 ^ 16 }
     requires small { file.now.mark.length < 2 ^ 32 }
-    ensures { OnOk result (out.new ≡ out.old ++ left_text file.now) }
+    ensures ok { OnOk result (out.new ≡ out.old ++ left_text file.now) }
+    ensures err { OnErr result (StartsWith out.new out.old) }
 {
     put_blob16(out, file.name.as_slice())?;
     put_mark(out, file.mark)
@@ -152,7 +158,8 @@ impl<'a> Item<'a> for InputPart {
         0
     }
 
-    fn put(&self, out: &mut Bytes) -> Result<(), OutOfMemory> {
+    #[tactic(auto, using(crate::proofs::ByteFieldsLemmas::Kept::kept))]
+    fn add(&self, out: &mut Bytes) -> Result<(), OutOfMemory> {
         out.extend(&self.digest.0)
     }
 }
@@ -195,7 +202,8 @@ impl<'a> Item<'a> for StagePart {
         0
     }
 
-    fn put(&self, out: &mut Bytes) -> Result<(), OutOfMemory> {
+    #[tactic(auto, using(crate::proofs::ByteFieldsLemmas::Kept::kept))]
+    fn add(&self, out: &mut Bytes) -> Result<(), OutOfMemory> {
         put_stage(
             out,
             self.steps,

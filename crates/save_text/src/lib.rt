@@ -7,6 +7,7 @@
 
 pub mod byte_fields;
 mod fields;
+pub mod laws;
 mod parts;
 mod reading;
 pub mod state_text;
@@ -14,4 +15,4 @@ mod writing;
 
 pub use parts::{InputPart, Parts, StagePart};
 pub use reading::{MAGIC, read};
-pub use writing::{put_stage, write};
+pub use writing::put_stage;

@@ -4,6 +4,7 @@
 //! no state of any guest: that is judged above.
 
 mod items;
+pub mod laws;
 mod listing;
 mod parts;
 mod reading;
@@ -12,4 +13,4 @@ mod writing;
 pub use listing::{descriptors_of, files_of};
 pub use parts::{Descriptor, File, Page, Parts, Run};
 pub use reading::{TextRefusal, parts_at, read};
-pub use writing::{put_parts, write};
+pub use writing::put_parts;

@@ -1,20 +1,15 @@
-ghost use Rattle.std.specs.Prelude.{◌≡◌, ◌<◌, ◌^◌, ◌++◌, All, IfOk, OnOk, length, map};
-ghost use Rattle.save_text.specs.ByteFields.Spelling.{list_text};
-ghost use Rattle.save_text.specs.Spelled.{IsShortStage, IsSaveText, stage_text, text_of_save};
-ghost use Rattle.save_text.specs.Seen.{stage_view, save_view};
+ghost use Rattle.std.specs.Prelude.{◌≡◌, ◌++◌, OnErr, OnOk};
+ghost use Rattle.std.specs.Io.{StartsWith};
+ghost use Rattle.save_text.specs.Spelled.{IsShortStage, stage_text};
 
-use crate::byte_fields::{put_blob32, put_counted, put_u64};
+use crate::byte_fields::{all_or_none, put_blob32, put_u64};
 use crate::fields::{put_left, put_mark};
-use crate::parts::{Parts, StagePart};
-use crate::reading::MAGIC;
-use crate::state_text::put_parts;
 use ddc_base::{Bytes, OutOfMemory};
 use report::{LeftLine, Mark};
-use std::alloc::Global;
 
-/// Adds a stage that is done: its steps, the marks of its two streams, the files that it left, and its artefact.
-#[tactic(auto, using(crate::proofs::Written::written), unfolding(crate::specs::Spelled::stage_text))]
-pub fn put_stage(
+/// Adds a stage that is done, of which want of memory may leave a part behind what was there.
+#[tactic(auto, using(crate::proofs::Written::written, crate::proofs::ByteFieldsLemmas::Kept::kept), unfolding(crate::specs::Spelled::stage_text))]
+fn add_stage(
     out: &mut Bytes,
     steps: u64,
     streams: (Mark, Mark),
@@ -22,7 +17,8 @@ pub fn put_stage(
     made: &[u8],
 ) -> Result<(), OutOfMemory>
     requires { IsShortStage (record { steps = steps; stream1 = streams.0; stream2 = streams.1; left = left.now; made = made.now }) }
-    ensures { OnOk result (out.new ≡ out.old ++ stage_text (record { steps = steps; stream1 = streams.0; stream2 = streams.1; left = left.now; made = made.now })) }
+    ensures ok { OnOk result (out.new ≡ out.old ++ stage_text (record { steps = steps; stream1 = streams.0; stream2 = streams.1; left = left.now; made = made.now })) }
+    ensures err { OnErr result (StartsWith out.new out.old) }
 {
     put_u64(out, steps)?;
     put_mark(out, streams.0)?;
@@ -31,25 +27,19 @@ pub fn put_stage(
     put_blob32(out, made)
 }
 
-fn put_stages(out: &mut Bytes, stages: &[StagePart]) -> Result<(), OutOfMemory>
-    requires few { length stages.now < 2 ^ 32 }
-    requires short { All (λ stage. IsShortStage (stage_view stage)) stages.now }
-    ensures { OnOk result (out.new ≡ out.old ++ list_text stage_text (map stage_view stages.now)) }
+/// Adds a stage that is done, all or none: its steps, the marks of its two streams, the files that it left, and its artefact.
+pub fn put_stage(
+    out: &mut Bytes,
+    steps: u64,
+    streams: (Mark, Mark),
+    left: &[LeftLine],
+    made: &[u8],
+) -> Result<(), OutOfMemory>
+    requires { IsShortStage (record { steps = steps; stream1 = streams.0; stream2 = streams.1; left = left.now; made = made.now }) }
+    ensures ok { OnOk result (out.new ≡ out.old ++ stage_text (record { steps = steps; stream1 = streams.0; stream2 = streams.1; left = left.now; made = made.now })) }
+    ensures err { OnErr result (out.new ≡ out.old) }
 {
-    put_counted(out, stages)
-}
-
-/// The one text of what a save says.
-#[tactic(auto, using(crate::proofs::Written::written), unfolding(crate::specs::Spelled::text_of_save))]
-pub fn write(alloc: Global, parts: &Parts<'_>) -> Result<Bytes, OutOfMemory>
-    requires { IsSaveText (save_view parts.now) }
-    ensures { IfOk result (λ text. text ≡ text_of_save (save_view parts.now)) }
-{
-    let mut out = Bytes::new(alloc);
-    out.extend(&MAGIC)?;
-    out.extend(&parts.recipe.0)?;
-    put_counted(&mut out, &parts.inputs)?;
-    put_stages(&mut out, parts.done.as_slice())?;
-    put_parts(&mut out, &parts.state)?;
-    Ok(out)
+    let len = out.len();
+    let added = add_stage(out, steps, streams, left, made);
+    all_or_none(out, len, added)
 }

@@ -20,7 +20,7 @@ use Rattle.wheeler.specs.Positions.{Position, at, todo}
 use Rattle.wheeler.specs.Valid.{AreDone, IsInputs, IsPosition}
 use Rattle.audit_run.specs.declared.save.reading.SaveRefusal.{SaveRefusal}
 use Rattle.audit_run.specs.declared.save.reading.SaveRefusal.TheVariants.{Form, OtherRecipe, State, OutOfMemory}
-use Rattle.audit_run.specs.Save.Saves.{IsOf, IsPlace, IsResumedAs, Resumes, digest_of, done_in, finished_of, position_of, save_of, stage_of}
+use Rattle.audit_run.specs.Save.Saves.{IsOf, IsPlace, IsResumedAs, Resumes, Stands, digest_of, done_in, finished_of, position_of, save_of, stage_of}
 use Rattle.audit_run.specs.Save.Inside.Seen.{AreDigests}
 use Rattle.audit_run.proofs.SaveLemmas.Written.{has_text}
 
@@ -133,3 +133,12 @@ is_only recipe inputs text (Err OtherRecipe) is given resumes p place said =
 is_only recipe inputs text (Err State) is given resumes p place said =
     let same = same_said text resumes.0 (save_of recipe inputs p) resumes.1 (formed_of recipe inputs text p is given place said) in
     resumes.3 (subst (IsPlace recipe) (sym same) (saves_a_place recipe inputs p place))
+
+-- what becomes of what a save of this recipe and these inputs says becomes of its text
+pub stood : (recipe : Said) (inputs : List (List ℕ)) (text : List ℕ) (save : SaveText) (result : Result Position SaveRefusal)
+    → parsed_save text ≡ Ok save → IsOf recipe inputs save → Stands recipe save result → Resumes recipe inputs text result
+stood recipe inputs text save (Ok p) is of stands = (save, is, of, stands.0, stands.1)
+stood recipe inputs text save (Err State) is of stands = (save, is, of, stands)
+stood recipe inputs text save (Err OutOfMemory) is of stands = tt
+stood recipe inputs text save (Err (Form offset)) is of stands = absurd stands
+stood recipe inputs text save (Err OtherRecipe) is of stands = absurd stands

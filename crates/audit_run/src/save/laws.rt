@@ -1,18 +1,30 @@
 //! Laws of saves. Each law is the contract of a function that does nothing.
 
-ghost use Rattle.audit_run.specs.Save.Saves.{SaveAnswer, save_of};
+ghost use Rattle.audit_run.specs.Save.Inside.Tests.{is_of, is_place};
+ghost use Rattle.audit_run.specs.Save.Judged.{judged};
+ghost use Rattle.audit_run.specs.Save.Saves.{SaveAnswer, IsOf, IsPlace, Resumes, save_of};
 ghost use Rattle.recipe.specs.Kept.{IsRecipe};
 ghost use Rattle.recipe.specs.declared.contents.Said.{Said};
+ghost use Rattle.save_text.specs.SaveText.{SaveText};
 ghost use Rattle.save_text.specs.Spelled.{text_of_save};
-ghost use Rattle.std.specs.Prelude.{◌≡◌, ◌<◌, ℕ, List, length};
+ghost use Rattle.std.specs.Prelude.{◌≡◌, ◌≢◌, ◌<◌, ◌↔◌, ℕ, Err, IsTrue, List, length};
 ghost use Rattle.wheeler.specs.Positions.{Position};
 ghost use Rattle.wheeler.specs.Valid.{IsInputs, IsPosition};
 
-/// What a text is as a save is settled: there is an answer to it, and no other, where memory is not wanting.
+use crate::save::reading::SaveRefusal;
+
+/// What a text is judged as is an answer to it, and there is no other, where memory is not wanting.
 pub fn every_text_has_one_answer()
-    ensures answer { (recipe : Said) (inputs : List (List ℕ)) (text : List ℕ) → SaveAnswer recipe inputs text }
+    ensures answer { (recipe : Said) (inputs : List (List ℕ)) (text : List ℕ) → Resumes recipe inputs text (judged recipe inputs text) }
+    ensures settled { (recipe : Said) (inputs : List (List ℕ)) (text : List ℕ) → judged recipe inputs text ≢ Err SaveRefusal.OutOfMemory }
     ensures one { (recipe : Said) (inputs : List (List ℕ)) (text : List ℕ) (first second : SaveAnswer recipe inputs text)
         → first.result ≡ second.result }
+{}
+
+/// The tests by which a text is judged are the rules of saves.
+pub fn the_tests_are_the_rules()
+    ensures of { (recipe : Said) (inputs : List (List ℕ)) (save : SaveText) → IsTrue (is_of recipe inputs save) ↔ IsOf recipe inputs save }
+    ensures place { (recipe : Said) (save : SaveText) → IsTrue (is_place recipe save) ↔ IsPlace recipe save }
 {}
 
 /// The save of every position has fewer than 4,294,967,296 bytes.

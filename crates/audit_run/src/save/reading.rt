@@ -35,6 +35,16 @@ pub enum SaveRefusal {
     OutOfMemory,
 }
 
+impl From<OutOfMemory> for SaveRefusal {
+    ghost use Rattle.audit_run.specs.declared.save.reading.SaveRefusal.TheVariants as refusal;
+
+    ghost from_gives = { λ _ why. why ≡ refusal.OutOfMemory };
+
+    fn from(_error: OutOfMemory) -> SaveRefusal {
+        SaveRefusal::OutOfMemory
+    }
+}
+
 impl SaveRefusal {
     /// The number of the refusal, from 1.
     pub fn number(&self) -> u8
@@ -115,13 +125,7 @@ fn judged(
     if !is_of(&parts, digest, inputs) {
         return Err(SaveRefusal::OtherRecipe);
     }
-    match place_of(alloc, recipe, parts) {
-        Ok(place) => Ok(place),
-        Err(SaveRefusal::State) => Err(SaveRefusal::State),
-        Err(SaveRefusal::OutOfMemory) => Err(SaveRefusal::OutOfMemory),
-        Err(SaveRefusal::Form(_)) => unreachable!(),
-        Err(SaveRefusal::OtherRecipe) => unreachable!(),
-    }
+    place_of(alloc, recipe, parts)
 }
 
 /// Whether a save is of the recipe of this digest and of these inputs.
@@ -167,10 +171,7 @@ fn place_of(alloc: Global, recipe: &Recipe, parts: Parts<'_>) -> Result<Resumed,
         recipe: _,
         inputs: _,
     } = parts;
-    let done = match done_of(alloc, parts) {
-        Ok(done) => done,
-        Err(OutOfMemory) => return Err(SaveRefusal::OutOfMemory),
-    };
+    let done = done_of(alloc, parts)?;
     if !are_done(recipe, done.as_slice()) {
         return Err(SaveRefusal::State);
     }

@@ -15,7 +15,7 @@ use Rattle.mem_files.specs.Sound.{AreBytes, IsSlotAt}
 use Rattle.mem_files.specs.Outputs.{IsContent}
 use Rattle.mem_files.specs.Lists.{ListedFile, FileLists, named, with_name, IsHeldName, is_listed, is_used, AreInRange, AreJoined}
 use Rattle.checkpoints.specs.FileParts.Inside.Judged.{is_good_name, is_good_file, is_slot_at, is_good_slot, is_called, is_taken, have_own_names, size, in_range, are_joined}
-use Rattle.checkpoints.specs.FileParts.Views.{AreParts, HasBytes}
+use Rattle.checkpoints.specs.FileParts.Inside.Views.{AreParts, HasBytes}
 
 first : (a b : Bool) → (a && b) ≡ true → a ≡ true
 first true b h = refl

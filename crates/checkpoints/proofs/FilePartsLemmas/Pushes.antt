@@ -11,7 +11,7 @@ use Rattle.std.proofs.lemmas.List.{map-append}
 use Rattle.std.proofs.lemmas.List.Elements.{All-head, All-tail, All-append, All-cons, All-nil, All-map}
 use Rattle.mem_files.specs.declared.slot.Slot.{Slot}
 use Rattle.mem_files.specs.Lists.{ListedFile, FileLists, numbered_contents}
-use Rattle.checkpoints.specs.FileParts.Views.{AreParts, HasBytes}
+use Rattle.checkpoints.specs.FileParts.Inside.Views.{AreParts, HasBytes}
 
 under : (a k : ℕ) (r : Ordering) → MatchOrdering r (a < k) (a ≡ k) (k < a) → a < k → is_lt r ≡ true
 under a k Less h less = refl

@@ -1,15 +1,33 @@
 -- Pages that do not overlap may be written in any order.
-use Rattle.std.proofs.Common.{◌≡◌, ℕ, suc, ◌+◌, ◌*◌, ◌<◌, ◌≤◌, List, [], ◌∷◌, length, map, get_or, drop, refl, sym, ap, ◌∙◌, ◌⊎◌, arith, inl, inr, drop-cons, add-one}
+use Rattle.std.proofs.Common.{◌≡◌, ℕ, suc, ◌+◌, ◌*◌, ◌<◌, ◌≤◌, List, [], ◌∷◌, length, map, ◌++◌, get_or, reverse, take, refl, sym, ap, ◌∙◌, ◌⊎◌, arith, inl, inr, take_all}
 use Rattle.std.specs.FinMap.{get}
 use Rattle.std.proofs.lemmas.Bool.{cases_lt}
-use Rattle.std.proofs.lemmas.List.{drop_all}
+use Rattle.std.proofs.lemmas.Grind.{reverse_onto}
+use Rattle.std.proofs.lemmas.List.{map-append, take_more}
 use Rattle.paged_mem.specs.Memory.{Memory, with_bytes}
 use Rattle.paged_mem.specs.Held.{get-with_bytes, get-with_bytes_below, get-with_bytes_above}
 use Rattle.paged_mem.proofs.Maps.{same_memory}
 use Rattle.save_text.specs.declared.state_text.parts.Page.{Page}
 use Rattle.save_text.specs.StateText.StateText.{PageText, after_page}
 use Rattle.save_text.specs.StateText.Seen.{page_view}
-use Rattle.checkpoints.specs.MemoryParts.Canonical.{with_pages, filled_on, AreShown}
+use Rattle.checkpoints.specs.MemoryParts.Canonical.{with_pages, AreShown}
+
+-- pages written in their order
+unfoldable pub filled_on : Memory → List PageText → Memory
+filled_on m [] = m
+filled_on m (page ∷ pages) = filled_on (with_bytes m (4096 * page.number) page.bytes) pages
+
+filled_first : (m : Memory) (pages : List PageText) (page : PageText) → with_pages m (pages ++ page ∷ []) ≡ with_pages (with_bytes m (4096 * page.number) page.bytes) pages
+unfolding with_pages
+filled_first m [] page = refl
+filled_first m (p ∷ ps) page = ap (λ (v : Memory). with_bytes v (4096 * p.number) p.bytes) (filled_first m ps page)
+
+-- that is to fill in the pages turned round
+pub turned : (m : Memory) (pages : List PageText) → filled_on m pages ≡ with_pages m (reverse pages)
+unfolding with_pages filled_on
+turned m [] = refl
+turned m (page ∷ pages) =
+    turned (with_bytes m (4096 * page.number) page.bytes) pages ∙ sym (ap (with_pages m) (reverse_onto pages page []) ∙ filled_first m (reverse pages) page)
 
 -- bytes at two places, one behind the other
 swapped : (m : Memory) (low high : ℕ) (xs ys : List ℕ) → low + length xs ≤ high → with_bytes (with_bytes m low xs) high ys ≡ with_bytes (with_bytes m high ys) low xs
@@ -37,13 +55,18 @@ any_order m (p ∷ ps) least shown =
     let full : length p.bytes ≡ 4096 = shown.0.full in
     any_order (with_bytes m (4096 * p.number) p.bytes) ps (after_page p) shown.1 ∙ first_last m ps (after_page p) (4096 * p.number) p.bytes shown.1 (omega arith)
 
-pub fill_step : (m new whole : Memory) (pages : List Page) (i number : ℕ) (other page : Page) → i < length pages → get_or pages i other ≡ page → number ≡ page.number → filled_on m (map page_view (drop i pages)) ≡ whole → new ≡ with_bytes m (4096 * number) page.bytes.now → filled_on new (map page_view (drop (i + 1) pages)) ≡ whole
+-- one page more is written last
+filled_push : (m : Memory) (pages : List PageText) (page : PageText) → filled_on m (pages ++ page ∷ []) ≡ with_bytes (filled_on m pages) (4096 * page.number) page.bytes
 unfolding filled_on
-fill_step m new whole pages i number other page lt is same so_far new_is =
-    let next : drop i pages ≡ page ∷ drop (i + 1) pages = rw (add-one) (drop-cons pages i other lt ∙ ap (λ (p : Page). p ∷ drop (suc i) pages) is) in
-    ap (λ (v : Memory). filled_on v (map page_view (drop (i + 1) pages))) (new_is ∙ ap (λ (n : ℕ). with_bytes m (4096 * n) page.bytes.now) same)
-    ∙ sym (ap (λ (ps : List Page). filled_on m (map page_view ps)) next) ∙ so_far
+filled_push m [] page = refl
+filled_push m (p ∷ ps) page = filled_push (with_bytes m (4096 * p.number) p.bytes) ps page
 
-pub all_filled : (m whole : Memory) (pages : List Page) (i : ℕ) → length pages ≤ i → filled_on m (map page_view (drop i pages)) ≡ whole → m ≡ whole
-unfolding filled_on
-all_filled m whole pages i le so_far = ap (λ (ps : List Page). filled_on m (map page_view ps)) (sym (drop_all i pages le)) ∙ so_far
+pub fill_step : (old m new : Memory) (pages : List Page) (i number : ℕ) (other page : Page) → i < length pages → get_or pages i other ≡ page → number ≡ page.number
+    → m ≡ filled_on old (map page_view (take i pages)) → new ≡ with_bytes m (4096 * number) page.bytes.now → new ≡ filled_on old (map page_view (take (i + 1) pages))
+fill_step old m new pages i number other page lt is same so_far new_is =
+    let more : take (i + 1) pages ≡ take i pages ++ page ∷ [] = take_more pages i other lt ∙ ap (λ (p : Page). take i pages ++ p ∷ []) is in
+    new_is ∙ ap (λ (n : ℕ). with_bytes m (4096 * n) page.bytes.now) same ∙ ap (λ (v : Memory). with_bytes v (4096 * page.number) page.bytes.now) so_far
+    ∙ sym (ap (λ (ps : List Page). filled_on old (map page_view ps)) more ∙ ap (filled_on old) (map-append page_view (take i pages) (page ∷ [])) ∙ filled_push old (map page_view (take i pages)) (page_view page))
+
+pub all_filled : (old m : Memory) (pages : List Page) (i : ℕ) → length pages ≤ i → m ≡ filled_on old (map page_view (take i pages)) → m ≡ filled_on old (map page_view pages)
+all_filled old m pages i le so_far = so_far ∙ ap (λ (ps : List Page). filled_on old (map page_view ps)) (take_all i pages le)

@@ -1,6 +1,6 @@
 -- Runs that were mapped are the runs of that memory.
 use Rattle.std.proofs.Common.{◌≡◌, ℕ, zero, suc, ◌+◌, ◌-◌, ◌*◌, ◌/◌, ◌^◌, ◌<◌, ◌≤◌, Bool, true, false, ◌&&◌, cond, leb, ltb, Option, None, Some, is_some, List, [], ◌∷◌, refl, sym, ap, ◌∙◌, arith, inl, inr}
-use Rattle.std.specs.Prelude.{◌||◌}
+use Rattle.std.specs.Prelude.{◌||◌, nat_le, nat_lt}
 use Rattle.std.specs.Ordering.{nat_cmp}
 use Rattle.std.specs.FinMap.{get, empty, get-empty}
 use Rattle.std.proofs.lemmas.Bool.{leb-true, ltb-true, ltb-false, leb-false, le-leb, lt-ltb, le-ltb}
@@ -8,7 +8,7 @@ use Rattle.paged_mem.proofs.Maps.{same_memory}
 use Rattle.paged_mem.specs.Memory.{Memory, with_bytes, zeros}
 use Rattle.save_text.specs.declared.state_text.parts.Run.{Run}
 use Rattle.save_text.specs.StateText.StateText.{after_run}
-use Rattle.checkpoints.specs.MemoryParts.Canonical.{is_mapped, runs_from, runs_of, mapped_runs, in_run, in_runs, ArePlaced}
+use Rattle.checkpoints.specs.MemoryParts.Canonical.{is_mapped, runs_from, runs_of, mapped_runs, ArePlaced}
 use Rattle.checkpoints.specs.MemoryParts.Inside.Zeros.{zero_runs}
 use Rattle.checkpoints.proofs.MemoryPartsLemmas.RunsFound.{same_runs, passed, in_one, run_of}
 use Rattle.checkpoints.proofs.MemoryPartsLemmas.Again.{zero_in, zero_out}
@@ -19,6 +19,14 @@ leb_no a b lt = both (leb a b) refl
     both : (t : Bool) → leb a b ≡ t → t ≡ false
     both true e = absurd (omega (arith, leb-true a b e))
     both false e = refl
+
+-- is a page in one of the runs?
+abbrev pub in_run : Run → ℕ → Bool
+in_run run page = nat_le run.first page && nat_lt page (run.first + run.pages)
+
+unfoldable pub in_runs : List Run → ℕ → Bool
+in_runs [] page = false
+in_runs (run ∷ runs) page = in_run run page || in_runs runs page
 
 in_yes : (run : Run) (p : ℕ) → run.first ≤ p → p < run.first + run.pages → in_run run p ≡ true
 in_yes run p from to = let a = le-leb run.first p from in let b = lt-ltb p (run.first + run.pages) to in rw (a, b) refl

@@ -1,5 +1,5 @@
 -- The runs and the pages of a memory, in order: what a text of a state lists.
-use Rattle.std.specs.Prelude.{◌≡◌, ◌<◌, length, ℕ, zero, suc, ◌+◌, ◌*◌, ◌^◌, ◌≤◌, Bool, true, false, ◌&&◌, ◌||◌, nat_le, nat_lt, ◌==◌, Option, None, Some, List, [], ◌∷◌, ◌++◌, if◌then◌else◌}
+use Rattle.std.specs.Prelude.{◌≡◌, ◌<◌, length, ℕ, zero, suc, ◌+◌, ◌*◌, ◌^◌, ◌≤◌, Bool, true, false, ◌==◌, Option, None, Some, List, [], ◌∷◌, ◌++◌, if◌then◌else◌}
 use Rattle.std.specs.FinMap.{contains_key, empty}
 use Rattle.paged_mem.specs.Memory.{Memory, bytes_at, with_bytes, zeros}
 use Rattle.save_text.specs.declared.state_text.parts.Run.{Run}
@@ -55,14 +55,6 @@ pub record IsNextRun (least : ℕ) (run : Run) : Type 0 where
 abbrev pub ArePlaced : ℕ → List Run → Type 0
 ArePlaced least runs = InTurn IsNextRun after_run least runs
 
--- is a page in one of the runs?
-abbrev pub in_run : Run → ℕ → Bool
-in_run run page = nat_le run.first page && nat_lt page (run.first + run.pages)
-
-unfoldable pub in_runs : List Run → ℕ → Bool
-in_runs [] page = false
-in_runs (run ∷ runs) page = in_run run page || in_runs runs page
-
 -- a page behind the earlier ones, whole and not all zero
 pub record IsShown (least : ℕ) (page : PageText) : Type 0 where
   pub from : least ≤ page.number
@@ -72,8 +64,3 @@ pub record IsShown (least : ℕ) (page : PageText) : Type 0 where
 
 abbrev pub AreShown : ℕ → List PageText → Type 0
 AreShown least pages = InTurn IsShown after_page least pages
-
--- the same, in the order in which they are written
-unfoldable pub filled_on : Memory → List PageText → Memory
-filled_on m [] = m
-filled_on m (page ∷ pages) = filled_on (with_bytes m (4096 * page.number) page.bytes) pages

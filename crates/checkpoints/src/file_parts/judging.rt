@@ -7,7 +7,7 @@ ghost use Rattle.mem_files.specs.Limits.{most_content, most_names, most_total};
 ghost use Rattle.mem_files.specs.Lists.{listed, is_listed, is_used};
 ghost use Rattle.mem_files.specs.World.{is_of};
 ghost use Rattle.checkpoints.specs.FileParts.Inside.Judged.{content_size, stream_size, is_good_name, is_good_file, is_good_slot, is_called, is_taken, have_own_names, in_range, are_joined};
-ghost use Rattle.checkpoints.specs.FileParts.Views.{view_of};
+ghost use Rattle.checkpoints.specs.FileParts.Inside.Views.{view_of};
 ghost use Rattle.std.specs.Borrow.{Bor};
 
 use mem_files::{FileView, MAX_CONTENT, MAX_NAMES, MAX_SLOTS, MAX_TOTAL, Slot, is_stripped_name};

@@ -5,7 +5,6 @@ ghost use Rattle.mem_files.specs.Lists.{AreInRange, AreJoined, world_of};
 ghost use Rattle.std.specs.List.{All};
 ghost use Rattle.std.specs.Option.{option_copied};
 ghost use Rattle.mem_files.specs.Sound.{AreBytes};
-ghost use Rattle.checkpoints.specs.FileParts.Views.{empty_lists};
 
 use crate::file_parts::judging::{are_in_range, are_joined};
 use ddc_base::OutOfMemory;
@@ -26,7 +25,7 @@ pub struct FileParts<'a> {
 
 impl<'a> Model for FileParts<'a> {
     ghost use Rattle.mem_files.specs.Lists.{FileLists};
-    ghost use Rattle.checkpoints.specs.FileParts.Views.{view_of, lists_code, AreParts};
+    ghost use Rattle.checkpoints.specs.FileParts.Inside.Views.{view_of, lists_code, AreParts};
 
     ghost Value = { FileLists };
 
@@ -40,7 +39,7 @@ impl<'a> Model for FileParts<'a> {
 impl<'a> FileParts<'a> {
     /// No file, no descriptor and no stream.
     pub fn new(alloc: Global) -> FileParts<'a>
-        ensures { result ≡ empty_lists }
+        ensures { result ≡ record { files = []; slots = []; streams = [] } }
     {
         FileParts {
             files: Vec::new(alloc),

@@ -20,6 +20,16 @@ pub enum RestoreRefusal {
     OutOfMemory,
 }
 
+impl From<OutOfMemory> for RestoreRefusal {
+    ghost use Rattle.checkpoints.specs.declared.file_parts.restoring.RestoreRefusal.TheVariants as refusal;
+
+    ghost from_gives = { λ _ why. why ≡ refusal.OutOfMemory };
+
+    fn from(_error: OutOfMemory) -> RestoreRefusal {
+        RestoreRefusal::OutOfMemory
+    }
+}
+
 /// The files of these parts.
 pub fn restore(alloc: Global, parts: &FileParts<'_>) -> Result<Files, RestoreRefusal>
     requires { length parts.now.streams ≡ 2 }
@@ -31,8 +41,5 @@ pub fn restore(alloc: Global, parts: &FileParts<'_>) -> Result<Files, RestoreRef
     if !parts.is_joined() {
         return Err(RestoreRefusal::FileRef);
     }
-    match parts.files(alloc) {
-        Ok(files) => Ok(files),
-        Err(OutOfMemory) => Err(RestoreRefusal::OutOfMemory),
-    }
+    Ok(parts.files(alloc)?)
 }

@@ -1,11 +1,11 @@
 //! Runs and pages say a memory, and a memory has one such list: laws about the definitions.
 
-ghost use Rattle.std.specs.Prelude.{◌≡◌, List};
+ghost use Rattle.std.specs.Prelude.{◌≡◌, ◌*◌, All, IsTrue, List, reverse};
 ghost use Rattle.std.specs.FinMap as finite;
-ghost use Rattle.paged_mem.specs.Memory.{Memory, IsWhole};
+ghost use Rattle.paged_mem.specs.Memory.{Memory, IsWhole, maps};
 ghost use Rattle.save_text.specs.declared.state_text.parts.Run.{Run};
 ghost use Rattle.save_text.specs.StateText.StateText.{PageText};
-ghost use Rattle.checkpoints.specs.MemoryParts.Canonical.{runs_of, with_pages, filled_on, mapped_runs, ArePlaced, AreShown, pages_of};
+ghost use Rattle.checkpoints.specs.MemoryParts.Canonical.{runs_of, with_pages, mapped_runs, ArePlaced, AreShown, pages_of};
 
 /// The runs and pages of a memory say that memory.
 pub fn runs_and_pages_say_the_memory()
@@ -17,6 +17,13 @@ pub fn mapped_runs_are_the_runs()
     ensures { (runs : List Run) → ArePlaced 0 runs → runs_of (mapped_runs finite.empty runs) ≡ runs }
 {}
 
+/// The runs of a memory that was filled are its runs: pages in it map nothing.
+pub fn filling_keeps_the_runs()
+    ensures { (runs : List Run) (pages : List PageText) → ArePlaced 0 runs → AreShown 0 pages
+        → All (λ page. IsTrue (maps (mapped_runs finite.empty runs) (4096 * page.number) 4096)) pages
+        → runs_of (with_pages (mapped_runs finite.empty runs) pages) ≡ runs }
+{}
+
 /// Pages that are filled are the pages of that memory.
 pub fn filled_pages_are_the_pages()
     ensures { (runs : List Run) (pages : List PageText) → ArePlaced 0 runs → AreShown 0 pages
@@ -25,5 +32,5 @@ pub fn filled_pages_are_the_pages()
 
 /// The order in which pages are written does not matter.
 pub fn order_of_pages_is_free()
-    ensures { (m : Memory) (pages : List PageText) → AreShown 0 pages → filled_on m pages ≡ with_pages m pages }
+    ensures { (m : Memory) (pages : List PageText) → AreShown 0 pages → with_pages m (reverse pages) ≡ with_pages m pages }
 {}

@@ -1,10 +1,10 @@
 //! A memory made of runs and pages.
 
-ghost use Rattle.std.specs.Prelude.{◌≡◌, ◌↔◌, ◌*◌, All, IfOk, IsTrue, OnOk, length, map};
+ghost use Rattle.std.specs.Prelude.{◌≡◌, ◌↔◌, ◌*◌, ℕ, All, IfOk, IsTrue, OnErr, OnOk, length, map, reverse, take};
 ghost use Rattle.paged_mem.specs.Memory.{maps};
 ghost use Rattle.std.specs.FinMap as finite;
 ghost use Rattle.save_text.specs.StateText.Seen.{page_view};
-ghost use Rattle.checkpoints.specs.MemoryParts.Canonical.{filled_on, mapped_runs, ArePlaced};
+ghost use Rattle.checkpoints.specs.MemoryParts.Canonical.{with_pages, mapped_runs, ArePlaced};
 
 use ddc_base::OutOfMemory;
 use paged_mem::{PAGE, Ram, StoreRefusal};
@@ -36,18 +36,13 @@ pub fn are_mapped<R: Ram>(ram: &R, pages: &[Page<'_>]) -> bool
         .all(|page| ram.mapped(PAGE * u64::from(page.number), PAGE))
 }
 
-/// Whether all these pages have their 4,096 bytes.
-pub fn are_full(pages: &[Page<'_>]) -> bool
-    ensures { IsTrue result ↔ All (λ page. length page.bytes.now ≡ 4096) pages.now }
-{
-    pages.iter().all(|page| page.bytes.len() as u64 == PAGE)
-}
-
-/// Writes the bytes of pages that are mapped.
+/// Writes the bytes of pages that are mapped. Want of memory leaves the first so many of them written, and no part of another.
 pub fn fill_pages<R: Ram>(ram: &mut R, pages: &[Page<'_>]) -> Result<(), OutOfMemory>
     requires mapped { All (λ page. IsTrue (maps (R.bytes ram.old) (4096 * page.number) 4096)) pages.now }
     requires full { All (λ page. length page.bytes.now ≡ 4096) pages.now }
-    ensures { OnOk result (R.bytes ram.new ≡ filled_on (R.bytes ram.old) (map page_view pages.now)) }
+    // Where two of them are one page, the later one stands.
+    ensures ok { OnOk result (R.bytes ram.new ≡ with_pages (R.bytes ram.old) (reverse (map page_view pages.now))) }
+    ensures err { OnErr result ((count : ℕ) × (R.bytes ram.new ≡ with_pages (R.bytes ram.old) (reverse (map page_view (take count pages.now))))) }
 {
     for page in pages {
         match ram.write_from(PAGE * u64::from(page.number), page.bytes) {

@@ -21,15 +21,20 @@ goes_on {A} {S} item next s after_x front count i left x after total lt h is so_
     let one : with_front front (several item next s (count - i) left) ≡ with_front (front ++ x ∷ []) (several item next (next x) (count - (i + 1)) after) = rw (k, h) (regroup front x (several item next (next x) (count - (i + 1)) after)) in
     ap (λ (t : S). with_front (front ++ x ∷ []) (several item next t (count - (i + 1)) after)) (sym is) ∙ sym one ∙ so_far
 
--- an item that fails ends it
-pub fails : {A S : Type 0} (item : S → Reader A) (next : A → S) (s : S) (e : Stop) (front : List A) (count i : ℕ) (left : List ℕ) (total : Read (List A)) → i < count → FailsField e (item s left)
-    → with_front front (several item next s (count - i) left) ≡ total → FailsField e total
+-- a wrong item ends it
+pub stops : {A S : Type 0} (item : S → Reader A) (next : A → S) (s : S) (at : ℕ) (front : List A) (count i : ℕ) (left : List ℕ) (total : Read (List A)) → i < count → item s left ≡ Err at
+    → with_front front (several item next s (count - i) left) ≡ total → total ≡ Err at
 unfolding several
-fails item next s stop.OutOfMemory front count i left total lt h so_far = tt
-fails item next s (stop.Wrong at) front count i left total lt h so_far =
+stops item next s at front count i left total lt h so_far =
     let k : count - i ≡ suc (count - (i + 1)) = omega arith in
     let one : with_front front (several item next s (count - i) left) ≡ Err at = rw (k, h) refl in
     sym so_far ∙ one
+
+-- an item that fails ends it
+pub fails : {A S : Type 0} (item : S → Reader A) (next : A → S) (s : S) (e : Stop) (front : List A) (count i : ℕ) (left : List ℕ) (total : Read (List A)) → i < count → FailsField e (item s left)
+    → with_front front (several item next s (count - i) left) ≡ total → FailsField e total
+fails item next s stop.OutOfMemory front count i left total lt h so_far = tt
+fails item next s (stop.Wrong at) front count i left total lt h so_far = stops item next s at front count i left total lt h so_far
 
 pub is_done : {A S : Type 0} (item : S → Reader A) (next : A → S) (s : S) (front : List A) (count i : ℕ) (left : List ℕ) (total : Read (List A)) → count ≤ i → with_front front (several item next s (count - i) left) ≡ total → total ≡ Ok (front, left)
 unfolding several

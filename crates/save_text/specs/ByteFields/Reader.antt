@@ -2,6 +2,7 @@
 use Rattle.std.specs.Prelude.{◌≡◌, ℕ, zero, suc, ◌-◌, Bool, ◌==◌, nat_lt, nat_le, List, [], ◌∷◌, length, take, drop, slice_index, Result, Ok, Err, if◌then◌else◌}
 use Rattle.std.specs.Int.{Width, w16, w32, w64, byte_len, from_le_bytes}
 use Rattle.std.specs.Str.{bytes_eq}
+use Rattle.save_text.specs.declared.byte_fields.cursor.WrongField.{WrongField}
 use Rattle.save_text.specs.declared.byte_fields.cursor.Stop.{Stop}
 use Rattle.save_text.specs.declared.byte_fields.cursor.Stop.TheVariants.{Wrong, OutOfMemory}
 
@@ -100,7 +101,12 @@ placed_in size (Err left) = Err (size - left)
 abbrev pub whole : {A : Type 0} → Reader A → List ℕ → Result A ℕ
 whole field text = placed_in (length text) (ended (field text))
 
--- what a function returned, seen by view, with what it left, is what reading gives; want of memory aside
+-- what a function returned, seen by view, with what it left, is what reading gives
+abbrev pub Finds : {X Y : Type 0} → (X → Y) → Result X WrongField → List ℕ → Read Y → Type 0
+Finds view (Ok x) left read = read ≡ Ok (view x, left)
+Finds view (Err field) left read = read ≡ Err field.left
+
+-- the same of a function that takes memory; want of it aside
 abbrev pub FailsField : {Y : Type 0} → Stop → Read Y → Type 0
 FailsField (Wrong at) read = read ≡ Err at
 FailsField OutOfMemory read = Unit {0}

@@ -1,17 +1,31 @@
 ghost use Rattle.std.specs.Prelude.{◌≡◌, ℕ, List, length, nat_le, ◌≤◌, IfOk};
 ghost use Rattle.std.specs.Int.{w16, w32, w64};
-ghost use Rattle.save_text.specs.declared.byte_fields.cursor.Stop.TheVariants.{OutOfMemory};
-ghost use Rattle.save_text.specs.ByteFields.Reader.{GivesField, begun, byte, bytes, blob, number_of_width, u16, u32, u32_from, u64};
+ghost use Rattle.save_text.specs.declared.byte_fields.cursor.Stop.TheVariants.{OutOfMemory, Wrong};
+ghost use Rattle.save_text.specs.ByteFields.Reader.{Finds, begun, byte, bytes, blob, number_of_width, u16, u32, u32_from, u64};
 
 use std::alloc::{AllocError, AllocFailed};
 use std::marker::Model;
 
-/// Why a reader stops.
+/// A wrong field, by how many bytes were left at its first byte.
+#[derive(Clone, Copy, Debug)]
+pub struct WrongField {
+    pub left: usize,
+}
+
+/// Why a reader that takes memory stops.
 #[derive(Clone, Copy, Debug)]
 pub enum Stop {
     /// A wrong field, with how many bytes were left at its first byte.
     Wrong(usize),
     OutOfMemory,
+}
+
+impl From<WrongField> for Stop {
+    ghost from_gives = { λ field e. e ≡ Wrong field.left };
+
+    fn from(field: WrongField) -> Stop {
+        Stop::Wrong(field.left)
+    }
 }
 
 impl From<AllocError> for Stop {
@@ -68,11 +82,13 @@ impl<'a> Cursor<'a> {
 
     /// The next byte.
     #[tactic(auto, unfolding(crate::specs::ByteFields::Reader::byte))]
-    pub fn byte(&mut self) -> Result<u8, Stop>
-        ensures { GivesField (λ x. x) result self.new (byte self.old) }
+    pub fn byte(&mut self) -> Result<u8, WrongField>
+        ensures { Finds (λ x. x) result self.new (byte self.old) }
     {
         if self.left.len() < 1 {
-            return Err(Stop::Wrong(self.left.len()));
+            return Err(WrongField {
+                left: self.left.len(),
+            });
         }
         let value = self.left[0];
         self.left = &self.left[1..];
@@ -81,12 +97,14 @@ impl<'a> Cursor<'a> {
 
     /// The next `count` bytes.
     #[tactic(auto, unfolding(crate::specs::ByteFields::Reader::bytes))]
-    pub fn bytes(&mut self, count: usize) -> Result<&'a [u8], Stop>
-        ensures read { GivesField (λ x. x.now) result self.new (bytes count self.old) }
+    pub fn bytes(&mut self, count: usize) -> Result<&'a [u8], WrongField>
+        ensures read { Finds (λ x. x.now) result self.new (bytes count self.old) }
         ensures long { IfOk result (λ x. length x.now ≡ count) }
     {
         if self.left.len() < count {
-            return Err(Stop::Wrong(self.left.len()));
+            return Err(WrongField {
+                left: self.left.len(),
+            });
         }
         let (front, rest) = self.left.split_at(count);
         self.left = rest;
@@ -94,24 +112,26 @@ impl<'a> Cursor<'a> {
     }
 
     /// The eight bytes that begin each text of a form.
-    pub fn begins_with(&mut self, magic: &[u8; 8]) -> Result<(), Stop>
-        ensures { GivesField (λ x. x) result self.new (begun magic.now self.old) }
+    pub fn begins_with(&mut self, magic: &[u8; 8]) -> Result<(), WrongField>
+        ensures { Finds (λ x. x) result self.new (begun magic.now self.old) }
     {
         let start = self.len();
         let found = self.bytes(8)?;
         if found != magic.as_slice() {
-            return Err(Stop::Wrong(start));
+            return Err(WrongField { left: start });
         }
         Ok(())
     }
 
     /// A number of 2 bytes.
     #[tactic(auto, unfolding(crate::specs::ByteFields::Reader::number_of_width))]
-    pub fn u16(&mut self) -> Result<u16, Stop>
-        ensures { GivesField (λ x. x) result self.new (u16 self.old) }
+    pub fn u16(&mut self) -> Result<u16, WrongField>
+        ensures { Finds (λ x. x) result self.new (u16 self.old) }
     {
         if self.left.len() < 2 {
-            return Err(Stop::Wrong(self.left.len()));
+            return Err(WrongField {
+                left: self.left.len(),
+            });
         }
         let (f, rest) = self.left.split_at(2);
         let number = u16::from_le_bytes([f[0], f[1]]);
@@ -121,11 +141,13 @@ impl<'a> Cursor<'a> {
 
     /// A number of 4 bytes.
     #[tactic(auto, unfolding(crate::specs::ByteFields::Reader::number_of_width))]
-    pub fn u32(&mut self) -> Result<u32, Stop>
-        ensures { GivesField (λ x. x) result self.new (u32 self.old) }
+    pub fn u32(&mut self) -> Result<u32, WrongField>
+        ensures { Finds (λ x. x) result self.new (u32 self.old) }
     {
         if self.left.len() < 4 {
-            return Err(Stop::Wrong(self.left.len()));
+            return Err(WrongField {
+                left: self.left.len(),
+            });
         }
         let (f, rest) = self.left.split_at(4);
         let number = u32::from_le_bytes([f[0], f[1], f[2], f[3]]);
@@ -134,24 +156,26 @@ impl<'a> Cursor<'a> {
     }
 
     /// A number of 4 bytes that is at least `least`.
-    pub fn u32_from(&mut self, least: u64) -> Result<u32, Stop>
-        ensures { GivesField (λ x. x) result self.new (u32_from least self.old) }
+    pub fn u32_from(&mut self, least: u64) -> Result<u32, WrongField>
+        ensures { Finds (λ x. x) result self.new (u32_from least self.old) }
     {
         let at = self.len();
         let number = self.u32()?;
         if u64::from(number) < least {
-            return Err(Stop::Wrong(at));
+            return Err(WrongField { left: at });
         }
         Ok(number)
     }
 
     /// A number of 8 bytes.
     #[tactic(auto, unfolding(crate::specs::ByteFields::Reader::number_of_width))]
-    pub fn u64(&mut self) -> Result<u64, Stop>
-        ensures { GivesField (λ x. x) result self.new (u64 self.old) }
+    pub fn u64(&mut self) -> Result<u64, WrongField>
+        ensures { Finds (λ x. x) result self.new (u64 self.old) }
     {
         if self.left.len() < 8 {
-            return Err(Stop::Wrong(self.left.len()));
+            return Err(WrongField {
+                left: self.left.len(),
+            });
         }
         let (f, rest) = self.left.split_at(8);
         let number = u64::from_le_bytes([f[0], f[1], f[2], f[3], f[4], f[5], f[6], f[7]]);
@@ -161,8 +185,8 @@ impl<'a> Cursor<'a> {
 
     /// A length of 2 bytes, and that many bytes.
     #[tactic(auto, unfolding(crate::specs::ByteFields::Reader::blob))]
-    pub fn blob16(&mut self) -> Result<&'a [u8], Stop>
-        ensures { GivesField (λ x. x.now) result self.new (blob w16 self.old) }
+    pub fn blob16(&mut self) -> Result<&'a [u8], WrongField>
+        ensures { Finds (λ x. x.now) result self.new (blob w16 self.old) }
     {
         let count = self.u16()?;
         self.bytes(count as usize)
@@ -170,8 +194,8 @@ impl<'a> Cursor<'a> {
 
     /// A length of 4 bytes, and that many bytes.
     #[tactic(auto, unfolding(crate::specs::ByteFields::Reader::blob))]
-    pub fn blob32(&mut self) -> Result<&'a [u8], Stop>
-        ensures { GivesField (λ x. x.now) result self.new (blob w32 self.old) }
+    pub fn blob32(&mut self) -> Result<&'a [u8], WrongField>
+        ensures { Finds (λ x. x.now) result self.new (blob w32 self.old) }
     {
         let count = self.u32()?;
         self.bytes(count as usize)

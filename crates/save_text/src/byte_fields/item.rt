@@ -1,9 +1,10 @@
-ghost use Rattle.std.specs.Prelude.{◌≡◌, ◌<◌, ◌^◌, ℕ, List, ◌++◌, All, OnOk, length, map};
+ghost use Rattle.std.specs.Prelude.{◌≡◌, ◌<◌, ◌^◌, ℕ, List, ◌++◌, All, OnErr, OnOk, length, map};
+ghost use Rattle.std.specs.Io.{StartsWith};
 ghost use Rattle.save_text.specs.ByteFields.Reader.{Reader, GivesField, counted, several};
 ghost use Rattle.save_text.specs.ByteFields.Spelling.{list_text};
 
 use crate::byte_fields::cursor::{Cursor, Stop};
-use crate::byte_fields::spelling::put_u32;
+use crate::byte_fields::spelling::{all_or_none, put_u32};
 use ddc_base::{Bytes, OutOfMemory};
 use std::alloc::Global;
 
@@ -33,10 +34,22 @@ pub trait Item<'a>: Sized + Drop {
     fn least_after(&self) -> u64
         ensures { result ≡ next_least (seen self.now) };
 
-    /// Adds its text.
-    fn put(&self, out: &mut Bytes) -> Result<(), OutOfMemory>
+    /// Adds its text, of which want of memory may leave a part behind what was there.
+    fn add(&self, out: &mut Bytes) -> Result<(), OutOfMemory>
         requires { IsShort (seen self.now) }
-        ensures { OnOk result (out.new ≡ out.old ++ text (seen self.now)) };
+        ensures ok { OnOk result (out.new ≡ out.old ++ text (seen self.now)) }
+        ensures err { OnErr result (StartsWith out.new out.old) };
+
+    /// Adds its text, all or none.
+    final fn put(&self, out: &mut Bytes) -> Result<(), OutOfMemory>
+        requires { IsShort (seen self.now) }
+        ensures ok { OnOk result (out.new ≡ out.old ++ text (seen self.now)) }
+        ensures err { OnErr result (out.new ≡ out.old) }
+    {
+        let len = out.len();
+        let added = self.add(out);
+        all_or_none(out, len, added)
+    }
 }
 
 /// So many items, each read in the light of the one before it. No memory is taken by the count alone.
@@ -65,15 +78,29 @@ pub fn counted<'a, T: Item<'a>>(alloc: Global, cursor: &mut Cursor<'a>) -> Resul
     items(alloc, cursor, count)
 }
 
-/// Adds a count of 4 bytes, and the texts of these items.
-pub fn put_counted<'a, T: Item<'a>>(out: &mut Bytes, items: &[T]) -> Result<(), OutOfMemory>
+/// Adds a count of 4 bytes, and the texts of these items, of which want of memory may leave a part behind what was there.
+#[tactic(auto, using(crate::proofs::ByteFieldsLemmas::Kept::kept))]
+fn add_counted<'a, T: Item<'a>>(out: &mut Bytes, items: &[T]) -> Result<(), OutOfMemory>
     requires few { length items.now < 2 ^ 32 }
     requires short { All (λ item. T.IsShort (T.seen item)) items.now }
-    ensures { OnOk result (out.new ≡ out.old ++ list_text T.text (map T.seen items.now)) }
+    ensures ok { OnOk result (out.new ≡ out.old ++ list_text T.text (map T.seen items.now)) }
+    ensures err { OnErr result (StartsWith out.new out.old) }
 {
     put_u32(out, items.len() as u32)?;
     for item in items {
         item.put(out)?;
     }
     Ok(())
+}
+
+/// Adds a count of 4 bytes, and the texts of these items, all or none.
+pub fn put_counted<'a, T: Item<'a>>(out: &mut Bytes, items: &[T]) -> Result<(), OutOfMemory>
+    requires few { length items.now < 2 ^ 32 }
+    requires short { All (λ item. T.IsShort (T.seen item)) items.now }
+    ensures ok { OnOk result (out.new ≡ out.old ++ list_text T.text (map T.seen items.now)) }
+    ensures err { OnErr result (out.new ≡ out.old) }
+{
+    let len = out.len();
+    let added = add_counted(out, items);
+    all_or_none(out, len, added)
 }

@@ -1,12 +1,15 @@
 //! How each item of a list is read and written.
 
-ghost use Rattle.std.specs.Prelude.{◌≡◌, ◌++◌, ◌∷◌, ◌==◌, OnOk, nat_le};
+ghost use Rattle.std.specs.Prelude.{◌≡◌, ◌++◌, ◌∷◌, ◌==◌, OnErr, OnOk, nat_le};
+ghost use Rattle.std.specs.Io.{StartsWith};
 ghost use Rattle.std.specs.List.{list_all};
-ghost use Rattle.save_text.specs.ByteFields.Reader.{GivesField, byte, bytes, that};
+ghost use Rattle.save_text.specs.ByteFields.Reader.{Finds, byte, bytes, that};
 ghost use Rattle.save_text.specs.StateText.StateText.{access_at, access_of_code, are_flags, is_page, mode_of_code, slot_at};
 ghost use Rattle.save_text.specs.StateText.Spelled.{flags_of, kind_of, slot_text};
 
-use crate::byte_fields::{Cursor, Item, Stop, put_blob16, put_blob32, put_u32, put_u64};
+use crate::byte_fields::{
+    Cursor, Item, Stop, WrongField, put_blob16, put_blob32, put_u32, put_u64,
+};
 use crate::state_text::parts::{Descriptor, File, Page, Run};
 use ddc_base::{Bytes, OutOfMemory};
 use mem_files::{Access, Mode, Slot};
@@ -40,7 +43,8 @@ impl<'a> Item<'a> for Run {
         u64::from(self.first) + u64::from(self.pages) + 1
     }
 
-    fn put(&self, out: &mut Bytes) -> Result<(), OutOfMemory> {
+    #[tactic(auto, using(crate::proofs::ByteFieldsLemmas::Kept::kept))]
+    fn add(&self, out: &mut Bytes) -> Result<(), OutOfMemory> {
         put_u32(out, self.first)?;
         put_u32(out, self.pages)
     }
@@ -74,7 +78,8 @@ impl<'a> Item<'a> for Page<'a> {
         u64::from(self.number) + 1
     }
 
-    fn put(&self, out: &mut Bytes) -> Result<(), OutOfMemory> {
+    #[tactic(auto, using(crate::proofs::ByteFieldsLemmas::Kept::kept))]
+    fn add(&self, out: &mut Bytes) -> Result<(), OutOfMemory> {
         put_u32(out, self.number)?;
         out.extend(self.bytes)
     }
@@ -87,13 +92,13 @@ fn is_zero(bytes: &[u8]) -> bool
 }
 
 /// The bytes of a page.
-fn page_bytes<'a>(cursor: &mut Cursor<'a>) -> Result<&'a [u8], Stop>
-    ensures { GivesField (λ x. x.now) result cursor.new (that is_page (bytes 4096) cursor.old) }
+fn page_bytes<'a>(cursor: &mut Cursor<'a>) -> Result<&'a [u8], WrongField>
+    ensures { Finds (λ x. x.now) result cursor.new (that is_page (bytes 4096) cursor.old) }
 {
     let at = cursor.len();
     let bytes = cursor.bytes(4096)?;
     if is_zero(bytes) {
-        return Err(Stop::Wrong(at));
+        return Err(WrongField { left: at });
     }
     Ok(bytes)
 }
@@ -132,7 +137,8 @@ impl<'a> Item<'a> for File<'a> {
         u64::from(self.number) + 1
     }
 
-    fn put(&self, out: &mut Bytes) -> Result<(), OutOfMemory> {
+    #[tactic(auto, using(crate::proofs::ByteFieldsLemmas::Kept::kept))]
+    fn add(&self, out: &mut Bytes) -> Result<(), OutOfMemory> {
         put_u32(out, self.number)?;
         put_blob16(out, self.name.unwrap_or(&[]))?;
         put_blob32(out, self.content)
@@ -183,27 +189,28 @@ impl<'a> Item<'a> for Descriptor {
         u64::from(self.fd) + 1
     }
 
-    fn put(&self, out: &mut Bytes) -> Result<(), OutOfMemory> {
+    #[tactic(auto, using(crate::proofs::ByteFieldsLemmas::Kept::kept))]
+    fn add(&self, out: &mut Bytes) -> Result<(), OutOfMemory> {
         put_u32(out, self.fd)?;
         put_slot(out, self.slot)
     }
 }
 
-fn kind_of(cursor: &mut Cursor<'_>) -> Result<u8, Stop>
-    ensures { GivesField (λ x. x) result cursor.new (that (λ kind. nat_le kind 3) byte cursor.old) }
+fn kind_of(cursor: &mut Cursor<'_>) -> Result<u8, WrongField>
+    ensures { Finds (λ x. x) result cursor.new (that (λ kind. nat_le kind 3) byte cursor.old) }
 {
     let at = cursor.len();
     let kind = cursor.byte()?;
     if kind > 3 {
-        return Err(Stop::Wrong(at));
+        return Err(WrongField { left: at });
     }
     Ok(kind)
 }
 
 /// What a descriptor of this kind stands for.
 #[tactic(auto, unfolding(crate::specs::StateText::StateText::slot_at))]
-fn slot_of(cursor: &mut Cursor<'_>, kind: u8) -> Result<Slot, Stop>
-    ensures { GivesField (λ x. x) result cursor.new (slot_at kind cursor.old) }
+fn slot_of(cursor: &mut Cursor<'_>, kind: u8) -> Result<Slot, WrongField>
+    ensures { Finds (λ x. x) result cursor.new (slot_at kind cursor.old) }
 {
     match kind {
         0 => Ok(Slot::Input),
@@ -222,22 +229,22 @@ fn slot_of(cursor: &mut Cursor<'_>, kind: u8) -> Result<Slot, Stop>
     }
 }
 
-fn flags_at(cursor: &mut Cursor<'_>) -> Result<u8, Stop>
-    ensures { GivesField (λ x. x) result cursor.new (that are_flags byte cursor.old) }
+fn flags_at(cursor: &mut Cursor<'_>) -> Result<u8, WrongField>
+    ensures { Finds (λ x. x) result cursor.new (that are_flags byte cursor.old) }
 {
     let at = cursor.len();
     let flags = cursor.byte()?;
     if flags < 8 && flags % 4 != 0 {
         Ok(flags)
     } else {
-        Err(Stop::Wrong(at))
+        Err(WrongField { left: at })
     }
 }
 
 /// How a file may be used.
 #[tactic(auto, unfolding(crate::specs::StateText::StateText::access_at))]
-fn access_of(cursor: &mut Cursor<'_>) -> Result<Access, Stop>
-    ensures { GivesField (λ x. x) result cursor.new (access_at cursor.old) }
+fn access_of(cursor: &mut Cursor<'_>) -> Result<Access, WrongField>
+    ensures { Finds (λ x. x) result cursor.new (access_at cursor.old) }
 {
     let flags = flags_at(cursor)?;
     let mode = mode_of(flags % 4);
@@ -268,8 +275,10 @@ fn flags_of(access: Access) -> u8
     if access.appends { mode + 4 } else { mode }
 }
 
+#[tactic(auto, using(crate::proofs::ByteFieldsLemmas::Kept::kept))]
 fn put_slot(out: &mut Bytes, slot: Slot) -> Result<(), OutOfMemory>
-    ensures { OnOk result (out.new ≡ out.old ++ kind_of slot ∷ slot_text slot) }
+    ensures ok { OnOk result (out.new ≡ out.old ++ kind_of slot ∷ slot_text slot) }
+    ensures err { OnErr result (StartsWith out.new out.old) }
 {
     match slot {
         Slot::Input => out.push(0),

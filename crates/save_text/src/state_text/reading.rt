@@ -1,10 +1,10 @@
 ghost use Rattle.std.specs.Prelude.{◌≡◌, ◌≤◌, length, IfOk, Ok, Err};
-ghost use Rattle.save_text.specs.ByteFields.Reader.{GivesField, alike, u64};
+ghost use Rattle.save_text.specs.ByteFields.Reader.{Finds, GivesField, alike, u64};
 ghost use Rattle.save_text.specs.StateText.StateText.{StateText, body_at, parsed_state, heap_at, state_at};
 ghost use Rattle.save_text.specs.StateText.Spelled.{IsStateText, text_of_state};
 ghost use Rattle.save_text.specs.StateText.Seen.{ReadsStateText, state_view};
 
-use crate::byte_fields::{Cursor, Stop, counted};
+use crate::byte_fields::{Cursor, Stop, WrongField, counted};
 use crate::state_text::parts::Parts;
 use linux_calls::Heap;
 use std::alloc::Global;
@@ -20,8 +20,8 @@ pub enum TextRefusal {
     OutOfMemory,
 }
 
-fn registers_of(cursor: &mut Cursor<'_>) -> Result<[u64; 31], Stop>
-    ensures { GivesField (λ x. x) result cursor.new (alike u64 31 cursor.old) }
+fn registers_of(cursor: &mut Cursor<'_>) -> Result<[u64; 31], WrongField>
+    ensures { Finds (λ x. x) result cursor.new (alike u64 31 cursor.old) }
 {
     let mut registers = [0; 31];
     for index in 0..31usize {
@@ -31,8 +31,8 @@ fn registers_of(cursor: &mut Cursor<'_>) -> Result<[u64; 31], Stop>
 }
 
 #[tactic(auto, unfolding(crate::specs::StateText::StateText::heap_at))]
-fn heap_of(cursor: &mut Cursor<'_>) -> Result<Heap, Stop>
-    ensures { GivesField (λ x. x) result cursor.new (heap_at cursor.old) }
+fn heap_of(cursor: &mut Cursor<'_>) -> Result<Heap, WrongField>
+    ensures { Finds (λ x. x) result cursor.new (heap_at cursor.old) }
 {
     let first = cursor.u64()?;
     let now = cursor.u64()?;

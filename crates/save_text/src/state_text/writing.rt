@@ -1,17 +1,20 @@
-ghost use Rattle.std.specs.Prelude.{◌≡◌, ◌<◌, ◌^◌, ◌++◌, All, OnOk, IfOk, length, map};
-ghost use Rattle.save_text.specs.ByteFields.Spelling.{list_text};
-ghost use Rattle.save_text.specs.StateText.Spelled.{IsShortFile, IsStateText, body_text, file_text, heap_text, text_of_state, u64s};
+ghost use Rattle.std.specs.Prelude.{◌≡◌, ◌<◌, ◌^◌, ◌++◌, All, OnErr, OnOk, length, map};
+ghost use Rattle.std.specs.Io.{StartsWith};
+ghost use Rattle.std.specs.Int.{w64};
+ghost use Rattle.save_text.specs.ByteFields.Spelling.{list_text, number_text};
+ghost use Rattle.save_text.specs.StateText.Spelled.{IsShortFile, IsStateText, body_text, descriptor_text, file_text, heap_text, page_text, run_text, text_of_state, u64s};
 ghost use Rattle.save_text.specs.StateText.Seen.{file_view, state_view};
 
-use crate::byte_fields::{put_blob32, put_counted, put_u64};
+use crate::byte_fields::{all_or_none, put_blob32, put_counted, put_u64};
 use crate::state_text::parts::{File, Parts};
 use crate::state_text::reading::MAGIC;
 use ddc_base::{Bytes, OutOfMemory};
 use linux_calls::Heap;
-use std::alloc::Global;
 
+#[tactic(auto, using(crate::proofs::ByteFieldsLemmas::Kept::kept))]
 fn put_registers(out: &mut Bytes, registers: &[u64]) -> Result<(), OutOfMemory>
-    ensures { OnOk result (out.new ≡ out.old ++ u64s registers.now) }
+    ensures ok { OnOk result (out.new ≡ out.old ++ u64s registers.now) }
+    ensures err { OnErr result (StartsWith out.new out.old) }
 {
     for register in registers {
         put_u64(out, *register)?;
@@ -19,8 +22,10 @@ fn put_registers(out: &mut Bytes, registers: &[u64]) -> Result<(), OutOfMemory>
     Ok(())
 }
 
+#[tactic(auto, using(crate::proofs::ByteFieldsLemmas::Kept::kept))]
 fn put_heap(out: &mut Bytes, heap: Heap) -> Result<(), OutOfMemory>
-    ensures { OnOk result (out.new ≡ out.old ++ heap_text heap) }
+    ensures ok { OnOk result (out.new ≡ out.old ++ heap_text heap) }
+    ensures err { OnErr result (StartsWith out.new out.old) }
 {
     put_u64(out, heap.first)?;
     put_u64(out, heap.now)?;
@@ -30,45 +35,70 @@ fn put_heap(out: &mut Bytes, heap: Heap) -> Result<(), OutOfMemory>
 fn put_files(out: &mut Bytes, files: &[File<'_>]) -> Result<(), OutOfMemory>
     requires few { length files.now < 2 ^ 32 }
     requires short { All (λ f. IsShortFile (file_view f)) files.now }
-    ensures { OnOk result (out.new ≡ out.old ++ list_text file_text (map file_view files.now)) }
+    ensures ok { OnOk result (out.new ≡ out.old ++ list_text file_text (map file_view files.now)) }
+    ensures err { OnErr result (out.new ≡ out.old) }
 {
     put_counted(out, files)
 }
 
-/// What stands behind the magic.
-#[tactic(auto, using(crate::proofs::StateTextLemmas::Written::written), unfolding(crate::specs::StateText::Spelled::body_text))]
-fn put_body(out: &mut Bytes, parts: &Parts<'_>) -> Result<(), OutOfMemory>
-    requires { IsStateText (state_view parts.now) }
-    ensures { OnOk result (out.new ≡ out.old ++ body_text (state_view parts.now)) }
+/// The numbers behind the magic.
+#[tactic(auto, using(crate::proofs::StateTextLemmas::Written::written, crate::proofs::ByteFieldsLemmas::Kept::kept))]
+fn put_numbers(out: &mut Bytes, parts: &Parts<'_>) -> Result<(), OutOfMemory>
+    ensures ok { OnOk result (out.new ≡ out.old ++ (number_text w64 parts.now.steps ++ (number_text w64 parts.now.pc
+        ++ (u64s parts.now.registers ++ heap_text parts.now.heap)))) }
+    ensures err { OnErr result (StartsWith out.new out.old) }
 {
     put_u64(out, parts.steps)?;
     put_u64(out, parts.pc)?;
     put_registers(out, &parts.registers)?;
-    put_heap(out, parts.heap)?;
+    put_heap(out, parts.heap)
+}
+
+/// The lists behind the numbers.
+#[tactic(auto, using(crate::proofs::StateTextLemmas::Written::written, crate::proofs::ByteFieldsLemmas::Kept::kept))]
+fn put_lists(out: &mut Bytes, parts: &Parts<'_>) -> Result<(), OutOfMemory>
+    requires { IsStateText (state_view parts.now) }
+    ensures ok { OnOk result (out.new ≡ out.old ++ (list_text run_text (state_view parts.now).runs ++ (list_text page_text (state_view parts.now).pages
+        ++ (list_text file_text (state_view parts.now).files ++ list_text descriptor_text (state_view parts.now).descriptors)))) }
+    ensures err { OnErr result (StartsWith out.new out.old) }
+{
     put_counted(out, &parts.runs)?;
     put_counted(out, &parts.pages)?;
     put_files(out, parts.files.as_slice())?;
-    put_counted(out, &parts.descriptors)?;
+    put_counted(out, &parts.descriptors)
+}
+
+/// What stands behind the magic.
+#[tactic(auto, using(crate::proofs::StateTextLemmas::Written::written, crate::proofs::ByteFieldsLemmas::Kept::kept), unfolding(crate::specs::StateText::Spelled::body_text))]
+fn put_body(out: &mut Bytes, parts: &Parts<'_>) -> Result<(), OutOfMemory>
+    requires { IsStateText (state_view parts.now) }
+    ensures ok { OnOk result (out.new ≡ out.old ++ body_text (state_view parts.now)) }
+    ensures err { OnErr result (StartsWith out.new out.old) }
+{
+    put_numbers(out, parts)?;
+    put_lists(out, parts)?;
     put_blob32(out, parts.stream1)?;
     put_blob32(out, parts.stream2)
 }
 
-/// Adds the text of a state.
-#[tactic(auto, using(crate::proofs::StateTextLemmas::Written::written))]
-pub fn put_parts(out: &mut Bytes, parts: &Parts<'_>) -> Result<(), OutOfMemory>
+/// Adds the text of a state, of which want of memory may leave a part behind what was there.
+#[tactic(auto, using(crate::proofs::StateTextLemmas::Written::written, crate::proofs::ByteFieldsLemmas::Kept::kept))]
+fn add_parts(out: &mut Bytes, parts: &Parts<'_>) -> Result<(), OutOfMemory>
     requires { IsStateText (state_view parts.now) }
-    ensures { OnOk result (out.new ≡ out.old ++ text_of_state (state_view parts.now)) }
+    ensures ok { OnOk result (out.new ≡ out.old ++ text_of_state (state_view parts.now)) }
+    ensures err { OnErr result (StartsWith out.new out.old) }
 {
     out.extend(&MAGIC)?;
     put_body(out, parts)
 }
 
-/// The one text of what a state says.
-pub fn write(alloc: Global, parts: &Parts<'_>) -> Result<Bytes, OutOfMemory>
+/// Adds the text of a state, all or none.
+pub fn put_parts(out: &mut Bytes, parts: &Parts<'_>) -> Result<(), OutOfMemory>
     requires { IsStateText (state_view parts.now) }
-    ensures { IfOk result (λ text. text ≡ text_of_state (state_view parts.now)) }
+    ensures ok { OnOk result (out.new ≡ out.old ++ text_of_state (state_view parts.now)) }
+    ensures err { OnErr result (out.new ≡ out.old) }
 {
-    let mut out = Bytes::new(alloc);
-    put_parts(&mut out, parts)?;
-    Ok(out)
+    let len = out.len();
+    let added = add_parts(out, parts);
+    all_or_none(out, len, added)
 }

@@ -37,18 +37,18 @@ fn lists_files(rt: HostRuntime) -> Result<(), Fail> {
     assert!(rt; files.place(b"a", b"xyz").is_ok());
     assert_eq!(rt; open(&rt, &mut files, b"b", 66 + 1024), 3);
     remove(&rt, &mut files, b"b");
-    let list = files_of(alloc, &files)?;
-    assert_eq!(rt; list.len(), 2);
-    assert_eq!(rt; list[0].number, 0);
-    assert!(rt; list[0].name == Some(b"a"));
-    assert!(rt; list[0].content == b"xyz".as_slice());
-    assert_eq!(rt; list[1].number, 1);
-    assert!(rt; list[1].name.is_none());
-    assert!(rt; list[1].content.is_empty());
-    let slots = slots_of(alloc, &files)?;
-    assert_eq!(rt; slots.len(), 4);
-    assert_eq!(rt; slots[0], (0, Slot::Input));
-    assert_eq!(rt; slots[3], (3, APPENDING));
+    let first = files.file_from(0).ok_or("a first file")?;
+    assert_eq!(rt; first.number, 0);
+    assert!(rt; first.name == Some(b"a"));
+    assert!(rt; first.content == b"xyz".as_slice());
+    let second = files.file_from(1).ok_or("a second file")?;
+    assert_eq!(rt; second.number, 1);
+    assert!(rt; second.name.is_none());
+    assert!(rt; second.content.is_empty());
+    assert!(rt; files.file_from(2).is_none());
+    assert_eq!(rt; files.slot_from(0), Some((0, Slot::Input)));
+    assert_eq!(rt; files.slot_from(3), Some((3, APPENDING)));
+    assert_eq!(rt; files.slot_from(4), None);
     Ok(())
 }
 

@@ -21,7 +21,7 @@ fn check<R: Ram>(rt: &impl Abort, alloc: std::alloc::Global) -> Result<(), Fail>
     assert_eq!(rt; listed[0].bytes.len(), 4096);
     let mut again: R = map_runs(alloc, &found)?;
     assert!(rt; are_mapped(&again, &listed));
-    assert!(rt; are_full(&listed));
+    assert!(rt; listed.iter().all(|page| page.bytes.len() == 4096));
     assert!(rt; fill_pages(&mut again, &listed).is_ok());
     assert_eq!(rt; again.load(4 * 4096 + 5, Width::W1), Some(120));
     assert_eq!(rt; again.load(6 * 4096, Width::W1), Some(0));

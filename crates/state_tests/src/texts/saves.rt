@@ -1,8 +1,10 @@
 use crate::texts::pieces::Piece::*;
 use crate::texts::pieces::*;
 use crate::texts::states::STATE;
-use save_text::state_text::TextRefusal;
-use save_text::{read, write};
+use ddc_base::Bytes;
+use save_text::byte_fields::put_counted;
+use save_text::state_text::{TextRefusal, put_parts};
+use save_text::{MAGIC, read};
 use std::alloc::{AllocError, Global};
 use std::process::Abort;
 use std::test::Fail;
@@ -100,11 +102,13 @@ fn a_cut_field_is_named(rt: HostRuntime) -> Result<(), Fail> {
 fn a_text_is_written_again(rt: HostRuntime) -> Result<(), Fail> {
     let whole = save(rt.alloc())?;
     let text = text_of(rt.alloc(), &whole)?;
-    let again = match read(rt.alloc(), &text) {
-        Ok(parts) => write(rt.alloc(), &parts).ok(),
-        Err(_) => None,
-    };
-    let again = again.ok_or("written")?;
+    let parts = read(rt.alloc(), &text).ok().ok_or("form")?;
+    let mut again = Bytes::new(rt.alloc());
+    again.extend(&MAGIC)?;
+    again.extend(&parts.recipe.0)?;
+    put_counted(&mut again, &parts.inputs)?;
+    put_counted(&mut again, &parts.done)?;
+    put_parts(&mut again, &parts.state)?;
     assert_eq!(rt; again.as_slice(), text.as_slice());
     Ok(())
 }

@@ -1,7 +1,7 @@
 use crate::texts::pieces::Piece::*;
 use crate::texts::pieces::*;
 use mem_files::{Access, Mode, Slot};
-use save_text::state_text::{TextRefusal, read, write};
+use save_text::state_text::{TextRefusal, put_parts, read};
 use std::alloc::Global;
 use std::process::Abort;
 use std::test::Fail;
@@ -252,11 +252,9 @@ fn descriptors_are_read(rt: HostRuntime) -> Result<(), Fail> {
 #[test]
 fn a_text_is_written_again(rt: HostRuntime) -> Result<(), Fail> {
     let text = text_of(rt.alloc(), STATE)?;
-    let again = match read(rt.alloc(), &text) {
-        Ok(parts) => write(rt.alloc(), &parts).ok(),
-        Err(_) => None,
-    };
-    let again = again.ok_or("written")?;
+    let parts = read(rt.alloc(), &text).ok().ok_or("form")?;
+    let mut again = Bytes::new(rt.alloc());
+    put_parts(&mut again, &parts)?;
     assert_eq!(rt; again.as_slice(), text.as_slice());
     Ok(())
 }

@@ -3,13 +3,13 @@ use Rattle.std.specs.Option.{option_copied}
 use Rattle.std.proofs.lemmas.Result.{err_from_is_err_and}
 use Rattle.report.specs.declared.types.LeftLine.{LeftLine}
 use Rattle.save_text.specs.SaveText.{after_left, saved_left_at}
-use Rattle.save_text.proofs.ByteFieldsLemmas.Loop.{goes_on, fails, is_done}
+use Rattle.save_text.proofs.ByteFieldsLemmas.Loop.{goes_on, is_done, stops}
 use Rattle.save_text.proofs.fields.left_of.Goals as goal
 
 pub returns-in_err-name : goal.returns-in_err-name
 returns-in_err-name c =
     let p = err_from_is_err_and c.from_residual.result c.from_residual.ensures.1 in
-    rw (p.1, p.2) (fails saved_left_at after_left (option_copied c.loop.last) c.in_err-name.field-0.0 c.loop.lines c.args.count c.loop.counter c.loop.cursor _ c.loop-test.true c.in_err-name.ensures c.loop.invariant)
+    rw (p.1, p.2) (stops saved_left_at after_left (option_copied c.loop.last) c.in_err-name.field-0.0.left c.loop.lines c.args.count c.loop.counter c.loop.cursor _ c.loop-test.true c.in_err-name.ensures c.loop.invariant)
 
 pub loop-preserved : goal.loop-preserved
 loop-preserved c =

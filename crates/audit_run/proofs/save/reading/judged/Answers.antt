@@ -1,8 +1,6 @@
-use Rattle.std.proofs.Common.{◌≡◌, true, false, Err, refl, sym, subst, ◌∙◌}
+use Rattle.std.proofs.Common.{◌≡◌, true, false, refl, sym, ◌∙◌}
 use Rattle.save_text.specs.Seen.{save_view}
-use Rattle.audit_run.specs.declared.save.reading.SaveRefusal.{SaveRefusal}
-use Rattle.audit_run.specs.Save.Saves.{Stands}
-use Rattle.audit_run.proofs.SaveLemmas.Exactly.{are_digests, same_digests}
+use Rattle.audit_run.proofs.SaveLemmas.Exactly.{are_digests, same_digests, stood}
 use Rattle.audit_run.proofs.save.reading.judged.Goals as goal
 
 pub returns-then-not-is_of-clause-resumes : goal.returns-then-not-is_of-clause-resumes
@@ -14,21 +12,9 @@ returns-then-not-is_of-clause-resumes c = (
       cc,
 )
 
-pub returns-in-Ok-place_of-clause-resumes : goal.returns-in-Ok-place_of-clause-resumes
-returns-in-Ok-place_of-clause-resumes c =
-    let is = c.if-not-is_of.ensures.0 refl in (
-      save_view c.in-Ok.parts,
-      c.in-Ok.ensures.exact,
-      record { same_recipe = is.0 ∙ c.digest-digest.ensures.value; same_inputs = same_digests c.in-Ok.parts.inputs.items c.args.inputs.now is.1 },
-      c.in-Ok-place_of.ensures.stands.0,
-      c.in-Ok-place_of.ensures.stands.1,
-    )
-
-pub returns-in-Err-State-clause-resumes : goal.returns-in-Err-State-clause-resumes
-returns-in-Err-State-clause-resumes c =
-    let is = c.if-not-is_of.ensures.0 refl in (
-      save_view c.in-Ok.parts,
-      c.in-Ok.ensures.exact,
-      record { same_recipe = is.0 ∙ c.digest-digest.ensures.value; same_inputs = same_digests c.in-Ok.parts.inputs.items c.args.inputs.now is.1 },
-      subst (λ (why : SaveRefusal). Stands c.args.recipe.now (save_view c.in-Ok.parts) (Err why)) c.in-Err-State.field-0-is c.in-Err-State.ensures.stands,
-    )
+pub returns-clause-resumes : goal.returns-clause-resumes
+returns-clause-resumes c =
+    let is = c.if-not-is_of.ensures.0 refl in
+    stood c.args.recipe.now c.args.inputs.now c.args.text.now (save_view c.in-Ok.parts) c.place_of.result c.in-Ok.ensures.exact
+    (record { same_recipe = is.0 ∙ c.digest-digest.ensures.value; same_inputs = same_digests c.in-Ok.parts.inputs.items c.args.inputs.now is.1 })
+    c.place_of.ensures.stands

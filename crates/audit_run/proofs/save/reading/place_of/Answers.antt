@@ -7,32 +7,32 @@ use Rattle.audit_run.proofs.SaveLemmas.Placed.{IsOrdered, each_ordered, present,
 use Rattle.audit_run.proofs.save.reading.place_of.Goals as goal
 
 pub are_done-requires : goal.are_done-requires
-are_done-requires c = subst (All IsOrdered) (sym (c.as_slice.ensures.value ∙ c.in-Ok.ensures)) (each_ordered c.args.parts.done.items 0 c.requires.stages.1)
+are_done-requires c = subst (All IsOrdered) (sym (c.as_slice.ensures.value ∙ c.in_ok-done.ensures)) (each_ordered c.args.parts.done.items 0 c.requires.stages.1)
 
 pub returns-then-not-are_done-clause-stands : goal.returns-then-not-are_done-clause-stands
 returns-then-not-are_done-clause-stands c = λ place.
-    let same : c.as_slice.result.now ≡ done_in (save_view c.args.parts) = c.as_slice.ensures.value ∙ c.in-Ok.ensures ∙ twice c.args.parts.done.items in
+    let same : c.as_slice.result.now ≡ done_in (save_view c.args.parts) = c.as_slice.ensures.value ∙ c.in_ok-done.ensures ∙ twice c.args.parts.done.items in
     let no : false ≡ true = c.if-not-are_done.ensures.1 (subst (AreDone c.args.recipe.now) (sym same) place.2.done) in
     cc
 
-pub returns-in-Ok-guest_of-clause-stands : goal.returns-in-Ok-guest_of-clause-stands
-returns-in-Ok-guest_of-clause-stands c =
+pub returns-in-Ok-clause-stands : goal.returns-in-Ok-clause-stands
+returns-in-Ok-clause-stands c =
     let recipe = c.args.recipe.now in
     let fs = done_in (save_view c.args.parts) in
-    let same : c.in-Ok.done.items ≡ fs = c.in-Ok.ensures ∙ twice c.args.parts.done.items in
+    let same : c.in_ok-done.done.items ≡ fs = c.in_ok-done.ensures ∙ twice c.args.parts.done.items in
     let stage = c.in-Some.stage.now in
     let low = c.if-state-stage.false in (
       (
         stage,
         drop (length fs + 1) recipe.stages,
         record {
-          left = present recipe c.as_slice-2.result.now (length c.as_slice-3.result.now) c.in-Ok.done.items fs stage (c.as_slice-2.ensures ∙ c.stages.ensures.value) (ap length c.as_slice-3.ensures.value) same c.in-Some.ensures.lookup.0 c.in-Some.ensures.lookup.1;
+          left = present recipe c.as_slice-2.result.now (length c.as_slice-3.result.now) c.in_ok-done.done.items fs stage (c.as_slice-2.ensures ∙ c.stages.ensures.value) (ap length c.as_slice-3.ensures.value) same c.in-Some.ensures.lookup.0 c.in-Some.ensures.lookup.1;
           done = subst (AreDone recipe) (c.as_slice.ensures.value ∙ same) (c.if-not-are_done.ensures.0 refl);
-          range = c.in-Ok-guest_of.ensures.0;
-          joined = c.in-Ok-guest_of.ensures.1;
+          range = c.in-Ok.ensures.0;
+          joined = c.in-Ok.ensures.1;
           within = omega (arith, low);
           heap = c.if-state-stage-2.false;
         },
       ),
-      λ i. at (same i) (c.in-Ok-guest_of.ensures.2 i),
+      λ i. at (same i) (c.in-Ok.ensures.2 i),
     )

@@ -2,8 +2,8 @@ use Rattle.std.proofs.Common.{◌≡◌, ℕ, ◌/◌, ◌^◌, Bool, true, fals
 use Rattle.std.specs.Ordering.{nat_cmp}
 use Rattle.std.specs.FinMap.{get, empty, get-empty}
 use Rattle.save_text.specs.declared.state_text.parts.Run.{Run}
-use Rattle.checkpoints.specs.MemoryParts.Canonical.{mapped_runs, in_runs}
-use Rattle.checkpoints.proofs.MemoryPartsLemmas.RunsAgain.{get-mapped_runs}
+use Rattle.checkpoints.specs.MemoryParts.Canonical.{mapped_runs}
+use Rattle.checkpoints.proofs.MemoryPartsLemmas.RunsAgain.{get-mapped_runs, in_runs}
 use Rattle.checkpoints.proofs.MemoryPartsLemmas.PagesAgain.{IsZeroed, pages_again}
 use Rattle.checkpoints.proofs.memory_parts.laws.filled_pages_are_the_pages.Goals as goal
 

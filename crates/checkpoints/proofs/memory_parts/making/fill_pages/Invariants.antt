@@ -1,11 +1,11 @@
-use Rattle.std.proofs.Common.{◌≡◌, ℕ, map, drop, is_some}
+use Rattle.std.proofs.Common.{◌≡◌, ℕ, map, take, is_some}
 use Rattle.std.specs.FinMap as finite
 use Rattle.save_text.specs.StateText.Seen.{page_view}
-use Rattle.checkpoints.specs.MemoryParts.Canonical.{filled_on}
+use Rattle.checkpoints.proofs.MemoryPartsLemmas.Filling.{filled_on}
 use Rattle.checkpoints.proofs.memory_parts.making.fill_pages.Given as goal
 
 abbrev pub invariant-loop-page : goal.invariant-loop-page
 invariant-loop-page g l = record {
-  written : filled_on (g.R.Ram.bytes l.ram) (map page_view (drop l.page-index l.pages)) ≡ filled_on (g.R.Ram.bytes l.fn.ram) (map page_view l.pages);
+  written : g.R.Ram.bytes l.ram ≡ filled_on (g.R.Ram.bytes l.fn.ram) (map page_view (take l.page-index l.pages));
   alike : (q : ℕ) → is_some (finite.get (g.R.Ram.bytes l.ram) q) ≡ is_some (finite.get (g.R.Ram.bytes l.fn.ram) q);
 }

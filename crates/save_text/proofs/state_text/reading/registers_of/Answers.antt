@@ -3,13 +3,13 @@ use Rattle.std.specs.Prelude.{slice_set}
 use Rattle.std.proofs.lemmas.Result.{err_from_is_err_and}
 use Rattle.std.proofs.lemmas.List.{take_more_set, length-set, take_all}
 use Rattle.save_text.specs.ByteFields.Reader.{u64}
-use Rattle.save_text.proofs.ByteFieldsLemmas.Loop.{goes_on, fails, is_done}
+use Rattle.save_text.proofs.ByteFieldsLemmas.Loop.{goes_on, is_done, stops}
 use Rattle.save_text.proofs.state_text.reading.registers_of.Goals as goal
 
 pub returns-in_err-registers : goal.returns-in_err-registers
 returns-in_err-registers c =
     let p = err_from_is_err_and c.from_residual.result c.from_residual.ensures.1 in
-    rw (p.1, p.2) (fails (λ (before : Unit {0}). u64) (λ n. tt) tt c.in_err-registers.field-0.0 (take c.loop-index.index c.loop-index.registers) 31 c.loop-index.index c.loop-index.cursor _ c.loop-index-test.true c.in_err-registers.ensures c.loop-index.invariant.read)
+    rw (p.1, p.2) (stops (λ (before : Unit {0}). u64) (λ n. tt) tt c.in_err-registers.field-0.0.left (take c.loop-index.index c.loop-index.registers) 31 c.loop-index.index c.loop-index.cursor _ c.loop-index-test.true c.in_err-registers.ensures c.loop-index.invariant.read)
 
 pub loop-index-preserved : goal.loop-index-preserved
 loop-index-preserved c =

@@ -1,7 +1,7 @@
 use Rattle.std.proofs.Common.{◌≡◌, ◌∙◌, sym, subst}
 use Rattle.mem_files.specs.Lists.{FileLists, AreInRange}
 use Rattle.checkpoints.specs.FileParts.Inside.Judged.{in_range}
-use Rattle.checkpoints.specs.FileParts.Views.{view_of}
+use Rattle.checkpoints.specs.FileParts.Inside.Views.{view_of}
 use Rattle.checkpoints.proofs.FilePartsLemmas.Meaning.{in_range-says, range-passes}
 use Rattle.checkpoints.proofs.file_parts.parts.FileParts.is_in_range.Goals as goal
 

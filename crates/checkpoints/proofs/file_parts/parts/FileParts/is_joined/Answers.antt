@@ -1,7 +1,7 @@
 use Rattle.std.proofs.Common.{◌≡◌, ◌∙◌, sym, subst}
 use Rattle.mem_files.specs.Lists.{FileLists, AreJoined}
 use Rattle.checkpoints.specs.FileParts.Inside.Judged.{are_joined}
-use Rattle.checkpoints.specs.FileParts.Views.{view_of}
+use Rattle.checkpoints.specs.FileParts.Inside.Views.{view_of}
 use Rattle.checkpoints.proofs.FilePartsLemmas.Meaning.{joined-says, joined-passes}
 use Rattle.checkpoints.proofs.file_parts.parts.FileParts.is_joined.Goals as goal
 

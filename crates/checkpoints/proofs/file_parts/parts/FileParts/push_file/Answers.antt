@@ -3,7 +3,7 @@ use Rattle.std.proofs.lemmas.List.{map-append}
 use Rattle.std.proofs.lemmas.List.Elements.{All-from_get_or}
 use Rattle.mem_files.specs.declared.view.FileView.{FileView}
 use Rattle.mem_files.specs.Lists.{FileLists, ListedFile, listed}
-use Rattle.checkpoints.specs.FileParts.Views.{AreParts, view_of}
+use Rattle.checkpoints.specs.FileParts.Inside.Views.{AreParts, view_of}
 use Rattle.checkpoints.proofs.FilePartsLemmas.Pushes.{file_pushed}
 use Rattle.checkpoints.proofs.file_parts.parts.FileParts.push_file.Goals as goal
 

@@ -1,5 +1,5 @@
 use Rattle.std.proofs.Common.{All, ◌<◌, sym, subst}
-use Rattle.checkpoints.specs.FileParts.Views.{AreParts, view_of}
+use Rattle.checkpoints.specs.FileParts.Inside.Views.{AreParts, view_of}
 use Rattle.checkpoints.proofs.FilePartsLemmas.Pushes.{slot_pushed}
 use Rattle.checkpoints.proofs.file_parts.parts.FileParts.push_slot.Goals as goal
 

@@ -1,5 +1,5 @@
 -- Parts as contracts see them: three lists.
-use Rattle.std.specs.Prelude.{ℕ, ◌≤◌, Option, List, [], map, length, All, IfSome, IsTrue, refl}
+use Rattle.std.specs.Prelude.{ℕ, ◌≤◌, Option, List, map, length, All, IfSome, IsTrue, refl}
 use Rattle.std.specs.Ordering.{nat_cmp}
 use Rattle.std.specs.FinMap as fin
 use Rattle.std.specs.Borrow.{Bor}
@@ -12,9 +12,6 @@ use Rattle.mem_files.specs.Lists.{ListedFile, FileLists, listed, numbered_conten
 
 abbrev pub view_of : List FileView → List (ℕ × Slot) → List (Bor (List ℕ)) → FileLists
 view_of files slots streams = record { files = map listed files; slots = slots; streams = map (λ stream. stream.now) streams }
-
-abbrev pub empty_lists : FileLists
-empty_lists = record { files = []; slots = []; streams = [] }
 
 -- names and contents are bytes
 pub record HasBytes (file : ListedFile) : Type 0 where

@@ -1,0 +1,21 @@
+-- What becomes of the memory and of the files that a text says, each by itself.
+use Rattle.std.specs.Prelude.{◌≡◌, Result, Ok, Err}
+use Rattle.mem_files.specs.Lists.{AreInRange, AreJoined, FileLists, world_of}
+use Rattle.mem_files.specs.World.{World}
+use Rattle.save_text.specs.StateText.StateText.{StateText}
+use Rattle.checkpoints.specs.declared.file_parts.restoring.RestoreRefusal.{RestoreRefusal}
+use Rattle.checkpoints.specs.declared.file_parts.restoring.RestoreRefusal.TheVariants as restored
+use Rattle.checkpoints.specs.Checkpoint.{AreMappable, IsInMemory}
+
+-- why there is no memory; want of memory comes only where the runs can be mapped
+abbrev pub RefusesMemory : StateText → RestoreRefusal → Type 0
+RefusesMemory s restored.Range = ¬ (IsInMemory s)
+RefusesMemory s restored.FileRef = ⊥
+RefusesMemory s restored.OutOfMemory = AreMappable s.runs
+
+-- what becomes of the files that a text says; want of memory says nothing of them
+abbrev pub MakesFiles : FileLists → Result World RestoreRefusal → Type 0
+MakesFiles lists (Ok made) = AreInRange lists × AreJoined lists × (made ≡ world_of lists)
+MakesFiles lists (Err restored.Range) = ¬ (AreInRange lists)
+MakesFiles lists (Err restored.FileRef) = AreInRange lists × ¬ (AreJoined lists)
+MakesFiles lists (Err restored.OutOfMemory) = Unit {0}

@@ -1,0 +1,71 @@
+-- The rules of what a text says, as tests that compute. They are the rules (proofs/Decided.antt), so no promise rests on this file being read.
+use Rattle.std.specs.Prelude.{ℕ, zero, suc, ◌+◌, ◌-◌, ◌*◌, ◌%◌, ◌^◌, Bool, true, not, ◌&&◌, ◌==◌, nat_le, nat_lt, is_none, List, [], ◌∷◌, length, map, sum_by}
+use Rattle.std.specs.FinMap.{get}
+use Rattle.std.specs.List.{list_all}
+use Rattle.std.specs.Ordering.{eq_by_cmp}
+use Rattle.paged_mem.specs.Memory.{Memory, maps, page_up}
+use Rattle.mem_files.specs.Limits.{most_content, most_descriptors, most_names, most_total}
+use Rattle.mem_files.specs.Lists.{FileLists, is_listed, is_used, named}
+use Rattle.mem_files.specs.Names.{bytes_cmp, is_stripped_name}
+use Rattle.linux_calls.specs.declared.Heap.{Heap}
+use Rattle.guest_run.specs.Stack.{stack_end, stack_size}
+use Rattle.guest_run.specs.Valid.{pages_beside}
+use Rattle.save_text.specs.declared.state_text.parts.Run.{Run}
+use Rattle.save_text.specs.StateText.StateText.{StateText}
+use Rattle.checkpoints.specs.Checkpoint.{lists_in, mapped_of, memory_of}
+use Rattle.checkpoints.specs.FileParts.Inside.Judged.{is_slot_at}
+
+-- files
+
+abbrev pub are_bytes : List ℕ → Bool
+are_bytes bytes = list_all (λ byte. nat_lt byte 256) bytes
+
+abbrev pub is_content : List ℕ → Bool
+is_content content = are_bytes content && nat_le (length content) most_content
+
+abbrev pub are_distinct : {A : Type 0} → (A → A → Bool) → List A → Bool
+are_distinct same [] = true
+are_distinct same (x ∷ xs) = list_all (λ y. not (same x y)) xs && are_distinct same xs
+
+unfoldable pub are_files_in_range : FileLists → Bool
+are_files_in_range lists =
+    nat_le (length (named lists.files)) most_names
+    && (list_all (λ e. is_stripped_name e.0 && are_bytes e.0) (named lists.files)
+    && (are_distinct (eq_by_cmp bytes_cmp) (map (λ e. e.0) (named lists.files))
+    && (list_all (λ file. nat_lt file.number 5120) lists.files
+    && (list_all (λ file. is_content file.content) lists.files
+    && (list_all is_content lists.streams
+    && (nat_le (sum_by length lists.streams + sum_by (λ file. length file.content) lists.files) most_total
+    && (list_all (λ e. nat_lt e.0 most_descriptors) lists.slots && list_all (λ e. is_slot_at e.0 e.1) lists.slots)))))))
+
+-- memory
+
+abbrev pub is_free : Memory → ℕ → ℕ → Bool
+is_free m at zero = true
+is_free m at (suc count) = is_none (get m (at + count)) && is_free m at count
+
+unfoldable pub is_heap_of : Memory → Heap → Bool
+is_heap_of m heap =
+    heap.first % 4096 == 0
+    && (nat_le heap.limit (2 ^ 30)
+    && (nat_le heap.first heap.now
+    && (nat_le heap.now (heap.first + heap.limit)
+    && (nat_le (heap.first + heap.limit) (2 ^ 38 - 8388608)
+    && (maps m heap.first (page_up heap.now - heap.first) && is_free m (page_up heap.now) (page_up (heap.first + heap.limit) - page_up heap.now))))))
+
+unfoldable pub is_fit : Memory → Heap → Bool
+is_fit m heap = is_heap_of m heap && (maps m (stack_end - stack_size) stack_size && nat_le (pages_beside m heap) 67584)
+
+unfoldable pub are_mappable : List Run → Bool
+are_mappable runs = list_all (λ run. nat_le (run.first + run.pages) (2 ^ 26)) runs && nat_le (sum_by (λ run. run.pages) runs) 329_728
+
+unfoldable pub is_in_memory : StateText → Bool
+is_in_memory s = are_mappable s.runs && list_all (λ page. maps (mapped_of s) (4096 * page.number) 4096) s.pages
+
+-- states
+
+unfoldable pub is_in_range : StateText → Bool
+is_in_range s = s.pc % 4 == 0 && (is_in_memory s && (is_fit (memory_of s) s.heap && are_files_in_range (lists_in s)))
+
+unfoldable pub is_joined : StateText → Bool
+is_joined s = list_all (λ e. is_listed s.files e.1) s.descriptors && list_all (λ file. is_used s.descriptors file) s.files
