@@ -12,18 +12,18 @@ use Rattle.command_plan.proofs.Performing.{ends_answered, ends_at_fetch, goes_on
 
 -- ---- what follows a step, and what `?` hands on of one that ended the command
 
-pub goes_on_with : {A : Type 0} (plan : (A → Plan) → Plan) (next : A → Plan) (old mid new : ShelfState) (value : A) (result : Result Answer Stop)
+pub goes_on_with : {A : Type 0} {plan : (A → Plan) → Plan} {next : A → Plan} {old mid new : ShelfState} {value : A} {result : Result Answer Stop}
     → Obtains plan old mid (Ok value) → Performs (next value) mid new result → Performs (plan next) old new result
-goes_on_with plan next old mid new value result o p = o.by_result next new result p
+goes_on_with {A} {plan} {next} {old} {mid} {new} {value} {result} o p = o.by_result next new result p
 
-pub ends_before : {A : Type 0} (plan : (A → Plan) → Plan) (next : A → Plan) (old new : ShelfState) (ending : Stop)
+pub ends_before : {A : Type 0} {plan : (A → Plan) → Plan} {next : A → Plan} {old new : ShelfState} {ending : Stop}
     → Obtains plan old new (Err ending) → Performs (plan next) old new (Err ending)
-ends_before plan next old new ending o = o.by_result next
+ends_before {A} {plan} {next} o = o.by_result next
 
-pub ends_with : (plan : Plan) (old new : ShelfState) (ending : Stop) (result : Result Answer Stop) → IsErrAnd result (λ handed. handed ≡ ending)
+pub ends_with : {plan : Plan} {old new : ShelfState} {ending : Stop} {result : Result Answer Stop} → IsErrAnd result (λ handed. handed ≡ ending)
     → Performs plan old new (Err ending) → Performs plan old new result
-ends_with plan old new ending (Ok answer) handed p = absurd handed
-ends_with plan old new ending (Err given) handed p = subst (λ e. Performs plan old new (Err e)) (sym handed) p
+ends_with {result = Ok answer} handed p = absurd handed
+ends_with {plan} {old} {new} {result = Err given} handed p = subst (λ e. Performs plan old new (Err e)) (sym handed) p
 
 pub ruleset obtaining = (goes_on_with, ends_before)
 
@@ -61,17 +61,17 @@ module _ {A B E : Type 0} (meant : Result A E) (refuse : E → Plan) (view : A �
 
 -- ---- steps that make up one
 
-module _ {A B : Type 0} (first : (A → Plan) → Plan) (second : A → (B → Plan) → Plan) (old mid new : ShelfState) where
-  pub and_then : (value : A) (result : Result B Stop) → Obtains first old mid (Ok value) → Obtains (second value) mid new result
+module _ {A B : Type 0} {first : (A → Plan) → Plan} {second : A → (B → Plan) → Plan} {old mid new : ShelfState} where
+  pub and_then : {value : A} {result : Result B Stop} → Obtains first old mid (Ok value) → Obtains (second value) mid new result
       → Obtains (λ next. first (λ v. second v next)) old new result
-  and_then value (Ok found) f s = record { by_result = λ next final result p. f.by_result (λ v. second v next) final result (s.by_result next final result p) }
-  and_then value (Err ending) f s = record { by_result = λ next. f.by_result (λ v. second v next) new (Err ending) (s.by_result next) }
+  and_then {result = Ok found} f s = record { by_result = λ next final result p. f.by_result (λ v. second v next) final result (s.by_result next final result p) }
+  and_then {result = Err ending} f s = record { by_result = λ next. f.by_result (λ v. second v next) new (Err ending) (s.by_result next) }
 
-module _ {A B : Type 0} (first : (A → Plan) → Plan) (second : A → (B → Plan) → Plan) (old new : ShelfState) where
-  pub stops_before : (ending : Stop) → Obtains first old new (Err ending) → Obtains (λ next. first (λ v. second v next)) old new (Err ending)
-  stops_before ending f = record { by_result = λ next. f.by_result (λ v. second v next) }
+module _ {A B : Type 0} {first : (A → Plan) → Plan} {second : A → (B → Plan) → Plan} {old new : ShelfState} where
+  pub stops_before : {ending : Stop} → Obtains first old new (Err ending) → Obtains (λ next. first (λ v. second v next)) old new (Err ending)
+  stops_before f = record { by_result = λ next. f.by_result (λ v. second v next) }
 
-pub stops_with : {A : Type 0} (plan : (A → Plan) → Plan) (old new : ShelfState) (ending : Stop) (result : Result A Stop) → IsErrAnd result (λ handed. handed ≡ ending)
+pub stops_with : {A : Type 0} {plan : (A → Plan) → Plan} {old new : ShelfState} {ending : Stop} {result : Result A Stop} → IsErrAnd result (λ handed. handed ≡ ending)
     → Obtains plan old new (Err ending) → Obtains plan old new result
-stops_with plan old new ending (Ok value) handed o = absurd handed
-stops_with plan old new ending (Err given) handed o = subst (λ e. Obtains plan old new (Err e)) (sym handed) o
+stops_with {result = Ok value} handed o = absurd handed
+stops_with {plan} {old} {new} {result = Err given} handed o = subst (λ e. Obtains plan old new (Err e)) (sym handed) o

@@ -4,4 +4,4 @@ use Rattle.app_tests.proofs.copying.copy_twice.Goals as goal
 
 pub returns : goal.returns
 unfolding copied_twice
-returns g c = goes_on_with _ _ _ _ _ _ _ c.in_ok-content.ensures.obtained c.keep_twice.ensures
+returns g c = goes_on_with c.in_ok-content.ensures.obtained c.keep_twice.ensures

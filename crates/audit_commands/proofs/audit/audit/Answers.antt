@@ -6,18 +6,18 @@ use Rattle.audit_commands.proofs.audit.audit.Goals as goal
 
 pub returns-in_err-recipe : goal.returns-in_err-recipe
 unfolding audit_files
-returns-in_err-recipe g c = ends_with _ _ _ _ _ c.from_residual.ensures.1 (ends_before _ _ _ _ _ c.in_err-recipe.ensures)
+returns-in_err-recipe g c = ends_with c.from_residual.ensures.1 (ends_before c.in_err-recipe.ensures)
 
 pub returns-in_err-apart : goal.returns-in_err-apart
 unfolding audit_files
-returns-in_err-apart g c = ends_with _ _ _ _ _ c.from_residual-in_err-apart.ensures.1 (goes_on_with _ _ _ _ _ _ _ c.in_ok-recipe.ensures (ends_before _ _ _ _ _ (c.in_err-apart.ensures _)))
+returns-in_err-apart g c = ends_with c.from_residual-in_err-apart.ensures.1 (goes_on_with c.in_ok-recipe.ensures (ends_before (c.in_err-apart.ensures _)))
 
 pub returns-in_err-inputs : goal.returns-in_err-inputs
 unfolding audit_files
-returns-in_err-inputs g c = ends_with _ _ _ _ _ c.from_residual-in_err-inputs.ensures.1 (goes_on_with _ _ _ _ _ _ _ c.in_ok-recipe.ensures (goes_on_with _ _ _ _ _ _ _ (c.in_ok-apart.ensures _) (ends_before _ _ _ _ _ c.in_err-inputs.ensures.obtained)))
+returns-in_err-inputs g c = ends_with c.from_residual-in_err-inputs.ensures.1 (goes_on_with c.in_ok-recipe.ensures (goes_on_with (c.in_ok-apart.ensures _) (ends_before c.in_err-inputs.ensures.obtained)))
 
 pub returns : goal.returns
 unfolding audit_files
 returns g c =
     let begun = c.new-audit.result in
-    goes_on_with _ _ _ _ _ _ _ c.in_ok-recipe.ensures (goes_on_with _ _ _ _ _ _ _ (c.in_ok-apart.ensures _) (goes_on_with _ _ _ _ _ _ _ c.in_ok-inputs.ensures.obtained ((carried _ _ c.finish-progress.new.audit.recipe begun c.args.report.now _ _ _ c.finish-progress.ensures.recipe c.new-audit.ensures (c.conclude.ensures (bench begun.recipe begun.inputs) c.finish-progress.ensures.answer)))))
+    goes_on_with c.in_ok-recipe.ensures (goes_on_with (c.in_ok-apart.ensures _) (goes_on_with c.in_ok-inputs.ensures.obtained ((carried _ _ c.finish-progress.new.audit.recipe begun c.args.report.now _ _ _ c.finish-progress.ensures.recipe c.new-audit.ensures (c.conclude.ensures (bench begun.recipe begun.inputs) c.finish-progress.ensures.answer)))))

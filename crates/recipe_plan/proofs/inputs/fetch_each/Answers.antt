@@ -20,13 +20,13 @@ size_of-room-requires g c =
 
 pub returns-in_err-content-clause-obtained : goal.returns-in_err-content-clause-obtained
 returns-in_err-content-clause-obtained g c =
-    stops_with _ _ _ _ _ c.from_residual.ensures.1
+    stops_with c.from_residual.ensures.1
     (stops_at _ 268_435_456 c.loop-input.room c.min.result c.loop-input.contents (λ (input : Input). input.path) c.args.inputs.now c.loop-input.input-index c.input-item.result c.as_str.result.now
     _ _ _ _ c.loop-input.invariant.leads c.loop-input-test.true c.input-item.is c.as_str.ensures.value c.min.ensures c.in_err-content.ensures.fetched)
 
 pub returns-in_err-push-clause-obtained : goal.returns-in_err-push-clause-obtained
 returns-in_err-push-clause-obtained g c =
-    stops_with _ _ _ _ _ c.from_residual-in_err-push.ensures.1
+    stops_with c.from_residual-in_err-push.ensures.1
     (wants _ 268_435_456 _ _ _ _ _
     (goes_on _ 268_435_456 c.loop-input.room c.min.result c.loop-input.contents (λ (input : Input). input.path) c.args.inputs.now c.loop-input.input-index c.input-item.result c.as_str.result.now
     _ _ _ c.in_ok-content.content _ _ c.loop-input.invariant.leads c.loop-input-test.true c.input-item.is c.as_str.ensures.value c.min.ensures c.in_ok-content.ensures.fetched refl refl))

@@ -7,7 +7,7 @@ returns-in-Ok c = λ shelf. has_value c.args.language c.args.base c.args.source.
 
 pub returns-in_err-refuse-in-Err : goal.returns-in_err-refuse-in-Err
 returns-in_err-refuse-in-Err c = λ shelf.
-    stops_with _ _ _ _ _ c.from_residual.ensures.1 (value_wants c.args.language c.args.base c.args.source.now shelf c.in-Err.refusal _ c.in_err-refuse-in-Err.ensures)
+    stops_with c.from_residual.ensures.1 (value_wants c.args.language c.args.base c.args.source.now shelf c.in-Err.refusal _ c.in_err-refuse-in-Err.ensures)
 
 pub returns-in_ok-refuse-in-Err : goal.returns-in_ok-refuse-in-Err
 returns-in_ok-refuse-in-Err c = λ shelf. has_none c.args.language c.args.base c.args.source.now shelf c.in-Err.refusal _ c.in-Err.ensures c.in_ok-refuse-in-Err.ensures

@@ -5,13 +5,13 @@ use Rattle.tool_commands.proofs.hex0.hex0.Goals as goal
 
 pub returns-in_err-text : goal.returns-in_err-text
 unfolding hex0_files
-returns-in_err-text g c = ends_with _ _ _ _ _ c.from_residual.ensures.1 (ends_before _ _ _ _ _ c.in_err-text.ensures.obtained)
+returns-in_err-text g c = ends_with c.from_residual.ensures.1 (ends_before c.in_err-text.ensures.obtained)
 
 pub returns-in_err-bytes : goal.returns-in_err-bytes
 unfolding hex0_files
-returns-in_err-bytes g c = ends_with _ _ _ _ _ c.from_residual-in_err-bytes.ensures.1 (goes_on_with _ _ _ _ _ _ _ c.in_ok-text.ensures.obtained (ends_before _ _ _ _ _ c.in_err-bytes.ensures.obtained))
+returns-in_err-bytes g c = ends_with c.from_residual-in_err-bytes.ensures.1 (goes_on_with c.in_ok-text.ensures.obtained (ends_before c.in_err-bytes.ensures.obtained))
 
 pub returns : goal.returns
 unfolding hex0_files
 returns g c =
-    goes_on_with _ _ _ _ _ _ _ c.in_ok-text.ensures.obtained (goes_on_with _ _ _ _ _ _ _ c.in_ok-bytes.ensures.obtained ((says _ _ _ (rw (c.as_slice.ensures, c.as_slice-2.ensures) at c.compare.ensures))))
+    goes_on_with c.in_ok-text.ensures.obtained (goes_on_with c.in_ok-bytes.ensures.obtained (says _ _ _ (rw (c.as_slice.ensures, c.as_slice-2.ensures) at c.compare.ensures)))
