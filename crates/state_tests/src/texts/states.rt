@@ -1,5 +1,6 @@
 use crate::texts::pieces::Piece::*;
 use crate::texts::pieces::*;
+use ddc_base::Bytes;
 use mem_files::{Access, Mode, Slot};
 use save_text::state_text::{TextRefusal, put_parts, read};
 use std::alloc::Global;
