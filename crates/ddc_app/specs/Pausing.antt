@@ -67,7 +67,7 @@ abbrev pub LeavesOthers : List ℕ → List ℕ → NamedFiles → Outcome → T
 LeavesOthers save report files piece = (name : List ℕ) → name ≢ save → name ≢ report → map.get piece.files name ≡ map.get files name
 
 -- a piece that pauses leaves what is held as the report, and one at which the audit is over what is held as the save
-pub record LeavesUnwritten (save report : List ℕ) (files : Files) (piece : Outcome) : Type 0 where
+pub record LeavesUnwritten (save report : List ℕ) (files : NamedFiles) (piece : Outcome) : Type 0 where
   pub report_stays : piece.status ≡ Paused → map.get piece.files report ≡ map.get files report
   pub save_stays : piece.status ≢ Paused → map.get piece.files save ≡ map.get files save
 
