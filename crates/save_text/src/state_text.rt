@@ -12,5 +12,6 @@ mod writing;
 
 pub use listing::{descriptors_of, files_of};
 pub use parts::{Descriptor, File, Page, Parts, Run};
+pub(crate) use reading::pass_state;
 pub use reading::{TextRefusal, parts_at, read};
 pub use writing::put_parts;

@@ -3,9 +3,10 @@ ghost use Rattle.save_text.specs.ByteFields.Reader.{Finds, GivesField, alike, u6
 ghost use Rattle.save_text.specs.StateText.StateText.{StateText, body_at, parsed_state, heap_at, state_at};
 ghost use Rattle.save_text.specs.StateText.Spelled.{IsStateText, text_of_state};
 ghost use Rattle.save_text.specs.StateText.Seen.{ReadsStateText, state_view};
+ghost use Rattle.save_text.specs.Inside.Passing.{GoesPast, JudgesForm};
 
-use crate::byte_fields::{Cursor, Stop, WrongField, counted};
-use crate::state_text::parts::Parts;
+use crate::byte_fields::{Cursor, Stop, WrongField, counted, pass_counted};
+use crate::state_text::parts::{Descriptor, File, Page, Parts, Run};
 use linux_calls::Heap;
 use std::alloc::Global;
 
@@ -78,7 +79,51 @@ pub fn parts_at<'a>(alloc: Global, cursor: &mut Cursor<'a>) -> Result<Parts<'a>,
     body_of(alloc, cursor)
 }
 
+/// Goes past what stands behind the magic.
+#[tactic(auto, unfolding(crate::specs::StateText::StateText::body_at))]
+fn pass_body(cursor: &mut Cursor<'_>) -> Result<(), WrongField>
+    ensures { GoesPast result cursor.new (body_at cursor.old) }
+{
+    let _steps = cursor.u64()?;
+    let _pc = cursor.u64()?;
+    let _registers = registers_of(cursor)?;
+    let _heap = heap_of(cursor)?;
+    pass_counted::<Run>(cursor)?;
+    pass_counted::<Page<'_>>(cursor)?;
+    pass_counted::<File<'_>>(cursor)?;
+    pass_counted::<Descriptor>(cursor)?;
+    let _stream1 = cursor.blob32()?;
+    let _stream2 = cursor.blob32()?;
+    Ok(())
+}
+
+/// Goes past a state's text at the front of what is left.
+#[tactic(auto, unfolding(crate::specs::StateText::StateText::state_at))]
+pub(crate) fn pass_state(cursor: &mut Cursor<'_>) -> Result<(), WrongField>
+    ensures { GoesPast result cursor.new (state_at cursor.old) }
+{
+    cursor.begins_with(&MAGIC)?;
+    pass_body(cursor)
+}
+
+/// Whether a text has the form of a state's, all of it.
+#[tactic(auto, unfolding(crate::specs::StateText::StateText::parsed_state))]
+fn judge(text: &[u8]) -> Result<(), TextRefusal>
+    ensures { JudgesForm result (parsed_state text.now) }
+{
+    let mut cursor = Cursor::new(text);
+    match pass_state(&mut cursor) {
+        Ok(()) => {}
+        Err(field) => return Err(TextRefusal::Form((text.len() - field.left) as u64)),
+    }
+    match cursor.len() {
+        0 => Ok(()),
+        left => Err(TextRefusal::Form((text.len() - left) as u64)),
+    }
+}
+
 /// What the text of a state says. Each field is judged given those before it, so an offset is that of the first wrong one.
+/// The form is judged first, which takes no memory.
 pub fn read(alloc: Global, text: &[u8]) -> Result<Parts<'_>, TextRefusal>
     // What is read is spelled so.
     ensures found { IfOk result (λ p. IsStateText (state_view p) × (text.now ≡ text_of_state (state_view p))) }
@@ -94,14 +139,11 @@ pub fn read(alloc: Global, text: &[u8]) -> Result<Parts<'_>, TextRefusal>
 fn all(alloc: Global, text: &[u8]) -> Result<Parts<'_>, TextRefusal>
     ensures { ReadsStateText result (parsed_state text.now) }
 {
+    judge(text)?;
     let mut cursor = Cursor::new(text);
-    let parts = match parts_at(alloc, &mut cursor) {
-        Ok(parts) => parts,
-        Err(Stop::Wrong(left)) => return Err(TextRefusal::Form((text.len() - left) as u64)),
-        Err(Stop::OutOfMemory) => return Err(TextRefusal::OutOfMemory),
-    };
-    match cursor.len() {
-        0 => Ok(parts),
-        left => Err(TextRefusal::Form((text.len() - left) as u64)),
+    match parts_at(alloc, &mut cursor) {
+        Ok(parts) => Ok(parts),
+        Err(Stop::OutOfMemory) => Err(TextRefusal::OutOfMemory),
+        Err(Stop::Wrong(_)) => unreachable!(),
     }
 }
