@@ -15,7 +15,7 @@ pub fn few_pages()
         → sum_by (λ run. run.pages) s.runs ≤ 329_728 }
 {}
 
-/// The text of every valid state has at most 1,892,769,088 bytes.
+/// The text of every valid state has at most 1,892,769,097 bytes.
 pub fn texts_are_short()
-    ensures { (g : GuestState) → IsValid g → length (text_of_state (state_of g)) ≤ 1_892_769_088 }
+    ensures { (g : GuestState) → IsValid g → length (text_of_state (state_of g)) ≤ 1_892_769_097 }
 {}

@@ -11,6 +11,6 @@ mod reading;
 mod writing;
 
 pub use listing::{descriptors_of, files_of};
-pub use parts::{Descriptor, File, Page, Parts, Run};
-pub use reading::{TextRefusal, parts_at, read};
+pub use parts::{Descriptor, File, Page, Parts, Reserved, Run};
+pub use reading::{TextRefusal, parts_in, read};
 pub use writing::put_parts;
