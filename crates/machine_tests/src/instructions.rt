@@ -6,7 +6,7 @@ use std::test::Fail;
 /// Where the first word of the table stands: the addresses pass 2^64 - 1.
 const START: u64 = 0xffff_ffff_ffff_ff80;
 
-static ROWS: [(u32, &str); 77] = [
+static ROWS: [(u32, &str); 82] = [
     (0x00012537, "lui x10, 00012"),
     (0xffffff97, "auipc x31, fffff"),
     (0x000010ef, "jal x1, 0000000000000f88"),
@@ -84,11 +84,16 @@ static ROWS: [(u32, &str); 77] = [
     (0x0210000f, "fence"),
     (0x8330000f, "fence"),
     (0x41ff8fb3, "sub x31, x31, x31"),
+    (0x1005a52f, "lr.w x10, (x11)"),
+    (0x18d5a62f, "sc.w x12, x13, (x11)"),
+    (0x06c5b52f, "amoadd.d.aqrl x10, x12, (x11)"),
+    (0xe4c5a52f, "amomaxu.w.aq x10, x12, (x11)"),
+    (0x1205b52f, "lr.d.rl x10, (x11)"),
 ];
 
 /// Words of other extensions, and near misses of rows.
 static OTHERS: [u32; 35] = [
-    0x0000100f, 0x30001073, 0x003ff0f3, 0x100120af, 0x100130af, 0x183130af, 0x003120af, 0x00012087,
+    0x0000100f, 0x30001073, 0x003ff0f3, 0x101120af, 0x280130af, 0x183100af, 0x003140af, 0x00012087,
     0x00113427, 0x003170d3, 0x223170c3, 0x30200073, 0x10500073, 0x00850085, 0x90029002, 0x00000000,
     0xffffffff, 0x042081b3, 0x402091b3, 0x6220c1b3, 0x0420913b, 0x0220913b, 0x04111093, 0x44115093,
     0x0211109b, 0x4211509b, 0x0001209b, 0x00012063, 0x00017003, 0x00014023, 0x00011067, 0x000000f3,

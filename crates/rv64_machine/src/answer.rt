@@ -1,3 +1,5 @@
+use paged_mem::Width;
+
 /// Why a hart stopped. A trap leaves its state as it was.
 #[derive(Clone, Copy, Debug, PartialEq, Eq)]
 pub enum Cause {
@@ -26,4 +28,11 @@ pub enum StepEnd {
     Trap(Cause),
     /// A store found no memory for its bytes.
     OutOfMemory,
+}
+
+/// What a hart has reserved: the bytes of a width, 4 or 8, at an address that is a multiple of it.
+#[derive(Clone, Copy, Debug, PartialEq, Eq)]
+pub struct Reservation {
+    pub wide: Width,
+    pub at: u64,
 }

@@ -54,6 +54,10 @@ pub returns-in-59 : goal.returns-in-59
 unfolding table
 returns-in-59 c = c.op_32.ensures ∙ by_fields c.args.word 0x3B c.ranges.word.fits c.in-59.is refl
 
+pub returns-in-47 : goal.returns-in-47
+unfolding table
+returns-in-47 c = c.atomic.ensures ∙ by_fields c.args.word 0x2F c.ranges.word.fits c.in-47.is refl
+
 pub returns-in-115 : goal.returns-in-115
 returns-in-115 c = c.system.ensures ∙ ap (option_map (λ r. r.op)) (sym (row-rows_of c.args.word 0x73 c.in-115.is))
 
