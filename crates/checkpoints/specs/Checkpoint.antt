@@ -1,5 +1,5 @@
 -- The text of a guest's state, and the guest that a text says. docs/reference/save.md says the same for people.
-use Rattle.std.specs.Prelude.{◌≡◌, ◌*◌, ◌%◌, ◌+◌, ◌^◌, ◌≤◌, IsTrue, [], ◌∷◌, All, drop, sum_by, ℕ, List, Result, Ok, Err}
+use Rattle.std.specs.Prelude.{◌≡◌, ◌*◌, ◌%◌, ◌+◌, ◌^◌, ◌≤◌, IsOk, IsTrue, [], ◌∷◌, All, drop, sum_by, ℕ, List, Result, Ok, Err}
 use Rattle.std.specs.FinMap as finite
 use Rattle.paged_mem.specs.Memory.{Memory, maps}
 use Rattle.mem_files.specs.Lists.{AreInRange, AreJoined, FileLists, lists_of, world_of}
@@ -81,13 +81,13 @@ Becomes s (Err restored.Range) = ¬ (IsInRange s)
 Becomes s (Err restored.FileRef) = IsInRange s × ¬ (IsJoined s)
 Becomes s (Err restored.OutOfMemory) = (s.pc % 4 ≡ 0) × IsReservation s.reservation × AreMappable s.runs
 
--- what a text becomes: its form is judged first, then counts and ranges, then references
+-- what a text becomes: its form is judged first, then counts and ranges, then references. Want of memory comes only where the form holds
 abbrev pub ReadsState : List ℕ → Result GuestState StateRefusal → Type 0
 ReadsState text (Ok guest) = (s : StateText) × (parsed_state text ≡ Ok s) × IsInRange s × IsJoined s × (guest ≡ guest_of s)
 ReadsState text (Err (state.Form offset)) = parsed_state text ≡ Err offset
 ReadsState text (Err state.Range) = (s : StateText) × (parsed_state text ≡ Ok s) × ¬ (IsInRange s)
 ReadsState text (Err state.FileRef) = (s : StateText) × (parsed_state text ≡ Ok s) × IsInRange s × ¬ (IsJoined s)
-ReadsState text (Err state.OutOfMemory) = Unit {0}
+ReadsState text (Err state.OutOfMemory) = IsOk (parsed_state text)
 
 -- what is read of the text of this state
 abbrev pub IsReadAs : GuestState → Result GuestState StateRefusal → Type 0

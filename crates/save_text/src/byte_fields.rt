@@ -10,6 +10,7 @@ mod spelling;
 
 pub use cursor::{Cursor, Stop, WrongField};
 pub use form::TextForm;
+pub(crate) use item::pass_counted;
 pub use item::{Item, counted, items, put_counted};
 pub(crate) use spelling::all_or_none;
 pub use spelling::{put_blob16, put_blob32, put_u16, put_u32, put_u64};

@@ -12,5 +12,6 @@ mod writing;
 
 pub use listing::{descriptors_of, files_of};
 pub use parts::{Descriptor, File, Page, Parts, Reserved, Run};
-pub use reading::{TextRefusal, parts_in, read};
+pub(crate) use reading::{parts_in, pass_state_in};
+pub use reading::{TextRefusal, read};
 pub use writing::put_parts;

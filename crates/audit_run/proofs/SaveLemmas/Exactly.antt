@@ -135,6 +135,6 @@ pub stood : (recipe : Said) (inputs : List (List ℕ)) (text : List ℕ) (save :
     → parsed_save text ≡ Ok save → IsOf recipe inputs save → Stands recipe save result → Resumes recipe inputs text result
 stood recipe inputs text save (Ok p) is of stands = (save, is, of, stands.0, stands.1)
 stood recipe inputs text save (Err State) is of stands = (save, is, of, stands)
-stood recipe inputs text save (Err OutOfMemory) is of stands = tt
+stood recipe inputs text save (Err OutOfMemory) is of stands = rw is refl
 stood recipe inputs text save (Err (Form offset)) is of stands = absurd stands
 stood recipe inputs text save (Err OtherRecipe) is of stands = absurd stands

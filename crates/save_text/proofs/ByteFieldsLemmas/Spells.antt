@@ -1,5 +1,6 @@
 -- A reader and a spelling that fit each other, and how they are put together.
 use Rattle.std.proofs.Common.{◌≡◌, ◌⊎◌, ℕ, zero, suc, ◌+◌, ◌^◌, ◌<◌, ◌≤◌, Bool, true, false, cond, ltb, nat_le, eqb, List, [], ◌∷◌, ◌++◌, length, get_or, take, drop, Result, Ok, Err, refl, sym, ap, subst, ◌∙◌, append_assoc, arith, inl, inr}
+use Rattle.std.specs.Prelude.{IsOk}
 use Rattle.std.specs.List.{flat_map}
 use Rattle.std.specs.Int.{Width, w16, w32, w64, byte_len, from_le_bytes, to_le_bytes}
 use Rattle.std.proofs.lemmas.Bool.{cases_lt, ltb-false, le-ltb, leb-true, le-leb, eqb-true}
@@ -440,3 +441,13 @@ whole_again {A} {field} {text} s form x fits =
 pub rest_within : {A : Type 0} {field : Reader A} {text : TextForm → A → List ℕ} {F : TextForm → A → Type 0} → SpellsForms field text F → (bytes : List ℕ) (x : A) (rest : List ℕ) → AreBytes bytes → field bytes ≡ Ok (x, rest)
     → length rest ≤ length bytes
 rest_within {A} {field} {text} s bytes x rest fits e = let p = s.takes bytes x rest fits e in shorter bytes (text p.0 x) rest p.1
+
+-- ---- texts whose form holds
+
+-- what is read at the front of a text whose form holds is what the text says
+pub formed_so : {A : Type 0} (field : Reader A) (text : List ℕ) (x : A) (rest : List ℕ) → IsOk (whole field text) → field text ≡ Ok (x, rest) → whole field text ≡ Ok x
+formed_so {A} field text x rest formed is = rw is (by (eqb (length rest) 0) (rw is at formed))
+  where
+    by : (b : Bool) → IsOk (placed_in {A = A} (length text) (cond b (Ok x) (Err (length rest)))) → placed_in (length text) (cond b (Ok x) (Err (length rest))) ≡ Ok x
+    by true formed = refl
+    by false formed = cc

@@ -1,5 +1,5 @@
 -- What the code has, as the definitions see it.
-use Rattle.std.specs.Prelude.{◌≡◌, ℕ, map, option_map, Result, Ok, Err}
+use Rattle.std.specs.Prelude.{◌≡◌, ℕ, map, option_map, IsOk, Result, Ok, Err}
 use Rattle.std.specs.Option.{option_copied}
 use Rattle.mem_files.specs.Lists.{ListedFile}
 use Rattle.mem_files.specs.declared.slot.Slot.{Slot}
@@ -40,8 +40,8 @@ state_view p = record {
   stream2 = p.stream2.now;
 }
 
--- what was read is what the text says; want of memory says nothing of it
+-- what was read is what the text says; want of memory comes only where the text's form holds
 abbrev pub ReadsStateText : Result Parts TextRefusal → Result StateText ℕ → Type 0
 ReadsStateText (Ok p) read = read ≡ Ok (state_view p)
 ReadsStateText (Err (Form offset)) read = read ≡ Err offset
-ReadsStateText (Err OutOfMemory) read = Unit {0}
+ReadsStateText (Err OutOfMemory) read = IsOk read

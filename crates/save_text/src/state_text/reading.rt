@@ -1,11 +1,12 @@
 ghost use Rattle.std.specs.Prelude.{◌≡◌, ◌≤◌, length, option_map, IfOk, Ok, Err};
-ghost use Rattle.save_text.specs.ByteFields.Reader.{Finds, GivesField, alike, u64};
-ghost use Rattle.save_text.specs.StateText.StateText.{StateText, body_at, parsed_state, heap_at, reservation_at, state_at, state_in};
+ghost use Rattle.save_text.specs.ByteFields.Reader.{Finds, GivesField, alike, begun, u64};
+ghost use Rattle.save_text.specs.StateText.StateText.{StateText, body_at, parsed_state, heap_at, reservation_at, state_at, state_in, state_magic};
 ghost use Rattle.save_text.specs.StateText.Spelled.{IsStateText, IsTextOfState};
 ghost use Rattle.save_text.specs.StateText.Seen.{ReadsStateText, reserved_view, state_view};
+ghost use Rattle.save_text.specs.Inside.Passing.{GoesPast, JudgesForm};
 
-use crate::byte_fields::{Cursor, Stop, TextForm, WrongField, counted};
-use crate::state_text::parts::{Parts, Reserved};
+use crate::byte_fields::{Cursor, Stop, TextForm, WrongField, counted, pass_counted};
+use crate::state_text::parts::{Descriptor, File, Page, Parts, Reserved, Run};
 use linux_calls::Heap;
 use paged_mem::Width;
 use std::alloc::Global;
@@ -101,19 +102,26 @@ fn body_of<'a>(
     })
 }
 
+/// The eight bytes that begin a text of this form.
+fn begin(cursor: &mut Cursor<'_>, form: TextForm) -> Result<(), WrongField>
+    ensures { Finds (λ x. x) result cursor.new (begun (state_magic form) cursor.old) }
+{
+    match form {
+        TextForm::First => cursor.begins_with(&OLD_MAGIC),
+        TextForm::Second => cursor.begins_with(&MAGIC),
+    }
+}
+
 /// A state's text of this form at the front of what is left; one of the other form is wrong at its first byte.
 #[tactic(auto, unfolding(crate::specs::StateText::StateText::state_in))]
-pub fn parts_in<'a>(
+pub(crate) fn parts_in<'a>(
     alloc: Global,
     cursor: &mut Cursor<'a>,
     form: TextForm,
 ) -> Result<Parts<'a>, Stop>
     ensures { GivesField state_view result cursor.new (state_in form cursor.old) }
 {
-    match form {
-        TextForm::First => cursor.begins_with(&OLD_MAGIC)?,
-        TextForm::Second => cursor.begins_with(&MAGIC)?,
-    }
+    begin(cursor, form)?;
     body_of(alloc, cursor, form)
 }
 
@@ -126,7 +134,61 @@ fn parts_at<'a>(alloc: Global, cursor: &mut Cursor<'a>) -> Result<Parts<'a>, Sto
     body_of(alloc, cursor, form)
 }
 
+/// Goes past what stands behind the magic of a form.
+#[tactic(auto, unfolding(crate::specs::StateText::StateText::body_at))]
+fn pass_body(cursor: &mut Cursor<'_>, form: TextForm) -> Result<(), WrongField>
+    ensures { GoesPast result cursor.new (body_at form cursor.old) }
+{
+    let _steps = cursor.u64()?;
+    let _pc = cursor.u64()?;
+    let _registers = registers_of(cursor)?;
+    let _reservation = reservation_of(cursor, form)?;
+    let _heap = heap_of(cursor)?;
+    pass_counted::<Run>(cursor)?;
+    pass_counted::<Page<'_>>(cursor)?;
+    pass_counted::<File<'_>>(cursor)?;
+    pass_counted::<Descriptor>(cursor)?;
+    let _stream1 = cursor.blob32()?;
+    let _stream2 = cursor.blob32()?;
+    Ok(())
+}
+
+/// Goes past a state's text of this form at the front of what is left.
+#[tactic(auto, unfolding(crate::specs::StateText::StateText::state_in))]
+pub(crate) fn pass_state_in(cursor: &mut Cursor<'_>, form: TextForm) -> Result<(), WrongField>
+    ensures { GoesPast result cursor.new (state_in form cursor.old) }
+{
+    begin(cursor, form)?;
+    pass_body(cursor, form)
+}
+
+/// Goes past a state's text of either form at the front of what is left.
+#[tactic(auto, unfolding(crate::specs::StateText::StateText::state_at))]
+fn pass_state(cursor: &mut Cursor<'_>) -> Result<(), WrongField>
+    ensures { GoesPast result cursor.new (state_at cursor.old) }
+{
+    let form = cursor.begins_with_either(&OLD_MAGIC, &MAGIC)?;
+    pass_body(cursor, form)
+}
+
+/// Whether a text has the form of a state's, all of it.
+#[tactic(auto, unfolding(crate::specs::StateText::StateText::parsed_state))]
+fn judge(text: &[u8]) -> Result<(), TextRefusal>
+    ensures { JudgesForm result (parsed_state text.now) }
+{
+    let mut cursor = Cursor::new(text);
+    match pass_state(&mut cursor) {
+        Ok(()) => {}
+        Err(field) => return Err(TextRefusal::Form((text.len() - field.left) as u64)),
+    }
+    match cursor.len() {
+        0 => Ok(()),
+        left => Err(TextRefusal::Form((text.len() - left) as u64)),
+    }
+}
+
 /// What the text of a state says. Each field is judged given those before it, so an offset is that of the first wrong one.
+/// The form is judged first, which takes no memory.
 pub fn read(alloc: Global, text: &[u8]) -> Result<Parts<'_>, TextRefusal>
     // What is read is spelled so, in one of the two forms.
     ensures found { IfOk result (λ p. IsStateText (state_view p) × IsTextOfState (state_view p) text.now) }
@@ -142,14 +204,11 @@ pub fn read(alloc: Global, text: &[u8]) -> Result<Parts<'_>, TextRefusal>
 fn all(alloc: Global, text: &[u8]) -> Result<Parts<'_>, TextRefusal>
     ensures { ReadsStateText result (parsed_state text.now) }
 {
+    judge(text)?;
     let mut cursor = Cursor::new(text);
-    let parts = match parts_at(alloc, &mut cursor) {
-        Ok(parts) => parts,
-        Err(Stop::Wrong(left)) => return Err(TextRefusal::Form((text.len() - left) as u64)),
-        Err(Stop::OutOfMemory) => return Err(TextRefusal::OutOfMemory),
-    };
-    match cursor.len() {
-        0 => Ok(parts),
-        left => Err(TextRefusal::Form((text.len() - left) as u64)),
+    match parts_at(alloc, &mut cursor) {
+        Ok(parts) => Ok(parts),
+        Err(Stop::OutOfMemory) => Err(TextRefusal::OutOfMemory),
+        Err(Stop::Wrong(_)) => unreachable!(),
     }
 }
