@@ -1,135 +1,22 @@
-//! The atomic rows, beside what an independent machine did (qemu-riscv64 7.2) and by the rules of docs/reference/machine.md.
-use paged_mem::{PagedRam, Ram, Width};
+//! The atomic rows: beside what an independent machine did, and by the rules of docs/reference/machine.md where it has others.
+mod cases;
+
+use cases::{AMOS, PAIRS};
+use paged_mem::{FlatRam, PagedRam, Ram, Width};
 use rv64_machine::{Cause, Hart, Reservation, StepEnd};
 use std::process::Abort;
-use std::test::Fail;
 
-macro_rules! cases {
-    ($($word:literal $old:literal $b:literal $rd:literal $after:literal)*) => {
-        [$(($word, $old, $b, $rd, $after)),*]
-    };
-}
-
-/// A word, the 8 bytes at x11, the value of x12, what x10 takes, and the 8 bytes afterwards.
-static AMOS: [(u32, u64, u64, u64, u64); 108] = cases! {
-    0x08c5a52f 0x000000007fffffff 0x0000000000000001 0x000000007fffffff 0x0000000000000001
-    0x08c5a52f 0x0000000080000000 0x0000000000000001 0xffffffff80000000 0x0000000000000001
-    0x08c5a52f 0x00000000ffffffff 0x0000000100000000 0xffffffffffffffff 0x0000000000000000
-    0x08c5a52f 0x123456789abcdef0 0xfedcba9876543210 0xffffffff9abcdef0 0x1234567876543210
-    0x08c5a52f 0x8000000000000000 0x7fffffffffffffff 0x0000000000000000 0x80000000ffffffff
-    0x08c5a52f 0x0000000000000005 0xffffffffffffffff 0x0000000000000005 0x00000000ffffffff
-    0x00c5a52f 0x000000007fffffff 0x0000000000000001 0x000000007fffffff 0x0000000080000000
-    0x00c5a52f 0x0000000080000000 0x0000000000000001 0xffffffff80000000 0x0000000080000001
-    0x00c5a52f 0x00000000ffffffff 0x0000000100000000 0xffffffffffffffff 0x00000000ffffffff
-    0x00c5a52f 0x123456789abcdef0 0xfedcba9876543210 0xffffffff9abcdef0 0x1234567811111100
-    0x00c5a52f 0x8000000000000000 0x7fffffffffffffff 0x0000000000000000 0x80000000ffffffff
-    0x00c5a52f 0x0000000000000005 0xffffffffffffffff 0x0000000000000005 0x0000000000000004
-    0x20c5a52f 0x000000007fffffff 0x0000000000000001 0x000000007fffffff 0x000000007ffffffe
-    0x20c5a52f 0x0000000080000000 0x0000000000000001 0xffffffff80000000 0x0000000080000001
-    0x20c5a52f 0x00000000ffffffff 0x0000000100000000 0xffffffffffffffff 0x00000000ffffffff
-    0x20c5a52f 0x123456789abcdef0 0xfedcba9876543210 0xffffffff9abcdef0 0x12345678ece8ece0
-    0x20c5a52f 0x8000000000000000 0x7fffffffffffffff 0x0000000000000000 0x80000000ffffffff
-    0x20c5a52f 0x0000000000000005 0xffffffffffffffff 0x0000000000000005 0x00000000fffffffa
-    0x60c5a52f 0x000000007fffffff 0x0000000000000001 0x000000007fffffff 0x0000000000000001
-    0x60c5a52f 0x0000000080000000 0x0000000000000001 0xffffffff80000000 0x0000000000000000
-    0x60c5a52f 0x00000000ffffffff 0x0000000100000000 0xffffffffffffffff 0x0000000000000000
-    0x60c5a52f 0x123456789abcdef0 0xfedcba9876543210 0xffffffff9abcdef0 0x1234567812141210
-    0x60c5a52f 0x8000000000000000 0x7fffffffffffffff 0x0000000000000000 0x8000000000000000
-    0x60c5a52f 0x0000000000000005 0xffffffffffffffff 0x0000000000000005 0x0000000000000005
-    0x40c5a52f 0x000000007fffffff 0x0000000000000001 0x000000007fffffff 0x000000007fffffff
-    0x40c5a52f 0x0000000080000000 0x0000000000000001 0xffffffff80000000 0x0000000080000001
-    0x40c5a52f 0x00000000ffffffff 0x0000000100000000 0xffffffffffffffff 0x00000000ffffffff
-    0x40c5a52f 0x123456789abcdef0 0xfedcba9876543210 0xffffffff9abcdef0 0x12345678fefcfef0
-    0x40c5a52f 0x8000000000000000 0x7fffffffffffffff 0x0000000000000000 0x80000000ffffffff
-    0x40c5a52f 0x0000000000000005 0xffffffffffffffff 0x0000000000000005 0x00000000ffffffff
-    0x80c5a52f 0x000000007fffffff 0x0000000000000001 0x000000007fffffff 0x0000000000000001
-    0x80c5a52f 0x0000000080000000 0x0000000000000001 0xffffffff80000000 0x0000000080000000
-    0x80c5a52f 0x00000000ffffffff 0x0000000100000000 0xffffffffffffffff 0x00000000ffffffff
-    0x80c5a52f 0x123456789abcdef0 0xfedcba9876543210 0xffffffff9abcdef0 0x123456789abcdef0
-    0x80c5a52f 0x8000000000000000 0x7fffffffffffffff 0x0000000000000000 0x80000000ffffffff
-    0x80c5a52f 0x0000000000000005 0xffffffffffffffff 0x0000000000000005 0x00000000ffffffff
-    0xa0c5a52f 0x000000007fffffff 0x0000000000000001 0x000000007fffffff 0x000000007fffffff
-    0xa0c5a52f 0x0000000080000000 0x0000000000000001 0xffffffff80000000 0x0000000000000001
-    0xa0c5a52f 0x00000000ffffffff 0x0000000100000000 0xffffffffffffffff 0x0000000000000000
-    0xa0c5a52f 0x123456789abcdef0 0xfedcba9876543210 0xffffffff9abcdef0 0x1234567876543210
-    0xa0c5a52f 0x8000000000000000 0x7fffffffffffffff 0x0000000000000000 0x8000000000000000
-    0xa0c5a52f 0x0000000000000005 0xffffffffffffffff 0x0000000000000005 0x0000000000000005
-    0xc0c5a52f 0x000000007fffffff 0x0000000000000001 0x000000007fffffff 0x0000000000000001
-    0xc0c5a52f 0x0000000080000000 0x0000000000000001 0xffffffff80000000 0x0000000000000001
-    0xc0c5a52f 0x00000000ffffffff 0x0000000100000000 0xffffffffffffffff 0x0000000000000000
-    0xc0c5a52f 0x123456789abcdef0 0xfedcba9876543210 0xffffffff9abcdef0 0x1234567876543210
-    0xc0c5a52f 0x8000000000000000 0x7fffffffffffffff 0x0000000000000000 0x8000000000000000
-    0xc0c5a52f 0x0000000000000005 0xffffffffffffffff 0x0000000000000005 0x0000000000000005
-    0xe0c5a52f 0x000000007fffffff 0x0000000000000001 0x000000007fffffff 0x000000007fffffff
-    0xe0c5a52f 0x0000000080000000 0x0000000000000001 0xffffffff80000000 0x0000000080000000
-    0xe0c5a52f 0x00000000ffffffff 0x0000000100000000 0xffffffffffffffff 0x00000000ffffffff
-    0xe0c5a52f 0x123456789abcdef0 0xfedcba9876543210 0xffffffff9abcdef0 0x123456789abcdef0
-    0xe0c5a52f 0x8000000000000000 0x7fffffffffffffff 0x0000000000000000 0x80000000ffffffff
-    0xe0c5a52f 0x0000000000000005 0xffffffffffffffff 0x0000000000000005 0x00000000ffffffff
-    0x08c5b52f 0x000000007fffffff 0x0000000000000001 0x000000007fffffff 0x0000000000000001
-    0x08c5b52f 0x0000000080000000 0x0000000000000001 0x0000000080000000 0x0000000000000001
-    0x08c5b52f 0x00000000ffffffff 0x0000000100000000 0x00000000ffffffff 0x0000000100000000
-    0x08c5b52f 0x123456789abcdef0 0xfedcba9876543210 0x123456789abcdef0 0xfedcba9876543210
-    0x08c5b52f 0x8000000000000000 0x7fffffffffffffff 0x8000000000000000 0x7fffffffffffffff
-    0x08c5b52f 0x0000000000000005 0xffffffffffffffff 0x0000000000000005 0xffffffffffffffff
-    0x00c5b52f 0x000000007fffffff 0x0000000000000001 0x000000007fffffff 0x0000000080000000
-    0x00c5b52f 0x0000000080000000 0x0000000000000001 0x0000000080000000 0x0000000080000001
-    0x00c5b52f 0x00000000ffffffff 0x0000000100000000 0x00000000ffffffff 0x00000001ffffffff
-    0x00c5b52f 0x123456789abcdef0 0xfedcba9876543210 0x123456789abcdef0 0x1111111111111100
-    0x00c5b52f 0x8000000000000000 0x7fffffffffffffff 0x8000000000000000 0xffffffffffffffff
-    0x00c5b52f 0x0000000000000005 0xffffffffffffffff 0x0000000000000005 0x0000000000000004
-    0x20c5b52f 0x000000007fffffff 0x0000000000000001 0x000000007fffffff 0x000000007ffffffe
-    0x20c5b52f 0x0000000080000000 0x0000000000000001 0x0000000080000000 0x0000000080000001
-    0x20c5b52f 0x00000000ffffffff 0x0000000100000000 0x00000000ffffffff 0x00000001ffffffff
-    0x20c5b52f 0x123456789abcdef0 0xfedcba9876543210 0x123456789abcdef0 0xece8ece0ece8ece0
-    0x20c5b52f 0x8000000000000000 0x7fffffffffffffff 0x8000000000000000 0xffffffffffffffff
-    0x20c5b52f 0x0000000000000005 0xffffffffffffffff 0x0000000000000005 0xfffffffffffffffa
-    0x60c5b52f 0x000000007fffffff 0x0000000000000001 0x000000007fffffff 0x0000000000000001
-    0x60c5b52f 0x0000000080000000 0x0000000000000001 0x0000000080000000 0x0000000000000000
-    0x60c5b52f 0x00000000ffffffff 0x0000000100000000 0x00000000ffffffff 0x0000000000000000
-    0x60c5b52f 0x123456789abcdef0 0xfedcba9876543210 0x123456789abcdef0 0x1214121812141210
-    0x60c5b52f 0x8000000000000000 0x7fffffffffffffff 0x8000000000000000 0x0000000000000000
-    0x60c5b52f 0x0000000000000005 0xffffffffffffffff 0x0000000000000005 0x0000000000000005
-    0x40c5b52f 0x000000007fffffff 0x0000000000000001 0x000000007fffffff 0x000000007fffffff
-    0x40c5b52f 0x0000000080000000 0x0000000000000001 0x0000000080000000 0x0000000080000001
-    0x40c5b52f 0x00000000ffffffff 0x0000000100000000 0x00000000ffffffff 0x00000001ffffffff
-    0x40c5b52f 0x123456789abcdef0 0xfedcba9876543210 0x123456789abcdef0 0xfefcfef8fefcfef0
-    0x40c5b52f 0x8000000000000000 0x7fffffffffffffff 0x8000000000000000 0xffffffffffffffff
-    0x40c5b52f 0x0000000000000005 0xffffffffffffffff 0x0000000000000005 0xffffffffffffffff
-    0x80c5b52f 0x000000007fffffff 0x0000000000000001 0x000000007fffffff 0x0000000000000001
-    0x80c5b52f 0x0000000080000000 0x0000000000000001 0x0000000080000000 0x0000000000000001
-    0x80c5b52f 0x00000000ffffffff 0x0000000100000000 0x00000000ffffffff 0x00000000ffffffff
-    0x80c5b52f 0x123456789abcdef0 0xfedcba9876543210 0x123456789abcdef0 0xfedcba9876543210
-    0x80c5b52f 0x8000000000000000 0x7fffffffffffffff 0x8000000000000000 0x8000000000000000
-    0x80c5b52f 0x0000000000000005 0xffffffffffffffff 0x0000000000000005 0xffffffffffffffff
-    0xa0c5b52f 0x000000007fffffff 0x0000000000000001 0x000000007fffffff 0x000000007fffffff
-    0xa0c5b52f 0x0000000080000000 0x0000000000000001 0x0000000080000000 0x0000000080000000
-    0xa0c5b52f 0x00000000ffffffff 0x0000000100000000 0x00000000ffffffff 0x0000000100000000
-    0xa0c5b52f 0x123456789abcdef0 0xfedcba9876543210 0x123456789abcdef0 0x123456789abcdef0
-    0xa0c5b52f 0x8000000000000000 0x7fffffffffffffff 0x8000000000000000 0x7fffffffffffffff
-    0xa0c5b52f 0x0000000000000005 0xffffffffffffffff 0x0000000000000005 0x0000000000000005
-    0xc0c5b52f 0x000000007fffffff 0x0000000000000001 0x000000007fffffff 0x0000000000000001
-    0xc0c5b52f 0x0000000080000000 0x0000000000000001 0x0000000080000000 0x0000000000000001
-    0xc0c5b52f 0x00000000ffffffff 0x0000000100000000 0x00000000ffffffff 0x00000000ffffffff
-    0xc0c5b52f 0x123456789abcdef0 0xfedcba9876543210 0x123456789abcdef0 0x123456789abcdef0
-    0xc0c5b52f 0x8000000000000000 0x7fffffffffffffff 0x8000000000000000 0x7fffffffffffffff
-    0xc0c5b52f 0x0000000000000005 0xffffffffffffffff 0x0000000000000005 0x0000000000000005
-    0xe0c5b52f 0x000000007fffffff 0x0000000000000001 0x000000007fffffff 0x000000007fffffff
-    0xe0c5b52f 0x0000000080000000 0x0000000000000001 0x0000000080000000 0x0000000080000000
-    0xe0c5b52f 0x00000000ffffffff 0x0000000100000000 0x00000000ffffffff 0x0000000100000000
-    0xe0c5b52f 0x123456789abcdef0 0xfedcba9876543210 0x123456789abcdef0 0xfedcba9876543210
-    0xe0c5b52f 0x8000000000000000 0x7fffffffffffffff 0x8000000000000000 0x8000000000000000
-    0xe0c5b52f 0x0000000000000005 0xffffffffffffffff 0x0000000000000005 0xffffffffffffffff
-};
+const CODE: u64 = 0x1_0000;
 
 const AT: u64 = 0x1_2000;
 
-fn hart_of(rt: &impl AllocGlobal, abort: &impl Abort) -> Hart<PagedRam> {
-    let mut ram = PagedRam::empty(rt.alloc());
-    assert!(abort; ram.map_zero(0x1_0000, 3).is_ok());
-    Hart::new(ram, 0x1_0000)
+fn hart_of<R: Ram>(rt: &impl AllocGlobal, abort: &impl Abort) -> Hart<R> {
+    let mut ram = R::empty(rt.alloc());
+    assert!(abort; ram.map_zero(CODE, 3).is_ok());
+    Hart::new(ram, CODE)
 }
 
+/// One step of this word, with an address in x11 and a value in x12.
 fn step<R: Ram>(rt: &impl Abort, hart: &mut Hart<R>, word: u32, at: u64, b: u64) -> StepEnd {
     let pc = hart.pc();
     assert!(rt; hart.ram_mut().store(pc, Width::W4, u64::from(word)).is_ok());
@@ -138,45 +25,136 @@ fn step<R: Ram>(rt: &impl Abort, hart: &mut Hart<R>, word: u32, at: u64, b: u64)
     hart.step()
 }
 
-#[test]
-fn rows_do_what_an_independent_machine_does(rt: HostRuntime) {
-    let mut hart = hart_of(&rt, &rt);
+fn register_of(word: u32) -> u8 {
+    (word >> 7 & 31) as u8
+}
+
+fn check_amos<R: Ram>(rt: &impl AllocGlobal, abort: &impl Abort) {
+    let mut hart: Hart<R> = hart_of(rt, abort);
     for &(word, old, b, rd, after) in &AMOS {
-        assert!(&rt; hart.ram_mut().store(AT, Width::W8, old).is_ok());
-        assert_eq!(&rt; step(&rt, &mut hart, word, AT, b), StepEnd::Done);
-        assert_eq!(&rt; hart.reg(10), rd, "word {word} on {old} and {b}");
-        assert_eq!(&rt; hart.ram().load(AT, Width::W8), Some(after), "word {word} on {old} and {b}");
+        assert!(abort; hart.ram_mut().store(AT, Width::W8, old).is_ok());
+        assert_eq!(abort; step(abort, &mut hart, word, AT, b), StepEnd::Done);
+        assert_eq!(abort; hart.reg(register_of(word)), rd, "word {word} on {old} and {b}");
+        assert_eq!(abort; hart.ram().load(AT, Width::W8), Some(after), "word {word} on {old} and {b}");
+        assert_eq!(abort; hart.reservation(), None);
     }
 }
 
-/// lr.w x10; lr.d x10; sc.w x10, x12; sc.d x10, x12; amoadd.w x10, x12; all at (x11).
+#[test]
+fn amo_rows_as_an_independent_machine_has_them(rt: HostRuntime) {
+    check_amos::<PagedRam>(&rt, &rt);
+    check_amos::<FlatRam>(&rt, &rt);
+}
+
+fn check_pairs<R: Ram>(rt: &impl AllocGlobal, abort: &impl Abort) {
+    let mut hart: Hart<R> = hart_of(rt, abort);
+    for &(load, store, distance, old, b, loaded, first, second, after, behind) in &PAIRS {
+        hart.set_reservation(None);
+        assert!(abort; hart.ram_mut().store(AT, Width::W8, old).is_ok());
+        assert!(abort; hart.ram_mut().store(AT + 8, Width::W8, !old).is_ok());
+        let other = AT.wrapping_add(distance);
+        assert_eq!(abort; step(abort, &mut hart, load, AT, b), StepEnd::Done);
+        assert_eq!(abort; hart.reg(13), loaded, "word {load} on {old}");
+        assert_eq!(abort; step(abort, &mut hart, store, other, b), StepEnd::Done);
+        assert_eq!(abort; (hart.reg(10), hart.reservation()), (first, None), "word {store} on {old} and {b}");
+        assert_eq!(abort; step(abort, &mut hart, store, other, b), StepEnd::Done);
+        assert_eq!(abort; hart.reg(10), second, "word {store} on {old} and {b}");
+        assert_eq!(abort; hart.ram().load(AT, Width::W8), Some(after), "word {store} on {old} and {b}");
+        assert_eq!(abort; hart.ram().load(AT + 8, Width::W8), Some(behind), "word {store} on {old} and {b}");
+    }
+}
+
+#[test]
+fn load_reserved_and_store_conditional_as_an_independent_machine_has_them(rt: HostRuntime) {
+    check_pairs::<PagedRam>(&rt, &rt);
+    check_pairs::<FlatRam>(&rt, &rt);
+}
+
+/// lr.w x10; lr.d x10; sc.w x10, x12; sc.d x10, x12; amoadd.w x10, x12; amoadd.w x10, x11; amomax.w x10, x12; all at (x11).
 const LRW: u32 = 0x1005_A52F;
 const LRD: u32 = 0x1005_B52F;
 const SCW: u32 = 0x18C5_A52F;
 const SCD: u32 = 0x18C5_B52F;
 const AMOADDW: u32 = 0x00C5_A52F;
+const AMOADDW_OF_ADDRESS: u32 = 0x00B5_A52F;
+const AMOMAXW: u32 = 0xA0C5_A52F;
+
+/// What a step puts into x10, and the 4 bytes at the address.
+fn done<R: Ram>(rt: &impl Abort, hart: &mut Hart<R>, word: u32, at: u64, b: u64) -> (u64, Option<u64>) {
+    assert_eq!(rt; step(rt, hart, word, at, b), StepEnd::Done);
+    (hart.reg(10), hart.ram().load(at, Width::W4))
+}
 
 #[test]
-fn reservations(rt: HostRuntime) {
-    let mut hart = hart_of(&rt, &rt);
-    assert!(&rt; hart.ram_mut().store(AT, Width::W8, 0x8000_0000).is_ok());
-    assert_eq!(&rt; step(&rt, &mut hart, SCW, AT, 5), StepEnd::Done);
-    assert_eq!(&rt; hart.reg(10), 1);
-    assert_eq!(&rt; step(&rt, &mut hart, LRW, AT, 0), StepEnd::Done);
-    assert_eq!(&rt; hart.reg(10), 0xFFFF_FFFF_8000_0000);
+fn a_sum_and_a_greatest_number_at_the_edge(rt: HostRuntime) {
+    let mut hart: Hart<PagedRam> = hart_of(&rt, &rt);
+    assert!(&rt; hart.ram_mut().store(AT, Width::W4, 0x7FFF_FFFF).is_ok());
+    assert_eq!(&rt; done(&rt, &mut hart, AMOADDW, AT, 1), (0x7FFF_FFFF, Some(0x8000_0000)));
+    assert_eq!(&rt; done(&rt, &mut hart, AMOMAXW, AT, 1), (0xFFFF_FFFF_8000_0000, Some(1)));
+    assert_eq!(&rt; done(&rt, &mut hart, AMOADDW_OF_ADDRESS, AT, 0), (1, Some(0x1_2001)));
+}
+
+#[test]
+fn a_reservation_holds_for_one_store_conditional(rt: HostRuntime) {
+    let mut hart: Hart<PagedRam> = hart_of(&rt, &rt);
+    assert!(&rt; hart.ram_mut().store(AT, Width::W4, 0x8000_0000).is_ok());
+    assert_eq!(&rt; done(&rt, &mut hart, SCW, AT, 5), (1, Some(0x8000_0000)));
+    assert_eq!(&rt; done(&rt, &mut hart, LRW, AT, 0), (0xFFFF_FFFF_8000_0000, Some(0x8000_0000)));
     assert_eq!(&rt; hart.reservation(), Some(Reservation { wide: Width::W4, at: AT }));
-    assert_eq!(&rt; step(&rt, &mut hart, SCW, AT, 5), StepEnd::Done);
-    assert_eq!(&rt; (hart.reg(10), hart.ram().load(AT, Width::W4)), (0, Some(5)));
-    assert_eq!(&rt; step(&rt, &mut hart, SCW, AT, 9), StepEnd::Done);
-    assert_eq!(&rt; (hart.reg(10), hart.ram().load(AT, Width::W4)), (1, Some(5)));
-    assert_eq!(&rt; step(&rt, &mut hart, LRD, AT, 0), StepEnd::Done);
-    assert_eq!(&rt; step(&rt, &mut hart, SCW, AT, 9), StepEnd::Done);
-    assert_eq!(&rt; (hart.reg(10), hart.reservation()), (1, None));
-    assert_eq!(&rt; step(&rt, &mut hart, LRW, AT + 2, 0), StepEnd::Trap(Cause::LoadUnmapped(AT + 2)));
-    assert_eq!(&rt; step(&rt, &mut hart, SCD, AT + 4, 0), StepEnd::Trap(Cause::StoreUnmapped(AT + 4)));
-    assert_eq!(&rt; step(&rt, &mut hart, SCW, 0x40, 0), StepEnd::Trap(Cause::StoreUnmapped(0x40)));
-    assert_eq!(&rt; step(&rt, &mut hart, AMOADDW, AT + 1, 0), StepEnd::Trap(Cause::StoreUnmapped(AT + 1)));
+    assert_eq!(&rt; done(&rt, &mut hart, SCW, AT, 5), (0, Some(5)));
+    assert_eq!(&rt; hart.reservation(), None);
+    assert_eq!(&rt; done(&rt, &mut hart, SCW, AT, 9), (1, Some(5)));
+}
+
+#[test]
+fn a_reservation_is_of_a_width_and_the_last_one(rt: HostRuntime) {
+    let mut hart: Hart<PagedRam> = hart_of(&rt, &rt);
+    assert_eq!(&rt; done(&rt, &mut hart, LRD, AT, 0), (0, Some(0)));
+    assert_eq!(&rt; done(&rt, &mut hart, SCW, AT, 9), (1, Some(0)));
+    assert_eq!(&rt; hart.reservation(), None);
+    assert_eq!(&rt; done(&rt, &mut hart, LRW, AT, 0), (0, Some(0)));
+    assert_eq!(&rt; done(&rt, &mut hart, SCD, AT, 9), (1, Some(0)));
+    assert_eq!(&rt; done(&rt, &mut hart, LRW, AT, 0), (0, Some(0)));
+    assert_eq!(&rt; done(&rt, &mut hart, LRD, AT + 8, 0), (0, Some(0)));
+    assert_eq!(&rt; hart.reservation(), Some(Reservation { wide: Width::W8, at: AT + 8 }));
+    assert_eq!(&rt; done(&rt, &mut hart, SCW, AT, 9), (1, Some(0)));
+}
+
+/// sw x12, 0(x11) and addi x0, x0, 0.
+const SW: u32 = 0x00C5_A023;
+const NOP: u32 = 0x0000_0013;
+
+#[test]
+fn other_rows_leave_a_reservation_and_an_answer_ends_it(rt: HostRuntime) {
+    let mut hart: Hart<PagedRam> = hart_of(&rt, &rt);
+    let held = Some(Reservation { wide: Width::W4, at: AT });
     assert_eq!(&rt; step(&rt, &mut hart, LRW, AT, 0), StepEnd::Done);
+    for (word, at, end) in [
+        (SW, AT, StepEnd::Done),
+        (AMOADDW, AT, StepEnd::Done),
+        (NOP, AT, StepEnd::Done),
+        (LRD, AT + 4, StepEnd::Trap(Cause::LoadUnmapped(AT + 4))),
+        (SCW, AT + 2, StepEnd::Trap(Cause::StoreUnmapped(AT + 2))),
+        (0x0000_0073, AT, StepEnd::Call),
+    ] {
+        assert_eq!(&rt; step(&rt, &mut hart, word, at, 7), end);
+        assert_eq!(&rt; hart.reservation(), held);
+    }
     hart.answer(7);
     assert_eq!(&rt; hart.reservation(), None);
+    hart.set_reservation(held);
+    assert_eq!(&rt; done(&rt, &mut hart, SCW, AT, 3), (0, Some(3)));
+}
+
+#[test]
+fn atomic_rows_trap_at_addresses_that_are_no_multiple_and_unmapped(rt: HostRuntime) {
+    let mut hart: Hart<PagedRam> = hart_of(&rt, &rt);
+    for at in [AT + 1, AT + 2, AT + 3, AT + 0x1000, 0x40, 0xFFFF_FFFF_FFFF_FFFF] {
+        assert_eq!(&rt; step(&rt, &mut hart, LRW, at, 0), StepEnd::Trap(Cause::LoadUnmapped(at)));
+        assert_eq!(&rt; step(&rt, &mut hart, SCW, at, 0), StepEnd::Trap(Cause::StoreUnmapped(at)));
+        assert_eq!(&rt; step(&rt, &mut hart, AMOADDW, at, 0), StepEnd::Trap(Cause::StoreUnmapped(at)));
+    }
+    assert_eq!(&rt; step(&rt, &mut hart, SCD, AT + 4, 0), StepEnd::Trap(Cause::StoreUnmapped(AT + 4)));
+    assert_eq!(&rt; step(&rt, &mut hart, LRD, AT + 4, 0), StepEnd::Trap(Cause::LoadUnmapped(AT + 4)));
+    assert_eq!(&rt; hart.pc(), CODE);
 }

@@ -3,5 +3,5 @@ pub mod StoredBytes
 pub mod Acts
 pub mod Keeping
 pub mod Numbers
-mod ActsWithoutAtomics
+pub mod ActsWithoutAtomics
 mod Puts

@@ -23,8 +23,12 @@ unless_atomic inst = if is_atomic inst.op then None else Some inst
 unfoldable pub decoded_without_atomics : ℕ → Option Inst
 decoded_without_atomics word = option_and_then unless_atomic (decoded word)
 
--- what a hart without the atomic rows does, the hart does too, and the reservation stays
+-- the act of a hart that knows the rows of RV64I and M alone
+abbrev pub act_without_atomics : HartState → Act
+act_without_atomics hart = act_by decoded_without_atomics hart
+
+-- what a hart without the atomic rows does, the hart of all rows does too, and the reservation stays
 pub record ActsWithoutAtomicsStand (hart : HartState) : Type 0 where
   pub all : act_by decoded hart ≡ act hart
-  pub goes : (next : HartState) → act_by decoded_without_atomics hart ≡ GoesOn next → (act hart ≡ GoesOn next) × (next.reservation ≡ hart.reservation)
-  pub calls : act_by decoded_without_atomics hart ≡ Calls → act hart ≡ Calls
+  pub goes : (next : HartState) → act_without_atomics hart ≡ GoesOn next → (act hart ≡ GoesOn next) × (next.reservation ≡ hart.reservation)
+  pub calls : act_without_atomics hart ≡ Calls → act hart ≡ Calls

@@ -15,14 +15,14 @@ use crate::arithmetic::{sum, widened};
 use crate::effect::{AmoOperation, Effect, effect_of};
 use paged_mem::{Ram, StoreRefusal, Width};
 use rv64_decode::decode_as;
-use rv64_table::{Op, row_of};
+use rv64_table::{Op, row_of, row_without_atomics};
 use std::marker::Model;
 
 macro_rules! by_operation {
-    ($hart:expr, $op:expr, $word:expr; $($name:ident)*; $($rare:ident)*) => {
+    ($hart:expr, $op:expr, $word:expr; $($name:ident)*) => {
         match $op {
             $(Op::$name => $hart.perform(Op::$name, $word),)*
-            $(Op::$rare => $hart.perform_rare(Op::$rare, $word)),*
+            _ => $hart.obey_rare($word),
         }
     };
 }
@@ -239,8 +239,8 @@ impl<R: Ram> Hart<R> {
     fn obey(&mut self, word: u32) -> StepEnd
         ensures { EndsStep (runs self.old word (decoded word)) (option_map (effect_of self.old) (decoded word)) self.old result self.new }
     {
-        match row_of(word) {
-            None => StepEnd::Trap(Cause::Illegal(word)),
+        match row_without_atomics(word) {
+            None => self.obey_rare(word),
             Some(op) => self.dispatch(op, word),
         }
     }
@@ -256,20 +256,21 @@ impl<R: Ram> Hart<R> {
             Lui Auipc Jal Jalr Beq Bne Blt Bge Bltu Bgeu Lb Lh Lw Ld Lbu Lhu Lwu Sb Sh Sw Sd
             Addi Slti Sltiu Xori Ori Andi Slli Srli Srai Add Sub Sll Slt Sltu Xor Srl Sra Or And Fence Ecall Ebreak
             Addiw Slliw Srliw Sraiw Addw Subw Sllw Srlw Sraw
-            Mul Mulh Mulhsu Mulhu Div Divu Rem Remu Mulw Divw Divuw Remw Remuw;
-            Lrw Scw Amoswapw Amoaddw Amoxorw Amoandw Amoorw Amominw Amomaxw Amominuw Amomaxuw
-            Lrd Scd Amoswapd Amoaddd Amoxord Amoandd Amoord Amomind Amomaxd Amominud Amomaxud
+            Mul Mulh Mulhsu Mulhu Div Divu Rem Remu Mulw Divw Divuw Remw Remuw
         }
     }
 
-    /// The same for the atomic rows, out of the loop: their arms would make it too large to be compiled as one.
+    /// Carries out a word of any row or of none, out of the loop: the arms of the atomic rows would make the loop too large to be
+    /// compiled as one.
     #[cold]
     #[inline(never)]
-    fn perform_rare(&mut self, op: Op, word: u32) -> StepEnd
-        requires { option_map (λ row. row.op) (row_for word) ≡ Some op }
+    fn obey_rare(&mut self, word: u32) -> StepEnd
         ensures { EndsStep (runs self.old word (decoded word)) (option_map (effect_of self.old) (decoded word)) self.old result self.new }
     {
-        self.perform(op, word)
+        match row_of(word) {
+            None => StepEnd::Trap(Cause::Illegal(word)),
+            Some(op) => self.perform(op, word),
+        }
     }
 
     /// Carries out a word whose row is that of this operation.

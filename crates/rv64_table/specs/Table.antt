@@ -1,7 +1,7 @@
 -- The table of instructions, and the row of a word.
 -- The source: RISC-V Unprivileged ISA, "RV32/64G Instruction Set Listings", the tables RV32I, RV64I, RV32M, RV64M, RV32A and RV64A.
 -- docs/reference/instructions.md says the same for readers.
-use Rattle.std.specs.Prelude.{ℕ, ◌+◌, ◌*◌, ◌^◌, ◌≡◌, Bool, nat_le, ◌==◌, IsTrue, List, [], ◌∷◌, Option, Some, find, slice_get, bit_and}
+use Rattle.std.specs.Prelude.{ℕ, ◌+◌, ◌*◌, ◌^◌, ◌≡◌, Bool, nat_le, ◌==◌, IsTrue, List, [], ◌∷◌, Option, None, Some, if◌then◌else◌, find, slice_get, bit_and}
 use Rattle.rv64_table.specs.declared.Row.{Row}
 use Rattle.rv64_table.specs.declared.Form.{Form}
 use Rattle.rv64_table.specs.declared.Form.TheVariants.{R, I, H, K, S, B, U, J, E, L, A}
@@ -229,6 +229,10 @@ op_number Amomaxud = 86
 -- whether an operation is one of the extension A: their rows stand behind the 65 of RV64I and M
 abbrev pub is_atomic : Op → Bool
 is_atomic op = nat_le 65 (op_number op)
+
+-- the operation where it is none of these
+abbrev pub unless_atomic : Op → Option Op
+unless_atomic op = if is_atomic op then None else Some op
 
 -- the row of an operation
 abbrev pub row_with : Op → Option Row

@@ -1,7 +1,7 @@
 //! The row of a word, by its opcode and its fields funct3 and funct7.
 
-ghost use Rattle.std.specs.Prelude.{◌≡◌, option_map, find};
-ghost use Rattle.rv64_table.specs.Table.{matches, row_for, table};
+ghost use Rattle.std.specs.Prelude.{◌≡◌, option_and_then, option_map, find};
+ghost use Rattle.rv64_table.specs.Table.{matches, row_for, table, unless_atomic};
 ghost use Rattle.rv64_table.specs.Inside.Lookup.{pick, rows_of};
 
 use crate::Op;
@@ -39,6 +39,17 @@ const OPCODE_AMO: u32 = 0x2F;
 pub fn row_of(word: u32) -> Option<Op>
     ensures { result ≡ option_map (λ r. r.op) (row_for word) }
 {
+    if word & 0x7F == OPCODE_AMO {
+        return atomic((word >> 12) & 0x7, word >> 25, (word >> 15) & 0x3FF);
+    }
+    row_without_atomics(word)
+}
+
+/// The same, but none where the row is an atomic one: a loop asks this first, since those are rare.
+#[inline(always)]
+pub fn row_without_atomics(word: u32) -> Option<Op>
+    ensures { result ≡ option_and_then unless_atomic (option_map (λ r. r.op) (row_for word)) }
+{
     let funct3 = (word >> 12) & 0x7;
     let funct7 = word >> 25;
     match word & 0x7F {
@@ -55,7 +66,7 @@ pub fn row_of(word: u32) -> Option<Op>
         OPCODE_SYSTEM => system(word),
         OPCODE_OP_IMM_32 => op_imm_32(funct3, funct7),
         OPCODE_OP_32 => op_32(funct3, funct7),
-        OPCODE_AMO => atomic(funct3, funct7, (word >> 15) & 0x3FF),
+        OPCODE_AMO => None,
         _ => None,
     }
 }
