@@ -249,10 +249,14 @@ fn altered(alloc: Global, shelf: &MemShelf, at: usize, bytes: &[u8]) -> Result<B
 /// Where a text is changed, to which bytes, and what is printed.
 type Alteration = (usize, &'static [u8], &'static str);
 
-/// After 45 steps one stage is done, whose record is 401 bytes at 176; so the state begins at 577, and its pc is at 593.
-static ALTERATIONS: [Alteration; 5] = [
+/// After 45 steps one stage is done, whose record is 401 bytes at 176; so the state begins at 577, its pc is at 593, and what is reserved at 849.
+static ALTERATIONS: [Alteration; 8] = [
     (0, b"D", "save refused 1\n"),
-    (9_192, b"\0", "save refused 1\n"),
+    (9_193, b"\0", "save refused 1\n"),
+    (849, b"\x01", "save refused 1\n"),
+    // A save of the first form with a state of the second, and the other way round.
+    (7, b"1", "save refused 1\n"),
+    (584, b"1", "save refused 1\n"),
     (8, b"\0", "save refused 2\n"),
     (176, b"\0", "save refused 3\n"),
     (593, b"\x01", "save refused 3\n"),
@@ -301,6 +305,25 @@ fn with_line(alloc: Global, recipe: Bytes) -> Result<Bytes, OutOfMemory> {
     let mut recipe = recipe;
     recipe.push(b'\n')?;
     Ok(recipe)
+}
+
+/// The save as the first form had it: both magics end with another byte, and the byte that says that nothing is reserved is not there.
+#[test]
+fn an_old_save_is_resumed(rt: HostRuntime) -> Result<(), Fail> {
+    let alloc = rt.alloc();
+    let mut shelf = paused(alloc, "63")?;
+    let text = shelf.get("s").unwrap_or(&[]);
+    let mut old = Bytes::from_slice(alloc, text.get(..849).unwrap_or(&[]))?;
+    old.extend(text.get(850..).unwrap_or(&[]))?;
+    shelf.set("s", old.as_slice())?;
+    for at in [7, 584] {
+        let save = altered(alloc, &shelf, at, b"1")?;
+        shelf.set("s", save.as_slice())?;
+    }
+    let row = ("resume", "1", Status::Yes, "equal two bin 3\n");
+    pieces(&rt, alloc, &mut shelf, &[row])?;
+    assert_eq!(rt; shelf.get("r").unwrap_or(&[]), REPORT.as_bytes());
+    Ok(())
 }
 
 /// After 45 steps x8, at 657, has how many bytes are read at once: of 4,096 it is made 2, so that the loop is taken once more, in 11 steps.
