@@ -15,7 +15,7 @@ use Rattle.rv64_machine.specs.declared.effect.Effect.{Effect}
 use Rattle.rv64_machine.specs.declared.effect.Effect.TheVariants.{Put, Jump, Branch, Load, LoadSigned, Store, Next, Call, Break, LoadReserved, StoreConditional, Amo}
 use Rattle.rv64_machine.specs.declared.answer.Cause.TheVariants.{FetchMisaligned, StoreUnmapped}
 use Rattle.rv64_machine.specs.Hart.{Act, GoesOn, Calls, Traps, HartState, act, arrives, carried, effect_of, fetched, following, loads, passes, runs, with_register}
-use Rattle.rv64_machine.specs.WithoutAtomics.{act_by, unless_atomic, fetched_by, decoded_without_atomics, ActsWithoutAtomicsStand}
+use Rattle.rv64_machine.specs.WithoutAtomics.{act_by, inst_unless_atomic, fetched_by, decoded_without_atomics, ActsWithoutAtomicsStand}
 
 -- the effects of the rows that are not atomic
 abbrev IsNotAtomic : Effect → Type 0
@@ -92,7 +92,7 @@ carried-keeps hart next rd (Amo operation width at value) is goes = absurd is
 
 -- ---- and stand
 
-inst-goes : (hart next : HartState) (word : ℕ) (inst : Inst) → runs hart word (unless_atomic inst) ≡ GoesOn next
+inst-goes : (hart next : HartState) (word : ℕ) (inst : Inst) → runs hart word (inst_unless_atomic inst) ≡ GoesOn next
     → (runs hart word (Some inst) ≡ GoesOn next) × (next.reservation ≡ hart.reservation)
 inst-goes hart next word inst goes = by_test (is_atomic inst.op) refl goes
   where
@@ -101,19 +101,19 @@ inst-goes hart next word inst goes = by_test (is_atomic inst.op) refl goes
     by_test false low e = (e, carried-keeps hart next inst.rd (effect_of hart inst) (meaning-not_atomic inst.op _ _ _ _ low) e)
     by_test true low e = absurd cc
 
-inst-calls : (hart : HartState) (word : ℕ) (inst : Inst) → runs hart word (unless_atomic inst) ≡ Calls → runs hart word (Some inst) ≡ Calls
+inst-calls : (hart : HartState) (word : ℕ) (inst : Inst) → runs hart word (inst_unless_atomic inst) ≡ Calls → runs hart word (Some inst) ≡ Calls
 inst-calls hart word inst calls = by_test (is_atomic inst.op) calls
   where
     by_test : (t : Bool) → runs hart word (cond t None (Some inst)) ≡ Calls → runs hart word (Some inst) ≡ Calls
     by_test true e = absurd cc
     by_test false e = e
 
-word-goes : (hart next : HartState) (word : ℕ) (o : Option Inst) → runs hart word (option_and_then unless_atomic o) ≡ GoesOn next
+word-goes : (hart next : HartState) (word : ℕ) (o : Option Inst) → runs hart word (option_and_then inst_unless_atomic o) ≡ GoesOn next
     → (runs hart word o ≡ GoesOn next) × (next.reservation ≡ hart.reservation)
 word-goes hart next word None goes = absurd cc
 word-goes hart next word (Some inst) goes = inst-goes hart next word inst goes
 
-word-calls : (hart : HartState) (word : ℕ) (o : Option Inst) → runs hart word (option_and_then unless_atomic o) ≡ Calls → runs hart word o ≡ Calls
+word-calls : (hart : HartState) (word : ℕ) (o : Option Inst) → runs hart word (option_and_then inst_unless_atomic o) ≡ Calls → runs hart word o ≡ Calls
 word-calls hart word None calls = absurd cc
 word-calls hart word (Some inst) calls = inst-calls hart word inst calls
 
@@ -129,11 +129,11 @@ acts-stand hart = record {
     of_all None = refl
     of_all (Some word) = refl
 
-    goes_on : (next : HartState) (o : Option ℕ) → fetched_by (λ word. option_and_then unless_atomic (decoded word)) hart o ≡ GoesOn next
+    goes_on : (next : HartState) (o : Option ℕ) → fetched_by (λ word. option_and_then inst_unless_atomic (decoded word)) hart o ≡ GoesOn next
         → (fetched hart o ≡ GoesOn next) × (next.reservation ≡ hart.reservation)
     goes_on next None e = absurd cc
     goes_on next (Some word) e = word-goes hart next word (decoded word) e
 
-    calls_on : (o : Option ℕ) → fetched_by (λ word. option_and_then unless_atomic (decoded word)) hart o ≡ Calls → fetched hart o ≡ Calls
+    calls_on : (o : Option ℕ) → fetched_by (λ word. option_and_then inst_unless_atomic (decoded word)) hart o ≡ Calls → fetched hart o ≡ Calls
     calls_on None e = absurd cc
     calls_on (Some word) e = word-calls hart word (decoded word) e

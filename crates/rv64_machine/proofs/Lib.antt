@@ -4,4 +4,3 @@ pub mod Acts
 pub mod Keeping
 pub mod Numbers
 pub mod ActsWithoutAtomics
-mod Puts

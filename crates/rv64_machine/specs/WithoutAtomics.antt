@@ -16,12 +16,12 @@ fetched_by decode hart (Some word) = runs hart word (decode word)
 unfoldable pub act_by : (ℕ → Option Inst) → HartState → Act
 act_by decode hart = fetched_by decode hart (reads hart.memory hart.pc 4)
 
-abbrev pub unless_atomic : Inst → Option Inst
-unless_atomic inst = if is_atomic inst.op then None else Some inst
+abbrev pub inst_unless_atomic : Inst → Option Inst
+inst_unless_atomic inst = if is_atomic inst.op then None else Some inst
 
 -- the instruction of a word among the rows of RV64I and M; the words of the atomic rows are illegal
 unfoldable pub decoded_without_atomics : ℕ → Option Inst
-decoded_without_atomics word = option_and_then unless_atomic (decoded word)
+decoded_without_atomics word = option_and_then inst_unless_atomic (decoded word)
 
 -- the act of a hart that knows the rows of RV64I and M alone
 abbrev pub act_without_atomics : HartState → Act

@@ -1,7 +1,7 @@
 ghost use Rattle.std.specs.Prelude.{◌≡◌};
 ghost use Rattle.rv64_machine.specs.Arithmetic.{wrapped};
 ghost use Rattle.rv64_machine.specs.Meaning.{meaning};
-ghost use Rattle.rv64_machine.specs.Inside.Computed.{computed};
+ghost use Rattle.rv64_machine.specs.Inside.Computed.{computed, other_effect};
 
 use crate::arithmetic::{
     difference, difference_word, even, extended, flag, high_signed, high_signed_unsigned,
@@ -93,6 +93,16 @@ pub fn effect_of(op: Op, a: u64, b: u64, imm: i64, pc: u64) -> Effect
         Op::Fence => Effect::Next,
         Op::Ecall => Effect::Call,
         Op::Ebreak => Effect::Break,
+        _ => other_effect_of(op, a, b, i),
+    }
+}
+
+/// The effect of the rows that need neither the immediate as an offset nor the pc: the atomic rows, and those that compute a value.
+#[inline(always)]
+fn other_effect_of(op: Op, a: u64, b: u64, i: u64) -> Effect
+    ensures { result ≡ other_effect op a b i }
+{
+    match op {
         Op::Lrw => Effect::LoadReserved(Width::W4, a),
         Op::Scw => store_conditional(Width::W4, a, b),
         Op::Amoswapw => amo(AmoOperation::Swap, Width::W4, a, b),
