@@ -186,7 +186,11 @@ fn stage_of(alloc: Global, cursor: &mut Cursor<'_>) -> Result<StagePart, Stop>
 }
 
 /// So many stages that are done.
-fn several_stages(alloc: Global, cursor: &mut Cursor<'_>, count: u32) -> Result<Vec<StagePart>, Stop>
+fn several_stages(
+    alloc: Global,
+    cursor: &mut Cursor<'_>,
+    count: u32,
+) -> Result<Vec<StagePart>, Stop>
     ensures { GivesField (λ v. map stage_view v.items) result cursor.new (several saved_stage_at (λ stage. 0) 0 count cursor.old) }
 {
     let mut stages = Vec::new(alloc);

@@ -28,11 +28,7 @@ fn save_of<'a>(alloc: Global, cursor: &mut Cursor<'a>) -> Result<Parts<'a>, Stop
 
 /// What stands behind the magic of a form.
 #[tactic(auto, unfolding(crate::specs::SaveText::fields_at))]
-fn fields_of<'a>(
-    alloc: Global,
-    cursor: &mut Cursor<'a>,
-    form: TextForm,
-) -> Result<Parts<'a>, Stop>
+fn fields_of<'a>(alloc: Global, cursor: &mut Cursor<'a>, form: TextForm) -> Result<Parts<'a>, Stop>
     ensures { GivesField save_view result cursor.new (fields_at form cursor.old) }
 {
     let recipe = digest_of(cursor)?;

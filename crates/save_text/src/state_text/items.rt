@@ -7,9 +7,7 @@ ghost use Rattle.save_text.specs.ByteFields.Reader.{Finds, byte, bytes, that};
 ghost use Rattle.save_text.specs.StateText.StateText.{access_at, access_of_code, are_flags, is_page, mode_of_code, slot_at};
 ghost use Rattle.save_text.specs.StateText.Spelled.{flags_of, kind_of, slot_text};
 
-use crate::byte_fields::{
-    Cursor, Item, WrongField, put_blob16, put_blob32, put_u32, put_u64,
-};
+use crate::byte_fields::{Cursor, Item, WrongField, put_blob16, put_blob32, put_u32, put_u64};
 use crate::state_text::parts::{Descriptor, File, Page, Run};
 use ddc_base::{Bytes, OutOfMemory};
 use mem_files::{Access, Mode, Slot};

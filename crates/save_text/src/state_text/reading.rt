@@ -37,10 +37,7 @@ fn registers_of(cursor: &mut Cursor<'_>) -> Result<[u64; 31], WrongField>
 
 /// What is reserved by a text of this form.
 #[tactic(auto, unfolding(crate::specs::StateText::StateText::reservation_at, crate::specs::StateText::StateText::reserved_at))]
-fn reservation_of(
-    cursor: &mut Cursor<'_>,
-    form: TextForm,
-) -> Result<Option<Reserved>, WrongField>
+fn reservation_of(cursor: &mut Cursor<'_>, form: TextForm) -> Result<Option<Reserved>, WrongField>
     ensures { Finds (option_map reserved_view) result cursor.new (reservation_at form cursor.old) }
 {
     if form == TextForm::First {
@@ -69,11 +66,7 @@ fn heap_of(cursor: &mut Cursor<'_>) -> Result<Heap, WrongField>
 
 /// What stands behind the magic of a form.
 #[tactic(auto, unfolding(crate::specs::StateText::StateText::body_at))]
-fn body_of<'a>(
-    alloc: Global,
-    cursor: &mut Cursor<'a>,
-    form: TextForm,
-) -> Result<Parts<'a>, Stop>
+fn body_of<'a>(alloc: Global, cursor: &mut Cursor<'a>, form: TextForm) -> Result<Parts<'a>, Stop>
     ensures { GivesField state_view result cursor.new (body_at form cursor.old) }
 {
     let steps = cursor.u64()?;

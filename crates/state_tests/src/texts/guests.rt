@@ -232,10 +232,7 @@ static SEVERAL: &[Several] = &[
     (&[(66, N4(2)), (67, N8(0x8000_0000_0000_0000))], RANGE),
     (&[(54, N4(5_120)), (66, N4(5_120))], RANGE),
     // A reservation of no hart is said before a reference.
-    (
-        &[(34, Text(b"\x04\x02\0\0\0\0\0\0\0")), (66, N4(2))],
-        RANGE,
-    ),
+    (&[(34, Text(b"\x04\x02\0\0\0\0\0\0\0")), (66, N4(2))], RANGE),
     // The form is said before both.
     (&[(2, N8(0x10002)), (68, N1(0))], FORM),
 ];

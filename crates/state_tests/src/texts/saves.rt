@@ -1,8 +1,8 @@
 use crate::texts::pieces::Piece::*;
 use crate::texts::pieces::*;
 use crate::texts::states::STATE;
-use save_text::read;
 use ddc_base::Bytes;
+use save_text::read;
 use save_text::state_text::{TextRefusal, put_parts};
 use std::alloc::{AllocError, Global};
 use std::process::Abort;
@@ -105,7 +105,11 @@ fn a_cut_field_is_named(rt: HostRuntime) -> Result<(), Fail> {
         let text = text_of(rt.alloc(), &pieces)?;
         for (byte, _) in text.iter().enumerate() {
             let front = text.get(..byte).ok_or("cut")?;
-            assert_eq!(rt; wrong(rt.alloc(), front), Some(cut(&pieces, byte)), "{byte}");
+            assert_eq!(rt;
+                wrong(rt.alloc(), front),
+                Some(cut(&pieces, byte)),
+                "{byte}"
+            );
         }
     }
     Ok(())
@@ -122,11 +126,20 @@ fn an_old_save_says_the_same(rt: HostRuntime) -> Result<(), Fail> {
     let wanted = text_of(alloc, STATE)?;
     assert_eq!(rt; state.as_slice(), wanted.as_slice());
     let stage = parts.done.get(0).ok_or("stages")?;
-    assert_eq!(rt; (stage.steps, stage.made.as_slice()), (32, b"abc".as_slice()));
+    assert_eq!(rt;
+        (stage.steps, stage.made.as_slice()),
+        (32, b"abc".as_slice())
+    );
     // A state of the second form is wrong at its first byte, and so is one of the first form behind the second form's magic.
     let mixed = replaced(alloc, &old(alloc)?, 22, &[Text(b"ddcstat2")])?;
-    assert_eq!(rt; wrong(alloc, &text_of(alloc, &mixed)?), Some(start(&mixed, 22)));
+    assert_eq!(rt;
+        wrong(alloc, &text_of(alloc, &mixed)?),
+        Some(start(&mixed, 22))
+    );
     let mixed = replaced(alloc, &old(alloc)?, 0, &[Text(b"ddcsave2")])?;
-    assert_eq!(rt; wrong(alloc, &text_of(alloc, &mixed)?), Some(start(&mixed, 22)));
+    assert_eq!(rt;
+        wrong(alloc, &text_of(alloc, &mixed)?),
+        Some(start(&mixed, 22))
+    );
     Ok(())
 }

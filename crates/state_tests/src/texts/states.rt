@@ -202,7 +202,11 @@ fn a_cut_field_is_named(rt: HostRuntime) -> Result<(), Fail> {
         assert_eq!(rt; wrong(rt.alloc(), &text), None);
         for (byte, _) in text.iter().enumerate() {
             let front = text.get(..byte).ok_or("cut")?;
-            assert_eq!(rt; wrong(rt.alloc(), front), Some(cut(&pieces, byte)), "{byte}");
+            assert_eq!(rt;
+                wrong(rt.alloc(), front),
+                Some(cut(&pieces, byte)),
+                "{byte}"
+            );
         }
     }
     Ok(())

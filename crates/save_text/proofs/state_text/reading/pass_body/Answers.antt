@@ -21,7 +21,16 @@ returns c = (
     stream2 = c.in_ok-_stream2._stream2.now;
   },
   rw (
-    c.in_ok-_steps.ensures, c.in_ok-_pc.ensures, c.in_ok-_registers.ensures, c.in_ok-_reservation.ensures, c.in_ok-_heap.ensures, c.in_ok-pass_counted.ensures.1, c.in_ok-pass_counted-2.ensures.1,
-    c.in_ok-pass_counted-3.ensures.1, c.in_ok-pass_counted-4.ensures.1, c.in_ok-_stream1.ensures, c.in_ok-_stream2.ensures
+    c.in_ok-_steps.ensures,
+    c.in_ok-_pc.ensures,
+    c.in_ok-_registers.ensures,
+    c.in_ok-_reservation.ensures,
+    c.in_ok-_heap.ensures,
+    c.in_ok-pass_counted.ensures.1,
+    c.in_ok-pass_counted-2.ensures.1,
+    c.in_ok-pass_counted-3.ensures.1,
+    c.in_ok-pass_counted-4.ensures.1,
+    c.in_ok-_stream1.ensures,
+    c.in_ok-_stream2.ensures,
   ) refl,
 )
