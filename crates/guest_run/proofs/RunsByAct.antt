@@ -81,11 +81,14 @@ unfolding end_at end_at_by
 exit-stands guest last zero s is = absurd cc
 exit-stands guest last (suc count) s is = by_state (after_by act_without_atomics guest count) refl is
   where
+    other : (why : End) (at : GuestState) → ◌≡◌ {A = Option (End × GuestState)} (Some (why, at)) (Some (Exited s, last)) → why ≡ Exited s
+    other why at e = ap (λ (p : End × GuestState). p.0) (same_Some (why, at) (Exited s, last) e)
+
     by_next : (at : GuestState) (n : Next) → next_by act_without_atomics at ≡ n → end_of at n ≡ Some (Exited s, last) → end_of at (next at) ≡ Some (Exited s, last)
     by_next at (Goes to) was e = absurd cc
     by_next at (Ends (Exited status)) was e = ap (end_of at) (exits at status was) ∙ e
-    by_next at (Ends (Trapped cause)) was e = absurd cc
-    by_next at (Ends (UnknownCall number)) was e = absurd cc
+    by_next at (Ends (Trapped cause)) was e = let why = other (Trapped cause) at e in absurd cc
+    by_next at (Ends (UnknownCall number)) was e = let why = other (UnknownCall number) at e in absurd cc
 
     by_state : (o : Option GuestState) → after_by act_without_atomics guest count ≡ o
         → option_and_then (λ at. end_of at (next_by act_without_atomics at)) o ≡ Some (Exited s, last)

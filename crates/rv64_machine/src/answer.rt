@@ -1,3 +1,6 @@
+ghost use Rattle.rv64_machine.specs.Inside.FlatEnds.{step_end};
+ghost use Rattle.std.specs.Prelude.{◌≡◌};
+
 use paged_mem::Width;
 
 /// Why a hart stopped. A trap leaves its state as it was.
@@ -35,4 +38,53 @@ pub enum StepEnd {
 pub struct Reservation {
     pub wide: Width,
     pub at: u64,
+}
+
+/// A `StepEnd` whose variants all stand beside one another, so that it fits two registers.
+#[derive(Clone, Copy)]
+pub(crate) enum FlatEnd {
+    Done,
+    Call,
+    OutOfMemory,
+    Illegal(u32),
+    FetchUnmapped(u64),
+    FetchMisaligned(u64),
+    LoadUnmapped(u64),
+    StoreUnmapped(u64),
+    Break,
+}
+
+impl FlatEnd {
+    pub(crate) fn of(end: StepEnd) -> FlatEnd
+        ensures { step_end result ≡ end }
+    {
+        match end {
+            StepEnd::Done => FlatEnd::Done,
+            StepEnd::Call => FlatEnd::Call,
+            StepEnd::OutOfMemory => FlatEnd::OutOfMemory,
+            StepEnd::Trap(Cause::Illegal(word)) => FlatEnd::Illegal(word),
+            StepEnd::Trap(Cause::FetchUnmapped(at)) => FlatEnd::FetchUnmapped(at),
+            StepEnd::Trap(Cause::FetchMisaligned(at)) => FlatEnd::FetchMisaligned(at),
+            StepEnd::Trap(Cause::LoadUnmapped(at)) => FlatEnd::LoadUnmapped(at),
+            StepEnd::Trap(Cause::StoreUnmapped(at)) => FlatEnd::StoreUnmapped(at),
+            StepEnd::Trap(Cause::Break) => FlatEnd::Break,
+        }
+    }
+
+    #[inline(always)]
+    pub(crate) fn step_end(self) -> StepEnd
+        ensures { result ≡ step_end self }
+    {
+        match self {
+            FlatEnd::Done => StepEnd::Done,
+            FlatEnd::Call => StepEnd::Call,
+            FlatEnd::OutOfMemory => StepEnd::OutOfMemory,
+            FlatEnd::Illegal(word) => StepEnd::Trap(Cause::Illegal(word)),
+            FlatEnd::FetchUnmapped(at) => StepEnd::Trap(Cause::FetchUnmapped(at)),
+            FlatEnd::FetchMisaligned(at) => StepEnd::Trap(Cause::FetchMisaligned(at)),
+            FlatEnd::LoadUnmapped(at) => StepEnd::Trap(Cause::LoadUnmapped(at)),
+            FlatEnd::StoreUnmapped(at) => StepEnd::Trap(Cause::StoreUnmapped(at)),
+            FlatEnd::Break => StepEnd::Trap(Cause::Break),
+        }
+    }
 }

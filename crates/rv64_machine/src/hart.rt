@@ -4,13 +4,14 @@ ghost use Rattle.rv64_table.specs.Table.{row_for};
 ghost use Rattle.paged_mem.specs.Memory.{reads};
 ghost use Rattle.paged_mem.specs.Ram.{count_of, Stores};
 ghost use Rattle.rv64_machine.specs.Arithmetic.{sign_extended};
+ghost use Rattle.rv64_machine.specs.Inside.FlatEnds.{step_end};
 ghost use Rattle.rv64_machine.specs.Hart.{IsReservation, IsReservable, ReservesReservable, reads_aligned, is_reserved, reserved_bytes, carried, effect_of, EndsStep, following, HartState, HasNumbers, IsHart, runs, ActsInARow, Acts, with_register};
 ghost use Rattle.std.specs.FinMap.{contains_key};
 ghost use Rattle.std.specs.Borrow.{Lends, sem};
 ghost use Rattle.rv64_machine.specs.contracts.hart.Hart.{the_row};
 
 use crate::atomics::amo_result;
-use crate::answer::{Cause, Reservation, StepEnd};
+use crate::answer::{Cause, FlatEnd, Reservation, StepEnd};
 use crate::arithmetic::{sum, widened};
 use crate::effect::{AmoOperation, Effect, effect_of};
 use paged_mem::{Ram, StoreRefusal, Width};
@@ -22,7 +23,7 @@ macro_rules! by_operation {
     ($hart:expr, $op:expr, $word:expr; $($name:ident)*) => {
         match $op {
             $(Op::$name => $hart.perform(Op::$name, $word),)*
-            _ => $hart.obey_rare($word),
+            _ => $hart.obey_seldom($word),
         }
     };
 }
@@ -240,7 +241,7 @@ impl<R: Ram> Hart<R> {
         ensures { EndsStep (runs self.old word (decoded word)) (option_map (effect_of self.old) (decoded word)) self.old result self.new }
     {
         match row_without_atomics(word) {
-            None => self.obey_rare(word),
+            None => self.obey_seldom(word),
             Some(op) => self.dispatch(op, word),
         }
     }
@@ -260,11 +261,26 @@ impl<R: Ram> Hart<R> {
         }
     }
 
-    /// Carries out a word of any row or of none, out of the loop: the arms of the atomic rows would make the loop too large to be
-    /// compiled as one.
+    /// Carries out a word of an atomic row or of none.
+    #[inline(always)]
+    fn obey_seldom(&mut self, word: u32) -> StepEnd
+        ensures { EndsStep (runs self.old word (decoded word)) (option_map (effect_of self.old) (decoded word)) self.old result self.new }
+    {
+        self.obey_rare(word).step_end()
+    }
+
+    /// The same, out of the loop: the arms of the atomic rows would make it too large to be compiled as one, and an answer that does not
+    /// fit two registers would be cleared in memory at each of its steps.
     #[cold]
     #[inline(never)]
-    fn obey_rare(&mut self, word: u32) -> StepEnd
+    fn obey_rare(&mut self, word: u32) -> FlatEnd
+        ensures { EndsStep (runs self.old word (decoded word)) (option_map (effect_of self.old) (decoded word)) self.old (step_end result) self.new }
+    {
+        FlatEnd::of(self.obey_by_row(word))
+    }
+
+    /// Carries out a word of any row or of none.
+    fn obey_by_row(&mut self, word: u32) -> StepEnd
         ensures { EndsStep (runs self.old word (decoded word)) (option_map (effect_of self.old) (decoded word)) self.old result self.new }
     {
         match row_of(word) {
