@@ -1,9 +1,13 @@
+ghost use Rattle.save_text.specs.Seen.{save_view};
+ghost use Rattle.save_text.specs.Spelled.{IsSaveText};
+
 use crate::texts::pieces::Piece::*;
 use crate::texts::pieces::*;
 use crate::texts::states::STATE;
-use ddc_base::Bytes;
-use save_text::read;
+use ddc_base::{Bytes, OutOfMemory};
+use save_text::byte_fields::put_u32;
 use save_text::state_text::{TextRefusal, put_parts};
+use save_text::{MAGIC, Parts, StagePart, put_stage, read};
 use std::alloc::{AllocError, Global};
 use std::process::Abort;
 use std::test::Fail;
@@ -122,7 +126,7 @@ fn an_old_save_says_the_same(rt: HostRuntime) -> Result<(), Fail> {
     let parts = read(alloc, &text).ok().ok_or("form")?;
     assert!(rt; parts.state.reservation.is_none());
     let mut state = Bytes::new(alloc);
-    put_parts(&mut state, &parts.state)?;
+    put_state_again(&mut state, &parts)?;
     let wanted = text_of(alloc, STATE)?;
     assert_eq!(rt; state.as_slice(), wanted.as_slice());
     let stage = parts.done.get(0).ok_or("stages")?;
@@ -141,5 +145,46 @@ fn an_old_save_says_the_same(rt: HostRuntime) -> Result<(), Fail> {
         wrong(alloc, &text_of(alloc, &mixed)?),
         Some(start(&mixed, 22))
     );
+    Ok(())
+}
+
+/// Adds a stage's text again.
+fn put_again(rt: &impl Abort, out: &mut Bytes, stage: &StagePart) -> Result<(), OutOfMemory> {
+    let left = stage.left.as_slice();
+    let made = stage.made.as_slice();
+    assert!(rt; stage.stream1.length < 1 << 32 && stage.stream2.length < 1 << 32);
+    assert!(rt; left.len() < 1 << 32 && made.len() < 1 << 32);
+    assert!(rt; left.iter().all(|file| file.name.len() < 1 << 16));
+    assert!(rt; left.iter().all(|file| file.mark.length < 1 << 32));
+    put_stage(out, stage.steps, (stage.stream1, stage.stream2), left, made)
+}
+
+/// Adds the text of a save's state again.
+fn put_state_again(out: &mut Bytes, parts: &Parts<'_>) -> Result<(), OutOfMemory>
+    requires { IsSaveText (save_view parts.now) }
+{
+    put_parts(out, &parts.state)
+}
+
+#[test]
+fn a_text_is_written_again(rt: HostRuntime) -> Result<(), Fail> {
+    let whole = save(rt.alloc())?;
+    let text = text_of(rt.alloc(), &whole)?;
+    let parts = read(rt.alloc(), &text).ok().ok_or("form")?;
+    let mut state = Bytes::new(rt.alloc());
+    put_state_again(&mut state, &parts)?;
+    let mut again = Bytes::new(rt.alloc());
+    again.extend(&MAGIC)?;
+    again.extend(&parts.recipe.0)?;
+    put_u32(&mut again, 2)?;
+    for input in &parts.inputs {
+        again.extend(&input.digest.0)?;
+    }
+    put_u32(&mut again, 1)?;
+    for stage in &parts.done {
+        put_again(&rt, &mut again, stage)?;
+    }
+    again.extend(state.as_slice())?;
+    assert_eq!(rt; again.as_slice(), text.as_slice());
     Ok(())
 }
