@@ -1,4 +1,5 @@
--- The save of an audit, and the position that a save says. docs/reference/save.md says the same for people.
+-- The save of an audit, and the position that a save says. Recipes and inputs are known by their SHA-256 (FIPS 180-4). docs/reference/save.md
+-- says the same for people.
 use Rattle.std.specs.Prelude.{◌≡◌, ◌≢◌, ◌<◌, ℕ, IsOk, List, ◌∷◌, map, Result, Ok, Err}
 use Rattle.sha2.specs.Sha256.{sha256}
 use Rattle.ddc_base.specs.declared.digests.Digest.{Digest}
