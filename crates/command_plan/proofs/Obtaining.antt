@@ -2,19 +2,20 @@
 use Rattle.std.proofs.Common.{◌≡◌, ℕ, Result, Ok, Err, List, sym, ap, subst, ◌∙◌}
 use Rattle.std.specs.Prelude.{IsErrAnd}
 use Rattle.ddc_base.specs.Outside.{ShelfState}
+use Rattle.prompt.specs.Talks.{Talk}
 use Rattle.command_plan.specs.declared.answer.Answer.{Answer}
 use Rattle.command_plan.specs.declared.stop.Stop.{Stop}
 use Rattle.command_plan.specs.declared.stop.Stop.TheVariants as stop
-use Rattle.command_plan.specs.Plan.{Plan, answers, needs, unless_refused}
-use Rattle.command_plan.specs.Performs.{Performs}
-use Rattle.command_plan.specs.Steps.{Fetches, Obtains}
-use Rattle.command_plan.proofs.Performing.{ends_answered, ends_at_fetch, goes_on_after_fetch, wants_memory}
+use Rattle.command_plan.specs.Plan.{Plan, answers, talks, needs, unless_refused}
+use Rattle.command_plan.specs.Performs.{Opens, Performs}
+use Rattle.command_plan.specs.Steps.{EndsAs, Fetches, Obtains, talking}
+use Rattle.command_plan.proofs.Performing.{ends_answered, ends_at_fetch, leads_after_fetch, led_to, spoken, wants_memory}
 
 -- ---- what follows a step, and what `?` hands on of one that ended the command
 
 pub goes_on_with : {A : Type 0} {plan : (A → Plan) → Plan} {next : A → Plan} {old mid new : ShelfState} {value : A} {result : Result Answer Stop}
     → Obtains plan old mid (Ok value) → Performs (next value) mid new result → Performs (plan next) old new result
-goes_on_with {A} {plan} {next} {old} {mid} {new} {value} {result} o p = o.by_result next new result p
+goes_on_with {A} {plan} {next} {old} {mid} {new} {value} {result} o p = led_to plan (λ n. n value) old mid o.by_result next new result p
 
 pub ends_before : {A : Type 0} {plan : (A → Plan) → Plan} {next : A → Plan} {old new : ShelfState} {ending : Stop}
     → Obtains plan old new (Err ending) → Performs (plan next) old new (Err ending)
@@ -27,17 +28,37 @@ ends_with {plan} {old} {new} {result = Err given} handed p = subst (λ e. Perfor
 
 pub ruleset obtaining = (goes_on_with, ends_before)
 
+-- ---- the same of a command that opens a talk
+
+pub opens_with : {A B : Type 0} {plan : (A → Plan) → Plan} {next : A → Plan} {meant : B → List ℕ → Talk} {old mid new : ShelfState} {value : A} {result : Result B Stop}
+    → Obtains plan old mid (Ok value) → Opens (next value) meant mid new result → Opens (plan next) meant old new result
+opens_with {A} {B} {plan} {next} {meant} {old} {mid} {new} {value} {result = Ok given} o p =
+    record { by_result = (o.by_result next new (talking (meant given)) (record { by_ending = p.by_result })).by_ending }
+opens_with {A} {B} {plan} {next} {meant} {old} {mid} {new} {value} {result = Err ending} o p = record { by_result = goes_on_with {next = next} o p.by_result }
+
+pub stops_opening : {B : Type 0} {plan : Plan} {meant : B → List ℕ → Talk} {old new : ShelfState} {ending : Stop} {result : Result B Stop} → IsErrAnd result (λ handed. handed ≡ ending)
+    → Performs plan old new (Err ending) → Opens plan meant old new result
+stops_opening {result = Ok value} handed p = absurd handed
+stops_opening {B} {plan} {meant} {old} {new} {result = Err given} handed p = record { by_result = subst (λ e. Performs plan old new (Err e)) (sym handed) p }
+
+-- with no further call of a shelf: the plan is the talk that the value means; or it is said, and ends the command
+pub opens_here : {B : Type 0} (plan : Plan) (meant : B → List ℕ → Talk) (shelf : ShelfState) (value : B) → plan ≡ talks (meant value) → Opens plan meant shelf shelf (Ok value)
+opens_here plan meant shelf value is = record { by_result = spoken plan shelf (meant value) is }
+
+pub says_first : {B : Type 0} (plan : Plan) (meant : B → List ℕ → Talk) (shelf : ShelfState) (ending : Stop) → Performs plan shelf shelf (Err ending) → Opens plan meant shelf shelf (Err ending)
+says_first plan meant shelf ending p = record { by_result = p }
+
 -- ---- steps
 
 -- a load
 pub loads : (name : List ℕ) (limit : ℕ) (old new : ShelfState) (result : Result (List ℕ) Stop) → Fetches name limit old new result → Obtains (needs name limit) old new result
-loads name limit old new (Ok content) f = record { by_result = λ next final result p. goes_on_after_fetch name limit next old new final content result f p }
+loads name limit old new (Ok content) f = record { by_result = λ next final ending e. leads_after_fetch name limit next old new content f final ending e }
 loads name limit old new (Err ending) f = record { by_result = λ next. ends_at_fetch name limit next old new ending f }
 
 -- a judgement, which touches no shelf: it leads to a value, or answers, or wants memory
 module _ {A : Type 0} (plan : (A → Plan) → Plan) (shelf : ShelfState) where
   pub leads : (value : A) → ((next : A → Plan) → plan next ≡ next value) → Obtains plan shelf shelf (Ok value)
-  leads value is = record { by_result = λ next final result p. subst (λ q. Performs q shelf final result) (sym (is next)) p }
+  leads value is = record { by_result = λ next final ending e. subst (λ q. EndsAs q shelf final ending) (sym (is next)) e }
 
   pub answers_at_once : (answer : Answer) → ((next : A → Plan) → plan next ≡ answers answer.status answer.text) → Obtains plan shelf shelf (Err (stop.Answered answer))
   answers_at_once answer is = record { by_result = λ next. ends_answered (plan next) shelf answer (is next) }
@@ -64,8 +85,8 @@ module _ {A B E : Type 0} (meant : Result A E) (refuse : E → Plan) (view : A �
 module _ {A B : Type 0} {first : (A → Plan) → Plan} {second : A → (B → Plan) → Plan} {old mid new : ShelfState} where
   pub and_then : {value : A} {result : Result B Stop} → Obtains first old mid (Ok value) → Obtains (second value) mid new result
       → Obtains (λ next. first (λ v. second v next)) old new result
-  and_then {result = Ok found} f s = record { by_result = λ next final result p. f.by_result (λ v. second v next) final result (s.by_result next final result p) }
-  and_then {result = Err ending} f s = record { by_result = λ next. f.by_result (λ v. second v next) new (Err ending) (s.by_result next) }
+  and_then {result = Ok found} f s = record { by_result = λ next final ending e. f.by_result (λ v. second v next) final ending (s.by_result next final ending e) }
+  and_then {result = Err ending} f s = record { by_result = λ next. goes_on_with {next = λ v. second v next} f (s.by_result next) }
 
 module _ {A B : Type 0} {first : (A → Plan) → Plan} {second : A → (B → Plan) → Plan} {old new : ShelfState} where
   pub stops_before : {ending : Stop} → Obtains first old new (Err ending) → Obtains (λ next. first (λ v. second v next)) old new (Err ending)
