@@ -1,10 +1,10 @@
 -- A conversation, from its turns.
-use Rattle.std.proofs.Common.{◌≡◌, ◌≢◌, ◌∙◌, ℕ, zero, suc, Bool, true, false, IsTrue, inl, inr, Result, Ok, Err, List, [], ◌∷◌, ◌++◌, append_assoc, append-nil, ap, subst, sym, refl, if◌then◌else◌}
+use Rattle.std.proofs.Common.{◌≡◌, ◌∙◌, ℕ, zero, suc, Bool, true, false, IsTrue, inl, inr, Ok, Err, List, [], ◌∷◌, ◌++◌, append_assoc, append-nil, ap, subst, sym, refl}
 use Rattle.std.specs.Bool.{OnTrue}
 use Rattle.ddc_base.specs.declared.outside.PutFail.{PutFail}
 use Rattle.ddc_base.specs.declared.outside.PutFail.TheVariants as putting
 use Rattle.ddc_base.specs.Outside.{SinkState, PutFails, after_piece, one_more}
-use Rattle.prompt.specs.Prompts.{PromptState, LineFails, after_line, left_after}
+use Rattle.prompt.specs.Prompts.{PromptState, after_line, left_after}
 use Rattle.prompt.specs.Converses.{Converses, after_pieces}
 use Rattle.prompt.specs.Talks.{Talk, ends_with, talk, with_pieces}
 use Rattle.prompt.specs.Inside.Turns.{GoesOn, Turns}

@@ -1,14 +1,13 @@
 -- A turn of a conversation, from what the prompt gave and what became of its line.
-use Rattle.std.proofs.Common.{◌≡◌, ◌≢◌, ◌∙◌, ℕ, suc, Bool, true, false, inl, inr, Option, Some, None, Result, Ok, Err, List, [], ◌∷◌, ap, subst, sym, refl}
+use Rattle.std.proofs.Common.{◌≡◌, ◌≢◌, ◌∙◌, ℕ, suc, Bool, true, false, inr, Some, Result, Ok, Err, List, [], ◌∷◌, ap, sym, refl}
 use Rattle.std.specs.Bool.{OnTrue}
 use Rattle.ddc_base.specs.declared.outside.PutFail.{PutFail}
 use Rattle.ddc_base.specs.declared.outside.PutFail.TheVariants as putting
 use Rattle.ddc_base.specs.Outside.{SinkState}
 use Rattle.prompt.specs.declared.asking.Asked.{Asked}
 use Rattle.prompt.specs.declared.asking.Asked.TheVariants.{Line, TooLong, End}
-use Rattle.prompt.specs.declared.asking.Failed.{Failed}
-use Rattle.prompt.specs.Prompts.{PromptState, LineLeaves, after_line, asked_of, left_after}
-use Rattle.prompt.specs.Talks.{Talk, led_by, ends_with, heard, replied, talk, with_pieces}
+use Rattle.prompt.specs.Prompts.{PromptState, after_line, asked_of, left_after}
+use Rattle.prompt.specs.Talks.{Talk, led_by, heard, replied, talk, with_pieces}
 use Rattle.prompt.specs.Inside.Turns.{Replies, Turns}
 
 -- what holds where it is told
