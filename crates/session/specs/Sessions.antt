@@ -1,11 +1,10 @@
 -- A stepping session: the reply to each line, by the state in which the program's run stands. docs/reference/step.md says the same for people.
-use Rattle.std.specs.Prelude.{◌≡◌, ℕ, ◌+◌, ◌-◌, ◌≤◌, ◌^◌, Option, Some, None, Result, Ok, Err, List, [], min, nat_lt, if◌then◌else◌, refl}
-use Rattle.std.specs.Coded.{Coded, code_by, coded×, coded_ℕ, coded_list, coded_option}
+use Rattle.std.specs.Prelude.{◌≡◌, ℕ, ◌+◌, ◌-◌, ◌≤◌, ◌^◌, Option, Some, None, Result, Ok, Err, List, [], min, nat_lt, if◌then◌else◌}
 use Rattle.paged_mem.specs.Memory.{bytes_at}
 use Rattle.guest_run.specs.declared.guest.StartRefusal.{StartRefusal}
-use Rattle.guest_run.specs.Setting.{Setting, setting_code}
+use Rattle.guest_run.specs.Setting.{Setting}
 use Rattle.guest_run.specs.Start.{Refusal, Starts, start_of}
-use Rattle.guest_run.specs.State.{GuestState, guest_code}
+use Rattle.guest_run.specs.State.{GuestState}
 use Rattle.guest_run.specs.Run.{End, after}
 use Rattle.command_plan.specs.Causes.Texts.{spent_text}
 use Rattle.session.specs.declared.command.Command.{Command}
@@ -24,14 +23,6 @@ pub record SessionState : Type 0 where
 
 abbrev pub session_state : List ℕ → Setting → ℕ → GuestState → Option ℕ → SessionState
 session_state program setting limit at stop = record { program = program; setting = setting; limit = limit; at = at; stop = stop }
-
-abbrev pub session_code : Coded SessionState
-session_code =
-    code_by (List ℕ × (Setting × (ℕ × (GuestState × Option ℕ))))
-    (coded× (coded_list coded_ℕ) (coded× setting_code (coded× coded_ℕ (coded× guest_code (coded_option coded_ℕ)))))
-    (λ s. (s.program, (s.setting, (s.limit, (s.at, s.stop)))))
-    (λ p. record { program = p.0; setting = p.1.0; limit = p.1.1.0; at = p.1.1.1.0; stop = p.1.1.1.1 })
-    (λ _. refl)
 
 -- the state of the run after so many steps from the program's start
 abbrev pub after_start : Result GuestState Refusal → ℕ → Option GuestState

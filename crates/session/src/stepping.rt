@@ -33,7 +33,8 @@ pub struct Session<'a> {
 }
 
 impl<'a> Model for Session<'a> {
-    ghost use Rattle.session.specs.Sessions.{IsSession, SessionState, session_code, session_state};
+    ghost use Rattle.session.specs.Inside.Codes.{session_code};
+    ghost use Rattle.session.specs.Sessions.{IsSession, SessionState, session_state};
 
     ghost Value = { SessionState };
 
