@@ -1,5 +1,5 @@
 -- Digits that are read one by one.
-use Rattle.std.proofs.Common.{◌≡◌, ◌+◌, ◌*◌, ◌<◌, ◌^◌, ◌≤◌, ℕ, zero, suc, Bool, true, false, cond, nat_lt, Option, Some, None, option_and_then, List, [], ◌∷◌, length, drop, get_or, refl, ap, sym, ◌∙◌, arith}
+use Rattle.std.proofs.Common.{◌≡◌, ◌+◌, ◌*◌, ◌<◌, ◌^◌, ◌≤◌, ℕ, zero, suc, true, false, cond, nat_lt, Option, Some, None, option_and_then, List, [], ◌∷◌, length, drop, get_or, refl, ap, sym, ◌∙◌, arith}
 use Rattle.std.proofs.lemmas.List.{drop_all}
 use Rattle.session.specs.Lines.{digit_of, number_from, with_digit}
 

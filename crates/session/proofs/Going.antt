@@ -1,5 +1,5 @@
 -- How a guest goes on, by its steps and by its runs.
-use Rattle.std.proofs.Common.{◌≡◌, ◌≢◌, ◌∙◌, ℕ, zero, suc, ◌+◌, ◌-◌, ◌<◌, ◌≤◌, Bool, true, false, ◌==◌, cond, inl, inr, Option, Some, None, refl, sym, ap, subst, arith}
+use Rattle.std.proofs.Common.{◌≡◌, ◌≢◌, ◌∙◌, ℕ, zero, suc, ◌+◌, Bool, true, ◌==◌, cond, inl, inr, Option, Some, None, refl, sym, ap, arith}
 use Rattle.std.proofs.lemmas.Bool.{ne_eqb}
 use Rattle.std.proofs.lemmas.Bool.Decides.{eqb_tells}
 use Rattle.guest_run.specs.declared.run.RunEnd.{RunEnd}
@@ -8,7 +8,7 @@ use Rattle.guest_run.specs.State.{GuestState}
 use Rattle.guest_run.specs.Run.{End, Exited, Trapped, UnknownCall, Next, Goes, Ends, Runs, after, first_end, next}
 use Rattle.guest_run.proofs.Running.{after-none, after-on, after-counted, before, found, goes_on-no_end}
 use Rattle.guest_run.proofs.RunLaws.{after-sum, first_end-sum, some_steps}
-use Rattle.session.specs.Travels.{Travels, TravelsBy, is_stop, travel, travelled}
+use Rattle.session.specs.Travels.{Travels, TravelsBy, travel, travelled}
 
 -- one step of going on
 on : (stop : Option ℕ) (guest : GuestState) (most : ℕ) (n : Next) → next guest ≡ n → travel stop guest (suc most) ≡ travelled stop guest (λ to. travel stop to most) n

@@ -1,14 +1,14 @@
 -- The replies of a stepping session, a line each. docs/reference/step.md says the same for people.
-use Rattle.std.specs.Prelude.{ℕ, ◌+◌, Option, Some, None, List, [], ◌∷◌, ◌++◌, codes, decimal, drop, take}
+use Rattle.std.specs.Prelude.{ℕ, Option, Some, None, List, [], ◌∷◌, ◌++◌, codes, decimal, drop, take}
 use Rattle.std.specs.List.{flat_map}
 use Rattle.hex.specs.Hex.{encode_lower}
 use Rattle.ddc_base.specs.Lines.{line}
-use Rattle.paged_mem.specs.Memory.{Memory, bytes_at, reads}
+use Rattle.paged_mem.specs.Memory.{reads}
 use Rattle.rv64_decode.specs.declared.Inst.{Inst}
 use Rattle.rv64_decode.specs.Decode.{decoded}
 use Rattle.rv64_decode.specs.Text.{text}
 use Rattle.rv64_machine.specs.Hart.{HartState}
-use Rattle.command_plan.specs.Causes.Texts.{hex_address, spaced, trap_text, call_text, spent_text}
+use Rattle.command_plan.specs.Causes.Texts.{hex_address, spaced, trap_text, call_text}
 use Rattle.guest_run.specs.State.{GuestState}
 use Rattle.guest_run.specs.Run.{End, Exited, Trapped, UnknownCall}
 

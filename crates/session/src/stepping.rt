@@ -6,7 +6,6 @@ ghost use Rattle.guest_run.specs.State.{GuestState};
 ghost use Rattle.session.specs.Lines.{command_of};
 ghost use Rattle.session.specs.declared.command.Command.TheVariants.{Back};
 ghost use Rattle.session.specs.Sessions.{IsFurther, KeepsSession, StartsSession, gone, obeyed, reply_to, state_of_step};
-
 ghost use Rattle.session.specs.Inside.Saying.{Tells};
 
 use crate::command::Command;

@@ -1,4 +1,4 @@
-use Rattle.std.proofs.Common.{◌≡◌, ◌∙◌, ◌+◌, ◌-◌, sym, arith}
+use Rattle.std.proofs.Common.{◌∙◌, ◌+◌, ◌-◌, sym, arith}
 use Rattle.guest_run.specs.declared.run.RunEnd.TheVariants as answer
 use Rattle.session.proofs.Going.{all_taken, arrived, begins, over, stepped}
 use Rattle.session.proofs.travel.steps_to.Goals as goal
