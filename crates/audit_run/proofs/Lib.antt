@@ -1,5 +1,6 @@
 mod Present
 mod Slicing
+mod Whole
 mod Stretching
 mod Continuing
 pub mod CheckLemmas
