@@ -85,7 +85,7 @@ pub fn conclude<S: Shelf>(
 }
 
 /// The answer of a stage that is not done.
-pub(crate) fn undone(
+pub fn undone(
     alloc: Global,
     recipe: &Recipe,
     number: u32,
@@ -159,7 +159,7 @@ fn keep_report<S: Shelf>(
 }
 
 /// The answer to a comparison.
-fn compared(alloc: Global, compare: &CompareLine) -> Result<Answer, OutOfMemory>
+pub fn compared(alloc: Global, compare: &CompareLine) -> Result<Answer, OutOfMemory>
     ensures status { IfOk result (λ answer. answer.status ≡ compared_status compare.now.result) }
     ensures text { IfOk result (λ answer. answer.text ≡ compared_line compare.now) }
 {
