@@ -1,6 +1,6 @@
 -- Lines that are read byte by byte.
-use Rattle.std.proofs.Common.{◌≡◌, ◌≢◌, ◌==◌, ◌+◌, ◌<◌, ◌≤◌, ℕ, zero, suc, Bool, true, false, cond, not, nat_le, Option, None, Some, List, [], ◌∷◌, ◌++◌, length, take, drop, min, append_assoc, append-nil, refl, sym, ap, subst, ◌∙◌, inl, inr, le_refl, arith, if◌then◌else◌}
-use Rattle.std.specs.List.{position, position_or_len}
+use Rattle.std.proofs.Common.{◌≡◌, ◌≢◌, ◌==◌, ◌+◌, ◌<◌, ◌≤◌, ℕ, suc, Bool, true, false, cond, not, Option, None, Some, List, [], ◌∷◌, ◌++◌, length, take, drop, min, append_assoc, append-nil, refl, sym, ap, subst, ◌∙◌, inl, inr, le_refl, arith}
+use Rattle.std.specs.List.{position}
 use Rattle.std.specs.Io.KnownBytes.{Consumes, IsAtEnd}
 use Rattle.std.proofs.lemmas.Bool.{lt-leb, ne_eqb}
 use Rattle.std.proofs.lemmas.List.Sums.{prefix_len-le-length}
@@ -8,9 +8,8 @@ use Rattle.std.proofs.lemmas.Bool.Decides.{leb_tells}
 use Rattle.std.proofs.lemmas.List.{take_all, drop_all, take-append-le, length-append, nil_from_length}
 use Rattle.std.proofs.Math.Nat.{min-eq_left, min-eq_right}
 use Rattle.std.proofs.Math.Seq.{take-append_seam, drop-append_seam, drop-append-add}
-use Rattle.prompt.specs.declared.asking.Asked.{Asked}
 use Rattle.prompt.specs.declared.asking.Asked.TheVariants.{Line, TooLong, End}
-use Rattle.prompt.specs.Prompts.{asked_of, left_after, line_size, bytes_taken}
+use Rattle.prompt.specs.Prompts.{asked_of, left_after, line_size}
 use Rattle.prompt.specs.Reading.{GivesLine}
 use Rattle.prompt.specs.Inside.Read.{HasRead, kept_with, whole_line}
 
@@ -98,13 +97,12 @@ ends (Some left) (Some rest) (Some last) line count h c few =
     let size : line_size left ≡ length h.front = ap line_size all ∙ size-after h.front (10 ∷ last) h.plain ∙ omega arith in
     let some : length left ≢ 0 = λ none. (let sum = ap length all ∙ length-append h.front (10 ∷ last) in omega (arith, none, sum)) in
     let is : take (length h.front) left ≡ h.front = ap (take (length h.front)) all ∙ take-append_seam h.front (10 ∷ last) in
-    let few : length h.front < 65_536 = subst (λ n. n < 65_536) (sym h.size) few in
-    (
+    let few : length h.front < 65_536 = subst (λ n. n < 65_536) (sym h.size) few in (
       ap (whole_line line) (sym h.size) ∙ asked-at left h.front line size is some h.kept,
       sym (
-      ap (λ n. drop (min (n + 1) 65_536) left) size
-      ∙ ap (λ n. drop n left) (min-eq_left {n = length h.front + 1} {m = 65_536} (omega (arith, few)))
-      ∙ ap (drop (length h.front + 1)) all ∙ drop-append-add h.front (10 ∷ last) 1),
+          ap (λ n. drop (min (n + 1) 65_536) left) size
+          ∙ ap (λ n. drop n left) (min-eq_left {n = length h.front + 1} {m = 65_536} (omega (arith, few)))
+          ∙ ap (drop (length h.front + 1)) all ∙ drop-append-add h.front (10 ∷ last) 1),
     )
 
 -- the input ends
@@ -117,13 +115,12 @@ stops (Some left) (Some rest) (Some last) line count h c end some few =
     let size : line_size left ≡ length h.front = ap line_size all ∙ h.plain in
     let some : length left ≢ 0 = λ none. some (sym h.size ∙ ap length (sym all) ∙ none) in
     let is : take (length h.front) left ≡ h.front = ap (take (length h.front)) all ∙ take_all (length h.front) h.front (le_refl (length h.front)) in
-    let few : length h.front < 65_536 = subst (λ n. n < 65_536) (sym h.size) few in
-    (
+    let few : length h.front < 65_536 = subst (λ n. n < 65_536) (sym h.size) few in (
       ap (whole_line line) (sym h.size) ∙ asked-at left h.front line size is some h.kept,
       end ∙ sym (
-      ap (λ n. drop (min (n + 1) 65_536) left) size
-      ∙ ap (λ n. drop n left) (min-eq_left {n = length h.front + 1} {m = 65_536} (omega (arith, few)))
-      ∙ ap (drop (length h.front + 1)) all ∙ drop_all (length h.front + 1) h.front (omega arith)),
+          ap (λ n. drop (min (n + 1) 65_536) left) size
+          ∙ ap (λ n. drop n left) (min-eq_left {n = length h.front + 1} {m = 65_536} (omega (arith, few)))
+          ∙ ap (drop (length h.front + 1)) all ∙ drop_all (length h.front + 1) h.front (omega arith)),
     )
 
 pub nothing : (old now new : Option (List ℕ)) (line : List ℕ) (count : ℕ) → HasRead old now line count → Consumes now new [] → IsAtEnd new → count ≡ 0 → GivesLine old new End
@@ -142,13 +139,12 @@ cut (Some left) None line count h all = absurd h.taken
 cut (Some left) (Some rest) line count h all =
     let size : line_size left ≡ length h.front + line_size rest = ap line_size h.taken ∙ size-after h.front rest h.plain in
     let many : length h.front ≡ 65_536 = h.size ∙ all in
-    let some : length left ≢ 0 = λ none. (let sum = ap length h.taken ∙ length-append h.front rest in omega (arith, none, sum, many)) in
-    (
+    let some : length left ≢ 0 = λ none. (let sum = ap length h.taken ∙ length-append h.front rest in omega (arith, none, sum, many)) in (
       sym (rw (ne_eqb (length left) 0 some) (rw size (rw (lt-leb (length h.front + line_size rest) 256 (omega (arith, many))) refl))),
       sym (
-      ap (λ n. drop (min (n + 1) 65_536) left) size
-      ∙ ap (λ n. drop n left) (min-eq_right {n = 65_536} {m = length h.front + line_size rest + 1} (omega (arith, many)) ∙ sym many)
-      ∙ ap (drop (length h.front)) h.taken ∙ drop-append_seam h.front rest),
+          ap (λ n. drop (min (n + 1) 65_536) left) size
+          ∙ ap (λ n. drop n left) (min-eq_right {n = 65_536} {m = length h.front + line_size rest + 1} (omega (arith, many)) ∙ sym many)
+          ∙ ap (drop (length h.front)) h.taken ∙ drop-append_seam h.front rest),
     )
 
 -- no LF is there

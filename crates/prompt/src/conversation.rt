@@ -3,7 +3,6 @@
 ghost use Rattle.std.specs.Prelude.{◌≡◌, ℕ, List, IfOk};
 ghost use Rattle.prompt.specs.Converses.{Converses};
 ghost use Rattle.prompt.specs.Talks.{talk};
-
 ghost use Rattle.prompt.specs.Inside.Turns.{Replies, Turns};
 
 use crate::asking::{Asked, Failed, Prompt};

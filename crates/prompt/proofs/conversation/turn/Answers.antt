@@ -1,4 +1,3 @@
-use Rattle.std.proofs.Common.{sym}
 use Rattle.prompt.proofs.Turning.{of_end}
 use Rattle.prompt.proofs.conversation.turn.Goals as goal
 

@@ -1,4 +1,4 @@
-use Rattle.std.proofs.Common.{Some, None, arith, ap, sym, ◌∙◌, subst}
+use Rattle.std.proofs.Common.{Some, arith, ap, sym, ◌∙◌, subst}
 use Rattle.prompt.specs.Reading.{GivesLine, TakesByte}
 use Rattle.prompt.proofs.Lines.{cut, ends, kept-few, read-more, stops}
 use Rattle.prompt.proofs.reading.read_line.Goals as goal
