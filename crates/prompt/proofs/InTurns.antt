@@ -3,10 +3,10 @@ use Rattle.std.proofs.Common.{◌≡◌, ◌∙◌, ℕ, zero, suc, Bool, true, 
 use Rattle.std.specs.Bool.{OnTrue}
 use Rattle.ddc_base.specs.declared.outside.PutFail.{PutFail}
 use Rattle.ddc_base.specs.declared.outside.PutFail.TheVariants as putting
-use Rattle.ddc_base.specs.Outside.{SinkState, PutFails, after_piece, one_more}
-use Rattle.prompt.specs.Prompts.{PromptState, after_line, left_after}
-use Rattle.prompt.specs.Converses.{Converses, after_pieces}
-use Rattle.prompt.specs.Talks.{Talk, ends_with, talk, with_pieces}
+use Rattle.ddc_base.specs.Outside.{SinkState, after_piece}
+use Rattle.prompt.specs.Prompts.{PromptState, after_line, asked_of, left_after}
+use Rattle.prompt.specs.Converses.{Converses, Exchanged, after_pieces, after_talk}
+use Rattle.prompt.specs.Talks.{Talk, hears, says, heard, led_by, left_behind, pieces_of, talk}
 use Rattle.prompt.specs.Inside.Turns.{GoesOn, Turns}
 
 -- what is said of a prompt that tells
@@ -25,100 +25,119 @@ always false p = tt
 moved : (P : Type 0) (tells other : Bool) → tells ≡ other → OnTrue tells P → OnTrue other P
 moved P tells other is p = subst (λ b. OnTrue b P) is p
 
--- one more piece behind others
-pieces_on : (pieces : List (List ℕ)) (piece : List ℕ) (sink : SinkState) → after_pieces (pieces ++ piece ∷ []) sink ≡ after_piece piece (after_pieces pieces sink)
-pieces_on [] piece sink = refl
-pieces_on (first ∷ pieces) piece sink = pieces_on pieces piece (after_piece first sink)
+-- ---- exchanges, one list behind the other
 
-with_more : (pieces : List (List ℕ)) (piece : List ℕ) (rest : Talk) → with_pieces pieces (with_pieces (piece ∷ []) rest) ≡ with_pieces (pieces ++ piece ∷ []) rest
-with_more pieces piece rest = ap (λ p. record { pieces = p; left = rest.left }) (sym (append_assoc pieces (piece ∷ []) rest.pieces))
+put-more : (done more : Talk) (sink : SinkState) → after_pieces (pieces_of more) (after_pieces (pieces_of done) sink) ≡ after_pieces (pieces_of (done ++ more)) sink
+put-more [] more sink = refl
+put-more (hears left ∷ done) more sink = put-more done more sink
+put-more (says piece ∷ done) more sink = put-more done more (after_piece piece sink)
 
-with_end : (pieces : List (List ℕ)) (left : List ℕ) → with_pieces pieces (ends_with left) ≡ record { pieces = pieces; left = left }
-with_end pieces left = ap (λ p. record { pieces = p; left = left }) (append-nil pieces)
+behind-more : (done more : Talk) (left : List ℕ) → left_behind more (left_behind done left) ≡ left_behind (done ++ more) left
+behind-more [] more left = refl
+behind-more (hears now ∷ done) more left = behind-more done more now
+behind-more (says piece ∷ done) more left = behind-more done more left
 
+asked-more : (done more : Talk) (tells : Bool) (left : List ℕ) (faults : ℕ)
+    → after_talk more (after_talk done (record { tells = tells; left = left; faults = faults })) ≡ after_talk (done ++ more) (record { tells = tells; left = left; faults = faults })
+asked-more done more true left faults = ap (λ l. record { tells = true; left = l; faults = faults }) (behind-more done more left)
+asked-more done more false left faults = refl
+
+and_more : (done more : Talk) (before mid after : SinkState) (old at new : PromptState) → Exchanged done before mid old at → Exchanged more mid after at new → Exchanged (done ++ more) before after old new
+and_more done more before mid after old at new first second = record {
+  put = second.put ∙ ap (after_pieces (pieces_of more)) first.put ∙ put-more done more before;
+  asked = second.asked ∙ ap (after_talk more) first.asked ∙ asked-more done more old.tells old.left old.faults;
+}
+
+-- behind a line that was asked for
 left-told : (old new : PromptState) → IsTrue old.tells → new ≡ after_line old → new.left ≡ left_after old.left
 left-told old new told is = ap (λ p. p.left) is ∙ rw told refl
+
+starts : {S : Type 0} (answered : S → List ℕ → List ℕ × S) (state : S) (lines : ℕ) (left : List ℕ)
+    → talk answered state (suc lines) left ≡ hears (left_after left) ∷ led_by answered (λ next. talk answered next lines (left_after left)) state (heard (asked_of left))
+unfolding talk
+starts answered state lines left = refl
 
 module _ {S : Type 0} (answered : S → List ℕ → List ℕ × S) (state : S) (lines : ℕ) (before : SinkState) (old : PromptState) where
   -- nothing was said yet
   pub begins : (left : ℕ) → left ≡ lines → GoesOn answered state state lines left before before old old
   begins left is = record {
-    pieces = [];
-    put = refl;
-    tells = refl;
-    faults = refl;
+    done = [];
+    held = record { put = refl; asked = unasked old.tells old.left old.faults };
     told = always old.tells (ap (λ n. talk answered state n old.left) (sym is));
-  }
+  } where
+    unasked : (tells : Bool) (left : List ℕ) (faults : ℕ) → record { tells = tells; left = left; faults = faults } ≡ after_talk [] (record { tells = tells; left = left; faults = faults })
+    unasked true left faults = refl
+    unasked false left faults = refl
 
   module _ (now next : S) (here left : ℕ) (is : here ≡ suc left) (mid after : SinkState) (at new : PromptState) where
     there : GoesOn answered state now lines here before mid old at → GoesOn answered state now lines (suc left) before mid old at
     there g = subst (λ n. GoesOn answered state now lines n before mid old at) is g
 
+    tells-stay : (g : GoesOn answered state now lines (suc left) before mid old at) → at.tells ≡ old.tells
+    tells-stay g = ap (λ p. p.tells) g.held.asked
+
     -- one more turn
     turned : GoesOn answered state now lines here before mid old at → Turns answered now next mid after at new (Ok true) → GoesOn answered state next lines left before after old new
-    turned at_here t = (let g = there at_here in record {
-      pieces = g.pieces ++ t.by_result.1 ∷ [];
-      put = t.by_result.2 ∙ ap (after_piece t.by_result.1) g.put ∙ sym (pieces_on g.pieces t.by_result.1 before);
-      tells = ap (λ p. p.tells) t.by_result.0 ∙ g.tells;
-      faults = ap (λ p. p.faults) t.by_result.0 ∙ g.faults;
-      told = both old.tells g.told (moved _ at.tells old.tells g.tells t.by_result.3) (λ told whole one.
+    turned at_here t = (let g = there at_here in let turn : Talk = hears (left_after at.left) ∷ says t.by_result.1 ∷ [] in record {
+      done = g.done ++ turn;
+      held = and_more g.done turn before mid after old at new g.held (record { put = t.by_result.2; asked = t.by_result.0 });
+      told = both old.tells g.told (moved _ at.tells old.tells (tells-stay g) t.by_result.3) (λ told whole one.
           whole
-          ∙ ap (with_pieces g.pieces) (one left ∙ ap (λ l. with_pieces (t.by_result.1 ∷ []) (talk answered next left l)) (sym (left-told at new (g.tells ∙ told) t.by_result.0)))
-          ∙ with_more g.pieces t.by_result.1 (talk answered next left new.left));
+          ∙ ap (λ t. g.done ++ t) (one left)
+          ∙ sym (append_assoc g.done turn (talk answered next left (left_after at.left)))
+          ∙ ap (λ l. (g.done ++ turn) ++ talk answered next left l) (sym (left-told at new (tells-stay g ∙ told) t.by_result.0)));
     })
 
     -- the last turn
     ended : GoesOn answered state now lines here before mid old at → Turns answered now next mid after at new (Ok false) → Converses (talk answered state lines) before after old new (Ok tt)
-    ended at_here t = (let g = there at_here in record {
+    ended at_here t = (let g = there at_here in let turn : Talk = hears (left_after at.left) ∷ [] in record {
       by_result = record {
-        pieces = g.pieces;
-        put = t.by_result.1 ∙ g.put;
-        tells = ap (λ p. p.tells) t.by_result.0 ∙ g.tells;
-        faults = ap (λ p. p.faults) t.by_result.0 ∙ g.faults;
-        told = both old.tells g.told (moved _ at.tells old.tells g.tells t.by_result.2) (λ told whole one.
-            whole
-            ∙ ap (with_pieces g.pieces) (one left ∙ ap ends_with (sym (left-told at new (g.tells ∙ told) t.by_result.0)))
-            ∙ with_end g.pieces new.left);
+        done = g.done ++ turn;
+        held = and_more g.done turn before mid after old at new g.held (record { put = t.by_result.1; asked = t.by_result.0 });
+        told = both old.tells g.told (moved _ at.tells old.tells (tells-stay g) t.by_result.2) (λ told whole one. whole ∙ ap (λ t. g.done ++ t) (one left));
       };
     })
 
     -- a turn that was cut
     cut : (fail : PutFail) → GoesOn answered state now lines (suc left) before mid old at → Turns answered now next mid after at new (Err fail)
         → Converses (talk answered state lines) before after old new (Err fail)
-    cut putting.OutOfMemory g t = record {
-      by_result = (
-        record {
-          pieces = g.pieces;
-          put = t.by_result.1 ∙ g.put;
-          tells = ap (λ p. p.tells) t.by_result.0 ∙ g.tells;
-          told = told_of old.tells g.told (λ told whole. (talk answered now (suc left) at.left, whole));
-        },
-        ap (λ p. p.faults) t.by_result.0 ∙ g.faults,
-      );
-    }
+    cut putting.OutOfMemory g t = (let turn : Talk = hears (left_after at.left) ∷ [] in let rest : Talk = led_by answered (λ s. talk answered s left (left_after at.left)) now (heard (asked_of at.left)) in record {
+      by_result = record {
+        done = g.done ++ turn;
+        held = and_more g.done turn before mid after old at new g.held (record { put = t.by_result.1; asked = t.by_result.0 });
+        told = told_of old.tells g.told (λ told whole. (
+          rest,
+          whole ∙ ap (λ t. g.done ++ t) (starts answered now left at.left) ∙ sym (append_assoc g.done turn rest),
+        ));
+      };
+    })
     cut putting.Failed g t = elim t.by_result as (λ _. Converses (talk answered state lines) before after old new (Err putting.Failed)) [
       | inl asked ↦ record {
-        by_result = inl (
-          record {
-            pieces = g.pieces;
-            put = asked.1 ∙ g.put;
-            tells = ap (λ p. p.tells) asked.0.failed ∙ g.tells;
-            told = told_of old.tells g.told (λ told whole. (talk answered now (suc left) at.left, whole));
-          },
-          ap (λ p. p.faults) asked.0.failed ∙ ap one_more g.faults,
-        );
-      }
-      | inr put ↦ record {
-        by_result = inr (record {
-          pieces = g.pieces;
-          piece = put.1;
-          put = subst (λ s. PutFails put.1 s after) g.put put.2;
-          tells = ap (λ p. p.tells) put.0 ∙ g.tells;
-          faults = ap (λ p. p.faults) put.0 ∙ g.faults;
-          told = both old.tells g.told (moved _ at.tells old.tells g.tells put.3) (λ told whole one.
-              ((one left).0, whole ∙ ap (with_pieces g.pieces) (one left).1 ∙ with_more g.pieces put.1 (one left).0));
+        by_result = inl (record {
+          done = g.done;
+          between = at;
+          held = record { put = asked.1 ∙ g.held.put; asked = g.held.asked };
+          line = asked.0;
+          told = told_of old.tells g.told (λ told whole. (
+            left_after at.left,
+            led_by answered (λ s. talk answered s left (left_after at.left)) now (heard (asked_of at.left)),
+            whole ∙ ap (λ t. g.done ++ t) (starts answered now left at.left),
+          ));
         });
       }
+      | inr put ↦ (let turn : Talk = hears (left_after at.left) ∷ [] in record {
+        by_result = inr (record {
+          done = g.done ++ turn;
+          between = mid;
+          held = and_more g.done turn before mid mid old at new g.held (record { put = refl; asked = put.0 });
+          piece = put.1;
+          put = put.2;
+          told = both old.tells g.told (moved _ at.tells old.tells (tells-stay g) put.3) (λ told whole one. (
+            (one left).0,
+            whole ∙ ap (λ t. g.done ++ t) (one left).1 ∙ sym (append_assoc g.done turn (says put.1 ∷ (one left).0)),
+          ));
+        });
+      })
     ]
 
     pub cut_at : (fail : PutFail) → GoesOn answered state now lines here before mid old at → Turns answered now next mid after at new (Err fail)
@@ -139,10 +158,8 @@ module _ {S : Type 0} (answered : S → List ℕ → List ℕ × S) (state : S) 
   unfolding talk
   all now left none after new at_left = (let g : GoesOn answered state now lines zero before after old new = subst (λ n. GoesOn answered state now lines n before after old new) none at_left in record {
     by_result = record {
-      pieces = g.pieces;
-      put = g.put;
-      tells = g.tells;
-      faults = g.faults;
-      told = told_of old.tells g.told (λ told whole. whole ∙ with_end g.pieces new.left);
+      done = g.done;
+      held = g.held;
+      told = told_of old.tells g.told (λ told whole. whole ∙ append-nil g.done);
     };
   })

@@ -7,7 +7,7 @@ use Rattle.ddc_base.specs.Outside.{SinkState}
 use Rattle.prompt.specs.declared.asking.Asked.{Asked}
 use Rattle.prompt.specs.declared.asking.Asked.TheVariants.{Line, TooLong, End}
 use Rattle.prompt.specs.Prompts.{PromptState, after_line, asked_of, left_after}
-use Rattle.prompt.specs.Talks.{Talk, led_by, heard, replied, talk, with_pieces}
+use Rattle.prompt.specs.Talks.{Talk, led_by, heard, hears, replied, says, talk}
 use Rattle.prompt.specs.Inside.Turns.{Replies, Turns}
 
 -- what holds where it is told
@@ -15,24 +15,24 @@ on_told : {P Q : Type 0} (tells : Bool) → OnTrue tells P → (P → Q) → OnT
 on_told true p f = f p
 on_told false p f = tt
 
-some-reply : (reply left : List ℕ) (rest : Talk) → reply ≢ [] → replied reply left rest ≡ with_pieces (reply ∷ []) rest
-some-reply [] left rest some = absurd (some refl)
-some-reply (byte ∷ reply) left rest some = refl
+some-reply : (reply : List ℕ) (rest : Talk) → reply ≢ [] → replied reply rest ≡ says reply ∷ rest
+some-reply [] rest some = absurd (some refl)
+some-reply (byte ∷ reply) rest some = refl
 
 module _ {S : Type 0} (answered : S → List ℕ → List ℕ × S) (state next : S) (before after : SinkState) (old new : PromptState) where
   -- the talk's first turn
   first : (asked : Asked) (lines : ℕ) → asked ≡ asked_of old.left
-      → talk answered state (suc lines) old.left ≡ led_by answered (λ s. talk answered s lines (left_after old.left)) state (left_after old.left) (heard asked)
+      → talk answered state (suc lines) old.left ≡ hears (left_after old.left) ∷ led_by answered (λ s. talk answered s lines (left_after old.left)) state (heard asked)
   unfolding talk
-  first asked lines is = ap (λ a. led_by answered (λ s. talk answered s lines (left_after old.left)) state (left_after old.left) (heard a)) (sym is)
+  first asked lines is = ap (λ a. hears (left_after old.left) ∷ led_by answered (λ s. talk answered s lines (left_after old.left)) state (heard a)) (sym is)
 
   -- a line that was heard, and its reply
   led : (asked : Asked) (line reply : List ℕ) (lines : ℕ) → heard asked ≡ Some line → asked ≡ asked_of old.left → answered state line ≡ (reply, next)
-      → talk answered state (suc lines) old.left ≡ replied reply (left_after old.left) (talk answered next lines (left_after old.left))
+      → talk answered state (suc lines) old.left ≡ hears (left_after old.left) ∷ replied reply (talk answered next lines (left_after old.left))
   led asked line reply lines is told reply_is =
       let on : S → Talk = λ s. talk answered s lines (left_after old.left) in
       let next_left : List ℕ = left_after old.left in
-      first asked lines told ∙ ap (led_by answered on state next_left) is ∙ ap (λ a. replied a.0 next_left (on a.1)) reply_is
+      first asked lines told ∙ ap (λ h. hears next_left ∷ led_by answered on state h) is ∙ ap (λ a. hears next_left ∷ replied a.0 (on a.1)) reply_is
 
   of_line : (asked : Asked) (line : List ℕ) (result : Result Bool PutFail) → heard asked ≡ Some line → OnTrue old.tells (asked ≡ asked_of old.left) → new ≡ after_line old
       → Replies answered state line next before after result → Turns answered state next before after old new result
@@ -41,7 +41,7 @@ module _ {S : Type 0} (answered : S → List ℕ → List ℕ × S) (state next 
       leaves,
       r.by_result.0,
       r.by_result.3,
-      on_told old.tells told (λ t lines. led asked line r.by_result.0 lines is t r.by_result.2 ∙ some-reply r.by_result.0 (left_after old.left) (talk answered next lines (left_after old.left)) r.by_result.1),
+      on_told old.tells told (λ t lines. led asked line r.by_result.0 lines is t r.by_result.2 ∙ ap (λ t. hears (left_after old.left) ∷ t) (some-reply r.by_result.0 (talk answered next lines (left_after old.left)) r.by_result.1)),
     );
   }
   of_line asked line (Ok false) is told leaves r = record {
@@ -54,7 +54,7 @@ module _ {S : Type 0} (answered : S → List ℕ → List ℕ × S) (state next 
       r.by_result.3,
       on_told old.tells told (λ t lines. (
         talk answered next lines (left_after old.left),
-        led asked line r.by_result.0 lines is t r.by_result.2 ∙ some-reply r.by_result.0 (left_after old.left) (talk answered next lines (left_after old.left)) r.by_result.1,
+        led asked line r.by_result.0 lines is t r.by_result.2 ∙ ap (λ t. hears (left_after old.left) ∷ t) (some-reply r.by_result.0 (talk answered next lines (left_after old.left)) r.by_result.1),
       )),
     );
   }
