@@ -1,13 +1,16 @@
 -- Steps of a command in a row. What each of them does is `Obtains`, with a shelf or without.
-use Rattle.std.proofs.Common.{◌≡◌, ℕ, Result, Ok, Err, List, sym, ap, subst, ◌∙◌}
+use Rattle.std.proofs.Common.{◌≡◌, ℕ, Result, Ok, Err, List, refl, sym, ap, subst, ◌∙◌}
 use Rattle.std.specs.Prelude.{IsErrAnd}
-use Rattle.ddc_base.specs.Outside.{ShelfState}
+use Rattle.ddc_base.specs.declared.outside.PutFail.{PutFail}
+use Rattle.ddc_base.specs.Outside.{ShelfState, SinkState}
+use Rattle.prompt.specs.Converses.{Converses}
+use Rattle.prompt.specs.Prompts.{PromptState}
 use Rattle.prompt.specs.Talks.{Talk}
 use Rattle.command_plan.specs.declared.answer.Answer.{Answer}
 use Rattle.command_plan.specs.declared.stop.Stop.{Stop}
 use Rattle.command_plan.specs.declared.stop.Stop.TheVariants as stop
 use Rattle.command_plan.specs.Plan.{Plan, answers, talks, needs, unless_refused}
-use Rattle.command_plan.specs.Performs.{Opens, Performs}
+use Rattle.command_plan.specs.Performs.{Holds, Performs}
 use Rattle.command_plan.specs.Steps.{EndsAs, Fetches, Obtains, talking}
 use Rattle.command_plan.proofs.Performing.{ends_answered, ends_at_fetch, leads_after_fetch, led_to, spoken, wants_memory}
 
@@ -28,25 +31,29 @@ ends_with {plan} {old} {new} {result = Err given} handed p = subst (λ e. Perfor
 
 pub ruleset obtaining = (goes_on_with, ends_before)
 
--- ---- the same of a command that opens a talk
+-- ---- the same of a command that may hold a talk
 
-pub opens_with : {A B : Type 0} {plan : (A → Plan) → Plan} {next : A → Plan} {meant : B → List ℕ → Talk} {old mid new : ShelfState} {value : A} {result : Result B Stop}
-    → Obtains plan old mid (Ok value) → Opens (next value) meant mid new result → Opens (plan next) meant old new result
-opens_with {A} {B} {plan} {next} {meant} {old} {mid} {new} {value} {result = Ok given} o p =
-    record { by_result = (o.by_result next new (talking (meant given)) (record { by_ending = p.by_result })).by_ending }
-opens_with {A} {B} {plan} {next} {meant} {old} {mid} {new} {value} {result = Err ending} o p = record { by_result = goes_on_with {next = next} o p.by_result }
+pub holds_with : {A : Type 0} {plan : (A → Plan) → Plan} {next : A → Plan} {old mid new : ShelfState} {before after : SinkState} {asked now : PromptState} {value : A}
+    {result : Result (Result (Unit {0}) PutFail) Stop} → Obtains plan old mid (Ok value) → Holds (next value) mid new before after asked now result → Holds (plan next) old new before after asked now result
+holds_with {A} {plan} {next} {old} {mid} {new} {value = value} {result = Ok end} o h = record {
+  by_result = record {
+    talk = h.by_result.talk;
+    speaks = (o.by_result next new (talking h.by_result.talk) (record { by_ending = h.by_result.speaks })).by_ending;
+    went = h.by_result.went;
+  };
+}
+holds_with {next = next} {result = Err ending} o h = record { by_result = (goes_on_with {next = next} o h.by_result.0, h.by_result.1, h.by_result.2) }
 
-pub stops_opening : {B : Type 0} {plan : Plan} {meant : B → List ℕ → Talk} {old new : ShelfState} {ending : Stop} {result : Result B Stop} → IsErrAnd result (λ handed. handed ≡ ending)
-    → Performs plan old new (Err ending) → Opens plan meant old new result
-stops_opening {result = Ok value} handed p = absurd handed
-stops_opening {B} {plan} {meant} {old} {new} {result = Err given} handed p = record { by_result = subst (λ e. Performs plan old new (Err e)) (sym handed) p }
+-- what ended the command before its talk, and what `?` hands on of it
+pub stops_holding : {plan : Plan} {old new : ShelfState} {before : SinkState} {asked : PromptState} {ending : Stop} {result : Result (Result (Unit {0}) PutFail) Stop}
+    → IsErrAnd result (λ handed. handed ≡ ending) → Performs plan old new (Err ending) → Holds plan old new before before asked asked result
+stops_holding {result = Ok end} handed p = absurd handed
+stops_holding {plan} {old} {new} {result = Err given} handed p = record { by_result = (subst (λ e. Performs plan old new (Err e)) (sym handed) p, refl, refl) }
 
--- with no further call of a shelf: the plan is the talk that the value means; or it is said, and ends the command
-pub opens_here : {B : Type 0} (plan : Plan) (meant : B → List ℕ → Talk) (shelf : ShelfState) (value : B) → plan ≡ talks (meant value) → Opens plan meant shelf shelf (Ok value)
-opens_here plan meant shelf value is = record { by_result = spoken plan shelf (meant value) is }
-
-pub says_first : {B : Type 0} (plan : Plan) (meant : B → List ℕ → Talk) (shelf : ShelfState) (ending : Stop) → Performs plan shelf shelf (Err ending) → Opens plan meant shelf shelf (Err ending)
-says_first plan meant shelf ending p = record { by_result = p }
+-- the talk itself, with no further call of a shelf
+pub holds_here : (plan : Plan) (shelf : ShelfState) (before after : SinkState) (asked now : PromptState) (talk : List ℕ → Talk) (end : Result (Unit {0}) PutFail) → plan ≡ talks talk
+    → Converses talk before after asked now end → Holds plan shelf shelf before after asked now (Ok end)
+holds_here plan shelf before after asked now talk end is went = record { by_result = record { talk = talk; speaks = spoken plan shelf talk is; went = went } }
 
 -- ---- steps
 

@@ -1,7 +1,10 @@
 -- What a command did to a shelf, by how it ended, measured against its plan.
 use Rattle.std.specs.Prelude.{◌≡◌, ℕ, ◌⊎◌, None, Some, Result, Ok, Err, List}
 use Rattle.ddc_base.specs.declared.outside.Operation.{Operation}
-use Rattle.ddc_base.specs.Outside.{ShelfState}
+use Rattle.ddc_base.specs.declared.outside.PutFail.{PutFail}
+use Rattle.ddc_base.specs.Outside.{ShelfState, SinkState}
+use Rattle.prompt.specs.Converses.{Converses}
+use Rattle.prompt.specs.Prompts.{PromptState}
 use Rattle.prompt.specs.Talks.{Talk}
 use Rattle.command_plan.specs.declared.status.Status.TheVariants.{Yes}
 use Rattle.command_plan.specs.declared.answer.Answer.{Answer}
@@ -44,10 +47,16 @@ PerformsBy plan old new (Err stop.OutOfMemory) = WantsMemory plan old new
 pub record Performs (plan : Plan) (old new : ShelfState) (result : Result Answer Stop) : Type 0 where
   pub by_result : PerformsBy plan old new result
 
-abbrev pub OpensBy : {A : Type 0} → Plan → (A → List ℕ → Talk) → ShelfState → ShelfState → Result A Stop → Type 0
-OpensBy plan meant old new (Ok value) = Speaks plan old new (meant value)
-OpensBy plan meant old new (Err ending) = Performs plan old new (Err ending)
+-- a talk was held: every call of the plan was answered, the plan ends with this talk, and it went as far as the result says
+pub record HoldsTalk (plan : Plan) (old new : ShelfState) (before after : SinkState) (asked now : PromptState) (end : Result (Unit {0}) PutFail) : Type 0 where
+  pub talk : List ℕ → Talk
+  pub speaks : Speaks plan old new talk
+  pub went : Converses talk before after asked now end
 
--- the same of a command that opens a talk: where it gives a value, its plan ends with what this value means
-pub record Opens {A : Type 0} (plan : Plan) (meant : A → List ℕ → Talk) (old new : ShelfState) (result : Result A Stop) : Type 0 where
-  pub by_result : OpensBy plan meant old new result
+abbrev pub HoldsBy : Plan → ShelfState → ShelfState → SinkState → SinkState → PromptState → PromptState → Result (Result (Unit {0}) PutFail) Stop → Type 0
+HoldsBy plan old new before after asked now (Ok end) = HoldsTalk plan old new before after asked now end
+HoldsBy plan old new before after asked now (Err ending) = Performs plan old new (Err ending) × (after ≡ before) × (now ≡ asked)
+
+-- the same of a command that may hold a talk: it held its plan's, or ended before one, with nothing put and no line asked for
+pub record Holds (plan : Plan) (old new : ShelfState) (before after : SinkState) (asked now : PromptState) (result : Result (Result (Unit {0}) PutFail) Stop) : Type 0 where
+  pub by_result : HoldsBy plan old new before after asked now result
