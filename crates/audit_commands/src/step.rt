@@ -1,17 +1,14 @@
 //! `step RECIPE STAGE`: the stages before one are run, and then lines are answered.
 
-ghost use Rattle.std.specs.Prelude.{◌≡◌, ◌<◌, All, IfOk, map};
+ghost use Rattle.std.specs.Prelude.{◌≡◌, ◌<◌, All, IfOk, length, map};
 ghost use Rattle.ddc_base.specs.Outside.{IsFileName, ShelfState};
 ghost use Rattle.mem_files.specs.Outputs.{IsContent};
-ghost use Rattle.recipe.specs.Kept.{IsRecipe};
 ghost use Rattle.wheeler.specs.Stages.{contents};
 ghost use Rattle.wheeler.specs.Valid.{AreDone, IsInputs};
 ghost use Rattle.audit_run.specs.Stage.Rules.{AreMade, IsStageOf};
-ghost use Rattle.command_plan.specs.Steps.{Obtains, Says};
-ghost use Rattle.audit_commands.specs.Audit.{undone};
-ghost use Rattle.audit_commands.specs.Inside.Holding.{Holds};
+ghost use Rattle.command_plan.specs.Performs.{Holds};
+ghost use Rattle.command_plan.specs.Steps.{Obtains};
 ghost use Rattle.audit_commands.specs.Step.{needs_earlier, needs_session, needs_stage, session_of, step_plan, step_stage};
-ghost use Rattle.std.specs.Prelude.{length};
 
 use crate::audit::undone;
 use audit_run::run_earlier;
