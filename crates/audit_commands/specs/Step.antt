@@ -1,6 +1,6 @@
 -- `step RECIPE STAGE`: the stages before one are run, and then lines are answered. docs/reference/command-line.md and docs/reference/step.md
 -- say the same for people.
-use Rattle.std.specs.Prelude.{ℕ, suc, ◌&&◌, Result, Ok, Err, List, [], ◌∷◌, length, slice_get, take, if◌then◌else◌}
+use Rattle.std.specs.Prelude.{ℕ, suc, Bool, ◌&&◌, Result, Ok, Err, List, [], ◌∷◌, length, slice_get, take, if◌then◌else◌}
 use Rattle.guest_run.specs.State.{GuestState}
 use Rattle.guest_run.specs.Start.{Refusal}
 use Rattle.prompt.specs.Talks.{talk}
@@ -54,7 +54,10 @@ step_stage recipe stage =
     needs_session said inputs done (λ session.
     talks (talk reply_to session 65_536))))))
 
--- the words after `step`: STAGE names no file
+-- the words after `step`: RECIPE can name a file, and STAGE has no zero byte
+abbrev pub are_step_words : List ℕ → List ℕ → Bool
+are_step_words recipe stage = is_file_word recipe && has_no_zero_byte stage
+
 abbrev pub step_plan : List (List ℕ) → Plan
-step_plan (recipe ∷ stage ∷ []) = if is_file_word recipe && has_no_zero_byte stage then step_stage recipe stage else usage
+step_plan (recipe ∷ stage ∷ []) = if are_step_words recipe stage then step_stage recipe stage else usage
 step_plan _ = usage

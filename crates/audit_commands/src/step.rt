@@ -1,14 +1,17 @@
 //! `step RECIPE STAGE`: the stages before one are run, and then lines are answered.
 
-ghost use Rattle.std.specs.Prelude.{◌≡◌, ◌<◌, All, IfOk, length, map};
-ghost use Rattle.ddc_base.specs.Outside.{IsFileName, ShelfState};
+ghost use Rattle.std.specs.Prelude.{◌≡◌, ◌<◌, All, IfOk, IfSome, IsTrue, length, map};
+ghost use Rattle.ddc_base.specs.Outside.{IsFileName, ShelfState, SinkState};
 ghost use Rattle.mem_files.specs.Outputs.{IsContent};
+ghost use Rattle.prompt.specs.Prompts.{PromptState};
+ghost use Rattle.recipe.specs.Lookups.{stage_at};
 ghost use Rattle.wheeler.specs.Stages.{contents};
 ghost use Rattle.wheeler.specs.Valid.{AreDone, IsInputs};
 ghost use Rattle.audit_run.specs.Stage.Rules.{AreMade, IsStageOf};
 ghost use Rattle.command_plan.specs.Performs.{Holds};
 ghost use Rattle.command_plan.specs.Steps.{Obtains};
-ghost use Rattle.audit_commands.specs.Step.{needs_earlier, needs_session, needs_stage, session_of, step_plan, step_stage};
+ghost use Rattle.command_plan.specs.Words.{usage};
+ghost use Rattle.audit_commands.specs.Step.{are_step_words, needs_earlier, needs_session, needs_stage, session_of, step_plan, step_stage};
 
 use crate::audit::undone;
 use audit_run::run_earlier;
@@ -18,7 +21,7 @@ use command_plan::{Stop, usage};
 use ddc_base::{Bytes, ListOf, OutOfMemory, PutFail, Shelf, Sink};
 use guest_run::StartRefusal;
 use prompt::{Prompt, converse};
-use recipe::{Recipe, Stage};
+use recipe::{Inputs, Recipe, Stage};
 use recipe_plan::{fetch_inputs, fetch_recipe};
 use session::Session;
 use std::alloc::Global;
@@ -38,12 +41,28 @@ pub fn perform<S: Shelf, K: Sink, P: Prompt>(
     ensures { Holds (step_plan (map (λ w. w.now) words.now)) (S.state shelf.old) (S.state shelf.new)
         (K.state out.old) (K.state out.new) (P.state prompt.old) (P.state prompt.new) result }
 {
-    match words {
-        [recipe, stage] if is_file_word(recipe) && has_no_zero_byte(stage) => {
-            step(alloc, recipe, stage, shelf, out, prompt)
-        }
-        _ => Err(Stop::Answered(usage(alloc)?)),
+    let [recipe, stage] = words else {
+        return refuse(alloc);
+    };
+    if !are_step_words(recipe, stage) {
+        return refuse(alloc);
     }
+    step(alloc, recipe, stage, shelf, out, prompt)
+}
+
+/// Whether RECIPE can name a file, and STAGE has no zero byte.
+fn are_step_words(recipe: &str, stage: &str) -> bool
+    ensures value { result ≡ are_step_words recipe.now stage.now }
+    ensures recipe { IsTrue result → IsFileName recipe.now }
+{
+    is_file_word(recipe) && has_no_zero_byte(stage)
+}
+
+/// Words that are no command line of ddc.
+fn refuse(alloc: Global) -> Result<Result<(), PutFail>, Stop>
+    ensures { (shelf : ShelfState) (sink : SinkState) (prompt : PromptState) → Holds usage shelf shelf sink sink prompt prompt result }
+{
+    Err(Stop::Answered(usage(alloc)?))
 }
 
 /// The command on a recipe and a stage's name.
@@ -62,8 +81,8 @@ fn step<S: Shelf, K: Sink, P: Prompt>(
     let recipe = fetch_recipe(alloc, shelf, recipe)?;
     let count = stages_before(alloc, &recipe, stage)?;
     let inputs = fetch_inputs(alloc, shelf, &recipe)?;
-    let done = run_before(alloc, &recipe, inputs.as_slice(), count)?;
-    let mut session = start_session(alloc, &recipe, inputs.as_slice(), done.as_slice())?;
+    let done = run_before(alloc, &recipe, &inputs, count)?;
+    let mut session = start_session(alloc, &recipe, &inputs, &done)?;
     Ok(converse(&mut session, MOST_LINES, prompt, out))
 }
 
@@ -72,15 +91,41 @@ fn stages_before(alloc: Global, recipe: &Recipe, name: &str) -> Result<usize, St
     ensures obtained { (shelf : ShelfState) → Obtains (needs_stage recipe.now name.now) shelf shelf result }
     ensures within { IfOk result (λ count. count < length recipe.now.stages) }
 {
-    let stages = recipe.stages().as_slice();
-    match stages.iter().position(|stage| stage.name.bytes() == name.as_bytes()) {
+    match stage_at(recipe, name) {
         Some(count) => Ok(count),
         None => Err(Stop::Answered(usage(alloc)?)),
     }
 }
 
+/// The index of the stage of a name.
+fn stage_at(recipe: &Recipe, name: &str) -> Option<usize>
+    ensures value { result ≡ stage_at recipe.now.stages name.now }
+    ensures index { IfSome result (λ index. index < length recipe.now.stages) }
+{
+    recipe
+        .stages()
+        .as_slice()
+        .iter()
+        .position(|stage| stage.name.bytes() == name.as_bytes())
+}
+
 /// Runs so many stages; one that is not done ends the command.
 fn run_before(
+    alloc: Global,
+    recipe: &Recipe,
+    inputs: &Inputs,
+    count: usize,
+) -> Result<ListOf<Done>, Stop>
+    requires given { IsInputs recipe.now inputs.now }
+    requires count { count < length recipe.now.stages }
+    ensures obtained { (shelf : ShelfState) → Obtains (needs_earlier recipe.now inputs.now count) shelf shelf result }
+    ensures done { IfOk result (AreDone recipe.now) }
+{
+    run_over(alloc, recipe, inputs.as_slice(), count)
+}
+
+/// The same, over inputs that are lent.
+fn run_over(
     alloc: Global,
     recipe: &Recipe,
     inputs: &[Bytes],
@@ -104,6 +149,20 @@ fn run_before(
 fn start_session<'a>(
     alloc: Global,
     recipe: &'a Recipe,
+    inputs: &'a Inputs,
+    done: &'a ListOf<Done>,
+) -> Result<Session<'a>, Stop>
+    requires given { IsInputs recipe.now inputs.now }
+    requires done { AreDone recipe.now done.now }
+    ensures { (shelf : ShelfState) → Obtains (needs_session recipe.now inputs.now done.now) shelf shelf result }
+{
+    start_over(alloc, recipe, inputs.as_slice(), done.as_slice())
+}
+
+/// The same, over inputs and stages that are lent.
+fn start_over<'a>(
+    alloc: Global,
+    recipe: &'a Recipe,
     inputs: &'a [Bytes],
     done: &'a [Done],
 ) -> Result<Session<'a>, Stop>
@@ -111,7 +170,7 @@ fn start_session<'a>(
     requires done { AreDone recipe.now done.now }
     ensures { (shelf : ShelfState) → Obtains (needs_session recipe.now inputs.now done.now) shelf shelf result }
 {
-    let Some(stage) = recipe.stages().as_slice().get(done.len()) else {
+    let Some(stage) = recipe.stages().get(done.len()) else {
         return Err(Stop::Answered(usage(alloc)?));
     };
     match open(alloc, recipe, stage, inputs, done)? {

@@ -3,7 +3,6 @@
 ghost use Rattle.std.specs.Prelude.{◌≡◌, ◌≤◌, IfOk, IfSome, None, length, map, sum_by};
 ghost use Rattle.ddc_base.specs.Outside.{ShelfState};
 ghost use Rattle.mem_files.specs.Outputs.{IsContent};
-ghost use Rattle.recipe.specs.Kept.{IsRecipe};
 ghost use Rattle.verifier.specs.Faults.{first_fault};
 ghost use Rattle.wheeler.specs.Bench.{bench};
 ghost use Rattle.wheeler.specs.Valid.{IsInputs};
@@ -17,6 +16,7 @@ ghost use Rattle.demo_command.specs.Demo.{as_demo_size, demo_compared, demo_file
 use crate::generated::{generated_bytes, recipe_text};
 use crate::texts;
 use audit_commands::audit::{compared, undone};
+use audit_run::laws::earlier_stages_are_the_audits;
 use audit_run::run_earlier;
 use audit_run::stage::report_of;
 use command_plan::{Answer, Status, Stop, fetch_file, usage};
@@ -27,6 +27,7 @@ use recipe_plan::read_recipe;
 use report::{Report, StageLine};
 use std::alloc::Global;
 use verifier::Verdict;
+use verifier::laws::one_report;
 
 /// The most bytes of a demonstration.
 const MOST_BYTES: u64 = 16_777_216;
@@ -153,6 +154,8 @@ fn run<M: Meaning>(
     requires { IsInputs recipe.now inputs.now }
     ensures { Says (demonstrated size recipe.now (bench recipe.now inputs.now)) result }
 {
+    earlier_stages_are_the_audits();
+    one_report();
     let stages = recipe.stages().len();
     match run_earlier(alloc, recipe, inputs.as_slice(), stages)? {
         Ok(done) => {
