@@ -107,7 +107,7 @@ module _ (plan : Plan) (old new : ShelfState) (before after : SinkState) (result
   pub out_fault_of : Ends plan old new before after result → result ≡ OutFault → LosesText plan old new before after
   out_fault_of (says answer a is put) claimed = other answer result OutFault is claimed refl
   out_fault_of (names text f is put) claimed = absurd cc
-  out_fault_of (loses_answer answer a is put) claimed = record { piece = answer.text; put = put; cause = inl (a.shelf, a.text) }
+  out_fault_of (loses_answer answer a is put) claimed = record { piece = answer.text; put = put; cause = inl (a.shelf, λ settled. (a.text settled, a.talk settled)) }
   out_fault_of (loses_fault text f is put) claimed = record { piece = text; put = put; cause = inr (f.call, f.failed, f.names) }
   out_fault_of (wants w is same) claimed = absurd cc
 

@@ -34,10 +34,10 @@ pub record NamesFault (plan : Plan) (old new : ShelfState) (before after : SinkS
   pub failed : Fails plan call old new
   pub put : after ≡ after_piece (shelf_fault_line call.1) before
 
--- the one put failed: that of the outcome's text or, where a call of the plan failed too, that of its line
+-- the one put failed: that of the outcome's text, which is no session's, or, where a call of the plan failed too, that of its line
 pub record LosesText (plan : Plan) (old new : ShelfState) (before after : SinkState) : Type 0 where
   pub piece : List ℕ
   pub put : PutFails piece before after
   pub cause :
-      (Completes plan old new × (IsSettled plan old.tells → piece ≡ (outcome plan old.files).text))
+      (Completes plan old new × (IsSettled plan old.tells → (piece ≡ (outcome plan old.files).text) × (talk_of plan old.files ≡ None)))
       ⊎ ((call : Operation × List ℕ) × Fails plan call old new × (piece ≡ shelf_fault_line call.1))
