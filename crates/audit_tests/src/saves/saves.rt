@@ -145,6 +145,47 @@ fn an_audit_goes_on_from_what_a_save_says(rt: HostRuntime) -> Result<(), Fail> {
     Ok(())
 }
 
+/// The save after so many steps as the first form has it: both magics end with another byte, and nothing says what is reserved. The state
+/// begins at 176 in the first stage, and at 577 behind it.
+fn old_save_at(alloc: Global, steps: u64) -> Result<Bytes, OutOfMemory> {
+    let (magic, reserved) = if steps < 32 { (183, 448) } else { (584, 849) };
+    let text = save_at(alloc, steps)?;
+    let text = edited(alloc, text.as_slice(), (reserved, 1, b""))?;
+    let text = edited(alloc, text.as_slice(), (magic, 1, b"1"))?;
+    edited(alloc, text.as_slice(), (7, 1, b"1"))
+}
+
+#[test]
+fn an_old_save_has_the_undivided_report(rt: HostRuntime) -> Result<(), Fail> {
+    let alloc = rt.alloc();
+    for steps in 1..64 {
+        let old = old_save_at(alloc, steps)?;
+        let mut audit = match resumed(alloc, RECIPE, b"abc", old.as_slice()) {
+            Ok(audit) => audit,
+            Err(_) => return Err("refused".into()),
+        };
+        assert_eq!(rt; audit.place(), place_after(steps));
+        assert_eq!(rt; audit.advance(100), Progress::Equal);
+        let report = report_of(alloc, &audit)?;
+        assert_eq!(rt; report.as_slice(), REPORT.as_bytes(), "{steps}");
+    }
+    Ok(())
+}
+
+/// It is saved again in the second form.
+#[test]
+fn an_old_save_is_saved_anew(rt: HostRuntime) -> Result<(), Fail> {
+    let alloc = rt.alloc();
+    let old = old_save_at(alloc, 40)?;
+    let mut audit = match resumed(alloc, RECIPE, b"abc", old.as_slice()) {
+        Ok(audit) => audit,
+        Err(_) => return Err("refused".into()),
+    };
+    assert_eq!(rt; audit.advance(5), Progress::Paused);
+    assert_eq!(rt; audit.save()?.as_slice(), save_at(alloc, 45)?.as_slice());
+    Ok(())
+}
+
 #[test]
 fn saves_of_others_are_refused(rt: HostRuntime) -> Result<(), Fail> {
     let alloc = rt.alloc();
