@@ -3,7 +3,8 @@ use Rattle.std.specs.Prelude.{ℕ, Option, List, refl}
 use Rattle.std.specs.Coded.{Coded, code_by, coded×, coded_ℕ, coded_list, coded_option}
 use Rattle.guest_run.specs.Setting.{Setting}
 use Rattle.guest_run.specs.Inside.Codes.{setting_code}
-use Rattle.guest_run.specs.State.{GuestState, guest_code}
+use Rattle.guest_run.specs.State.{GuestState}
+use Rattle.guest_run.specs.Inside.Codes.{guest_code}
 use Rattle.session.specs.Sessions.{SessionState}
 
 abbrev pub session_code : Coded SessionState
