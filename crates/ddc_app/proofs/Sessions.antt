@@ -1,5 +1,5 @@
 -- The clauses of the top call, from how it left things: a command's ending was said, or its session was held.
-use Rattle.std.proofs.Common.{◌≡◌, ◌∙◌, ℕ, ◌⊎◌, inl, inr, Bool, true, false, cond, IsTrue, IsFalse, Option, None, Some, Result, Ok, Err, List, [], ◌∷◌, drop, refl, sym, ap, subst}
+use Rattle.std.proofs.Common.{◌≡◌, ◌∙◌, ℕ, ◌⊎◌, inl, inr, Bool, true, false, cond, IsTrue, IsFalse, None, Some, Result, Ok, Err, List, [], ◌∷◌, drop, refl, sym, ap, subst}
 use Rattle.ddc_base.specs.declared.outside.PutFail.{PutFail}
 use Rattle.ddc_base.specs.declared.outside.PutFail.TheVariants as putting
 use Rattle.ddc_base.specs.Outside.{ShelfState, SinkState, after_piece}
