@@ -20,7 +20,7 @@ use Rattle.command_plan.specs.declared.answer.Answer.{Answer}
 use Rattle.command_plan.specs.declared.stop.Stop.{Stop}
 use Rattle.command_plan.specs.declared.stop.Stop.TheVariants as stop
 use Rattle.command_plan.specs.Plan.{Plan, answers, unless_refused}
-use Rattle.command_plan.specs.Performs.{Holds}
+use Rattle.command_plan.specs.Performs.{PerformsTalk}
 use Rattle.command_plan.specs.Steps.{Obtains, Says}
 use Rattle.command_plan.specs.Words.{or_usage, usage}
 use Rattle.command_plan.proofs.Obtaining.{answers_at_once, leads}
@@ -71,5 +71,5 @@ module _ (recipe : Said) (inputs : List (List ℕ)) (done : List Finished) (shel
 
 -- what a plan leaves is what the same plan leaves
 pub of_same_plan : {plan other : Plan} {old new : ShelfState} {before after : SinkState} {asked now : PromptState} {result : Result (Result (Unit {0}) PutFail) Stop}
-    → plan ≡ other → Holds other old new before after asked now result → Holds plan old new before after asked now result
-of_same_plan {old = old} {new} {before} {after} {asked} {now} {result} is held = subst (λ p. Holds p old new before after asked now result) (sym is) held
+    → plan ≡ other → PerformsTalk other old new before after asked now result → PerformsTalk plan old new before after asked now result
+of_same_plan {old = old} {new} {before} {after} {asked} {now} {result} is held = subst (λ p. PerformsTalk p old new before after asked now result) (sym is) held

@@ -8,7 +8,7 @@ ghost use Rattle.recipe.specs.Lookups.{stage_at};
 ghost use Rattle.wheeler.specs.Stages.{contents};
 ghost use Rattle.wheeler.specs.Valid.{AreDone, IsInputs};
 ghost use Rattle.audit_run.specs.Stage.Rules.{AreMade, IsStageOf};
-ghost use Rattle.command_plan.specs.Performs.{Holds};
+ghost use Rattle.command_plan.specs.Performs.{PerformsTalk};
 ghost use Rattle.command_plan.specs.Steps.{Obtains};
 ghost use Rattle.command_plan.specs.Words.{usage};
 ghost use Rattle.audit_commands.specs.Step.{are_step_words, needs_earlier, needs_session, needs_stage, session_of, step_plan, step_stage};
@@ -38,7 +38,7 @@ pub fn perform<S: Shelf, K: Sink, P: Prompt>(
     out: &mut K,
     prompt: &mut P,
 ) -> Result<Result<(), PutFail>, Stop>
-    ensures { Holds (step_plan (map (λ w. w.now) words.now)) (S.state shelf.old) (S.state shelf.new)
+    ensures { PerformsTalk (step_plan (map (λ w. w.now) words.now)) (S.state shelf.old) (S.state shelf.new)
         (K.state out.old) (K.state out.new) (P.state prompt.old) (P.state prompt.new) result }
 {
     match step_words(words) {
@@ -69,7 +69,7 @@ fn are_step_words(recipe: &str, stage: &str) -> bool
 
 /// Words that are no command line of ddc.
 fn refuse(alloc: Global) -> Result<Result<(), PutFail>, Stop>
-    ensures { (shelf : ShelfState) (sink : SinkState) (prompt : PromptState) → Holds usage shelf shelf sink sink prompt prompt result }
+    ensures { (shelf : ShelfState) (sink : SinkState) (prompt : PromptState) → PerformsTalk usage shelf shelf sink sink prompt prompt result }
 {
     Err(Stop::Answered(usage(alloc)?))
 }
@@ -84,7 +84,7 @@ fn step<S: Shelf, K: Sink, P: Prompt>(
     prompt: &mut P,
 ) -> Result<Result<(), PutFail>, Stop>
     requires { IsFileName recipe.now }
-    ensures { Holds (step_stage recipe.now stage.now) (S.state shelf.old) (S.state shelf.new)
+    ensures { PerformsTalk (step_stage recipe.now stage.now) (S.state shelf.old) (S.state shelf.new)
         (K.state out.old) (K.state out.new) (P.state prompt.old) (P.state prompt.new) result }
 {
     let recipe = fetch_recipe(alloc, shelf, recipe)?;

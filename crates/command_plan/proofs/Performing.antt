@@ -17,7 +17,7 @@ use Rattle.command_plan.specs.declared.stop.Stop.TheVariants as stop
 use Rattle.command_plan.specs.Plan.{Plan, LoadsBytes, answers, talks, needs, sets, follow, outcome, talk_of, asked, files_after, IsSettled}
 use Rattle.command_plan.specs.Endings.{Completes, Stops, Fails, failure_of}
 use Rattle.command_plan.specs.Performs.{Answers, Faults, Performs, Speaks, WantsMemory}
-use Rattle.command_plan.specs.Steps.{Ending, EndsAs, Fetches, IsRefusal, LeadsOn, Saves, Says, answering, talking, faulting, wanting}
+use Rattle.command_plan.specs.Steps.{PlanEnding, EndsAs, Fetches, IsRefusal, LeadsOn, Saves, Says, concluding, talking, faulting, wanting}
 
 -- a fact that holds where the shelf tells, on a shelf that tells
 pub where_told : {P : Type 0} (tells : Bool) → IsTrue tells → OnTrue tells P → P
@@ -335,8 +335,8 @@ fails_on plan old next mid new call l f = record {
       ));
 }
 
-goes_on : (plan : Plan) (old : ShelfState) (next : Plan) (mid new : ShelfState) (ending : Ending) → Leads plan old next mid → EndsAs next mid new ending → EndsAs plan old new ending
-goes_on plan old next mid new (answering answer) l e = record { by_ending = answers_on plan old next mid new answer l e.by_ending }
+goes_on : (plan : Plan) (old : ShelfState) (next : Plan) (mid new : ShelfState) (ending : PlanEnding) → Leads plan old next mid → EndsAs next mid new ending → EndsAs plan old new ending
+goes_on plan old next mid new (concluding answer) l e = record { by_ending = answers_on plan old next mid new answer l e.by_ending }
 goes_on plan old next mid new (talking talk) l e = record { by_ending = speaks_on plan old next mid new talk l e.by_ending }
 goes_on plan old next mid new (faulting text) l e = record {
   by_ending = record {
@@ -357,8 +357,8 @@ goes_on plan old next mid new wanting l e = record {
 -- a plan that leads on does so for whatever its command ends with
 pub led_to : {A : Type 0} (plan rest : (A → Plan) → Plan) (old now : ShelfState) → LeadsOn plan rest old now → (next : A → Plan) (final : ShelfState) (result : Result Answer Stop)
     → Performs (rest next) now final result → Performs (plan next) old final result
-led_to plan rest old now leads next final (Ok answer) p = record { by_result = (leads next final (answering answer) (record { by_ending = p.by_result })).by_ending }
-led_to plan rest old now leads next final (Err (stop.Answered answer)) p = record { by_result = (leads next final (answering answer) (record { by_ending = p.by_result })).by_ending }
+led_to plan rest old now leads next final (Ok answer) p = record { by_result = (leads next final (concluding answer) (record { by_ending = p.by_result })).by_ending }
+led_to plan rest old now leads next final (Err (stop.Answered answer)) p = record { by_result = (leads next final (concluding answer) (record { by_ending = p.by_result })).by_ending }
 led_to plan rest old now leads next final (Err (stop.ShelfFault text)) p = record { by_result = (leads next final (faulting text) (record { by_ending = p.by_result })).by_ending }
 led_to plan rest old now leads next final (Err stop.OutOfMemory) p = record { by_result = (leads next final wanting (record { by_ending = p.by_result })).by_ending }
 
@@ -377,7 +377,7 @@ fetch_leads name limit next old bytes is are_bytes = record {
   files = λ told count. rw (where_told old.tells told is) refl;
 }
 
-pub leads_after_fetch : (name : List ℕ) (limit : ℕ) (next : List ℕ → Plan) (old mid : ShelfState) (bytes : List ℕ) → Fetches name limit old mid (Ok bytes) → (final : ShelfState) (ending : Ending)
+pub leads_after_fetch : (name : List ℕ) (limit : ℕ) (next : List ℕ → Plan) (old mid : ShelfState) (bytes : List ℕ) → Fetches name limit old mid (Ok bytes) → (final : ShelfState) (ending : PlanEnding)
     → EndsAs (next bytes) mid final ending → EndsAs (needs name limit next) old final ending
 leads_after_fetch name limit next old mid bytes f final ending e =
     let P : ShelfState → Type 0 = λ shelf. EndsAs (next bytes) shelf final ending in

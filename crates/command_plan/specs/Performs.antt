@@ -58,5 +58,5 @@ HoldsBy plan old new before after asked now (Ok end) = HoldsTalk plan old new be
 HoldsBy plan old new before after asked now (Err ending) = Performs plan old new (Err ending) × (after ≡ before) × (now ≡ asked)
 
 -- the same of a command that may hold a talk: it held its plan's, or ended before one, with nothing put and no line asked for
-pub record Holds (plan : Plan) (old new : ShelfState) (before after : SinkState) (asked now : PromptState) (result : Result (Result (Unit {0}) PutFail) Stop) : Type 0 where
+pub record PerformsTalk (plan : Plan) (old new : ShelfState) (before after : SinkState) (asked now : PromptState) (result : Result (Result (Unit {0}) PutFail) Stop) : Type 0 where
   pub by_result : HoldsBy plan old new before after asked now result

@@ -56,25 +56,25 @@ pub record Saves (name content : List ℕ) (old new : ShelfState) (result : Resu
   pub by_result : SavesBy name content old new result
 
 -- how a plan ends: with an answer, with a talk, at a call that failed, or for want of memory
-pub data Ending : Type 0 where
-  answering : Answer → Ending
-  talking : (List ℕ → Talk) → Ending
-  faulting : List ℕ → Ending
-  wanting : Ending
+pub data PlanEnding : Type 0 where
+  concluding : Answer → PlanEnding
+  talking : (List ℕ → Talk) → PlanEnding
+  faulting : List ℕ → PlanEnding
+  wanting : PlanEnding
 
-abbrev pub EndsBy : Plan → ShelfState → ShelfState → Ending → Type 0
-EndsBy plan old new (answering answer) = Answers plan old new answer
+abbrev pub EndsBy : Plan → ShelfState → ShelfState → PlanEnding → Type 0
+EndsBy plan old new (concluding answer) = Answers plan old new answer
 EndsBy plan old new (talking talk) = Speaks plan old new talk
 EndsBy plan old new (faulting text) = Faults plan old new text
 EndsBy plan old new wanting = WantsMemory plan old new
 
 -- the plan ended so
-pub record EndsAs (plan : Plan) (old new : ShelfState) (ending : Ending) : Type 0 where
+pub record EndsAs (plan : Plan) (old new : ShelfState) (ending : PlanEnding) : Type 0 where
   pub by_ending : EndsBy plan old new ending
 
 -- from where the shelf stands now a plan goes on as the rest of it, whatever follows both
 abbrev pub LeadsOn : {A : Type 0} → ((A → Plan) → Plan) → ((A → Plan) → Plan) → ShelfState → ShelfState → Type 0
-LeadsOn {A} plan rest old now = (next : A → Plan) (final : ShelfState) (ending : Ending) → EndsAs (rest next) now final ending → EndsAs (plan next) old final ending
+LeadsOn {A} plan rest old now = (next : A → Plan) (final : ShelfState) (ending : PlanEnding) → EndsAs (rest next) now final ending → EndsAs (plan next) old final ending
 
 abbrev pub ObtainsBy : {A : Type 0} → ((A → Plan) → Plan) → ShelfState → ShelfState → Result A Stop → Type 0
 ObtainsBy plan old new (Ok value) = LeadsOn plan (λ next. next value) old new

@@ -13,7 +13,7 @@ use Rattle.command_plan.specs.declared.stop.Stop.{Stop}
 use Rattle.command_plan.specs.Answered.{is_answer}
 use Rattle.command_plan.specs.Plan.{Plan, outcome, talk_of, IsSettled}
 use Rattle.command_plan.specs.Endings.{Completes}
-use Rattle.command_plan.specs.Performs.{Holds, HoldsTalk, Performs, WantsMemory}
+use Rattle.command_plan.specs.Performs.{PerformsTalk, HoldsTalk, Performs, WantsMemory}
 use Rattle.command_plan.proofs.Performing.{stops_complete}
 use Rattle.ddc_app.specs.Commands.{is_step, plan_of, text_plan}
 use Rattle.audit_commands.specs.Step.{step_plan}
@@ -156,16 +156,16 @@ module _ (steps : Bool) (plan : Plan) (old new : ShelfState) (before after : Sin
 -- ---- how a command line leaves things
 
 module _ (old new : ShelfState) (before mid after : SinkState) (asked now : PromptState) (result : Status) where
-  closed : (plan : Plan) (ended : Result (Result (Unit {0}) PutFail) Stop) → Holds plan old new before mid asked now ended → Closes mid ended after result → Leaves true plan old new before after asked now result
+  closed : (plan : Plan) (ended : Result (Result (Unit {0}) PutFail) Stop) → PerformsTalk plan old new before mid asked now ended → Closes mid ended after result → Leaves true plan old new before after asked now result
   closed plan (Ok end) h c = conversed end refl (subst (λ sink. HoldsTalk plan old new before sink asked now end) (sym c.by_ended.1) h.by_result) c.by_ended.0
   closed plan (Err ending) h c = concluded (Err ending) h.by_result.0 (subst (λ sink. SaysEnding sink (Err ending) after result) h.by_result.1 c.by_ended) h.by_result.2
 
   -- words of `step`
   pub step_leaves : (words rest : List (List ℕ)) (ended : Result (Result (Unit {0}) PutFail) Stop) → IsTrue (is_step words) → rest ≡ drop 1 words
-      → Holds (step_plan rest) old new before mid asked now ended → Closes mid ended after result → Leaves (is_step words) (plan_of words) old new before after asked now result
+      → PerformsTalk (step_plan rest) old new before mid asked now ended → Closes mid ended after result → Leaves (is_step words) (plan_of words) old new before after asked now result
   step_leaves words rest ended is same h c =
       subst (λ (b : Bool). Leaves b (cond b (step_plan (drop 1 words)) (text_plan words)) old new before after asked now result) (sym is)
-      (closed (step_plan (drop 1 words)) ended (subst (λ ws. Holds (step_plan ws) old new before mid asked now ended) same h) c)
+      (closed (step_plan (drop 1 words)) ended (subst (λ ws. PerformsTalk (step_plan ws) old new before mid asked now ended) same h) c)
 
 -- and of every other command
 pub text_leaves : (words : List (List ℕ)) (old new : ShelfState) (before after : SinkState) (asked : PromptState) (ending : Result Answer Stop) (result : Status) → IsFalse (is_step words)

@@ -6,7 +6,7 @@ use Rattle.ddc_base.specs.declared.outside.PutFail.TheVariants as putting
 use Rattle.ddc_base.specs.Outside.{SinkState, after_piece}
 use Rattle.prompt.specs.Prompts.{PromptState, after_line, asked_of, left_after}
 use Rattle.prompt.specs.Converses.{Converses, Exchanged, after_pieces, after_talk}
-use Rattle.prompt.specs.Talks.{Talk, hears, says, heard, led_by, left_behind, pieces_of, talk}
+use Rattle.prompt.specs.Talks.{Talk, hears, replies, heard, led_by, left_behind, pieces_of, talk}
 use Rattle.prompt.specs.Inside.Turns.{GoesOn, Turns}
 
 -- what is said of a prompt that tells
@@ -30,12 +30,12 @@ moved P tells other is p = subst (λ b. OnTrue b P) is p
 put-more : (done more : Talk) (sink : SinkState) → after_pieces (pieces_of more) (after_pieces (pieces_of done) sink) ≡ after_pieces (pieces_of (done ++ more)) sink
 put-more [] more sink = refl
 put-more (hears left ∷ done) more sink = put-more done more sink
-put-more (says piece ∷ done) more sink = put-more done more (after_piece piece sink)
+put-more (replies piece ∷ done) more sink = put-more done more (after_piece piece sink)
 
 behind-more : (done more : Talk) (left : List ℕ) → left_behind more (left_behind done left) ≡ left_behind (done ++ more) left
 behind-more [] more left = refl
 behind-more (hears now ∷ done) more left = behind-more done more now
-behind-more (says piece ∷ done) more left = behind-more done more left
+behind-more (replies piece ∷ done) more left = behind-more done more left
 
 asked-more : (done more : Talk) (tells : Bool) (left : List ℕ) (faults : ℕ)
     → after_talk more (after_talk done (record { tells = tells; left = left; faults = faults })) ≡ after_talk (done ++ more) (record { tells = tells; left = left; faults = faults })
@@ -78,7 +78,7 @@ module _ {S : Type 0} (answered : S → List ℕ → List ℕ × S) (state : S) 
 
     -- one more turn
     turned : GoesOn answered state now lines here before mid old at → Turns answered now next mid after at new (Ok true) → GoesOn answered state next lines left before after old new
-    turned at_here t = (let g = there at_here in let turn : Talk = hears (left_after at.left) ∷ says t.by_result.1 ∷ [] in record {
+    turned at_here t = (let g = there at_here in let turn : Talk = hears (left_after at.left) ∷ replies t.by_result.1 ∷ [] in record {
       done = g.done ++ turn;
       held = and_more g.done turn before mid after old at new g.held (record { put = t.by_result.2; asked = t.by_result.0 });
       told = both old.tells g.told (moved _ at.tells old.tells (tells-stay g) t.by_result.3) (λ told whole one.
@@ -134,7 +134,7 @@ module _ {S : Type 0} (answered : S → List ℕ → List ℕ × S) (state : S) 
           put = put.2;
           told = both old.tells g.told (moved _ at.tells old.tells (tells-stay g) put.3) (λ told whole one. (
             (one left).0,
-            whole ∙ ap (λ t. g.done ++ t) (one left).1 ∙ sym (append_assoc g.done turn (says put.1 ∷ (one left).0)),
+            whole ∙ ap (λ t. g.done ++ t) (one left).1 ∙ sym (append_assoc g.done turn (replies put.1 ∷ (one left).0)),
           ));
         });
       })

@@ -7,7 +7,7 @@ use Rattle.ddc_base.specs.Outside.{SinkState}
 use Rattle.prompt.specs.declared.asking.Asked.{Asked}
 use Rattle.prompt.specs.declared.asking.Asked.TheVariants.{Line, TooLong, End}
 use Rattle.prompt.specs.Prompts.{PromptState, after_line, asked_of, left_after}
-use Rattle.prompt.specs.Talks.{Talk, led_by, heard, hears, replied, says, talk}
+use Rattle.prompt.specs.Talks.{Talk, led_by, heard, hears, replied, replies, talk}
 use Rattle.prompt.specs.Inside.Turns.{Replies, Turns}
 
 -- what holds where it is told
@@ -15,7 +15,7 @@ on_told : {P Q : Type 0} (tells : Bool) → OnTrue tells P → (P → Q) → OnT
 on_told true p f = f p
 on_told false p f = tt
 
-some-reply : (reply : List ℕ) (rest : Talk) → reply ≢ [] → replied reply rest ≡ says reply ∷ rest
+some-reply : (reply : List ℕ) (rest : Talk) → reply ≢ [] → replied reply rest ≡ replies reply ∷ rest
 some-reply [] rest some = absurd (some refl)
 some-reply (byte ∷ reply) rest some = refl
 

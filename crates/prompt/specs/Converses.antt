@@ -5,7 +5,7 @@ use Rattle.ddc_base.specs.declared.outside.PutFail.{PutFail}
 use Rattle.ddc_base.specs.declared.outside.PutFail.TheVariants.{Failed, OutOfMemory}
 use Rattle.ddc_base.specs.Outside.{SinkState, PutFails, after_piece}
 use Rattle.prompt.specs.Prompts.{PromptState, LineFails}
-use Rattle.prompt.specs.Talks.{Talk, hears, says, pieces_of, left_behind}
+use Rattle.prompt.specs.Talks.{Talk, hears, replies, pieces_of, left_behind}
 
 -- a sink that took these pieces whole, in order
 abbrev pub after_pieces : List (List ℕ) → SinkState → SinkState
@@ -48,7 +48,7 @@ pub record LosesPiece (talk : List ℕ → Talk) (before after : SinkState) (old
   pub held : Exchanged done before between old new
   pub piece : List ℕ
   pub put : PutFails piece between after
-  pub told : OnTrue old.tells ((rest : Talk) × (talk old.left ≡ done ++ says piece ∷ rest))
+  pub told : OnTrue old.tells ((rest : Talk) × (talk old.left ≡ done ++ replies piece ∷ rest))
 
 abbrev pub ConversesBy : (List ℕ → Talk) → SinkState → SinkState → PromptState → PromptState → Result (Unit {0}) PutFail → Type 0
 ConversesBy talk before after old new (Ok _) = SaysAll talk before after old new

@@ -7,7 +7,7 @@ use Rattle.prompt.specs.Prompts.{asked_of, left_after}
 -- a line is asked for, and the prompt has so much left behind it; or a piece is put
 pub data Exchange : Type 0 where
   hears : List ℕ → Exchange
-  says : List ℕ → Exchange
+  replies : List ℕ → Exchange
 
 -- what is asked for and put, in order
 abbrev pub Talk : Type 0
@@ -16,13 +16,13 @@ Talk = List Exchange
 abbrev pub pieces_of : Talk → List (List ℕ)
 pieces_of [] = []
 pieces_of (hears left ∷ rest) = pieces_of rest
-pieces_of (says piece ∷ rest) = piece ∷ pieces_of rest
+pieces_of (replies piece ∷ rest) = piece ∷ pieces_of rest
 
 -- what a prompt that had so much has left behind them
 abbrev pub left_behind : Talk → List ℕ → List ℕ
 left_behind [] left = left
 left_behind (hears now ∷ rest) left = left_behind rest now
-left_behind (says piece ∷ rest) left = left_behind rest left
+left_behind (replies piece ∷ rest) left = left_behind rest left
 
 -- the line that is answered; one that is too long is answered as an empty one is
 abbrev pub heard : Asked → Option (List ℕ)
@@ -33,7 +33,7 @@ heard End = None
 -- a reply is put, and the conversation goes on; a reply of no bytes ends it
 abbrev pub replied : List ℕ → Talk → Talk
 replied [] rest = []
-replied (byte ∷ reply) rest = says (byte ∷ reply) ∷ rest
+replied (byte ∷ reply) rest = replies (byte ∷ reply) ∷ rest
 
 -- what follows a line, in a state in which `answered` gives each line's reply and the state behind it; where there is no line it ends
 abbrev pub led_by : {S : Type 0} → (S → List ℕ → List ℕ × S) → (S → Talk) → S → Option (List ℕ) → Talk

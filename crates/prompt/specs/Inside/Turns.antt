@@ -6,7 +6,7 @@ use Rattle.ddc_base.specs.declared.outside.PutFail.TheVariants.{Failed, OutOfMem
 use Rattle.ddc_base.specs.Outside.{SinkState, PutFails, after_piece}
 use Rattle.prompt.specs.Prompts.{PromptState, LineFails, after_line, left_after}
 use Rattle.prompt.specs.Converses.{Exchanged}
-use Rattle.prompt.specs.Talks.{Talk, talk, hears, says}
+use Rattle.prompt.specs.Talks.{Talk, talk, hears, replies}
 
 abbrev pub RepliesBy : {S : Type 0} → (S → List ℕ → List ℕ × S) → S → List ℕ → S → SinkState → SinkState → Result Bool PutFail → Type 0
 RepliesBy answered state line next before after (Ok true) =
@@ -23,13 +23,13 @@ pub record Replies {S : Type 0} (answered : S → List ℕ → List ℕ × S) (s
 abbrev pub TurnsBy : {S : Type 0} → (S → List ℕ → List ℕ × S) → S → S → SinkState → SinkState → PromptState → PromptState → Result Bool PutFail → Type 0
 TurnsBy answered state next before after old new (Ok true) =
     (new ≡ after_line old) × (piece : List ℕ) × (after ≡ after_piece piece before)
-    × OnTrue old.tells ((lines : ℕ) → talk answered state (suc lines) old.left ≡ hears (left_after old.left) ∷ says piece ∷ talk answered next lines (left_after old.left))
+    × OnTrue old.tells ((lines : ℕ) → talk answered state (suc lines) old.left ≡ hears (left_after old.left) ∷ replies piece ∷ talk answered next lines (left_after old.left))
 TurnsBy answered state next before after old new (Ok false) =
     (new ≡ after_line old) × (after ≡ before) × OnTrue old.tells ((lines : ℕ) → talk answered state (suc lines) old.left ≡ hears (left_after old.left) ∷ [])
 TurnsBy answered state next before after old new (Err Failed) =
     (LineFails old new × (after ≡ before))
     ⊎ ((new ≡ after_line old) × (piece : List ℕ) × PutFails piece before after
-    × OnTrue old.tells ((lines : ℕ) → (rest : Talk) × (talk answered state (suc lines) old.left ≡ hears (left_after old.left) ∷ says piece ∷ rest)))
+    × OnTrue old.tells ((lines : ℕ) → (rest : Talk) × (talk answered state (suc lines) old.left ≡ hears (left_after old.left) ∷ replies piece ∷ rest)))
 TurnsBy answered state next before after old new (Err OutOfMemory) = (new ≡ after_line old) × (after ≡ before)
 
 -- a line was answered, and the reply put; or it ended the conversation; or the turn was cut
