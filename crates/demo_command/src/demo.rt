@@ -95,8 +95,17 @@ fn audit<M: Meaning>(
     ensures { Says (demonstrated size recipe.now (bench recipe.now (demo_inputs recipe.now program.now source.now (generated_bytes size)))) result }
 {
     let made = generated_bytes(alloc, size)?;
-    let inputs = demo_inputs(alloc, recipe, program, source, made.as_slice())?;
+    let made = made.as_slice();
+    told(made);
+    let inputs = demo_inputs(alloc, recipe, program, source, made)?;
     run::<M>(alloc, recipe, &inputs, size)
+}
+
+/// That few bytes are a content. It does nothing when it runs.
+fn told(bytes: &[u8])
+    requires { length bytes.now ≤ 268_435_456 }
+    ensures { IsContent bytes.now }
+{
 }
 
 /// What is given for each input.

@@ -19,4 +19,4 @@ returns-in_err-recipe g c =
 pub returns : goal.returns
 unfolding demo_files
 returns g c =
-    goes_on_with c.in_ok-program.ensures.obtained (goes_on_with c.in_ok-source.ensures.obtained (goes_on_with (c.in_ok-recipe.ensures _) (says _ _ _ c.audit.ensures)))
+    goes_on_with c.in_ok-program.ensures.obtained (goes_on_with c.in_ok-source.ensures.obtained (goes_on_with (c.in_ok-recipe.ensures _) (says _ _ _ (rw (c.as_slice.ensures, c.as_slice-2.ensures) at c.audit.ensures))))
