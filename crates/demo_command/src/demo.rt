@@ -105,8 +105,7 @@ fn audit<M: Meaning>(
 fn told(bytes: &[u8])
     requires { length bytes.now ≤ 268_435_456 }
     ensures { IsContent bytes.now }
-{
-}
+{}
 
 /// What is given for each input.
 fn demo_inputs(
@@ -131,12 +130,7 @@ fn demo_inputs(
 }
 
 /// What is given for an input, by its path.
-fn demo_input<'a>(
-    input: &Input,
-    program: &'a [u8],
-    source: &'a [u8],
-    made: &'a [u8],
-) -> &'a [u8]
+fn demo_input<'a>(input: &Input, program: &'a [u8], source: &'a [u8], made: &'a [u8]) -> &'a [u8]
     requires program { IsContent program.now }
     requires source { IsContent source.now }
     requires made { IsContent made.now }
