@@ -1,11 +1,13 @@
 -- The steps of `step` that touch no shelf, and words that are no command line.
-use Rattle.std.proofs.Common.{◌≡◌, ◌∙◌, ℕ, suc, Option, Some, None, Result, Ok, Err, List, length, sym, ap}
+use Rattle.std.proofs.Common.{◌≡◌, ◌∙◌, ℕ, suc, Option, Some, None, Result, Ok, Err, List, length, sym, ap, subst}
 use Rattle.std.specs.Prelude.{slice_get, take, ◌<◌, ◌+◌, ◌^◌}
 use Rattle.std.proofs.Common.{arith}
 use Rattle.std.proofs.lemmas.Option.{slice_get_within}
 use Rattle.recipe.specs.Kept.{IsRecipe}
 use Rattle.audit_run.specs.Stage.Rules.{IsStageOf}
-use Rattle.ddc_base.specs.Outside.{ShelfState}
+use Rattle.ddc_base.specs.declared.outside.PutFail.{PutFail}
+use Rattle.ddc_base.specs.Outside.{ShelfState, SinkState}
+use Rattle.prompt.specs.Prompts.{PromptState}
 use Rattle.recipe.specs.declared.contents.Said.{Said}
 use Rattle.recipe.specs.declared.parts.Stage.{Stage}
 use Rattle.session.specs.Sessions.{SessionState}
@@ -15,8 +17,10 @@ use Rattle.wheeler.specs.declared.answer.Finished.{Finished}
 use Rattle.wheeler.specs.declared.cause.RunCause.TheVariants as run
 use Rattle.wheeler.specs.declared.cause.StartCause.{StartCause}
 use Rattle.command_plan.specs.declared.answer.Answer.{Answer}
+use Rattle.command_plan.specs.declared.stop.Stop.{Stop}
 use Rattle.command_plan.specs.declared.stop.Stop.TheVariants as stop
 use Rattle.command_plan.specs.Plan.{Plan, answers, unless_refused}
+use Rattle.command_plan.specs.Performs.{Holds}
 use Rattle.command_plan.specs.Steps.{Obtains, Says}
 use Rattle.command_plan.specs.Words.{or_usage, usage}
 use Rattle.command_plan.proofs.Obtaining.{answers_at_once, leads}
@@ -64,3 +68,8 @@ module _ (recipe : Said) (inputs : List (List ℕ)) (done : List Finished) (shel
         ∙ ap (λ m. unless_refused m (λ why. undone recipe (suc (length done)) (Runs (run.Start why) 0)) next) (sym is)
         ∙ ap (λ n. undone recipe n (Runs (run.Start cause) 0)) (sym same)
         ∙ said.by_result)
+
+-- what a plan leaves is what the same plan leaves
+pub of_same_plan : {plan other : Plan} {old new : ShelfState} {before after : SinkState} {asked now : PromptState} {result : Result (Result (Unit {0}) PutFail) Stop}
+    → plan ≡ other → Holds other old new before after asked now result → Holds plan old new before after asked now result
+of_same_plan {old = old} {new} {before} {after} {asked} {now} {result} is held = subst (λ p. Holds p old new before after asked now result) (sym is) held

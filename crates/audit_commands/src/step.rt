@@ -1,6 +1,6 @@
 //! `step RECIPE STAGE`: the stages before one are run, and then lines are answered.
 
-ghost use Rattle.std.specs.Prelude.{◌≡◌, ◌<◌, All, IfOk, IfSome, IsTrue, length, map};
+ghost use Rattle.std.specs.Prelude.{◌≡◌, ◌<◌, All, IfOk, IfSome, IsTrue, MatchOption, length, map};
 ghost use Rattle.ddc_base.specs.Outside.{IsFileName, ShelfState, SinkState};
 ghost use Rattle.mem_files.specs.Outputs.{IsContent};
 ghost use Rattle.prompt.specs.Prompts.{PromptState};
@@ -41,13 +41,22 @@ pub fn perform<S: Shelf, K: Sink, P: Prompt>(
     ensures { Holds (step_plan (map (λ w. w.now) words.now)) (S.state shelf.old) (S.state shelf.new)
         (K.state out.old) (K.state out.new) (P.state prompt.old) (P.state prompt.new) result }
 {
-    let [recipe, stage] = words else {
-        return refuse(alloc);
-    };
-    if !are_step_words(recipe, stage) {
-        return refuse(alloc);
+    match step_words(words) {
+        Some(found) => step(alloc, found.0, found.1, shelf, out, prompt),
+        None => refuse(alloc),
     }
-    step(alloc, recipe, stage, shelf, out, prompt)
+}
+
+/// RECIPE and STAGE, where the words are these.
+fn step_words<'a, 'w>(words: &'a [&'w str]) -> Option<(&'a str, &'a str)>
+    ensures plan { MatchOption result (step_plan (map (λ w. w.now) words.now) ≡ usage)
+        (λ found. step_plan (map (λ w. w.now) words.now) ≡ step_stage found.0.now found.1.now) }
+    ensures name { IfSome result (λ found. IsFileName found.0.now) }
+{
+    match words {
+        [recipe, stage] if are_step_words(recipe, stage) => Some((recipe, stage)),
+        _ => None,
+    }
 }
 
 /// Whether RECIPE can name a file, and STAGE has no zero byte.
