@@ -2,10 +2,9 @@
 //! What they come to was written down from docs/reference/command-line.md and docs/reference/save.md.
 
 use crate::audits::{REPORT, audit_shelf};
-use crate::worked::with;
-use ddc_app::{Status, run};
+use crate::worked::{run, with};
+use ddc_app::Status;
 use ddc_base::{Bytes, Call, MemShelf, MemSink, OutOfMemory};
-use meaning::Assembly;
 use std::alloc::Global;
 use std::process::Abort;
 use std::test::Fail;
@@ -22,10 +21,7 @@ fn says(
     ending: (Status, &str),
 ) -> Result<(), OutOfMemory> {
     let mut out = MemSink::new(alloc);
-    assert_eq!(rt;
-        run::<Assembly, _, _>(alloc, words, shelf, &mut out),
-        ending.0
-    );
+    assert_eq!(rt; run(alloc, words, shelf, &mut out)?, ending.0);
     assert_eq!(rt; out.written(), ending.1.as_bytes(), "{words:?}");
     Ok(())
 }
@@ -226,12 +222,12 @@ fn pieces_come_to_what_the_audit_does(rt: HostRuntime) -> Result<(), Fail> {
 fn paused(alloc: Global, steps: &str) -> Result<MemShelf, OutOfMemory> {
     let mut shelf = audit_shelf(alloc, "", "")?;
     let mut out = MemSink::new(alloc);
-    match run::<Assembly, _, _>(
+    match run(
         alloc,
         &["part", "a.toml", "s", "r", steps],
         &mut shelf,
         &mut out,
-    ) {
+    )? {
         Status::Paused => Ok(shelf),
         _ => Err(OutOfMemory),
     }
@@ -567,12 +563,12 @@ fn a_failed_put_leaves_what_was_saved(rt: HostRuntime) -> Result<(), Fail> {
     let mut out = MemSink::new(alloc);
     out.fail_put(1)?;
     assert_eq!(rt;
-        run::<Assembly, _, _>(
+        run(
             alloc,
             &["part", "a.toml", "s", "r", "63"],
             &mut shelf,
             &mut out
-        ),
+        )?,
         Status::OutFault
     );
     pieces(
