@@ -19,7 +19,7 @@ use Rattle.wheeler.specs.declared.cause.StartCause.{StartCause}
 use Rattle.command_plan.specs.declared.answer.Answer.{Answer}
 use Rattle.command_plan.specs.declared.stop.Stop.{Stop}
 use Rattle.command_plan.specs.declared.stop.Stop.TheVariants as stop
-use Rattle.command_plan.specs.Plan.{Plan, answers, unless_refused}
+use Rattle.command_plan.specs.Plan.{Plan, unless_refused}
 use Rattle.command_plan.specs.Performs.{PerformsTalk}
 use Rattle.command_plan.specs.Steps.{Obtains, Says}
 use Rattle.command_plan.specs.Words.{or_usage, usage}

@@ -26,8 +26,8 @@ use recipe::Recipe;
 use recipe_plan::{apart, fetch_inputs, fetch_recipe};
 use report::{CompareLine, Compared, Report};
 use std::alloc::Global;
-use wheeler::{Fault, RunCause};
 use wheeler::source_check::CheckCause;
+use wheeler::{Fault, RunCause};
 
 /// Performs the command on the words after its name.
 #[tactic(auto, using(command_plan::proofs::Performing::performing))]
@@ -85,12 +85,7 @@ pub fn conclude<S: Shelf>(
 }
 
 /// The answer of a stage that is not done.
-pub fn undone(
-    alloc: Global,
-    recipe: &Recipe,
-    number: u32,
-    fault: Fault,
-) -> Result<Answer, Stop>
+pub fn undone(alloc: Global, recipe: &Recipe, number: u32, fault: Fault) -> Result<Answer, Stop>
     ensures { Says (undone recipe.now number fault) result }
 {
     match fault {

@@ -24,7 +24,7 @@ use Rattle.command_plan.specs.Steps.{Says}
 use Rattle.recipe_plan.specs.Reports.{compared_status}
 use Rattle.recipe_plan.specs.Texts.{compared_line}
 use Rattle.audit_commands.specs.Audit.{undone}
-use Rattle.demo_command.specs.Demo.{demo_compared, demo_line, demonstrated, steps_of_all}
+use Rattle.demo_command.specs.Demo.{demo_compared, demo_inputs, demo_line, demonstrated, steps_of_all}
 
 module _ (recipe : Said) (inputs : List (List ℕ)) (count : ℕ) (all : count ≡ length recipe.stages)
     (law : bench recipe inputs ≡ goes_on_behind recipe inputs (drop count recipe.stages) (done_in_order recipe inputs [] (take count recipe.stages))) where
@@ -47,6 +47,13 @@ says_completed size recipe outcome report result is said = subst (λ o. Says (de
 pub says_stopped : (size : ℕ) (recipe : Said) (outcome : Outcome) (not_done : Undone) (result : Result Answer Stop) → outcome ≡ Fails not_done.stage not_done.fault
     → Says (undone recipe not_done.stage not_done.fault) result → Says (demonstrated size recipe outcome) result
 says_stopped size recipe outcome not_done result is said = subst (λ o. Says (demonstrated size recipe o) result) (sym is) said
+
+-- files that are lent are the files
+pub of_files : (size : ℕ) (recipe : Said) (lent program held source made : List ℕ) (result : Result Answer Stop) → lent ≡ program → held ≡ source
+    → Says (demonstrated size recipe (bench recipe (demo_inputs recipe lent held made))) result → Says (demonstrated size recipe (bench recipe (demo_inputs recipe program source made))) result
+of_files size recipe lent program held source made result same alike said =
+    subst (λ bytes. Says (demonstrated size recipe (bench recipe (demo_inputs recipe program bytes made))) result) alike
+    (subst (λ bytes. Says (demonstrated size recipe (bench recipe (demo_inputs recipe bytes held made))) result) same said)
 
 -- ---- a report that is true
 

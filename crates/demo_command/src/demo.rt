@@ -95,9 +95,17 @@ fn audit<M: Meaning>(
     ensures { Says (demonstrated size recipe.now (bench recipe.now (demo_inputs recipe.now program.now source.now (generated_bytes size)))) result }
 {
     let made = generated_bytes(alloc, size)?;
-    let inputs = demo_inputs(alloc, recipe, program, source, made.as_slice())?;
+    let made = made.as_slice();
+    told(made);
+    let inputs = demo_inputs(alloc, recipe, program, source, made)?;
     run::<M>(alloc, recipe, &inputs, size)
 }
+
+/// That few bytes are a content. It does nothing when it runs.
+fn told(bytes: &[u8])
+    requires { length bytes.now ≤ 268_435_456 }
+    ensures { IsContent bytes.now }
+{}
 
 /// What is given for each input.
 fn demo_inputs(
@@ -122,12 +130,7 @@ fn demo_inputs(
 }
 
 /// What is given for an input, by its path.
-fn demo_input<'a>(
-    input: &Input,
-    program: &'a [u8],
-    source: &'a [u8],
-    made: &'a [u8],
-) -> &'a [u8]
+fn demo_input<'a>(input: &Input, program: &'a [u8], source: &'a [u8], made: &'a [u8]) -> &'a [u8]
     requires program { IsContent program.now }
     requires source { IsContent source.now }
     requires made { IsContent made.now }

@@ -1,6 +1,7 @@
 use Rattle.command_plan.proofs.Obtaining.{ends_before, ends_with, goes_on_with}
 use Rattle.command_plan.proofs.Performing.{says}
-use Rattle.demo_command.specs.Demo.{demo_files}
+use Rattle.demo_command.specs.Demo.{demo_files, generated_bytes}
+use Rattle.demo_command.proofs.Demonstrating.{of_files}
 use Rattle.demo_command.proofs.demo.demo.Goals as goal
 
 pub returns-in_err-program : goal.returns-in_err-program
@@ -19,4 +20,4 @@ returns-in_err-recipe g c =
 pub returns : goal.returns
 unfolding demo_files
 returns g c =
-    goes_on_with c.in_ok-program.ensures.obtained (goes_on_with c.in_ok-source.ensures.obtained (goes_on_with (c.in_ok-recipe.ensures _) (says _ _ _ c.audit.ensures)))
+    goes_on_with c.in_ok-program.ensures.obtained (goes_on_with c.in_ok-source.ensures.obtained (goes_on_with (c.in_ok-recipe.ensures _) (says _ _ _ (of_files c.args.size c.in_ok-recipe.recipe _ _ _ _ (generated_bytes c.args.size) _ c.as_slice.ensures c.as_slice-2.ensures c.audit.ensures))))
