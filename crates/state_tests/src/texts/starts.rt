@@ -123,6 +123,7 @@ fn an_old_text_of_a_step_goes_on(rt: HostRuntime) -> Result<(), Fail> {
     let again = write_state(rt.alloc(), &guest)?;
     let wanted = text_of(rt.alloc(), STEPPED)?;
     assert_eq!(rt; again.as_slice(), wanted.as_slice());
+    assert_eq!(rt; guest.steps(), 1);
     assert!(rt; guest.run(2) == RunEnd::Exited(0));
     assert_eq!(rt; guest.steps(), 2);
     Ok(())
