@@ -100,6 +100,11 @@ fn refusal(alloc: Global, text: &[u8]) -> Option<StateRefusal> {
     read.err()
 }
 
+/// Whether a guest stands behind its first step, and exits with 0 in its third.
+fn ends_at_the_third(guest: &mut Guest<RunRam>) -> bool {
+    guest.steps() == 1 && guest.run(2) == RunEnd::Exited(0) && guest.steps() == 2
+}
+
 #[test]
 fn a_step_is_read_and_goes_on(rt: HostRuntime) -> Result<(), Fail> {
     let text = text_of(rt.alloc(), STEPPED)?;
@@ -107,9 +112,7 @@ fn a_step_is_read_and_goes_on(rt: HostRuntime) -> Result<(), Fail> {
     let mut guest = read.ok().ok_or("read")?;
     let again = write_state(rt.alloc(), &guest)?;
     assert_eq!(rt; again.as_slice(), text.as_slice());
-    assert_eq!(rt; guest.steps(), 1);
-    assert!(rt; guest.run(2) == RunEnd::Exited(0));
-    assert_eq!(rt; guest.steps(), 2);
+    assert!(rt; ends_at_the_third(&mut guest));
     Ok(())
 }
 
@@ -123,9 +126,7 @@ fn an_old_text_of_a_step_goes_on(rt: HostRuntime) -> Result<(), Fail> {
     let again = write_state(rt.alloc(), &guest)?;
     let wanted = text_of(rt.alloc(), STEPPED)?;
     assert_eq!(rt; again.as_slice(), wanted.as_slice());
-    assert_eq!(rt; guest.steps(), 1);
-    assert!(rt; guest.run(2) == RunEnd::Exited(0));
-    assert_eq!(rt; guest.steps(), 2);
+    assert!(rt; ends_at_the_third(&mut guest));
     Ok(())
 }
 
