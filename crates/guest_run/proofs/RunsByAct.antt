@@ -5,7 +5,7 @@ use Rattle.std.proofs.lemmas.Option.{same_Some}
 use Rattle.mem_files.specs.World.{World}
 use Rattle.rv64_machine.specs.Hart.{Act, HartState, act}
 use Rattle.rv64_machine.specs.Hart as hart
-use Rattle.rv64_machine.specs.WithoutAtomics.{ActsWithoutAtomicsStand, act_without_atomics}
+use Rattle.rv64_machine.specs.WithoutAtomics.{act_without_atomics}
 use Rattle.rv64_machine.proofs.ActsWithoutAtomics.{acts-stand}
 use Rattle.guest_run.specs.Setting.{Setting}
 use Rattle.guest_run.specs.State.{GuestState}

@@ -159,19 +159,19 @@ form_i_text Lwu inst = memory_text inst inst.rd
 form_i_text Fence inst = name inst.op
 form_i_text _ inst = immediate_text inst
 
--- the order of accesses, as a suffix of the name
-abbrev pub order : ℕ → List ℕ
-order bits = if bits == 1 then codes ".rl" else (if bits == 2 then codes ".aq" else (if bits == 3 then codes ".aqrl" else []))
+-- the order of accesses that aq (2) and rl (1) ask for, as a suffix of the name
+abbrev pub order_suffix : ℕ → List ℕ
+order_suffix bits = if bits == 1 then codes ".rl" else (if bits == 2 then codes ".aq" else (if bits == 3 then codes ".aqrl" else []))
 
 -- the name with the order of accesses, and the register that is set
 abbrev pub ordered_text : Inst → List ℕ
-ordered_text inst = name inst.op ++ order (cast_unsigned w64 inst.imm) ++ codes " " ++ register inst.rd
+ordered_text inst = name inst.op ++ order_suffix (cast_unsigned w64 inst.imm) ++ codes " " ++ register inst.rd
 
--- a register and the address that a register holds
-abbrev pub reserving_text : Inst → List ℕ
-reserving_text inst = ordered_text inst ++ codes ", (" ++ register inst.rs1 ++ codes ")"
+-- of a load-reserved: a register and the address that a register holds
+abbrev pub load_reserved_text : Inst → List ℕ
+load_reserved_text inst = ordered_text inst ++ codes ", (" ++ register inst.rs1 ++ codes ")"
 
--- the same with rs2 before the address
+-- of the other atomic rows: the same with rs2 before the address
 abbrev pub atomic_text : Inst → List ℕ
 atomic_text inst = ordered_text inst ++ codes ", " ++ register inst.rs2 ++ codes ", (" ++ register inst.rs1 ++ codes ")"
 
@@ -186,7 +186,7 @@ form_text B inst pc = branch_text inst pc
 form_text U inst pc = upper_text inst
 form_text J inst pc = jump_text inst pc
 form_text E inst pc = name inst.op
-form_text L inst pc = reserving_text inst
+form_text L inst pc = load_reserved_text inst
 form_text A inst pc = atomic_text inst
 
 -- the text of an instruction at an address

@@ -101,7 +101,7 @@ impl InstText {
             Form::U => self.push_upper(inst),
             Form::J => self.push_jump(inst, pc),
             Form::E => {}
-            Form::L => self.push_reserving(inst),
+            Form::L => self.push_load_reserved(inst),
             Form::A => self.push_atomic(inst),
         }
     }
@@ -163,14 +163,14 @@ impl InstText {
         ensures text { self.new ≡ spec.ordered_text inst.now }
         ensures room { length self.new ≤ 19 }
     {
-        self.push(order(inst.imm.cast_unsigned()).as_bytes());
+        self.push(order_suffix(inst.imm.cast_unsigned()).as_bytes());
         self.push_register(b" ", inst.rd);
     }
 
-    fn push_reserving(&mut self, inst: &Inst)
+    fn push_load_reserved(&mut self, inst: &Inst)
         requires named { self.old ≡ spec.name inst.now.op }
         requires short { length self.old ≤ 9 }
-        ensures { self.new ≡ spec.reserving_text inst.now }
+        ensures { self.new ≡ spec.load_reserved_text inst.now }
     {
         self.push_ordered(inst);
         self.push_register(b", (", inst.rs1);
@@ -235,8 +235,8 @@ fn target(pc: u64, imm: i64) -> u64
 }
 
 /// The order of accesses, as a suffix of the name.
-fn order(bits: u64) -> &'static str
-    ensures text { result.now ≡ spec.order bits }
+fn order_suffix(bits: u64) -> &'static str
+    ensures text { result.now ≡ spec.order_suffix bits }
     ensures room { length result.now ≤ 5 }
 {
     match bits {

@@ -19,23 +19,25 @@ use Rattle.rv64_machine.specs.Atomics.{amo_result}
 use Rattle.rv64_machine.specs.Arithmetic.{sign_extended, sum, wrapped}
 use Rattle.rv64_machine.specs.Meaning.{meaning}
 
--- a reservation: how many bytes it holds, 4 or 8, and their address
+-- a reservation, which a load-reserved registers: how many bytes it holds, 4 or 8, and their address, a multiple of that and below 2^38.
+-- The standard leaves the set of reserved bytes to the machine; that it is these bytes alone is this project's profile
 abbrev pub IsReservation : Option (ℕ × ℕ) → Type 0
 IsReservation None = Unit {0}
 IsReservation (Some (count, at)) = ((count ≡ 4) ⊎ (count ≡ 8)) × (at % count ≡ 0) × (at < 2 ^ 38)
 
--- a reservation as the code has it
+-- a reservation of the code's
 abbrev pub reserved_bytes : Reservation → ℕ × ℕ
 reserved_bytes held = (count_of held.wide, held.at)
 
--- the state of a hart: the registers x0 to x31, the address of the next instruction, memory, and the reservation if one is held
+-- the state of a hart: the registers x0 to x31, the address of the next instruction, memory, and the reservation where one is held
 pub record HartState : Type 0 where
   pub registers : List ℕ
   pub pc : ℕ
   pub memory : Memory
   pub reservation : Option (ℕ × ℕ)
 
--- the states that a hart can be in: 32 registers of which x0 is 0, a pc at a multiple of 4, and whole pages of bytes
+-- the states that a hart can be in: 32 registers of which x0 is 0, a pc at a multiple of 4, whole pages of bytes, and a reservation that
+-- can be
 pub record IsHart (hart : HartState) : Type 0 where
   pub count : length hart.registers ≡ 32
   pub zero : slice_index hart.registers 0 ≡ 0
@@ -86,39 +88,43 @@ abbrev pub loads : HartState → ℕ → ℕ → Option ℕ → Act
 loads hart rd at None = Traps (cause.LoadUnmapped at)
 loads hart rd at (Some value) = passes (with_register hart rd value)
 
--- the number at an address, where that is a multiple of the width and mapped
+-- the number at an address, where that is a multiple of the width and mapped. Of a misaligned address the standard has an exception, which
+-- may be an access fault: here it is always that
 abbrev pub reads_aligned : Memory → ℕ → ℕ → Option ℕ
 reads_aligned memory at count = if at % count == 0 then reads memory at count else None
 
--- the reservation is of this width and address
+-- whether the reservation is of these bytes: of this width and at this address
 abbrev pub is_reserved : Option (ℕ × ℕ) → ℕ → ℕ → Bool
 is_reserved None count at = false
 is_reserved (Some held) count at = held.0 == count && held.1 == at
 
--- reservations are of 4 or 8 bytes
+-- a width that can be reserved
 abbrev pub IsReservable : Width → Type 0
 IsReservable width = (count_of width ≡ 4) ⊎ (count_of width ≡ 8)
 
+-- a load-reserved is of such a width
 abbrev pub ReservesReservable : Effect → Type 0
 ReservesReservable (LoadReserved width at) = IsReservable width
 ReservesReservable _ = Unit {0}
 
--- the act of a load that loads_reserved, which found this
+-- the act of a load-reserved which found this ("A", "Load-Reserved/Store-Conditional Instructions")
 abbrev pub loads_reserved : HartState → ℕ → ℕ → ℕ → Option ℕ → Act
 loads_reserved hart rd count at None = Traps (cause.LoadUnmapped at)
 loads_reserved hart rd count at (Some value) =
     passes (record (with_register hart rd (sign_extended (8 * count) value)) { reservation = Some (count, at) })
 
--- the state after a store that needs its reservation, which was held or not: 0 or 1 in rd, and the reservation ends
+-- the state after a store-conditional whose bytes are reserved or not: it stores and puts 0 into rd, or puts 1; the reservation ends either
+-- way
 abbrev pub after_conditional : HartState → ℕ → ℕ → ℕ → ℕ → Bool → HartState
 after_conditional hart rd count at value true = record (with_register hart rd 0) { memory = writes hart.memory at count value; reservation = None }
 after_conditional hart rd count at value false = record (with_register hart rd 1) { reservation = None }
 
+-- the act of a store-conditional which found this: its address is tried first, as a store's
 abbrev pub stores_conditional : HartState → ℕ → ℕ → ℕ → ℕ → Option ℕ → Act
 stores_conditional hart rd count at value None = Traps (cause.StoreUnmapped at)
 stores_conditional hart rd count at value (Some old) = passes (after_conditional hart rd count at value (is_reserved hart.reservation count at))
 
--- the act of a row that reads, computes and writes: the old number goes to rd
+-- the act of an atomic memory operation which found this: the old number goes to rd ("A", "Atomic Memory Operations")
 abbrev pub performs_amo : HartState → ℕ → AmoOperation → ℕ → ℕ → ℕ → Option ℕ → Act
 performs_amo hart rd operation count at value None = Traps (cause.StoreUnmapped at)
 performs_amo hart rd operation count at value (Some old) =
@@ -171,7 +177,7 @@ abbrev pub goes_on : Act → Bool
 goes_on (GoesOn next) = true
 goes_on _ = false
 
--- whether an effect is that of a store, or of an atomic row that stores
+-- whether an effect is that of a store: of a store-conditional and an atomic memory operation too
 abbrev pub is_store : Option Effect → Bool
 is_store (Some (Store width at value)) = true
 is_store (Some (StoreConditional width at value)) = true

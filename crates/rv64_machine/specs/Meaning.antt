@@ -1,4 +1,5 @@
--- What each row of the instruction table does, one line a row (RISC-V Unprivileged ISA, "RV32I", "RV64I", "M", "A").
+-- What each row of the instruction table does, one line a row (RISC-V Unprivileged ISA, "RV32I", "RV64I", "M", "A"; of the last,
+-- "Load-Reserved/Store-Conditional Instructions", the extension Zalrsc, and "Atomic Memory Operations", the extension Zaamo).
 -- docs/reference/machine.md says the same for readers.
 use Rattle.std.specs.Prelude.{ℕ, ◌*◌, ◌/◌, ◌%◌, ◌==◌, Bool, not, nat_le, nat_lt, int_lt, pos, bit_and, bit_or, bit_xor}
 use Rattle.rv64_table.specs.declared.Op.{Op}
@@ -22,7 +23,8 @@ even address = address / 2 * 2
 abbrev pub word : ℕ → ℕ
 word n = sign_extended 32 n
 
--- what a row does, the atomic rows by the address in rs1 alone (the order of accesses does nothing on one hart): a and b are the values of rs1 and rs2, i is the immediate sign-extended to 64 bits
+-- what a row does: a and b are the values of rs1 and rs2, i is the immediate sign-extended to 64 bits. The atomic rows' address is a;
+-- their i is the order of accesses, which does nothing on one hart
 abbrev pub meaning : Op → ℕ → ℕ → ℕ → ℕ → Effect
 meaning Lui a b i pc = Put i
 meaning Auipc a b i pc = Put (sum 64 pc i)

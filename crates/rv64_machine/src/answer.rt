@@ -12,9 +12,10 @@ pub enum Cause {
     FetchUnmapped(u64),
     /// A jump or a taken branch to this target, which is no multiple of 4.
     FetchMisaligned(u64),
-    /// A load from this address, of which a byte is unmapped.
+    /// A load or a load-reserved from this address, of which a byte is unmapped, or which is misaligned in a load-reserved.
     LoadUnmapped(u64),
-    /// A store to this address, of which a byte is unmapped.
+    /// A store to this address, of which a byte is unmapped; or a store-conditional or an atomic memory operation at it, which may be
+    /// misaligned.
     StoreUnmapped(u64),
     /// EBREAK.
     Break,
@@ -29,11 +30,11 @@ pub enum StepEnd {
     Call,
     /// The hart can't go on.
     Trap(Cause),
-    /// A store found no memory for its bytes.
+    /// A store, a store-conditional or an atomic memory operation found no memory for its bytes.
     OutOfMemory,
 }
 
-/// What a hart has reserved: the bytes of a width, 4 or 8, at an address that is a multiple of it.
+/// What a load-reserved registers: the bytes of a width, 4 or 8 of them, at an address that is a multiple of it and below 2^38.
 #[derive(Clone, Copy, Debug, PartialEq, Eq)]
 pub struct Reservation {
     pub wide: Width,

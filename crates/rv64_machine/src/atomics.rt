@@ -1,4 +1,4 @@
-//! What the atomic rows write.
+//! What the atomic memory operations write.
 ghost use Rattle.std.specs.Prelude.{if◌then◌else◌, ◌≡◌, ◌*◌, ◌%◌, ◌^◌, ◌<◌};
 ghost use Rattle.paged_mem.specs.Ram.{count_of};
 ghost use Rattle.rv64_machine.specs.Atomics.{amo_result};
@@ -7,7 +7,7 @@ use crate::arithmetic::{is_less, sum, widened};
 use crate::effect::AmoOperation;
 use paged_mem::Width;
 
-/// The number of which an atomic row writes the low bytes.
+/// The number of which an atomic memory operation writes the low bytes, by the number that it read.
 pub fn amo_result(operation: AmoOperation, width: Width, old: u64, value: u64) -> u64
     requires { old < 2 ^ (8 * count_of width) }
     ensures { result ≡ amo_result operation (8 * count_of width) old value }
@@ -19,8 +19,16 @@ pub fn amo_result(operation: AmoOperation, width: Width, old: u64, value: u64) -
         AmoOperation::Xor => old ^ value,
         AmoOperation::And => old & value,
         AmoOperation::Or => old | value,
-        AmoOperation::Min => chosen(is_less(widened(width, old), widened(width, low)), old, value),
-        AmoOperation::Max => chosen(is_less(widened(width, low), widened(width, old)), old, value),
+        AmoOperation::Min => chosen(
+            is_less(widened(width, old), widened(width, low)),
+            old,
+            value,
+        ),
+        AmoOperation::Max => chosen(
+            is_less(widened(width, low), widened(width, old)),
+            old,
+            value,
+        ),
         AmoOperation::MinUnsigned => chosen(old < low, old, value),
         AmoOperation::MaxUnsigned => chosen(low < old, old, value),
     }

@@ -27,18 +27,26 @@ pub enum Effect {
     /// rd takes the number at the address, sign-extended.
     LoadSigned(Width, u64),
     /// The low bytes of the value go to the address.
-    Store { width: Width, at: u64, value: u64 },
+    Store {
+        width: Width,
+        at: u64,
+        value: u64,
+    },
     /// Nothing.
     Next,
     /// The system is called.
     Call,
     /// The hart stops.
     Break,
-    /// rd takes the number at the address, sign-extended, and the address is reserved.
+    /// rd takes the number at the address, sign-extended, and its bytes are reserved.
     LoadReserved(Width, u64),
-    /// Where this is what is reserved, the low bytes of the value go to the address; rd takes 0 if so and 1 if not.
-    StoreConditional { width: Width, at: u64, value: u64 },
-    /// rd takes the number at the address, sign-extended, and what is made of it and the value goes there.
+    /// Where these bytes are reserved, they take the low bytes of the value and rd 0; elsewhere rd takes 1. The reservation ends.
+    StoreConditional {
+        width: Width,
+        at: u64,
+        value: u64,
+    },
+    /// rd takes the number at the address, sign-extended, and what the operation makes of it and the value goes there.
     Amo {
         operation: AmoOperation,
         width: Width,
@@ -47,7 +55,7 @@ pub enum Effect {
     },
 }
 
-/// What an atomic row makes of the number in memory and the value of rs2.
+/// What an atomic memory operation makes of the number in memory and the value of rs2.
 #[derive(Clone, Copy, Debug, PartialEq, Eq)]
 pub enum AmoOperation {
     Swap,
@@ -137,7 +145,7 @@ fn store(width: Width, at: u64, value: u64) -> Effect
     Effect::Store { width, at, value }
 }
 
-/// The effect of a store that needs its reservation.
+/// The effect of a store-conditional.
 #[inline(always)]
 fn store_conditional(width: Width, at: u64, value: u64) -> Effect
     ensures { result ≡ Effect.StoreConditional width at value }
@@ -145,7 +153,7 @@ fn store_conditional(width: Width, at: u64, value: u64) -> Effect
     Effect::StoreConditional { width, at, value }
 }
 
-/// The effect of a row that reads, computes and writes.
+/// The effect of an atomic memory operation.
 #[inline(always)]
 fn amo(operation: AmoOperation, width: Width, at: u64, value: u64) -> Effect
     ensures { result ≡ Effect.Amo operation width at value }

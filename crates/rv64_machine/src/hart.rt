@@ -10,9 +10,9 @@ ghost use Rattle.std.specs.FinMap.{contains_key};
 ghost use Rattle.std.specs.Borrow.{Lends, sem};
 ghost use Rattle.rv64_machine.specs.contracts.hart.Hart.{the_row};
 
-use crate::atomics::amo_result;
 use crate::answer::{Cause, FlatEnd, Reservation, StepEnd};
 use crate::arithmetic::{sum, widened};
+use crate::atomics::amo_result;
 use crate::effect::{AmoOperation, Effect, effect_of};
 use paged_mem::{Ram, StoreRefusal, Width};
 use rv64_decode::decode_as;
@@ -120,7 +120,7 @@ impl<R: Ram> Hart<R> {
         &mut self.ram
     }
 
-    /// What is reserved.
+    /// What is reserved, if anything is.
     pub fn reservation(&self) -> Option<Reservation>
         ensures { option_map reserved_bytes result ≡ self.now.reservation }
     {
@@ -327,7 +327,9 @@ impl<R: Ram> Hart<R> {
             Effect::Call => StepEnd::Call,
             Effect::Break => StepEnd::Trap(Cause::Break),
             Effect::LoadReserved(width, at) => self.load_reserved(rd, width, at),
-            Effect::StoreConditional { width, at, value } => self.store_conditional(rd, width, at, value),
+            Effect::StoreConditional { width, at, value } => self.store_conditional(
+                rd, width, at, value,
+            ),
             Effect::Amo {
                 operation,
                 width,
@@ -337,7 +339,7 @@ impl<R: Ram> Hart<R> {
         }
     }
 
-    /// Carries out a load that loads_reserved. The atomic rows are kept out of the loop.
+    /// Carries out a load-reserved.
     #[cold]
     #[inline(never)]
     fn load_reserved(&mut self, rd: u8, width: Width, at: u64) -> StepEnd
@@ -357,7 +359,7 @@ impl<R: Ram> Hart<R> {
         }
     }
 
-    /// Carries out a store that needs its reservation.
+    /// Carries out a store-conditional.
     #[cold]
     #[inline(never)]
     fn store_conditional(&mut self, rd: u8, width: Width, at: u64, value: u64) -> StepEnd
@@ -386,23 +388,20 @@ impl<R: Ram> Hart<R> {
         }
     }
 
-    /// Carries out a row that reads, computes and writes.
+    /// Carries out an atomic memory operation.
     #[cold]
     #[inline(never)]
-    fn amo(
-        &mut self,
-        rd: u8,
-        operation: AmoOperation,
-        width: Width,
-        at: u64,
-        value: u64,
-    ) -> StepEnd
+    fn amo(&mut self, rd: u8, operation: AmoOperation, width: Width, at: u64, value: u64) -> StepEnd
         requires { rd < 32 }
         ensures { EndsStep (carried self.old rd (Effect.Amo operation width at value))
             (Some (Effect.Amo operation width at value)) self.old result self.new }
     {
         match self.reads_aligned(at, width) {
-            Some(old) => match self.store_anywhere(at, width, amo_result(operation, width, old, value)) {
+            Some(old) => match self.store_anywhere(
+                at,
+                width,
+                amo_result(operation, width, old, value),
+            ) {
                 Ok(()) => {
                     self.set_reg(rd, widened(width, old));
                     self.pass()

@@ -5,9 +5,9 @@
 //! project's own. The rules are in docs/reference/machine.md.
 #![tactic(auto)]
 
-mod atomics;
 mod answer;
 mod arithmetic;
+mod atomics;
 mod effect;
 mod hart;
 pub mod laws;

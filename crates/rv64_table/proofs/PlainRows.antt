@@ -1,6 +1,6 @@
 -- Which words have an atomic row: those of one opcode.
 use Rattle.std.proofs.Common.{◌≡◌, ℕ, ◌%◌, ◌^◌, Bool, true, false, not, ◌||◌, cond, List, [], ◌∷◌, Option, Some, None, refl, sym, ap, ◌∙◌}
-use Rattle.std.specs.Prelude.{◌==◌, bit_and, filter, find, option_map, option_and_then}
+use Rattle.std.specs.Prelude.{◌==◌, bit_and, find, option_map, option_and_then}
 use Rattle.std.specs.List.{list_all}
 use Rattle.std.proofs.lemmas.Bool.{and_parts, false≢true}
 use borrow.Author.Tests.{eqb-true as tested}

@@ -33,7 +33,7 @@ pub enum Form {
     J,
     /// No fields: every bit is fixed.
     E,
-    /// As A, but without a second source register: the load that reserves.
+    /// As A, but without a second source register: load-reserved.
     L,
     /// As R, but funct7 is funct5 and two bits for the order of accesses, which stand as the immediate.
     A,

@@ -1,4 +1,4 @@
-//! The row of a word, by its opcode and its fields funct3 and funct7.
+//! The row of a word, by its opcode and its fields funct3, funct7 and, of a load-reserved, rs2.
 
 ghost use Rattle.std.specs.Prelude.{◌≡◌, option_and_then, option_map, find};
 ghost use Rattle.rv64_table.specs.Table.{matches, row_for, table, unless_atomic};
@@ -212,7 +212,7 @@ fn op_32(funct3: u32, funct7: u32) -> Option<Op>
     }
 }
 
-/// By funct5, which stands above the two bits for the order of accesses; rs2, above rs1 in `registers`, is 0 in a load that reserves.
+/// By funct5, which stands above the two bits for the order of accesses; rs2, above rs1 in `registers`, is 0 in a load-reserved.
 #[tactic(auto, unfolding(crate::specs::Table::table))]
 fn atomic(funct3: u32, funct7: u32, registers: u32) -> Option<Op>
     ensures { result ≡ pick (rows_of OPCODE_AMO table) funct3 funct7 registers }
