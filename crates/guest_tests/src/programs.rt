@@ -232,9 +232,13 @@ fn calls_end_a_reservation(rt: HostRuntime) -> Result<(), Fail> {
 fn misaligned_atomic_accesses_trap(rt: HostRuntime) -> Result<(), Fail> {
     let alloc = rt.alloc();
     let load = program_of(alloc, &[0x0021_0113, 0x1001_22af])?;
-    assert!(rt; run_of(alloc, &load, 9)? == (RunEnd::Trapped(Cause::LoadUnmapped(0x3f_ffff_ffd2)), 1));
+    assert!(rt;
+        run_of(alloc, &load, 9)? == (RunEnd::Trapped(Cause::LoadUnmapped(0x3f_ffff_ffd2)), 1)
+    );
     let sum = program_of(alloc, &[0x0021_0113, 0x0051_22af])?;
-    assert!(rt; run_of(alloc, &sum, 9)? == (RunEnd::Trapped(Cause::StoreUnmapped(0x3f_ffff_ffd2)), 1));
+    assert!(rt;
+        run_of(alloc, &sum, 9)? == (RunEnd::Trapped(Cause::StoreUnmapped(0x3f_ffff_ffd2)), 1)
+    );
     Ok(())
 }
 
