@@ -1,5 +1,5 @@
 -- Stages that are run in order, one by one.
-use Rattle.std.proofs.Common.{◌≡◌, ℕ, suc, ◌-◌, ◌+◌, ◌<◌, Some, Result, Ok, Err, IfOk, List, [], ◌∷◌, ◌++◌, length, drop, take, refl, sym, ap, ◌∙◌, arith, subst}
+use Rattle.std.proofs.Common.{◌≡◌, ℕ, suc, ◌-◌, Result, Ok, Err, IfOk, List, [], ◌∷◌, ◌++◌, length, drop, take, refl, sym, ap, ◌∙◌, arith, subst}
 use Rattle.std.proofs.lemmas.List.{take-append-drop}
 use Rattle.ddc_base.specs.declared.byte_list.OutOfMemory.{OutOfMemory}
 use Rattle.guest_run.specs.State.{GuestState}

@@ -1,5 +1,5 @@
 -- A stage's run that is given all its steps ends.
-use Rattle.std.proofs.Common.{◌≡◌, ℕ, ◌-◌, ◌+◌, ◌<◌, Some, Result, Ok, Err, List, sym, ap, ◌∙◌, arith}
+use Rattle.std.proofs.Common.{◌≡◌, ℕ, ◌-◌, ◌+◌, ◌<◌, Some, Result, Err, List, sym, ap, ◌∙◌, arith}
 use Rattle.guest_run.specs.State.{GuestState}
 use Rattle.guest_run.specs.declared.run.RunEnd.TheVariants as answer
 use Rattle.guest_run.specs.Run.{End, first_end, Runs as RunsBy}

@@ -102,7 +102,7 @@ fn lines_fail(rt: HostRuntime) -> Result<(), Fail> {
     assert!(rt; matches!(held.line(), Ok(Asked::Line(_))));
     // The second call would take six bytes, and takes three.
     assert!(rt; matches!(held.line(), Err(Failed)));
-    assert!(rt; held.left() == b"fg\nh");
+    assert!(rt; held.left() == "fg\nh".as_bytes());
     assert!(rt; gives(&mut held, &[2, 1]));
     // What a failed call has read is gone, and the next call goes on behind it.
     let mut read = ReaderPrompt::new(Source {

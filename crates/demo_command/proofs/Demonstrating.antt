@@ -2,7 +2,6 @@
 use Rattle.std.proofs.Common.{◌≡◌, ◌∙◌, ℕ, Option, None, Result, Ok, Err, List, [], length, drop, take, le_refl, sym, ap, subst}
 use Rattle.std.proofs.lemmas.List.{drop_all}
 use Rattle.recipe.specs.declared.contents.Said.{Said}
-use Rattle.recipe.specs.declared.parts.Stage.{Stage}
 use Rattle.report.specs.declared.types.Compared.{Compared}
 use Rattle.report.specs.declared.types.Compared.TheVariants.{Equal, Differs}
 use Rattle.report.specs.declared.types.Report.{Report}
@@ -14,7 +13,6 @@ use Rattle.audit_run.specs.Earlier.{done_in_order, goes_on_behind}
 use Rattle.audit_run.specs.declared.earlier.Undone.{Undone}
 use Rattle.verifier.specs.Verdicts.{Judges, verdict_of}
 use Rattle.verifier.specs.declared.part.Part.{Part}
-use Rattle.verifier.specs.declared.part.Verdict.{Verdict}
 use Rattle.verifier.specs.declared.part.Verdict.TheVariants as verdict
 use Rattle.command_plan.specs.declared.answer.Answer.{Answer}
 use Rattle.command_plan.specs.declared.status.Status.TheVariants as status

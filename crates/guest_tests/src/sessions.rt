@@ -159,10 +159,10 @@ fn lines_are_answered(rt: HostRuntime) -> Result<(), Fail> {
         assert!(rt; hold(alloc, &mut prompt, limit, &mut out)?.is_ok());
         assert!(rt; out.written() == want.as_bytes());
         // One piece a line.
-        let mut count = 0;
+        let mut count: usize = 0;
         for byte in want.as_bytes() {
             if *byte == b'\n' {
-                count += 1;
+                count = count.saturating_add(1);
             }
         }
         assert_eq!(rt; out.pieces().len(), count);
@@ -193,7 +193,7 @@ fn what_is_left_stays(rt: HostRuntime) -> Result<(), Fail> {
     let mut prompt = MemPrompt::new(alloc, b"where\nquit\nwhere\n")?;
     let mut out = MemSink::new(alloc);
     assert!(rt; hold(alloc, &mut prompt, 100, &mut out)?.is_ok());
-    assert!(rt; prompt.left() == b"where\n");
+    assert!(rt; prompt.left() == "where\n".as_bytes());
     Ok(())
 }
 
@@ -215,7 +215,8 @@ fn faults_cut_a_session(rt: HostRuntime) -> Result<(), Fail> {
         );
         assert_eq!(rt; out.pieces().len(), pieces);
         let half = if put_fails == 0 { 0 } else { line.len() / 2 };
-        assert_eq!(rt; out.written().len(), pieces * line.len() + half);
+        let whole = line.len().saturating_mul(pieces);
+        assert_eq!(rt; out.written().len(), whole.saturating_add(half));
     }
     // Behind `quit` and behind the end no line is asked for, so none fails.
     for lines in [&b"where\nquit\n"[..], &b"where\n"[..]] {
