@@ -12,7 +12,7 @@ const COPY: &str =
     "7f454c460201010000000000000000000200f30001000000780001000000000040000000000000000000000000000000000000004000380001000000000000000100000007000000000000000000000000000100000000000000010000000000e800000000000000e80000000000000000100000000000001305c0f9b70501009385050e1306000093088003730000001305c0f9b70501009385350e130610247300000037140000b30481401305300093850400130604009308f00373000000630c0500130605001305400093080004730000006ff09ffd9308d00573000000696e006f75740000";
 
 /// A session's lines, its limit, and what is printed.
-type Row = (&'static str, u64, &'static str);
+type Row = (&'static str, u32, &'static str);
 
 /// The lines of one row each; a row with several has them in one session.
 const ROWS: [Row; 24] = [
@@ -133,7 +133,7 @@ const ROWS: [Row; 24] = [
 fn hold(
     alloc: Global,
     prompt: &mut MemPrompt,
-    limit: u64,
+    limit: u32,
     out: &mut MemSink,
 ) -> Result<Result<(), PutFail>, Fail> {
     let Ok(copy) = read_hex(alloc, COPY.as_bytes()) else {
@@ -144,7 +144,7 @@ fn hold(
     if setting.place(b"in", b"abc").is_err() {
         return Err("no file".into());
     }
-    let Ok(mut session) = Session::new(alloc, copy.as_slice(), setting, limit) else {
+    let Ok(mut session) = Session::new(alloc, copy.as_slice(), setting, u64::from(limit)) else {
         return Err("no start".into());
     };
     Ok(converse(&mut session, 65_536, prompt, out))
