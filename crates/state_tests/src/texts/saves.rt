@@ -166,14 +166,25 @@ fn put_state_again(out: &mut Bytes, parts: &Parts<'_>) -> Result<(), OutOfMemory
     put_parts(out, &parts.state)
 }
 
+/// The text of the state that a save's text says.
+fn state_again(alloc: Global, text: &[u8]) -> Result<Bytes, OutOfMemory> {
+    match read(alloc, text) {
+        Ok(parts) => {
+            let mut state = Bytes::new(alloc);
+            put_state_again(&mut state, &parts)?;
+            Ok(state)
+        }
+        Err(_) => Err(OutOfMemory),
+    }
+}
+
 #[test]
 fn a_text_is_written_again(rt: HostRuntime) -> Result<(), Fail> {
-    let whole = save(rt.alloc())?;
-    let text = text_of(rt.alloc(), &whole)?;
-    let parts = read(rt.alloc(), &text).ok().ok_or("form")?;
-    let mut state = Bytes::new(rt.alloc());
-    put_state_again(&mut state, &parts)?;
-    let mut again = Bytes::new(rt.alloc());
+    let alloc = rt.alloc();
+    let text = text_of(alloc, &save(alloc)?)?;
+    let parts = read(alloc, &text).ok().ok_or("form")?;
+    let state = state_again(alloc, &text)?;
+    let mut again = Bytes::new(alloc);
     again.extend(&MAGIC)?;
     again.extend(&parts.recipe.0)?;
     put_u32(&mut again, 2)?;
