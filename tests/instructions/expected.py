@@ -55,7 +55,7 @@ def tables():
     here = pathlib.Path(__file__).resolve().parent
     with tempfile.TemporaryDirectory() as name:
         folder = pathlib.Path(name)
-        raw, listing = code(here / "rows.s", "rv64im", folder)
+        raw, listing = code(here / "rows.s", "rv64ima", folder)
         rows = []
         for index, (at, op, operands) in enumerate(listing):
             (word,) = struct.unpack_from("<I", raw, 4 * index)

@@ -3,10 +3,6 @@
         fence.i
         csrrw   x0, mstatus, x0
         csrrci  x1, fcsr, 31
-        lr.w    x1, (x2)
-        lr.d    x1, (x2)
-        sc.d    x1, x3, (x2)
-        amoadd.w x1, x3, (x2)
         flw     f1, 0(x2)
         fsd     f1, 8(x2)
         fadd.s  f1, f2, f3
@@ -39,3 +35,12 @@
         .4byte  0x00008073      # ecall with rs1 1
         .4byte  0x00300073      # ecall with immediate 3
         .4byte  0x00100072      # ebreak without bit 0
+        .4byte  0x1011202f      # lr.w with rs2 1
+        .4byte  0x11f1302f      # lr.d with rs2 31
+        .4byte  0x283120af      # funct5 05, which no extension here has, with funct3 2
+        .4byte  0xf83130af      # funct5 1F with funct3 3
+        .4byte  0x003100af      # an amoadd with funct3 0
+        .4byte  0x003110af      # an amoadd with funct3 1
+        .4byte  0x003140af      # an amoadd with funct3 4
+        .4byte  0x183100af      # an sc with funct3 0
+        .4byte  0x003120ae      # amoadd.w without bit 0

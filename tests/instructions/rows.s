@@ -1,4 +1,5 @@
-# One instruction of each row of the table, in the table's order, and then edges of each form's fields.
+# One instruction of each row of the table, in the table's order, and then edges of each form's fields, and some
+# atomic rows in every order of accesses.
         lui     x10, 0x12
         auipc   x31, 0xfffff
         jal     x1, . + 0x1000
@@ -64,6 +65,28 @@
         divuw   x31, x0, x1
         remw    x2, x3, x4
         remuw   x5, x6, x7
+        lr.w    x1, (x2)
+        sc.w    x4, x6, (x5)
+        amoswap.w x7, x9, (x8)
+        amoadd.w x10, x12, (x11)
+        amoxor.w x13, x15, (x14)
+        amoand.w x16, x18, (x17)
+        amoor.w  x19, x21, (x20)
+        amomin.w x22, x24, (x23)
+        amomax.w x25, x27, (x26)
+        amominu.w x28, x30, (x29)
+        amomaxu.w x31, x1, (x0)
+        lr.d    x2, (x3)
+        sc.d    x5, x7, (x6)
+        amoswap.d x8, x10, (x9)
+        amoadd.d x11, x13, (x12)
+        amoxor.d x14, x16, (x15)
+        amoand.d x17, x19, (x18)
+        amoor.d  x20, x22, (x21)
+        amomin.d x23, x25, (x24)
+        amomax.d x26, x28, (x27)
+        amominu.d x29, x31, (x30)
+        amomaxu.d x0, x2, (x1)
         lui     x0, 0xabcde
         auipc   x1, 0x80000
         jal     x0, . - 1048576
@@ -76,3 +99,18 @@
         fence   r, w
         fence.tso
         sub     x31, x31, x31
+        lr.w    x10, (x11)
+        sc.w    x12, x13, (x11)
+        amoadd.d.aqrl x10, x12, (x11)
+        lr.w.rl x31, (x1)
+        lr.w.aq x31, (x1)
+        lr.w.aqrl x31, (x1)
+        amoadd.w.rl x31, x1, (x30)
+        amoadd.w.aq x31, x1, (x30)
+        amoadd.w.aqrl x31, x1, (x30)
+        sc.d.rl x31, x1, (x30)
+        sc.d.aq x31, x1, (x30)
+        sc.d.aqrl x31, x1, (x30)
+        amomaxu.d.rl x31, x1, (x30)
+        amomaxu.d.aq x31, x1, (x30)
+        amomaxu.d.aqrl x31, x1, (x30)

@@ -1,4 +1,4 @@
-# The cases of the three programs, which tests/programs/make runs under qemu-riscv64 and tests/black-box/run under ddc. Each calls
+# The cases of the four programs, which tests/programs/make runs under qemu-riscv64 and tests/black-box/run under ddc. Each calls
 #
 #     program_case NAME PROGRAM WORD..
 #
@@ -64,3 +64,10 @@ program_case 'sort: three words' sort put a b a b c
 program_case 'sort: no such file' sort none b
 program_case 'sort: a result with an empty name' sort put a $'b\na\n' a ''
 program_case 'sort: a result with a name of 256 bytes' sort put a $'b\na\n' a "$name_256"
+
+program_case 'atomics: a text' atomics put a 'Hello, chain!' a
+program_case 'atomics: nothing' atomics
+program_case 'atomics: bytes past ASCII' atomics put a $'\xc3\xbf\xf0\x9f\x8c\xb1\x7f\x01' put b 'ä' a b
+program_case 'atomics: two files, one of them twice' atomics put a 7f45 put b zzz a b a
+program_case 'atomics: many bytes' atomics fill a 100 a
+program_case 'atomics: no such file' atomics none

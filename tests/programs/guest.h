@@ -1,4 +1,4 @@
-// What the three programs share: their start, the Linux calls that they make, messages, and input that they lay for themselves.
+// What the four programs share: their start, the Linux calls that they make, messages, and input that they lay for themselves.
 //
 // Everything is static, without a C library. The calls are those of docs/reference/calls.md.
 

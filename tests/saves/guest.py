@@ -58,6 +58,7 @@ class Guest:
         self.files = {number: [name, bytearray(files[name])] for number, name in enumerate(sorted(files))}
         self.slots = {0: 0, 1: 1, 2: 2}  # a kind, or of an open file its number, its cursor and its flags
         self.streams = {1: bytearray(), 2: bytearray()}
+        self.reserved = None  # how many bytes, and their address
         self.exited = None
 
     def load_image(self, program):
@@ -173,6 +174,7 @@ class Guest:
             case _:
                 raise SystemExit(f"step {self.steps + 1}: no rule here for the call {number}")
         self.x[10] = answer & WORD
+        self.reserved = None
         return True
 
     def open(self, folder, name, flags):

@@ -1,10 +1,10 @@
 #!/usr/bin/env python3
 """Writes the save of an audit's position, by docs/reference/save.md and guest.py alone.
 
-    tests/saves/write_save.py RECIPE STEPS >SAVE
+    tests/saves/write_save.py [--first-form] RECIPE STEPS >SAVE
 
 RECIPE is read in its own folder; STEPS is how many steps were taken, from 0. The end of a stage's run counts as a step, as it does in `part`.
-What a check would say of an artefact is not looked at.
+What a check would say of an artefact is not looked at. With --first-form the save has the first form, which `part` does not write any more.
 """
 
 import hashlib
@@ -61,15 +61,26 @@ def slot_text(number, slot):
     return u32(number) + bytes([3]) + u32(file) + u64(cursor) + bytes([flags])
 
 
-def state_text(now):
-    """The text of a guest's state."""
+def reserved_text(reserved):
+    """How many bytes are reserved, and from which address on."""
+    if reserved is None:
+        return bytes([0])
+    count, address = reserved
+    return bytes([count]) + u64(address)
+
+
+def state_text(now, form):
+    """The text of a guest's state; the first form says nothing of a reservation."""
+    if form == 1 and now.reserved is not None:
+        raise SystemExit("a guest with a reservation has no text of the first form")
     pages = ((number, bytes(page)) for number, page in sorted(now.pages.items()))
     files = ((number, name, content) for number, (name, content) in sorted(now.files.items()))
     return b"".join([
-        b"ddcstat1",
+        b"ddcstat%d" % form,
         u64(now.steps),
         u64(now.pc),
         *map(u64, now.x[1:]),
+        reserved_text(now.reserved) if form == 2 else b"",
         *map(u64, now.heap),
         counted(u32(first) + u32(count) for first, count in runs(now.mapped)),
         counted(u32(number) + page for number, page in pages if page != guest.ZEROS),
@@ -136,16 +147,17 @@ class Audit:
         """The present stage's name, and the steps that were taken in it."""
         return self.stage["name"], self.now.steps
 
-    def save(self):
-        return b"ddcsave1" + digest(self.text) + counted(self.inputs) + counted(self.done) + state_text(self.now)
+    def save(self, form=2):
+        return b"ddcsave%d" % form + digest(self.text) + counted(self.inputs) + counted(self.done) + state_text(self.now, form)
 
 
 def main():
-    audit = Audit(sys.argv[1])
-    audit.advance(int(sys.argv[2]))
+    *options, recipe, steps = sys.argv[1:]
+    audit = Audit(recipe)
+    audit.advance(int(steps))
     if audit.now is None:
         sys.exit("the audit is over by then")
-    sys.stdout.buffer.write(audit.save())
+    sys.stdout.buffer.write(audit.save(1 if options == ["--first-form"] else 2))
 
 
 if __name__ == "__main__":

@@ -1,10 +1,9 @@
 //! The assumptions that `verify` prints under its answer, of three recipes, each with an equal binary and with another one.
 //! They were written down from docs/reference/argument.md.
 
-use crate::worked::{COPY, decoded};
-use ddc_app::{Status, run};
+use crate::worked::{COPY, decoded, run};
+use ddc_app::Status;
 use ddc_base::{MemShelf, MemSink, OutOfMemory};
-use meaning::Assembly;
 use std::alloc::Global;
 use std::process::Abort;
 use std::test::Fail;
@@ -87,12 +86,12 @@ fn verifies(
     shelf.set("a.toml", recipe(alloc, row)?.as_bytes())?;
     let mut said = MemSink::new(alloc);
     assert_eq!(rt;
-        run::<Assembly, _, _>(alloc, &["audit", "a.toml", "r"], &mut shelf, &mut said),
+        run(alloc, &["audit", "a.toml", "r"], &mut shelf, &mut said)?,
         status
     );
     let mut out = MemSink::new(alloc);
     assert_eq!(rt;
-        run::<Assembly, _, _>(alloc, &["verify", "a.toml", "r"], &mut shelf, &mut out),
+        run(alloc, &["verify", "a.toml", "r"], &mut shelf, &mut out)?,
         status
     );
     let lines = row.3;

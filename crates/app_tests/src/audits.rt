@@ -1,10 +1,9 @@
 //! Audits of one recipe over the files of a worked program, and of that recipe with one change.
 //! What they come to was written down from the rules, and the digests are those of `sha256sum`.
 
-use crate::worked::{COPY, EXIT, decoded, with};
-use ddc_app::{Status, run};
+use crate::worked::{COPY, EXIT, decoded, run, with};
+use ddc_app::Status;
 use ddc_base::{MemShelf, MemSink, OutOfMemory};
-use meaning::Assembly;
 use std::alloc::Global;
 use std::test::Fail;
 
@@ -226,7 +225,7 @@ fn recipes_are_audited(rt: HostRuntime) -> Result<(), Fail> {
         let mut shelf = audit_shelf(alloc, old, new)?;
         let mut out = MemSink::new(alloc);
         assert_eq!(rt;
-            run::<Assembly, _, _>(alloc, &["audit", "a.toml", "r"], &mut shelf, &mut out),
+            run(alloc, &["audit", "a.toml", "r"], &mut shelf, &mut out)?,
             status
         );
         assert_eq!(rt; out.written(), text.as_bytes());
@@ -242,7 +241,7 @@ fn the_report_is_saved(rt: HostRuntime) -> Result<(), Fail> {
     let mut shelf = audit_shelf(alloc, "", "")?;
     let mut out = MemSink::new(alloc);
     assert_eq!(rt;
-        run::<Assembly, _, _>(alloc, &["audit", "a.toml", "r"], &mut shelf, &mut out),
+        run(alloc, &["audit", "a.toml", "r"], &mut shelf, &mut out)?,
         Status::Yes
     );
     assert_eq!(rt; shelf.get("r").unwrap_or(&[]), REPORT.as_bytes());
@@ -256,7 +255,7 @@ fn the_report_says_what_differs(rt: HostRuntime) -> Result<(), Fail> {
     shelf.set("b.bin", b"abd")?;
     let mut out = MemSink::new(alloc);
     assert_eq!(rt;
-        run::<Assembly, _, _>(alloc, &["audit", "a.toml", "r"], &mut shelf, &mut out),
+        run(alloc, &["audit", "a.toml", "r"], &mut shelf, &mut out)?,
         Status::Differs
     );
     let (input, compare) = ABD;
@@ -274,7 +273,7 @@ fn a_failed_put_leaves_the_report(rt: HostRuntime) -> Result<(), Fail> {
     let mut out = MemSink::new(alloc);
     out.fail_put(1)?;
     assert_eq!(rt;
-        run::<Assembly, _, _>(alloc, &["audit", "a.toml", "r"], &mut shelf, &mut out),
+        run(alloc, &["audit", "a.toml", "r"], &mut shelf, &mut out)?,
         Status::OutFault
     );
     assert_eq!(rt; shelf.get("r").unwrap_or(&[]), REPORT.as_bytes());
@@ -297,7 +296,7 @@ fn faults_of_the_shelf_are_said(rt: HostRuntime) -> Result<(), Fail> {
         shelf.fail_load(failing_load)?;
         let mut out = MemSink::new(alloc);
         assert_eq!(rt;
-            run::<Assembly, _, _>(alloc, &["audit", "a.toml", "r"], &mut shelf, &mut out),
+            run(alloc, &["audit", "a.toml", "r"], &mut shelf, &mut out)?,
             Status::ShelfFault
         );
         assert_eq!(rt; out.written(), text.as_bytes());
@@ -307,7 +306,7 @@ fn faults_of_the_shelf_are_said(rt: HostRuntime) -> Result<(), Fail> {
     shelf.fail_save(1)?;
     let mut out = MemSink::new(alloc);
     assert_eq!(rt;
-        run::<Assembly, _, _>(alloc, &["audit", "a.toml", "r"], &mut shelf, &mut out),
+        run(alloc, &["audit", "a.toml", "r"], &mut shelf, &mut out)?,
         Status::ShelfFault
     );
     assert_eq!(rt; out.written(), "shelf fault r\n".as_bytes());
@@ -334,10 +333,7 @@ fn the_words_of_an_audit_are_judged(rt: HostRuntime) -> Result<(), Fail> {
     ];
     for words in lines {
         let mut out = MemSink::new(alloc);
-        assert_eq!(rt;
-            run::<Assembly, _, _>(alloc, words, &mut shelf, &mut out),
-            Status::Usage
-        );
+        assert_eq!(rt; run(alloc, words, &mut shelf, &mut out)?, Status::Usage);
         assert_eq!(rt; out.written(), "usage\n".as_bytes());
     }
     Ok(())
@@ -359,7 +355,7 @@ fn reports_are_saved_under_their_words(rt: HostRuntime) -> Result<(), Fail> {
         let mut shelf = audit_shelf(alloc, "", "")?;
         let mut out = MemSink::new(alloc);
         assert_eq!(rt;
-            run::<Assembly, _, _>(alloc, &["audit", "a.toml", report], &mut shelf, &mut out),
+            run(alloc, &["audit", "a.toml", report], &mut shelf, &mut out)?,
             Status::Yes
         );
         assert_eq!(rt; shelf.get(report).unwrap_or(&[]), REPORT.as_bytes());

@@ -1,10 +1,9 @@
 //! Audits of one stage, by each cause with which a run or a check ends one.
 //! The causes were written down from docs/reference/audit.md, and the code from the instruction set manual (objdump reads it so).
 
-use crate::worked::{COPY, EXIT, decoded, program_of, with};
-use ddc_app::{Status, run};
+use crate::worked::{COPY, EXIT, decoded, program_of, run, with};
+use ddc_app::Status;
 use ddc_base::{Bytes, MemShelf, MemSink, OutOfMemory};
-use meaning::Assembly;
 use std::alloc::Global;
 use std::process::Abort;
 use std::test::Fail;
@@ -252,7 +251,7 @@ fn answers(
     }
     let mut out = MemSink::new(alloc);
     assert_eq!(rt;
-        run::<Assembly, _, _>(alloc, &["audit", "a.toml", "r"], shelf, &mut out),
+        run(alloc, &["audit", "a.toml", "r"], shelf, &mut out)?,
         status
     );
     assert_eq!(rt; out.written(), text.as_slice());

@@ -11,6 +11,8 @@ pub mod copying;
 #[cfg(test)]
 mod pauses;
 #[cfg(test)]
+mod sessions;
+#[cfg(test)]
 mod tests;
 #[cfg(test)]
 mod verifies;

@@ -2,10 +2,9 @@
 //! What they come to was written down from docs/reference/command-line.md and docs/reference/save.md.
 
 use crate::audits::{REPORT, audit_shelf};
-use crate::worked::with;
-use ddc_app::{Status, run};
+use crate::worked::{run, with};
+use ddc_app::Status;
 use ddc_base::{Bytes, Call, MemShelf, MemSink, OutOfMemory};
-use meaning::Assembly;
 use std::alloc::Global;
 use std::process::Abort;
 use std::test::Fail;
@@ -22,10 +21,7 @@ fn says(
     ending: (Status, &str),
 ) -> Result<(), OutOfMemory> {
     let mut out = MemSink::new(alloc);
-    assert_eq!(rt;
-        run::<Assembly, _, _>(alloc, words, shelf, &mut out),
-        ending.0
-    );
+    assert_eq!(rt; run(alloc, words, shelf, &mut out)?, ending.0);
     assert_eq!(rt; out.written(), ending.1.as_bytes(), "{words:?}");
     Ok(())
 }
@@ -226,12 +222,12 @@ fn pieces_come_to_what_the_audit_does(rt: HostRuntime) -> Result<(), Fail> {
 fn paused(alloc: Global, steps: &str) -> Result<MemShelf, OutOfMemory> {
     let mut shelf = audit_shelf(alloc, "", "")?;
     let mut out = MemSink::new(alloc);
-    match run::<Assembly, _, _>(
+    match run(
         alloc,
         &["part", "a.toml", "s", "r", steps],
         &mut shelf,
         &mut out,
-    ) {
+    )? {
         Status::Paused => Ok(shelf),
         _ => Err(OutOfMemory),
     }
@@ -249,10 +245,14 @@ fn altered(alloc: Global, shelf: &MemShelf, at: usize, bytes: &[u8]) -> Result<B
 /// Where a text is changed, to which bytes, and what is printed.
 type Alteration = (usize, &'static [u8], &'static str);
 
-/// After 45 steps one stage is done, whose record is 401 bytes at 176; so the state begins at 577, and its pc is at 593.
-static ALTERATIONS: [Alteration; 5] = [
+/// After 45 steps one stage is done, whose record is 401 bytes at 176; so the state begins at 577, its pc is at 593, and what is reserved at 849.
+static ALTERATIONS: [Alteration; 8] = [
     (0, b"D", "save refused 1\n"),
-    (9_192, b"\0", "save refused 1\n"),
+    (9_193, b"\0", "save refused 1\n"),
+    (849, b"\x01", "save refused 1\n"),
+    // A save of the first form with a state of the second, and the other way round.
+    (7, b"1", "save refused 1\n"),
+    (584, b"1", "save refused 1\n"),
     (8, b"\0", "save refused 2\n"),
     (176, b"\0", "save refused 3\n"),
     (593, b"\x01", "save refused 3\n"),
@@ -301,6 +301,25 @@ fn with_line(alloc: Global, recipe: Bytes) -> Result<Bytes, OutOfMemory> {
     let mut recipe = recipe;
     recipe.push(b'\n')?;
     Ok(recipe)
+}
+
+/// The save as the first form had it: both magics end with another byte, and the byte that says that nothing is reserved is not there.
+#[test]
+fn an_old_save_is_resumed(rt: HostRuntime) -> Result<(), Fail> {
+    let alloc = rt.alloc();
+    let mut shelf = paused(alloc, "63")?;
+    let text = shelf.get("s").unwrap_or(&[]);
+    let mut old = Bytes::from_slice(alloc, text.get(..849).unwrap_or(&[]))?;
+    old.extend(text.get(850..).unwrap_or(&[]))?;
+    shelf.set("s", old.as_slice())?;
+    for at in [7, 584] {
+        let save = altered(alloc, &shelf, at, b"1")?;
+        shelf.set("s", save.as_slice())?;
+    }
+    let row = ("resume", "1", Status::Yes, "equal two bin 3\n");
+    pieces(&rt, alloc, &mut shelf, &[row])?;
+    assert_eq!(rt; shelf.get("r").unwrap_or(&[]), REPORT.as_bytes());
+    Ok(())
 }
 
 /// After 45 steps x8, at 657, has how many bytes are read at once: of 4,096 it is made 2, so that the loop is taken once more, in 11 steps.
@@ -567,12 +586,12 @@ fn a_failed_put_leaves_what_was_saved(rt: HostRuntime) -> Result<(), Fail> {
     let mut out = MemSink::new(alloc);
     out.fail_put(1)?;
     assert_eq!(rt;
-        run::<Assembly, _, _>(
+        run(
             alloc,
             &["part", "a.toml", "s", "r", "63"],
             &mut shelf,
             &mut out
-        ),
+        )?,
         Status::OutFault
     );
     pieces(

@@ -1,9 +1,8 @@
 use crate::copying::copy_twice;
-use crate::worked::EXIT;
+use crate::worked::{EXIT, run};
 use command_plan::Stop;
-use ddc_app::{Status, run};
+use ddc_app::Status;
 use ddc_base::{Call, MemShelf, MemSink, OutOfMemory};
-use meaning::Assembly;
 use std::alloc::Global;
 use std::process::Abort;
 use std::test::Fail;
@@ -70,10 +69,7 @@ fn answers_on(
 ) -> Result<(), OutOfMemory> {
     for (words, status, text) in table {
         let mut out = MemSink::new(alloc);
-        assert_eq!(rt;
-            run::<Assembly, _, _>(alloc, words, shelf, &mut out),
-            *status
-        );
+        assert_eq!(rt; run(alloc, words, shelf, &mut out)?, *status);
         assert_eq!(rt; out.written(), text.as_bytes());
     }
     Ok(())
@@ -263,10 +259,7 @@ fn faults_of_the_outside(rt: HostRuntime) -> Result<(), Fail> {
     for (failing_put, status, text) in table {
         let mut out = MemSink::new(alloc);
         out.fail_put(failing_put)?;
-        assert_eq!(rt;
-            run::<Assembly, _, _>(alloc, &words, &mut shelf, &mut out),
-            status
-        );
+        assert_eq!(rt; run(alloc, &words, &mut shelf, &mut out)?, status);
         assert_eq!(rt; out.written(), text.as_bytes());
     }
     Ok(())
@@ -307,10 +300,7 @@ fn only_the_plan_is_asked(rt: HostRuntime) -> Result<(), Fail> {
     let mut shelf = worked_shelf(alloc)?;
     let mut out = MemSink::new(alloc);
     let words = ["hex0", "commented", "pair"];
-    assert_eq!(rt;
-        run::<Assembly, _, _>(alloc, &words, &mut shelf, &mut out),
-        Status::Yes
-    );
+    assert_eq!(rt; run(alloc, &words, &mut shelf, &mut out)?, Status::Yes);
     assert!(rt; answered_loads(&shelf, &["commented", "pair"], 268_435_456));
     assert_eq!(rt; out.pieces().len(), 1);
     Ok(())

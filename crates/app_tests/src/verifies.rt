@@ -2,10 +2,9 @@
 //! What they come to was written down from docs/reference/verify.md and docs/reference/report.md.
 
 use crate::audits::{REPORT, audit_shelf};
-use crate::worked::{EXIT, with};
-use ddc_app::{Status, run};
+use crate::worked::{EXIT, run, with};
+use ddc_app::Status;
 use ddc_base::{Bytes, Call, MemShelf, MemSink, OutOfMemory};
-use meaning::Assembly;
 use std::alloc::Global;
 use std::process::Abort;
 use std::test::Fail;
@@ -20,7 +19,7 @@ fn verifies(
 ) -> Result<(), OutOfMemory> {
     let mut out = MemSink::new(alloc);
     assert_eq!(rt;
-        run::<Assembly, _, _>(alloc, &["verify", "a.toml", "r"], shelf, &mut out),
+        run(alloc, &["verify", "a.toml", "r"], shelf, &mut out)?,
         status
     );
     assert_eq!(rt; out.written(), text.as_bytes(), "{text}");
@@ -340,7 +339,7 @@ fn true_reports_are_verified(rt: HostRuntime) -> Result<(), Fail> {
         shelf.set("b.bin", binary)?;
         let mut out = MemSink::new(alloc);
         assert_eq!(rt;
-            run::<Assembly, _, _>(alloc, &["audit", "a.toml", "r"], &mut shelf, &mut out),
+            run(alloc, &["audit", "a.toml", "r"], &mut shelf, &mut out)?,
             status
         );
         verifies(&rt, alloc, &mut shelf, status, text)?;
@@ -506,7 +505,7 @@ fn faults_are_said_and_pass(rt: HostRuntime) -> Result<(), Fail> {
         let mut out = MemSink::new(alloc);
         out.fail_put(1)?;
         assert_eq!(rt;
-            run::<Assembly, _, _>(alloc, &["verify", "a.toml", "r"], &mut shelf, &mut out),
+            run(alloc, &["verify", "a.toml", "r"], &mut shelf, &mut out)?,
             Status::OutFault
         );
     }
@@ -574,10 +573,7 @@ fn the_words_of_verify_are_judged(rt: HostRuntime) -> Result<(), Fail> {
     ];
     for (words, status, text) in table {
         let mut out = MemSink::new(alloc);
-        assert_eq!(rt;
-            run::<Assembly, _, _>(alloc, words, &mut shelf, &mut out),
-            status
-        );
+        assert_eq!(rt; run(alloc, words, &mut shelf, &mut out)?, status);
         assert_eq!(rt; out.written(), text.as_bytes());
     }
     Ok(())

@@ -1,7 +1,21 @@
 //! Two worked programs, and what the tests of audits make of them and of recipes.
 
-use ddc_base::{Bytes, OutOfMemory, read_hex};
+use ddc_app::Status;
+use ddc_base::{Bytes, MemShelf, MemSink, OutOfMemory, read_hex};
+use meaning::Assembly;
+use prompt::MemPrompt;
 use std::alloc::Global;
+
+/// The top call with a prompt that has nothing left.
+pub(crate) fn run(
+    alloc: Global,
+    words: &[&str],
+    shelf: &mut MemShelf,
+    out: &mut MemSink,
+) -> Result<Status, OutOfMemory> {
+    let mut prompt = MemPrompt::new(alloc, &[])?;
+    Ok(ddc_app::run::<Assembly, _, _, _>(alloc, words, shelf, out, &mut prompt))
+}
 
 /// exit.elf: header, one program header, and three instructions that exit with status 0.
 pub(crate) const EXIT: [u8; 132] = [

@@ -7,6 +7,7 @@ use Rattle.report.specs.declared.types.Report.{Report}
 use Rattle.wheeler.specs.Bench.{bench}
 use Rattle.wheeler.specs.declared.answer.Answer.{Answer}
 use Rattle.wheeler.specs.declared.answer.Answer.TheVariants.{Completes, Fails}
+use Rattle.wheeler.specs.declared.answer.Fault.{Fault}
 use Rattle.wheeler.specs.declared.answer.Fault.TheVariants.{Runs, Checks}
 use Rattle.command_plan.specs.declared.status.Status.TheVariants.{RunFailed, CheckFailed}
 use Rattle.command_plan.specs.Words.{are_two_files, usage}
@@ -21,11 +22,15 @@ unfoldable pub completed : List ℕ → Report → Plan
 completed out report =
     sets out (report_text report) (answers (compared_status report.compare.result) (compared_line report.compare))
 
--- what an audit comes to; a stage that is not done is said by its name, and nothing is saved
+-- a stage that is not done is said by its name, and nothing is saved
+abbrev pub undone : Said → ℕ → Fault → Plan
+undone recipe number (Runs cause step) = answers RunFailed (run_failed_line (stage_name recipe.stages number) cause step)
+undone recipe number (Checks cause) = answers CheckFailed (check_failed_line (stage_name recipe.stages number) cause)
+
+-- what an audit comes to
 abbrev pub audited : Said → List ℕ → Answer → Plan
 audited recipe out (Completes report) = completed out report
-audited recipe out (Fails number (Runs cause step)) = answers RunFailed (run_failed_line (stage_name recipe.stages number) cause step)
-audited recipe out (Fails number (Checks cause)) = answers CheckFailed (check_failed_line (stage_name recipe.stages number) cause)
+audited recipe out (Fails number fault) = undone recipe number fault
 
 -- the recipe, a report that is none of its inputs, the inputs, and then the audit
 unfoldable pub audit_files : List ℕ → List ℕ → Plan

@@ -1,5 +1,6 @@
 pub mod Texts
 pub mod Audit
+pub mod Step
 pub mod Inside
 pub mod PauseTexts
 pub mod Pause

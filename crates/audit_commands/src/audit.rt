@@ -13,7 +13,7 @@ ghost use Rattle.command_plan.specs.Plan.{answers};
 ghost use Rattle.command_plan.specs.Steps.{Says};
 ghost use Rattle.recipe_plan.specs.Reports.{compared_status};
 ghost use Rattle.recipe_plan.specs.Texts.{compared_line};
-ghost use Rattle.audit_commands.specs.Audit.{audited, audit_files, audit_plan, completed};
+ghost use Rattle.audit_commands.specs.Audit.{audited, audit_files, audit_plan, completed, undone};
 ghost use Rattle.audit_commands.specs.Inside.Finishing.{Comes};
 ghost use Rattle.audit_commands.specs.Texts.{stage_name, run_failed_line, check_failed_line};
 
@@ -26,8 +26,8 @@ use recipe::Recipe;
 use recipe_plan::{apart, fetch_inputs, fetch_recipe};
 use report::{CompareLine, Compared, Report};
 use std::alloc::Global;
-use wheeler::RunCause;
 use wheeler::source_check::CheckCause;
+use wheeler::{Fault, RunCause};
 
 /// Performs the command on the words after its name.
 #[tactic(auto, using(command_plan::proofs::Performing::performing))]
@@ -81,6 +81,16 @@ pub fn conclude<S: Shelf>(
         }
         Progress::Paused => unreachable!(),
         Progress::OutOfMemory => Err(Stop::OutOfMemory),
+    }
+}
+
+/// The answer of a stage that is not done.
+pub fn undone(alloc: Global, recipe: &Recipe, number: u32, fault: Fault) -> Result<Answer, Stop>
+    ensures { Says (undone recipe.now number fault) result }
+{
+    match fault {
+        Fault::Runs(cause, step) => run_failed(alloc, recipe, number, cause, step),
+        Fault::Checks(cause) => check_failed(alloc, recipe, number, cause),
     }
 }
 
@@ -144,7 +154,7 @@ fn keep_report<S: Shelf>(
 }
 
 /// The answer to a comparison.
-fn compared(alloc: Global, compare: &CompareLine) -> Result<Answer, OutOfMemory>
+pub fn compared(alloc: Global, compare: &CompareLine) -> Result<Answer, OutOfMemory>
     ensures status { IfOk result (λ answer. answer.status ≡ compared_status compare.now.result) }
     ensures text { IfOk result (λ answer. answer.text ≡ compared_line compare.now) }
 {

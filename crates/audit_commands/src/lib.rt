@@ -11,5 +11,6 @@ pub mod part;
 pub mod pause_texts;
 pub mod resume;
 pub mod show;
+pub mod step;
 pub mod texts;
 mod words;

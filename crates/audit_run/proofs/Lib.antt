@@ -1,5 +1,7 @@
 mod Present
 mod Slicing
+mod Whole
+mod InOrder
 mod Stretching
 mod Continuing
 pub mod CheckLemmas

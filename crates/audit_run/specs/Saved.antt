@@ -4,7 +4,7 @@ use Rattle.audit_run.specs.Save.Saves.{Resumes, save_of}
 use Rattle.audit_run.specs.declared.save.reading.SaveRefusal.{SaveRefusal}
 use Rattle.audit_run.specs.declared.save.reading.SaveRefusal.TheVariants.{Form, OtherRecipe, State, OutOfMemory}
 use Rattle.recipe.specs.declared.contents.Said.{Said}
-use Rattle.save_text.specs.Spelled.{text_of_save}
+use Rattle.save_text.specs.Spelled.{IsTextOfSave, text_of_save}
 use Rattle.wheeler.specs.Positions.{Position, Standing, On, Over}
 use Rattle.wheeler.specs.Valid.{IsPosition}
 use Rattle.audit_run.specs.Seen.{AuditState}
@@ -15,7 +15,7 @@ IsOn None = ⊥
 IsOn (Some (On p)) = Unit {0}
 IsOn (Some (Over answer)) = ⊥
 
--- the text of the position's save
+-- the text of the position's save, in the second form
 abbrev pub IsSave : Said → List (List ℕ) → Option Standing → List ℕ → Type 0
 IsSave recipe inputs None text = ⊥
 IsSave recipe inputs (Some (On p)) text = text ≡ text_of_save (save_of recipe inputs p)
@@ -25,9 +25,9 @@ IsSave recipe inputs (Some (Over answer)) text = ⊥
 abbrev pub standing_at : Said → List (List ℕ) → Position → AuditState
 standing_at recipe inputs p = record { recipe = recipe; inputs = inputs; stands = Some (On p) }
 
--- an audit that was resumed of a text stands at a position whose save is the text
+-- an audit that was resumed of a text stands at a position, and the text is one of its save, of the second form or an old one
 abbrev pub IsResumed : Said → List (List ℕ) → List ℕ → AuditState → Type 0
-IsResumed recipe inputs text audit = (p : Position) × (audit ≡ standing_at recipe inputs p) × IsPosition recipe p × (text ≡ text_of_save (save_of recipe inputs p))
+IsResumed recipe inputs text audit = (p : Position) × (audit ≡ standing_at recipe inputs p) × IsPosition recipe p × IsTextOfSave (save_of recipe inputs p) text
 
 -- what is resumed of the save of a position
 abbrev pub IsResumedAt : Said → List (List ℕ) → Position → Result AuditState SaveRefusal → Type 0

@@ -5,7 +5,7 @@ ghost use Rattle.audit_run.specs.Saved.{IsOn, IsResumed, IsResumedAt, IsSave, Re
 ghost use Rattle.audit_run.specs.Seen.{place_of, finished_report, present_setting};
 ghost use Rattle.audit_run.specs.Save.Saves.{save_of};
 ghost use Rattle.report.specs.Reports.{IsReport};
-ghost use Rattle.save_text.specs.Spelled.{text_of_save};
+ghost use Rattle.save_text.specs.Spelled.{IsTextOfSave};
 ghost use Rattle.std.specs.Option.{option_copied};
 ghost use Rattle.std.specs.Prelude.{◌≡◌, ◌<◌, ◌≤◌, ◌+◌, length, None, Some, IsOk, IfOk, IfSome, option_map};
 ghost use Rattle.wheeler.specs.declared.answer.Answer.{Answer as AuditAnswer};
@@ -128,7 +128,7 @@ impl Audit {
         }
     }
 
-    /// The one text of the position: docs/reference/save.md has its form. This is a condition on callers: the present stage has started,
+    /// The one text of the position that has the second form (docs/reference/save.md). This is a condition on callers: the present stage has started,
     /// which holds after `Paused` and after `resume`.
     pub fn save(&self) -> Result<Bytes, OutOfMemory>
         requires { IsOn self.now.stands }
@@ -159,10 +159,10 @@ impl Audit {
         text: &[u8],
     ) -> Result<Audit, SaveRefusal>
         requires { IsInputs recipe inputs }
-        // What is resumed is an audit of this recipe and these inputs at a position, and the text is its save.
+        // What is resumed is an audit of this recipe and these inputs at a position, and the text is one of its save.
         ensures found { IfOk result (λ audit. IsResumed recipe inputs text.now audit) }
-        // The save of every position of this recipe and these inputs, reached or not, is resumed there, unless memory runs out.
-        ensures only { (p : Position) → IsPosition recipe p → text.now ≡ text_of_save (save_of recipe inputs p) → IsResumedAt recipe inputs p result }
+        // Each text of the save of every position of this recipe and these inputs, reached or not, is resumed there, unless memory runs out.
+        ensures only { (p : Position) → IsPosition recipe p → IsTextOfSave (save_of recipe inputs p) text.now → IsResumedAt recipe inputs p result }
         // When each refusal comes.
         ensures exact { ResumesAudit recipe inputs text.now result }
     {

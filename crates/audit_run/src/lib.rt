@@ -7,6 +7,7 @@
 mod advance;
 mod audit;
 pub mod check;
+mod earlier;
 mod entering;
 pub mod laws;
 mod place;
@@ -18,4 +19,5 @@ mod stretch;
 
 pub use crate::save::SaveRefusal;
 pub use audit::Audit;
+pub use earlier::{Undone, run_earlier};
 pub use place::Progress;

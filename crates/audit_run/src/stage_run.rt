@@ -3,8 +3,10 @@
 ghost use Rattle.audit_run.specs.Inside.Parts.{later, Slices};
 ghost use Rattle.audit_run.specs.Stage.Rules.{IsStageOf};
 ghost use Rattle.recipe.specs.Kept.{IsRecipe};
-ghost use Rattle.std.specs.Prelude.{◌≡◌, ◌≤◌};
+ghost use Rattle.guest_run.specs.Run.{first_end};
+ghost use Rattle.std.specs.Prelude.{◌≡◌, ◌≤◌, ◌+◌, ◌-◌, IfOk};
 ghost use Rattle.wheeler.specs.Positions.{at};
+ghost use Rattle.wheeler.specs.Stages.{by_end};
 ghost use Rattle.wheeler.specs.Valid.{IsAt, IsInputs};
 
 use crate::place::Moved;
@@ -30,7 +32,10 @@ pub(crate) fn run_slice(
     requires given { IsInputs recipe.now inputs.now }
     requires stage { IsStageOf recipe.now stage.now }
     requires stands { IsAt recipe.now (at done.now guest.old) stage.now (later recipe.now done.now) }
-    ensures { Slices recipe.now inputs.now done.now (later recipe.now done.now) guest.old most result guest.new }
+    ensures slices { Slices recipe.now inputs.now done.now (later recipe.now done.now) guest.old most result guest.new }
+    // With as many steps as the stage has left, its run ends.
+    ensures whole { stage.now.steps ≤ guest.old.steps + most → IfOk result (λ step. step.1 ≡ Moved.Ended
+        (by_end recipe.now inputs.now done.now stage.now (first_end guest.old (stage.now.steps - guest.old.steps)))) }
 {
     let before = guest.steps();
     let slice = most.min(stage.steps - before);

@@ -1,5 +1,7 @@
 //! Audits that are advanced in pieces.
 
+ghost use Rattle.std.specs.Prelude.{◌≤◌};
+
 use crate::place_after;
 use audit_run::{Audit, Progress};
 use ddc_base::{Bytes, MemShelf, OutOfMemory, read_hex};
@@ -83,23 +85,46 @@ fn report_text(alloc: Global, audit: &Audit) -> Result<Bytes, OutOfMemory> {
     }
 }
 
+/// The text of the report of the undivided audit.
+fn whole_text(alloc: Global) -> Result<Bytes, OutOfMemory> {
+    let mut audit = worked(alloc)?;
+    audit.advance(u64::MAX);
+    report_text(alloc, &audit)
+}
+
+/// Whether an audit stands after so many steps where they lead.
+fn stands_after(audit: &mut Audit, steps: u64) -> bool
+    requires { 1 ≤ steps }
+{
+    let is_paused = audit.advance(steps) == Progress::Paused;
+    is_paused == (steps < 64)
+        && audit.place() == place_after(steps)
+        && audit.report().is_some() != is_paused
+}
+
+/// Whether it comes to an end, with this report.
+fn ends_with(alloc: Global, audit: &mut Audit, text: &[u8]) -> Result<bool, OutOfMemory> {
+    let is_over = audit.advance(64) == Progress::Equal && audit.place() == (0, 0);
+    Ok(is_over && report_text(alloc, audit)?.as_slice() == text)
+}
+
+/// The same of a new audit.
+fn goes_on(alloc: Global, steps: u64, text: &[u8]) -> Result<bool, OutOfMemory>
+    requires { 1 ≤ steps }
+{
+    let mut audit = worked(alloc)?;
+    let stands = stands_after(&mut audit, steps);
+    let ends = ends_with(alloc, &mut audit, text);
+    Ok(stands && ends?)
+}
+
 #[test]
 fn an_audit_stands_where_its_steps_lead(rt: HostRuntime) -> Result<(), Fail> {
     let alloc = rt.alloc();
-    let mut whole = worked(alloc)?;
-    assert_eq!(rt; whole.place(), (1, 0));
-    assert_eq!(rt; whole.advance(u64::MAX), Progress::Equal);
-    let text = report_text(alloc, &whole)?;
+    let text = whole_text(alloc)?;
     assert!(rt; text.as_slice().starts_with("ddc-report 1\n".as_bytes()));
     for steps in 1..66 {
-        let mut audit = worked(alloc)?;
-        let progress = audit.advance(steps);
-        assert_eq!(rt; progress == Progress::Paused, steps < 64);
-        assert_eq!(rt; audit.place(), place_after(steps));
-        assert_eq!(rt; audit.report().is_some(), steps >= 64);
-        assert_eq!(rt; audit.advance(64), Progress::Equal);
-        assert_eq!(rt; audit.place(), (0, 0));
-        assert!(rt; report_text(alloc, &audit)?.as_slice() == text.as_slice());
+        assert!(rt; goes_on(alloc, steps, text.as_slice())?, "{steps}");
     }
     Ok(())
 }
@@ -108,17 +133,27 @@ fn an_audit_stands_where_its_steps_lead(rt: HostRuntime) -> Result<(), Fail> {
 #[test]
 fn a_setting_is_the_present_stage(rt: HostRuntime) -> Result<(), Fail> {
     let alloc = rt.alloc();
-    let lengths: [(u64, u64); 4] = [(1, 232), (31, 232), (32, 3), (63, 3)];
-    for (steps, length) in lengths {
-        let mut audit = worked(alloc)?;
-        assert_eq!(rt; audit.advance(steps), Progress::Paused);
-        assert_eq!(rt; given(alloc, &audit)?, Some(length));
+    let table: [(u64, Option<u64>); 6] = [
+        (0, Some(232)),
+        (1, Some(232)),
+        (31, Some(232)),
+        (32, Some(3)),
+        (63, Some(3)),
+        (64, None),
+    ];
+    for (steps, length) in table {
+        assert_eq!(rt; given_after(alloc, steps)?, length);
     }
-    let mut audit = worked(alloc)?;
-    assert_eq!(rt; given(alloc, &audit)?, Some(232));
-    assert_eq!(rt; audit.advance(64), Progress::Equal);
-    assert_eq!(rt; given(alloc, &audit)?, None);
     Ok(())
+}
+
+/// The length that `given` says after so many steps.
+fn given_after(alloc: Global, steps: u64) -> Result<Option<u64>, OutOfMemory> {
+    let mut audit = worked(alloc)?;
+    if steps > 0 {
+        audit.advance(steps);
+    }
+    given(alloc, &audit)
 }
 
 /// The length of the first file of a program that is started with the present setting.

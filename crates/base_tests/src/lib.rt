@@ -1,4 +1,4 @@
-//! Tests of `ddc_base`, by its public calls.
+//! Tests of `ddc_base` and `prompt`, by their public calls.
 #![tactic(auto)]
 
 ghost use Rattle.std.specs.Prelude.{◌≡◌, ◌%◌};
@@ -7,6 +7,8 @@ ghost use Rattle.std.specs.Prelude.{◌≡◌, ◌%◌};
 mod hosts;
 #[cfg(test)]
 mod outside;
+#[cfg(test)]
+mod prompts;
 #[cfg(test)]
 mod saving;
 #[cfg(test)]

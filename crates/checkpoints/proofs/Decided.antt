@@ -1,10 +1,11 @@
 -- What makes a text's parts a state is decided by tests.
-use Rattle.std.proofs.Common.{◌≡◌, ℕ, ◌+◌, ◌-◌, ◌*◌, ◌%◌, ◌^◌, Bool, true, false, not, None, List, [], ◌∷◌, length, map, sum_by, refl, subst, arith}
+use Rattle.std.proofs.Common.{◌≡◌, ℕ, ◌+◌, ◌-◌, ◌*◌, ◌%◌, ◌^◌, Bool, true, false, not, Option, None, Some, List, [], ◌∷◌, length, map, sum_by, refl, subst, arith}
+use Rattle.std.specs.Prelude.{◌==◌}
 use Rattle.std.specs.Bool.{Decides}
 use Rattle.std.specs.FinMap.{get}
 use Rattle.std.specs.List.{IsDistinct}
 use Rattle.std.specs.Ordering.{eq_by_cmp}
-use Rattle.std.proofs.lemmas.Bool.Decides.{Decides-below_and, Decides-eqb, Decides-like, Decides-ltb, Decides-not}
+use Rattle.std.proofs.lemmas.Bool.Decides.{Decides-below_and, Decides-eqb, Decides-like, Decides-ltb, Decides-not, Decides-or}
 use Rattle.std.proofs.lemmas.List.Elements.{All-from_recursion, recursion_from_All}
 use Rattle.paged_mem.specs.Memory.{Memory, IsFree, maps, page_up}
 use Rattle.mem_files.specs.declared.slot.Slot.{Slot}
@@ -16,6 +17,7 @@ use Rattle.mem_files.specs.Outputs.{IsContent}
 use Rattle.mem_files.specs.Sound.{AreBytes, IsSlotAt}
 use Rattle.linux_calls.specs.declared.Heap.{Heap}
 use Rattle.linux_calls.specs.HeapOf.{IsHeapOf}
+use Rattle.rv64_machine.specs.Hart.{IsReservation}
 use Rattle.guest_run.specs.Stack.{stack_end, stack_size}
 use Rattle.guest_run.specs.Valid.{Fits, pages_beside}
 use Rattle.save_text.specs.declared.state_text.parts.Run.{Run}
@@ -101,11 +103,17 @@ is_in_memory s =
 
 -- states
 
+is_reservation : (reservation : Option (ℕ × ℕ)) → Decides (test.is_reservation reservation) (IsReservation reservation)
+is_reservation None = (λ t. tt, λ h. refl)
+is_reservation (Some held) =
+    Decides-like _ (λ h. (h.0, h.1.0, h.1.1)) (λ h. (h.0, (h.1, h.2)))
+    (both (Decides-or (held.0 == 4) (held.0 == 8) (Decides-eqb held.0 4) (Decides-eqb held.0 8)) (both (Decides-eqb (held.1 % held.0) 0) (Decides-ltb held.1 (2 ^ 38))))
+
 pub is_in_range : (s : StateText) → Decides (test.is_in_range s) (IsInRange s)
 unfolding test.is_in_range
 is_in_range s =
     Decides-like _ (λ h. assumption) (λ h. assumption)
-    (both (Decides-eqb (s.pc % 4) 0) (both (is_in_memory s) (both (fits (memory_of s) s.heap) (are_in_range (lists_in s)))))
+    (both (Decides-eqb (s.pc % 4) 0) (both (is_reservation s.reservation) (both (is_in_memory s) (both (fits (memory_of s) s.heap) (are_in_range (lists_in s))))))
 
 pub is_joined : (s : StateText) → Decides (test.is_joined s) (IsJoined s)
 unfolding test.is_joined

@@ -1,28 +1,24 @@
 -- Exactly the texts of valid states are read, each as its guest.
 use Rattle.std.proofs.Common.{◌≡◌, ℕ, ◌^◌, ◌<◌, List, Result, Ok, Err, sym, ap, subst, ◌∙◌}
 use Rattle.std.specs.Prelude.{IfOk}
-use Rattle.save_text.proofs.ByteFieldsLemmas.Spells.{AreBytes, whole_takes}
+use Rattle.save_text.proofs.ByteFieldsLemmas.Spells.{AreBytes}
 use Rattle.guest_run.specs.State.{GuestState}
 use Rattle.guest_run.specs.Valid.{IsValid}
 use Rattle.save_text.specs.StateText.StateText.{StateText, parsed_state}
-use Rattle.save_text.specs.StateText.Spelled.{IsStateText, text_of_state}
-use Rattle.save_text.proofs.StateTextLemmas.Texts.{formed_again, spells_state}
+use Rattle.save_text.specs.StateText.Spelled.{IsTextOfState}
+use Rattle.save_text.proofs.StateTextLemmas.Texts.{formed_again, spelled}
 use Rattle.checkpoints.specs.declared.reading.StateRefusal.{StateRefusal}
 use Rattle.checkpoints.specs.declared.reading.StateRefusal.TheVariants as state
 use Rattle.checkpoints.specs.Checkpoint.{IsInRange, IsJoined, IsReadAs, ReadsState, guest_of, state_of}
 use Rattle.checkpoints.proofs.SameText.{same_text}
 use Rattle.checkpoints.proofs.States.{in_range, is_text, joined, same_guest}
 
-spelled : (text : List ℕ) (s : StateText) → AreBytes text → parsed_state text ≡ Ok s → IsStateText s × (text ≡ text_of_state s)
-unfolding parsed_state
-spelled text s fits is = whole_takes spells_state text s fits is
-
-pub is_found : (text : List ℕ) (result : Result GuestState StateRefusal) → AreBytes text → ReadsState text result → IfOk result (λ guest. text ≡ text_of_state (state_of guest))
+pub is_found : (text : List ℕ) (result : Result GuestState StateRefusal) → AreBytes text → ReadsState text result → IfOk result (λ guest. IsTextOfState (state_of guest) text)
 is_found text (Ok guest) fits reads =
     let s = reads.0 in
     let spelt = spelled text s fits reads.1 in
     let said : state_of guest ≡ s = ap state_of reads.4 ∙ same_text s spelt.0 reads.2 in
-    spelt.1 ∙ ap text_of_state (sym said)
+    subst (λ (t : StateText). IsTextOfState t text) (sym said) spelt.1
 is_found text (Err refusal) fits reads = tt
 
 -- what a text says is one thing
@@ -30,18 +26,18 @@ is_found text (Err refusal) fits reads = tt
 same_said : (text : List ℕ) (s t : StateText) → parsed_state text ≡ Ok s → parsed_state text ≡ Ok t → s ≡ t
 same_said text s t a b = let both : ◌≡◌ {A = Result StateText ℕ} (Ok s) (Ok t) = sym a ∙ b in cc
 
-pub is_only : (text : List ℕ) (result : Result GuestState StateRefusal) → ReadsState text result → (g : GuestState) → IsValid g → g.steps < 2 ^ 64 → text ≡ text_of_state (state_of g) → IsReadAs g result
+pub is_only : (text : List ℕ) (result : Result GuestState StateRefusal) → ReadsState text result → (g : GuestState) → IsValid g → g.steps < 2 ^ 64 → IsTextOfState (state_of g) text → IsReadAs g result
 is_only text (Ok guest) reads g valid few is =
-    let formed_is : parsed_state text ≡ Ok (state_of g) = ap parsed_state is ∙ formed_again (state_of g) (is_text g valid few) in
+    let formed_is : parsed_state text ≡ Ok (state_of g) = formed_again (state_of g) text (is_text g valid few) is in
     reads.4 ∙ ap guest_of (same_said text reads.0 (state_of g) reads.1 formed_is) ∙ same_guest g valid
 is_only text (Err state.OutOfMemory) reads g valid few is = tt
 is_only text (Err (state.Form offset)) reads g valid few is =
-    let formed_is : parsed_state text ≡ Ok (state_of g) = ap parsed_state is ∙ formed_again (state_of g) (is_text g valid few) in
+    let formed_is : parsed_state text ≡ Ok (state_of g) = formed_again (state_of g) text (is_text g valid few) is in
     let both : ◌≡◌ {A = Result StateText ℕ} (Err offset) (Ok (state_of g)) = sym reads ∙ formed_is in
     cc
 is_only text (Err state.Range) reads g valid few is =
-    let formed_is : parsed_state text ≡ Ok (state_of g) = ap parsed_state is ∙ formed_again (state_of g) (is_text g valid few) in
+    let formed_is : parsed_state text ≡ Ok (state_of g) = formed_again (state_of g) text (is_text g valid few) is in
     reads.2 (subst IsInRange (sym (same_said text reads.0 (state_of g) reads.1 formed_is)) (in_range g valid))
 is_only text (Err state.FileRef) reads g valid few is =
-    let formed_is : parsed_state text ≡ Ok (state_of g) = ap parsed_state is ∙ formed_again (state_of g) (is_text g valid few) in
+    let formed_is : parsed_state text ≡ Ok (state_of g) = formed_again (state_of g) text (is_text g valid few) is in
     reads.3 (subst IsJoined (sym (same_said text reads.0 (state_of g) reads.1 formed_is)) (joined g valid))

@@ -1,5 +1,5 @@
 -- What a text's lists say one after the other, and a hart whose registers are set in turn.
-use Rattle.std.proofs.Common.{◌≡◌, ℕ, zero, suc, ◌+◌, ◌-◌, ◌<◌, ◌≤◌, List, [], ◌∷◌, ◌++◌, length, map, take, get_or, All, false, eqb, refl, sym, ap, ◌∙◌, arith, add-one, append_assoc}
+use Rattle.std.proofs.Common.{◌≡◌, ℕ, zero, suc, ◌+◌, ◌-◌, ◌<◌, ◌≤◌, Option, List, [], ◌∷◌, ◌++◌, length, map, take, get_or, All, false, eqb, refl, sym, ap, ◌∙◌, arith, add-one, append_assoc}
 use Rattle.std.specs.Prelude.{replicate, slice_set}
 use Rattle.std.proofs.Math.Seq.{set-append_seam, take-suc}
 use Rattle.std.proofs.lemmas.Bool.{ne_eqb}
@@ -21,8 +21,8 @@ below {A} view number Fits from (x ∷ xs) least (suc i) d turn lt =
     let first = from least (view x) turn.0 in
     (All-cons (λ (a : A). number a < number (view (get_or xs i d))) (view x) (map view (take i xs)) (omega arith) later.0, omega arith)
 
-abbrev pub set_so_far : List ℕ → ℕ → Memory → ℕ → HartState
-set_so_far registers pc memory i = record { registers = 0 ∷ (take i registers ++ replicate (31 - i) 0); pc = pc; memory = memory }
+abbrev pub set_so_far : List ℕ → ℕ → Memory → Option (ℕ × ℕ) → ℕ → HartState
+set_so_far registers pc memory held i = record { registers = 0 ∷ (take i registers ++ replicate (31 - i) 0); pc = pc; memory = memory; reservation = held }
 
 seam : (xs ys : List ℕ) (y v i : ℕ) → length xs ≡ i → slice_set (xs ++ y ∷ ys) i v ≡ xs ++ v ∷ ys
 seam xs ys y v i e = ap (λ n. slice_set (xs ++ y ∷ ys) n v) (sym e) ∙ set-append_seam xs y ys v
@@ -36,10 +36,11 @@ one_set registers i long lt =
     ∙ seam (take i registers) (replicate (31 - (i + 1)) 0) 0 v i (length-take-le i registers (omega arith))
     ∙ sym (ap (λ front. front ++ replicate (31 - (i + 1)) 0) more ∙ append_assoc (take i registers) (v ∷ []) (replicate (31 - (i + 1)) 0))
 
-set_at : (xs : List ℕ) (pc : ℕ) (memory : Memory) (i v : ℕ) → with_register (record { registers = 0 ∷ xs; pc = pc; memory = memory }) (suc i) v ≡ record { registers = 0 ∷ slice_set xs i v; pc = pc; memory = memory }
-set_at xs pc memory i v = let other : eqb (suc i) 0 ≡ false = ne_eqb (suc i) 0 (λ e. omega arith) in rw other refl
+set_at : (xs : List ℕ) (pc : ℕ) (memory : Memory) (held : Option (ℕ × ℕ)) (i v : ℕ)
+    → with_register (record { registers = 0 ∷ xs; pc = pc; memory = memory; reservation = held }) (suc i) v ≡ record { registers = 0 ∷ slice_set xs i v; pc = pc; memory = memory; reservation = held }
+set_at xs pc memory held i v = let other : eqb (suc i) 0 ≡ false = ne_eqb (suc i) 0 (λ e. omega arith) in rw other refl
 
-pub set_more : (registers : List ℕ) (pc : ℕ) (memory : Memory) (i number v : ℕ) (hart new : HartState) → length registers ≡ 31 → i < 31 → number ≡ suc i → v ≡ get_or registers i 0
-    → hart ≡ set_so_far registers pc memory i → new ≡ with_register hart number v → new ≡ set_so_far registers pc memory (i + 1)
-set_more registers pc memory i number v hart new long lt next is so_far set =
-    set ∙ (λ j. with_register (so_far j) (next j) (is j)) ∙ set_at (take i registers ++ replicate (31 - i) 0) pc memory i (get_or registers i 0) ∙ (λ j. record { registers = 0 ∷ one_set registers i long lt j; pc = pc; memory = memory })
+pub set_more : (registers : List ℕ) (pc : ℕ) (memory : Memory) (held : Option (ℕ × ℕ)) (i number v : ℕ) (hart new : HartState) → length registers ≡ 31 → i < 31 → number ≡ suc i → v ≡ get_or registers i 0
+    → hart ≡ set_so_far registers pc memory held i → new ≡ with_register hart number v → new ≡ set_so_far registers pc memory held (i + 1)
+set_more registers pc memory held i number v hart new long lt next is so_far set =
+    set ∙ (λ j. with_register (so_far j) (next j) (is j)) ∙ set_at (take i registers ++ replicate (31 - i) 0) pc memory held i (get_or registers i 0) ∙ (λ j. record { registers = 0 ∷ one_set registers i long lt j; pc = pc; memory = memory; reservation = held })

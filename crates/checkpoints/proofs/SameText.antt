@@ -115,6 +115,7 @@ same_text s text range =
       steps = s.steps;
       pc = s.pc;
       registers = s.registers;
+      reservation = s.reservation;
       heap = s.heap;
       runs = runs i;
       pages = pages i;

@@ -1,5 +1,5 @@
 -- The text of a guest's state is short.
-use Rattle.std.proofs.Common.{◌≡◌, ℕ, ◌+◌, ◌^◌, ◌≤◌, Option, None, Some, List, [], ◌∷◌, length, All, arith, length-append}
+use Rattle.std.proofs.Common.{◌≡◌, ℕ, ◌+◌, ◌^◌, ◌≤◌, Option, None, Some, inl, inr, List, [], ◌∷◌, length, All, arith, length-append}
 use Rattle.std.specs.Prelude.{sum_by}
 use Rattle.std.specs.Int.{w64}
 use Rattle.std.proofs.lemmas.List.{length-drop}
@@ -13,9 +13,11 @@ use Rattle.checkpoints.proofs.FilePartsLemmas.GoodLists.{good_join, good_order, 
 use Rattle.guest_run.specs.State.{GuestState}
 use Rattle.guest_run.specs.Valid.{IsValid}
 use Rattle.checkpoints.specs.MemoryParts.Canonical.{AreShown, runs_of}
+use Rattle.save_text.specs.declared.byte_fields.form.TextForm.{TextForm}
+use Rattle.save_text.specs.declared.byte_fields.form.TextForm.TheVariants.{First, Second}
 use Rattle.save_text.specs.declared.state_text.parts.Run.{Run}
 use Rattle.save_text.specs.StateText.StateText.{PageText, StateText, after_page, state_magic}
-use Rattle.save_text.specs.StateText.Spelled.{body_text, descriptor_text, file_text, flags_of, heap_text, name_bytes, page_text, run_text, slot_text, text_of_state}
+use Rattle.save_text.specs.StateText.Spelled.{IsTextOfState, body_text, descriptor_text, file_text, flags_of, heap_text, name_bytes, page_text, reservation_text, run_text, slot_text, state_text_in}
 use Rattle.checkpoints.specs.Checkpoint.{state_of}
 use Rattle.checkpoints.proofs.FileTurns.{Named, have_text, short_name}
 use Rattle.checkpoints.proofs.PageCounts.{few_pages, pages_few, runs_few}
@@ -26,6 +28,11 @@ use Rattle.checkpoints.proofs.Turns.{pages_shown, runs_placed}
 
 heap_most : (heap : Heap) → HasAtMost 24 (heap_text heap)
 heap_most heap = joined (number64 heap.first) (joined (number64 heap.now) (number64 heap.limit))
+
+reservation_most : (form : TextForm) (held : Option (ℕ × ℕ)) → HasAtMost 9 (reservation_text form held)
+reservation_most First held = record { long = omega arith }
+reservation_most Second None = record { long = omega arith }
+reservation_most Second (Some held) = after_byte (number64 held.1)
 
 run_most : (run : Run) → HasAtMost 8 (run_text run)
 run_most run = joined (number32 run.first) (number32 run.pages)
@@ -71,9 +78,9 @@ record IsSmall (s : StateText) : Type 0 where
   descriptors : length s.descriptors ≤ 1_024
   contents : length s.stream1 + length s.stream2 + sum_by (λ file. length file.content) s.files ≤ 536_870_912
 
-body_most : (s : StateText) → IsSmall s → HasAtMost 1_892_769_080 (body_text s)
+body_most : (form : TextForm) (s : StateText) → IsSmall s → HasAtMost 1_892_769_089 (body_text form s)
 unfolding body_text
-body_most s small =
+body_most form s small =
     let runs = small.runs in
     let pages = small.pages in
     let files = small.files in
@@ -81,12 +88,13 @@ body_most s small =
     let contents = small.contents in
     within (joined (number64 s.steps) (joined (number64 s.pc)
     (joined (alike (number_text w64) 8 s.registers (λ k d less. number64 _))
+    (joined (reservation_most form s.reservation)
     (joined (heap_most s.heap)
     (joined (counted run_text s.runs (alike run_text 8 s.runs (λ k d less. run_most _)))
     (joined (counted page_text s.pages (alike page_text 4100 s.pages (pages_most 0 s.pages small.shown)))
     (joined (counted file_text s.files (items file_text (λ file. length file.content) 265 s.files (files_most s.files small.names)))
     (joined (counted descriptor_text s.descriptors (alike descriptor_text 18 s.descriptors (λ k d less. descriptor_most _)))
-    (joined (joined (number32 (length s.stream1)) (itself s.stream1)) (joined (number32 (length s.stream2)) (itself s.stream2))))))))))) (omega (arith, small.registers))
+    (joined (joined (number32 (length s.stream1)) (itself s.stream1)) (joined (number32 (length s.stream2)) (itself s.stream2)))))))))))) (omega (arith, small.registers))
 
 is_small : (g : GuestState) → IsValid g → IsSmall (state_of g)
 unfolding state_of
@@ -111,8 +119,13 @@ is_small g valid =
       contents = omega arith;
     }
 
-pub body_short : (g : GuestState) → IsValid g → length (body_text (state_of g)) ≤ 1_892_769_080
-body_short g valid = (body_most (state_of g) (is_small g valid)).long
+pub body_short : (form : TextForm) (g : GuestState) → IsValid g → length (body_text form (state_of g)) ≤ 1_892_769_089
+body_short form g valid = (body_most form (state_of g) (is_small g valid)).long
 
-pub short : (g : GuestState) → IsValid g → length (text_of_state (state_of g)) ≤ 1_892_769_088
-short g valid = omega (arith, body_short g valid, length-append state_magic (body_text (state_of g)))
+pub short : (form : TextForm) (g : GuestState) → IsValid g → length (state_text_in form (state_of g)) ≤ 1_892_769_097
+short First g valid = omega (arith, body_short First g valid, length-append (state_magic First) (body_text First (state_of g)))
+short Second g valid = omega (arith, body_short Second g valid, length-append (state_magic Second) (body_text Second (state_of g)))
+
+pub texts_short : (g : GuestState) (text : List ℕ) → IsValid g → IsTextOfState (state_of g) text → length text ≤ 1_892_769_097
+texts_short g text valid (inl is) = rw is (short Second g valid)
+texts_short g text valid (inr old) = rw old.1 (short First g valid)

@@ -1,5 +1,5 @@
 -- A guest's state has a text, which says that guest.
-use Rattle.std.proofs.Common.{◌≡◌, ℕ, ◌^◌, ◌<◌, List, [], ◌∷◌, length, drop, All, sym, ap, subst, ◌∙◌, arith}
+use Rattle.std.proofs.Common.{◌≡◌, ℕ, ◌^◌, ◌<◌, Option, None, Some, List, [], ◌∷◌, length, drop, All, sym, ap, subst, ◌∙◌, arith}
 use Rattle.std.specs.Prelude.{slice_index}
 use Rattle.std.specs.FinMap as finite
 use Rattle.std.proofs.lemmas.List.{length-drop}
@@ -9,6 +9,7 @@ use Rattle.paged_mem.specs.Memory.{IsWhole, Memory}
 use Rattle.mem_files.specs.Lists.{lists_of}
 use Rattle.checkpoints.proofs.FilePartsLemmas.GoodLists.{good_join, good_order, good_range}
 use Rattle.checkpoints.proofs.FilePartsLemmas.SameWorld.{same_world}
+use Rattle.rv64_machine.specs.Hart.{IsReservation}
 use Rattle.guest_run.specs.State.{GuestState}
 use Rattle.guest_run.specs.Valid.{Fits, IsValid}
 use Rattle.checkpoints.specs.MemoryParts.Canonical.{ArePlaced, AreShown, with_pages, mapped_runs, pages_of, runs_of}
@@ -16,7 +17,7 @@ use Rattle.checkpoints.proofs.MemoryPartsLemmas.Again.{same_again}
 use Rattle.checkpoints.proofs.MemoryPartsLemmas.RunsAgain.{zero_runs_mapped}
 use Rattle.save_text.specs.declared.state_text.parts.Run.{Run}
 use Rattle.save_text.specs.StateText.StateText.{PageText, StateText, after_page, after_run}
-use Rattle.save_text.specs.StateText.Spelled.{IsPage, IsSavedRun, IsStateText}
+use Rattle.save_text.specs.StateText.Spelled.{IsPage, IsReserved, IsSavedRun, IsStateText}
 use Rattle.checkpoints.specs.Checkpoint.{IsInRange, IsJoined, guest_of, state_of}
 use Rattle.checkpoints.proofs.FileTurns.{have_text}
 use Rattle.checkpoints.proofs.MemoryPartsLemmas.Filled.{maps-alike}
@@ -45,6 +46,10 @@ page_turn least (page ∷ pages) turn =
     let low = turn.0.low in
     (record { from = turn.0.from; number = omega arith; full = turn.0.full; some = turn.0.some }, page_turn (after_page page) pages turn.1)
 
+reserved_is : (reservation : Option (ℕ × ℕ)) → IsReservation reservation → IsReserved reservation
+reserved_is None is = tt
+reserved_is (Some held) is = (is.0, omega (arith, is.2))
+
 pub is_text : (g : GuestState) → IsValid g → g.steps < 2 ^ 64 → IsStateText (state_of g)
 unfolding state_of
 is_text g valid steps =
@@ -62,6 +67,7 @@ is_text g valid steps =
       pc = valid.numbers.pc;
       registers = omega (arith, length-drop 1 g.hart.registers);
       register = alike_of (λ n. n < 2 ^ 64) (drop 1 g.hart.registers) (All-drop (λ n. n < 2 ^ 64) 1 g.hart.registers valid.numbers.registers);
+      reservation = reserved_is g.hart.reservation valid.hart.reserved;
       heap = record { first = omega arith; now = omega arith; limit = omega arith };
       runs = (few_runs g.hart.memory, run_turn 0 (runs_of g.hart.memory) (runs_placed g.hart.memory));
       pages = (few_listed g.hart.memory, page_turn 0 (pages_of g.hart.memory) (pages_shown g.hart.memory));
@@ -85,6 +91,7 @@ in_range g valid =
     let whole = valid.hart.whole in
     record {
       aligned = valid.hart.aligned;
+      reserved = valid.hart.reserved;
       memory = record {
         runs = record { within = ends_within 0 (runs_of m) (runs_placed m); few = few_pages m g.heap valid.fits };
         listed = listed_in m (mapped_runs finite.empty (runs_of m)) (pages_of m) (λ page mapped. maps-alike (mapped_runs finite.empty (runs_of m)) m (runs_alike m whole) _ _ ∙ mapped) (pages_mapped m);
@@ -105,15 +112,15 @@ pub same_guest : (g : GuestState) → IsValid g → guest_of (state_of g) ≡ g
 unfolding guest_of state_of
 same_guest g valid =
     λ i. record {
-      hart = record { registers = registers_again g.hart.registers valid.hart.count valid.hart.zero i; pc = g.hart.pc; memory = said_memory g.hart.memory valid.hart.whole i };
+      hart = record { registers = registers_again g.hart.registers valid.hart.count valid.hart.zero i; pc = g.hart.pc; memory = said_memory g.hart.memory valid.hart.whole i; reservation = g.hart.reservation };
       world = same_world g.world valid.files i;
       heap = g.heap;
       steps = g.steps;
     }
 
 -- a text says a guest's state where each of its fields does
-pub said : (g : GuestState) (s : StateText) → s.steps ≡ g.steps → s.pc ≡ g.hart.pc → s.registers ≡ drop 1 g.hart.registers → s.heap ≡ g.heap → s.runs ≡ runs_of g.hart.memory → s.pages ≡ pages_of g.hart.memory
+pub said : (g : GuestState) (s : StateText) → s.steps ≡ g.steps → s.pc ≡ g.hart.pc → s.registers ≡ drop 1 g.hart.registers → s.reservation ≡ g.hart.reservation → s.heap ≡ g.heap → s.runs ≡ runs_of g.hart.memory → s.pages ≡ pages_of g.hart.memory
     → s.files ≡ (lists_of g.world).files → s.descriptors ≡ (lists_of g.world).slots → s.stream1 ≡ g.world.stream1 → s.stream2 ≡ g.world.stream2 → s ≡ state_of g
 unfolding state_of
-said g s steps pc registers heap runs pages files descriptors stream1 stream2 =
-    λ i. record { steps = steps i; pc = pc i; registers = registers i; heap = heap i; runs = runs i; pages = pages i; files = files i; descriptors = descriptors i; stream1 = stream1 i; stream2 = stream2 i }
+said g s steps pc registers reservation heap runs pages files descriptors stream1 stream2 =
+    λ i. record { steps = steps i; pc = pc i; registers = registers i; reservation = reservation i; heap = heap i; runs = runs i; pages = pages i; files = files i; descriptors = descriptors i; stream1 = stream1 i; stream2 = stream2 i }

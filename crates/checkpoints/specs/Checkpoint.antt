@@ -1,8 +1,9 @@
 -- The text of a guest's state, and the guest that a text says. docs/reference/save.md says the same for people.
-use Rattle.std.specs.Prelude.{◌≡◌, ◌*◌, ◌%◌, ◌+◌, ◌^◌, ◌≤◌, IsTrue, [], ◌∷◌, All, drop, sum_by, ℕ, List, Result, Ok, Err}
+use Rattle.std.specs.Prelude.{◌≡◌, ◌*◌, ◌%◌, ◌+◌, ◌^◌, ◌≤◌, IsOk, IsTrue, [], ◌∷◌, All, drop, sum_by, ℕ, List, Result, Ok, Err}
 use Rattle.std.specs.FinMap as finite
 use Rattle.paged_mem.specs.Memory.{Memory, maps}
 use Rattle.mem_files.specs.Lists.{AreInRange, AreJoined, FileLists, lists_of, world_of}
+use Rattle.rv64_machine.specs.Hart.{IsReservation}
 use Rattle.guest_run.specs.State.{GuestState}
 use Rattle.guest_run.specs.Valid.{Fits}
 use Rattle.checkpoints.specs.MemoryParts.Canonical.{with_pages, mapped_runs, pages_of, runs_of}
@@ -19,6 +20,7 @@ state_of g = record {
   steps = g.steps;
   pc = g.hart.pc;
   registers = drop 1 g.hart.registers;
+  reservation = g.hart.reservation;
   heap = g.heap;
   runs = runs_of g.hart.memory;
   pages = pages_of g.hart.memory;
@@ -42,7 +44,7 @@ lists_in s = record { files = s.files; slots = s.descriptors; streams = s.stream
 -- the guest that a text says: x0 is 0
 unfoldable pub guest_of : StateText → GuestState
 guest_of s = record {
-  hart = record { registers = 0 ∷ s.registers; pc = s.pc; memory = memory_of s };
+  hart = record { registers = 0 ∷ s.registers; pc = s.pc; memory = memory_of s; reservation = s.reservation };
   world = world_of (lists_in s);
   heap = s.heap;
   steps = s.steps;
@@ -58,10 +60,11 @@ pub record IsInMemory (s : StateText) : Type 0 where
   pub runs : AreMappable s.runs
   pub listed : All (λ page. IsTrue (maps (mapped_of s) (4096 * page.number) 4096)) s.pages
 
--- what counts and ranges say: the pc is that of an instruction, runs and pages are a memory, which fits the heap, and files, descriptors and
--- streams are in their limits
+-- what counts and ranges say: the pc is that of an instruction, a hart can hold the reservation, runs and pages are a memory, which fits the heap,
+-- and files, descriptors and streams are in their limits
 pub record IsInRange (s : StateText) : Type 0 where
   pub aligned : s.pc % 4 ≡ 0
+  pub reserved : IsReservation s.reservation
   pub memory : IsInMemory s
   pub fits : Fits (memory_of s) s.heap
   pub files : AreInRange (lists_in s)
@@ -71,20 +74,20 @@ abbrev pub IsJoined : StateText → Type 0
 IsJoined s = AreJoined (lists_in s)
 
 -- what becomes of what a text says: the guest, where counts and ranges are right, and then references. Want of memory comes only where the pc is
--- that of an instruction and the runs can be mapped
+-- that of an instruction, a hart can hold the reservation, and the runs can be mapped
 abbrev pub Becomes : StateText → Result GuestState RestoreRefusal → Type 0
 Becomes s (Ok guest) = IsInRange s × IsJoined s × (guest ≡ guest_of s)
 Becomes s (Err restored.Range) = ¬ (IsInRange s)
 Becomes s (Err restored.FileRef) = IsInRange s × ¬ (IsJoined s)
-Becomes s (Err restored.OutOfMemory) = (s.pc % 4 ≡ 0) × AreMappable s.runs
+Becomes s (Err restored.OutOfMemory) = (s.pc % 4 ≡ 0) × IsReservation s.reservation × AreMappable s.runs
 
--- what a text becomes: its form is judged first, then counts and ranges, then references
+-- what a text becomes: its form is judged first, then counts and ranges, then references. Want of memory comes only where the form holds
 abbrev pub ReadsState : List ℕ → Result GuestState StateRefusal → Type 0
 ReadsState text (Ok guest) = (s : StateText) × (parsed_state text ≡ Ok s) × IsInRange s × IsJoined s × (guest ≡ guest_of s)
 ReadsState text (Err (state.Form offset)) = parsed_state text ≡ Err offset
 ReadsState text (Err state.Range) = (s : StateText) × (parsed_state text ≡ Ok s) × ¬ (IsInRange s)
 ReadsState text (Err state.FileRef) = (s : StateText) × (parsed_state text ≡ Ok s) × IsInRange s × ¬ (IsJoined s)
-ReadsState text (Err state.OutOfMemory) = Unit {0}
+ReadsState text (Err state.OutOfMemory) = IsOk (parsed_state text)
 
 -- what is read of the text of this state
 abbrev pub IsReadAs : GuestState → Result GuestState StateRefusal → Type 0

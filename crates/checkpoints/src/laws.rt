@@ -1,11 +1,11 @@
 //! Laws about the definitions.
 
-ghost use Rattle.std.specs.Prelude.{◌+◌, ◌*◌, ◌^◌, ◌≤◌, All, IsTrue, length, sum_by};
+ghost use Rattle.std.specs.Prelude.{◌+◌, ◌*◌, ◌^◌, ◌≤◌, ℕ, All, IsTrue, List, length, sum_by};
 ghost use Rattle.guest_run.specs.State.{GuestState};
 ghost use Rattle.guest_run.specs.Valid.{Fits, IsValid};
 ghost use Rattle.paged_mem.specs.Memory.{maps};
 ghost use Rattle.save_text.specs.StateText.StateText.{StateText};
-ghost use Rattle.save_text.specs.StateText.Spelled.{IsStateText, text_of_state};
+ghost use Rattle.save_text.specs.StateText.Spelled.{IsStateText, IsTextOfState};
 ghost use Rattle.checkpoints.specs.Checkpoint.{mapped_of, memory_of, state_of};
 
 /// That runs have no more pages than a guest can have follows from the other rules, so that to count them first refuses nothing else.
@@ -15,7 +15,7 @@ pub fn few_pages()
         → sum_by (λ run. run.pages) s.runs ≤ 329_728 }
 {}
 
-/// The text of every valid state has at most 1,892,769,088 bytes.
+/// The texts of every valid state have at most 1,892,769,097 bytes.
 pub fn texts_are_short()
-    ensures { (g : GuestState) → IsValid g → length (text_of_state (state_of g)) ≤ 1_892_769_088 }
+    ensures { (g : GuestState) (text : List ℕ) → IsValid g → IsTextOfState (state_of g) text → length text ≤ 1_892_769_097 }
 {}

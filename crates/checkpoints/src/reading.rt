@@ -3,7 +3,7 @@
 ghost use Rattle.std.specs.Prelude.{◌≡◌, ◌<◌, ◌^◌, IfOk};
 ghost use Rattle.guest_run.specs.State.{GuestState};
 ghost use Rattle.guest_run.specs.Valid.{IsValid};
-ghost use Rattle.save_text.specs.StateText.Spelled.{text_of_state};
+ghost use Rattle.save_text.specs.StateText.Spelled.{IsTextOfState};
 ghost use Rattle.checkpoints.specs.Checkpoint.{IsReadAs, ReadsState, state_of, state_refusal_number};
 
 use crate::file_parts::RestoreRefusal;
@@ -39,12 +39,12 @@ impl StateRefusal {
     }
 }
 
-/// The guest whose state the text says.
+/// The guest whose state the text says, which may be of either form.
 pub fn read_state<R: Ram>(alloc: Global, text: &[u8]) -> Result<Guest<R>, StateRefusal>
     // What is read has this text.
-    ensures found { IfOk result (λ guest. text.now ≡ text_of_state (state_of guest)) }
-    // The text of a valid state is read as the guest in that state, unless memory runs out.
-    ensures only { (g : GuestState) → IsValid g → g.steps < 2 ^ 64 → text.now ≡ text_of_state (state_of g) → IsReadAs g result }
+    ensures found { IfOk result (λ guest. IsTextOfState (state_of guest) text.now) }
+    // Each text of a valid state is read as the guest in that state, unless memory runs out.
+    ensures only { (g : GuestState) → IsValid g → g.steps < 2 ^ 64 → IsTextOfState (state_of g) text.now → IsReadAs g result }
     // When each refusal comes.
     ensures exact { ReadsState text.now result }
 {

@@ -1,12 +1,13 @@
 //! The guest that a text says.
 
-ghost use Rattle.std.specs.Prelude.{◌≡◌, ◌∷◌, [], ◌%◌, OnOk, map};
+ghost use Rattle.std.specs.Prelude.{◌≡◌, ◌∷◌, [], ◌%◌, MatchResult, OnOk, map, option_map};
 ghost use Rattle.save_text.specs.ByteFields.Spelling.{InTurn};
 ghost use Rattle.save_text.specs.StateText.StateText.{after_descriptor, after_file};
-ghost use Rattle.save_text.specs.StateText.Spelled.{IsDescriptor, IsFile, IsStateText};
-ghost use Rattle.save_text.specs.StateText.Seen.{descriptor_view, file_view, state_view};
+ghost use Rattle.save_text.specs.StateText.Spelled.{IsDescriptor, IsFile, IsReserved, IsStateText};
+ghost use Rattle.save_text.specs.StateText.Seen.{descriptor_view, file_view, reserved_view, state_view};
+ghost use Rattle.rv64_machine.specs.Hart.{IsReservation, reserved_bytes};
 ghost use Rattle.checkpoints.specs.Checkpoint.{Becomes, lists_in};
-ghost use Rattle.checkpoints.specs.Inside.Parts.{MakesFiles};
+ghost use Rattle.checkpoints.specs.Inside.Parts.{MakesFiles, RefusesReservation};
 
 use crate::file_parts::{FileParts, RestoreRefusal, restore};
 use crate::memory::memory_of;
@@ -14,8 +15,8 @@ use ddc_base::OutOfMemory;
 use guest_run::{Guest, fit_together};
 use mem_files::Files;
 use paged_mem::Ram;
-use rv64_machine::Hart;
-use save_text::state_text::{Descriptor, File, Parts};
+use rv64_machine::{Hart, Reservation};
+use save_text::state_text::{Descriptor, File, Parts, Reserved};
 use std::alloc::Global;
 
 /// The guest that a text says: `Range` where a count or a range is that of no guest, and only then `FileRef`, where a reference is.
@@ -26,8 +27,9 @@ pub fn guest_of<R: Ram>(alloc: Global, parts: &Parts<'_>) -> Result<Guest<R>, Re
     if parts.pc % 4 != 0 {
         return Err(RestoreRefusal::Range);
     }
+    let reservation = reservation_of(parts.reservation)?;
     let ram: R = memory_of(alloc, parts)?;
-    let hart = hart_of(ram, parts.pc, &parts.registers);
+    let hart = hart_of(ram, parts.pc, &parts.registers, reservation);
     if !fit_together(&hart, &parts.heap) {
         return Err(RestoreRefusal::Range);
     }
@@ -35,12 +37,37 @@ pub fn guest_of<R: Ram>(alloc: Global, parts: &Parts<'_>) -> Result<Guest<R>, Re
     Ok(Guest::restore(alloc, hart, files, parts.heap, parts.steps))
 }
 
-/// A hart with these values in x1 to x31.
-fn hart_of<R: Ram>(ram: R, pc: u64, registers: &[u64; 31]) -> Hart<R>
-    requires { pc % 4 ≡ 0 }
-    ensures { result ≡ record { registers = 0 ∷ registers.now; pc = pc; memory = R.bytes ram } }
+/// What a hart is to hold as reserved: a multiple of so many bytes, below 2^38.
+fn reservation_of(reserved: Option<Reserved>) -> Result<Option<Reservation>, RestoreRefusal>
+    requires { IsReserved (option_map reserved_view reserved) }
+    ensures { MatchResult result
+        (λ held. IsReservation (option_map reserved_bytes held) × (option_map reserved_bytes held ≡ option_map reserved_view reserved))
+        (RefusesReservation (option_map reserved_view reserved)) }
+{
+    match reserved {
+        None => Ok(None),
+        Some(Reserved { width, at }) => {
+            if at % width.count() != 0 || at >= 1 << 38 {
+                return Err(RestoreRefusal::Range);
+            }
+            Ok(Some(Reservation { wide: width, at }))
+        }
+    }
+}
+
+/// A hart with these values in x1 to x31, which holds this as reserved.
+fn hart_of<R: Ram>(
+    ram: R,
+    pc: u64,
+    registers: &[u64; 31],
+    reservation: Option<Reservation>,
+) -> Hart<R>
+    requires aligned { pc % 4 ≡ 0 }
+    requires reserved { IsReservation (option_map reserved_bytes reservation) }
+    ensures { result ≡ record { registers = 0 ∷ registers.now; pc = pc; memory = R.bytes ram; reservation = option_map reserved_bytes reservation } }
 {
     let mut hart = Hart::new(ram, pc);
+    hart.set_reservation(reservation);
     for index in 0..31u8 {
         hart.set_reg(index + 1, registers[usize::from(index)]);
     }

@@ -1,8 +1,8 @@
 //! The text of a guest.
 
-ghost use Rattle.std.specs.Prelude.{◌≡◌, ◌++◌, IfOk, OnErr, OnOk, drop};
+ghost use Rattle.std.specs.Prelude.{◌≡◌, ◌++◌, IfOk, OnErr, OnOk, drop, option_map};
 ghost use Rattle.save_text.specs.StateText.Spelled.{IsStateText, text_of_state};
-ghost use Rattle.save_text.specs.StateText.Seen.{state_view};
+ghost use Rattle.save_text.specs.StateText.Seen.{reserved_view, state_view};
 ghost use Rattle.checkpoints.specs.Checkpoint.{state_of};
 
 use crate::memory_parts::{pages, runs};
@@ -10,10 +10,10 @@ use ddc_base::{Bytes, OutOfMemory};
 use guest_run::Guest;
 use paged_mem::Ram;
 use rv64_machine::Hart;
-use save_text::state_text::{Parts, descriptors_of, files_of, put_parts};
+use save_text::state_text::{Parts, Reserved, descriptors_of, files_of, put_parts};
 use std::alloc::Global;
 
-/// The one text of a guest's state.
+/// The one text of a guest's state that has the second form.
 pub fn write_state<R: Ram>(alloc: Global, guest: &Guest<R>) -> Result<Bytes, OutOfMemory>
     ensures { IfOk result (λ text. text ≡ text_of_state (state_of guest.now)) }
 {
@@ -51,6 +51,7 @@ fn parts_of<R: Ram>(alloc: Global, guest: &Guest<R>) -> Result<Parts<'_>, OutOfM
         steps,
         pc: hart.pc(),
         registers: registers_of(hart),
+        reservation: reserved_of(hart),
         heap: guest.heap(),
         runs,
         pages,
@@ -59,6 +60,19 @@ fn parts_of<R: Ram>(alloc: Global, guest: &Guest<R>) -> Result<Parts<'_>, OutOfM
         stream1: files.stream(1),
         stream2: files.stream(2),
     })
+}
+
+/// What the hart holds as reserved.
+fn reserved_of<R: Ram>(hart: &Hart<R>) -> Option<Reserved>
+    ensures { option_map reserved_view result ≡ hart.now.reservation }
+{
+    match hart.reservation() {
+        Some(held) => Some(Reserved {
+            width: held.wide,
+            at: held.at,
+        }),
+        None => None,
+    }
 }
 
 /// The values of x1 to x31.

@@ -6,9 +6,8 @@ use Rattle.ddc_base.specs.Outside.{ShelfState}
 use Rattle.command_plan.specs.declared.stop.Stop.{Stop}
 use Rattle.command_plan.specs.declared.stop.Stop.TheVariants as stop
 use Rattle.command_plan.specs.Plan.{Plan, needs_all}
-use Rattle.command_plan.specs.Performs.{Performs}
-use Rattle.command_plan.specs.Steps.{Fetches, Obtains, LeadsOn}
-use Rattle.command_plan.proofs.Performing.{ends_at_fetch, goes_on_after_fetch, wants_memory}
+use Rattle.command_plan.specs.Steps.{EndsAs, Fetches, LeadsOn, Obtains}
+use Rattle.command_plan.proofs.Performing.{ends_at_fetch, leads_after_fetch, led_to, wants_memory}
 
 -- what is left of loads in a row: these names, after these contents
 abbrev pub rest_of : ℕ → ℕ → List (List ℕ) → List (List ℕ) → (List (List ℕ) → Plan) → Plan
@@ -18,22 +17,24 @@ module _ (plan : (List (List ℕ) → Plan) → Plan) (most room : ℕ) (content
   -- one more content
   more : (name : List ℕ) (names : List (List ℕ)) (mid : ShelfState) (content : List ℕ) → LeadsOn plan (rest_of most room contents (name ∷ names)) old now
       → Fetches name (min most room) now mid (Ok content) → LeadsOn plan (rest_of most (room - length content) (contents ++ content ∷ []) names) old mid
-  more name names mid content leads f = λ next final result p.
-      leads next final result (goes_on_after_fetch name (min most room) (λ c. needs_all most (room - length c) names (λ more. next (contents ++ c ∷ more))) now mid final content result f
-      (subst (λ (n : List (List ℕ) → Plan). Performs (needs_all most (room - length content) names n) mid final result)
-      (λ i more. next (append_assoc contents (content ∷ []) more i)) p))
+  more name names mid content leads f = λ next final ending e.
+      leads next final ending (leads_after_fetch name (min most room) (λ c. needs_all most (room - length c) names (λ more. next (contents ++ c ∷ more))) now mid content f final ending
+      (subst (λ (n : List (List ℕ) → Plan). EndsAs (needs_all most (room - length content) names n) mid final ending)
+      (λ i more. next (append_assoc contents (content ∷ []) more i)) e))
 
   -- a load that ends the command
   stops : (name : List ℕ) (names : List (List ℕ)) (new : ShelfState) (ending : Stop) → LeadsOn plan (rest_of most room contents (name ∷ names)) old now
       → Fetches name (min most room) now new (Err ending) → Obtains plan old new (Err ending)
   stops name names new ending leads f = record {
-    by_result = λ next. leads next new (Err ending)
+    by_result = λ next. led_to plan (rest_of most room contents (name ∷ names)) old now leads next new (Err ending)
         (ends_at_fetch name (min most room) (λ c. needs_all most (room - length c) names (λ more. next (contents ++ c ∷ more))) now new ending f);
   }
 
   -- want of memory between two loads
   pub wants : (names : List (List ℕ)) → LeadsOn plan (rest_of most room contents names) old now → Obtains plan old now (Err stop.OutOfMemory)
-  wants names leads = record { by_result = λ next. leads next now (Err stop.OutOfMemory) (wants_memory (rest_of most room contents names next) now) }
+  wants names leads = record {
+    by_result = λ next. led_to plan (rest_of most room contents names) old now leads next now (Err stop.OutOfMemory) (wants_memory (rest_of most room contents names next) now);
+  }
 
   -- the names of these values, from one on
   module _ {A : Type 0} (name : A → List ℕ) (values : List A) (index : ℕ) where
@@ -44,7 +45,7 @@ module _ (plan : (List (List ℕ) → Plan) → Plan) (most room : ℕ) (content
         drop_all index (map name values) (let same : length (map name values) ≡ length values = length-map values name in omega (arith, le, same)) in
         let led : LeadsOn plan (rest_of most room contents []) old now = subst (λ names. LeadsOn plan (rest_of most room contents names) old now) none leads in
         record {
-          by_result = λ next final result p. led next final result (subst (λ c. Performs (next c) now final result) (sym (append-nil contents)) p);
+          by_result = λ next final ending e. led next final ending (subst (λ c. EndsAs (next c) now final ending) (sym (append-nil contents)) e);
         }
 
 names_from : {A : Type 0} (name : A → List ℕ) (values : List A) (index : ℕ) (item : A) → index < length values → item ≡ get_or values index item

@@ -1,5 +1,5 @@
 -- How the steps of a command make up the whole.
-use Rattle.std.proofs.Common.{◌≡◌, ℕ, suc, Bool, true, false, IsTrue, inl, inr, Result, Ok, Err, List, [], ◌∷◌, ◌++◌, length, take, slice_get, append_assoc, append-nil, take_all, le_refl, refl, sym, ap, subst, ◌∙◌}
+use Rattle.std.proofs.Common.{◌≡◌, ℕ, ◌<◌, All, suc, Bool, true, false, IsTrue, inl, inr, Result, Ok, Err, List, [], ◌∷◌, ◌++◌, length, take, slice_get, append_assoc, append-nil, take_all, le_refl, refl, sym, ap, subst, ◌∙◌}
 use Rattle.std.specs.Bool.{OnTrue}
 use Rattle.std.specs.Option.{option_map}
 use Rattle.std.specs.FinMap as map
@@ -9,17 +9,18 @@ use Rattle.ddc_base.specs.declared.outside.Call.{Call}
 use Rattle.ddc_base.specs.declared.outside.Call.TheVariants.{Load, Save}
 use Rattle.ddc_base.specs.declared.outside.Loaded.TheVariants as content
 use Rattle.ddc_base.specs.Outside.{NamedFiles, ShelfState, SaveFails, after_call, after_fault, after_setting, loaded, one_more}
+use Rattle.prompt.specs.Talks.{Talk}
 use Rattle.command_plan.specs.declared.status.Status.TheVariants.{FileRefused}
 use Rattle.command_plan.specs.declared.answer.Answer.{Answer}
 use Rattle.command_plan.specs.declared.stop.Stop.{Stop}
 use Rattle.command_plan.specs.declared.stop.Stop.TheVariants as stop
-use Rattle.command_plan.specs.Plan.{Plan, answers, needs, sets, follow, outcome, asked, files_after, IsSettled}
+use Rattle.command_plan.specs.Plan.{Plan, LoadsBytes, answers, talks, needs, sets, follow, outcome, talk_of, asked, files_after, IsSettled}
 use Rattle.command_plan.specs.Endings.{Completes, Stops, Fails, failure_of}
-use Rattle.command_plan.specs.Performs.{Answers, Performs}
-use Rattle.command_plan.specs.Steps.{Says, IsRefusal, Fetches, Saves}
+use Rattle.command_plan.specs.Performs.{Answers, Faults, Performs, Speaks, WantsMemory}
+use Rattle.command_plan.specs.Steps.{PlanEnding, EndsAs, Fetches, IsRefusal, LeadsOn, Saves, Says, concluding, talking, faulting, wanting}
 
 -- a fact that holds where the shelf tells, on a shelf that tells
-where_told : {P : Type 0} (tells : Bool) → IsTrue tells → OnTrue tells P → P
+pub where_told : {P : Type 0} (tells : Bool) → IsTrue tells → OnTrue tells P → P
 where_told true told p = p
 where_told false told p = absurd cc
 
@@ -30,12 +31,14 @@ on_true false p = tt
 
 settled_by_telling : (plan : Plan) (tells : Bool) → IsTrue tells → IsSettled plan tells
 settled_by_telling (answers status text) tells told = tt
+settled_by_telling (talks talk) tells told = tt
 settled_by_telling (needs name limit next) tells told = told
 settled_by_telling (sets name content next) tells told = told
 
 -- no call leaves the files, whatever the plan
 at_start : (plan : Plan) (files : NamedFiles) → files_after plan files 0 ≡ files
 at_start (answers status text) files = refl
+at_start (talks talk) files = refl
 at_start (needs name limit next) files = refl
 at_start (sets name content next) files = refl
 
@@ -51,6 +54,7 @@ after_load name limit next files =
 -- all calls lead to the outcome's files
 at_end : (plan : Plan) (files : NamedFiles) → files_after plan files (length (asked plan files)) ≡ (outcome plan files).files
 at_end (answers status text) files = refl
+at_end (talks talk) files = refl
 at_end (needs name limit next) files =
     elim (loaded files name limit) as (λ l.
     follow l (λ c. files_after (next c) files (length (follow l (λ b. asked (next b) files) (λ _. []) name))) (λ _. files) name
@@ -90,21 +94,33 @@ stays plan shelf = record {
 pub wants_memory : (plan : Plan) (shelf : ShelfState) → Performs plan shelf shelf (Err stop.OutOfMemory)
 wants_memory plan shelf = record { by_result = record { by_cause = inl (stays plan shelf) } }
 
+-- a plan that asks for nothing
+completed_at_once : (plan : Plan) (shelf : ShelfState) → asked plan shelf.files ≡ [] → (outcome plan shelf.files).files ≡ shelf.files → LoadsBytes plan shelf.files → Completes plan shelf shelf
+completed_at_once plan shelf none same bytes = record {
+  tells = refl;
+  faults = refl;
+  last_failed = refl;
+  calls = λ _. sym (append-nil shelf.calls) ∙ ap (λ calls. shelf.calls ++ calls) (sym none);
+  files = λ _. sym same;
+  bytes = λ _. bytes;
+}
+
 -- an answer that needs no call
 answered : (plan : Plan) (shelf : ShelfState) (answer : Answer) → plan ≡ answers answer.status answer.text → Answers plan shelf shelf answer
 answered plan shelf answer is =
     let P : Plan → Type 0 = λ p. Answers p shelf shelf answer in
     subst P (sym is) (record {
-      shelf = record {
-        tells = refl;
-        faults = refl;
-        last_failed = refl;
-        calls = λ _. sym (append-nil shelf.calls);
-        files = λ _. refl;
-      };
+      shelf = completed_at_once (answers answer.status answer.text) shelf refl refl tt;
       status = λ _. refl;
       text = λ _. refl;
+      talk = λ _. refl;
     })
+
+-- a talk that needs no call
+pub spoken : (plan : Plan) (shelf : ShelfState) (talk : List ℕ → Talk) → plan ≡ talks talk → Speaks plan shelf shelf talk
+spoken plan shelf talk is =
+    let P : Plan → Type 0 = λ p. Speaks p shelf shelf talk in
+    subst P (sym is) (record { shelf = completed_at_once (talks talk) shelf refl refl tt; status = λ _. refl; talk = λ _. refl })
 
 pub says : (plan : Plan) (shelf : ShelfState) (result : Result Answer Stop) → Says plan result → Performs plan shelf shelf result
 says plan shelf (Ok answer) said = record { by_result = answered plan shelf answer said.by_result }
@@ -136,6 +152,10 @@ refused name limit next old answer r = record {
       | inl absent ↦ rw (absent.0) refl
       | inr too_long ↦ rw (too_long.0) refl
     ];
+    bytes = λ told. elim (where_told old.tells told r.1) [
+      | inl absent ↦ rw (absent.0) tt
+      | inr too_long ↦ rw (too_long.0) tt
+    ];
   };
   status = λ told. elim (where_told old.tells told r.1) [
     | inl absent ↦ rw (absent.0) r.0
@@ -144,6 +164,10 @@ refused name limit next old answer r = record {
   text = λ told. elim (where_told old.tells told r.1) [
     | inl absent ↦ rw (absent.0) absent.1
     | inr too_long ↦ rw (too_long.0) too_long.1
+  ];
+  talk = λ told. elim (where_told old.tells told r.1) [
+    | inl absent ↦ rw (absent.0) refl
+    | inr too_long ↦ rw (too_long.0) refl
   ];
 }
 
@@ -217,6 +241,8 @@ record Leads (plan : Plan) (old : ShelfState) (next : Plan) (mid : ShelfState) :
   last_failed : mid.last_failed ≡ old.last_failed
   asks : IsSettled plan old.tells → IsTrue old.tells
   outcome : IsTrue old.tells → outcome plan old.files ≡ outcome next mid.files
+  talk : IsTrue old.tells → talk_of plan old.files ≡ talk_of next mid.files
+  bytes : IsTrue old.tells → LoadsBytes next mid.files → LoadsBytes plan old.files
   calls : IsTrue old.tells → (call : Call) × (mid.calls ≡ old.calls ++ call ∷ []) × (asked plan old.files ≡ call ∷ asked next mid.files)
   files : IsTrue old.tells → (count : ℕ) → files_after plan old.files (suc count) ≡ files_after next mid.files count
 
@@ -242,6 +268,9 @@ completes_on plan old next mid new l c = record {
   files = λ settled.
       let told = l.asks settled in
       c.files (settled_by_telling next mid.tells (l.tells ∙ told)) ∙ ap (λ o. o.files) (sym (l.outcome told));
+  bytes = λ settled.
+      let told = l.asks settled in
+      l.bytes told (c.bytes (settled_by_telling next mid.tells (l.tells ∙ told)));
 }
 
 answers_on : (plan : Plan) (old : ShelfState) (next : Plan) (mid new : ShelfState) (answer : Answer) → Leads plan old next mid → Answers next mid new answer → Answers plan old new answer
@@ -253,6 +282,20 @@ answers_on plan old next mid new answer l a = record {
   text = λ settled.
       let told = l.asks settled in
       a.text (settled_by_telling next mid.tells (l.tells ∙ told)) ∙ ap (λ o. o.text) (sym (l.outcome told));
+  talk = λ settled.
+      let told = l.asks settled in
+      l.talk told ∙ a.talk (settled_by_telling next mid.tells (l.tells ∙ told));
+}
+
+speaks_on : (plan : Plan) (old : ShelfState) (next : Plan) (mid new : ShelfState) (talk : List ℕ → Talk) → Leads plan old next mid → Speaks next mid new talk → Speaks plan old new talk
+speaks_on plan old next mid new talk l s = record {
+  shelf = completes_on plan old next mid new l s.shelf;
+  status = λ settled.
+      let told = l.asks settled in
+      s.status (settled_by_telling next mid.tells (l.tells ∙ told)) ∙ ap (λ o. o.status) (sym (l.outcome told));
+  talk = λ settled.
+      let told = l.asks settled in
+      l.talk told ∙ s.talk (settled_by_telling next mid.tells (l.tells ∙ told));
 }
 
 front_on : (plan : Plan) (old : ShelfState) (next : Plan) (mid new : ShelfState) (count : ℕ) → Leads plan old next mid → IsTrue old.tells → new.calls ≡ mid.calls ++ take count (asked next mid.files)
@@ -292,42 +335,57 @@ fails_on plan old next mid new call l f = record {
       ));
 }
 
-goes_on : (plan : Plan) (old : ShelfState) (next : Plan) (mid new : ShelfState) (result : Result Answer Stop) → Leads plan old next mid → Performs next mid new result → Performs plan old new result
-goes_on plan old next mid new (Ok answer) l p = record { by_result = answers_on plan old next mid new answer l p.by_result }
-goes_on plan old next mid new (Err (stop.Answered answer)) l p = record { by_result = answers_on plan old next mid new answer l p.by_result }
-goes_on plan old next mid new (Err (stop.ShelfFault text)) l p = record {
-  by_result = record {
-    call = p.by_result.call;
-    failed = fails_on plan old next mid new p.by_result.call l p.by_result.failed;
-    names = p.by_result.names;
+goes_on : (plan : Plan) (old : ShelfState) (next : Plan) (mid new : ShelfState) (ending : PlanEnding) → Leads plan old next mid → EndsAs next mid new ending → EndsAs plan old new ending
+goes_on plan old next mid new (concluding answer) l e = record { by_ending = answers_on plan old next mid new answer l e.by_ending }
+goes_on plan old next mid new (talking talk) l e = record { by_ending = speaks_on plan old next mid new talk l e.by_ending }
+goes_on plan old next mid new (faulting text) l e = record {
+  by_ending = record {
+    call = e.by_ending.call;
+    failed = fails_on plan old next mid new e.by_ending.call l e.by_ending.failed;
+    names = e.by_ending.names;
   };
 }
-goes_on plan old next mid new (Err stop.OutOfMemory) l p = record {
-  by_result = record {
-    by_cause = elim p.by_result.by_cause [
+goes_on plan old next mid new wanting l e = record {
+  by_ending = record {
+    by_cause = elim e.by_ending.by_cause [
       | inl stopped ↦ inl (stops_on plan old next mid new l stopped)
       | inr lost ↦ inr (lost.0, fails_on plan old next mid new lost.0 l lost.1)
     ];
   };
 }
 
+-- a plan that leads on does so for whatever its command ends with
+pub led_to : {A : Type 0} (plan rest : (A → Plan) → Plan) (old now : ShelfState) → LeadsOn plan rest old now → (next : A → Plan) (final : ShelfState) (result : Result Answer Stop)
+    → Performs (rest next) now final result → Performs (plan next) old final result
+led_to plan rest old now leads next final (Ok answer) p = record { by_result = (leads next final (concluding answer) (record { by_ending = p.by_result })).by_ending }
+led_to plan rest old now leads next final (Err (stop.Answered answer)) p = record { by_result = (leads next final (concluding answer) (record { by_ending = p.by_result })).by_ending }
+led_to plan rest old now leads next final (Err (stop.ShelfFault text)) p = record { by_result = (leads next final (faulting text) (record { by_ending = p.by_result })).by_ending }
+led_to plan rest old now leads next final (Err stop.OutOfMemory) p = record { by_result = (leads next final wanting (record { by_ending = p.by_result })).by_ending }
+
 -- a fetch that goes on
 fetch_leads : (name : List ℕ) (limit : ℕ) (next : List ℕ → Plan) (old : ShelfState) (bytes : List ℕ) → OnTrue old.tells (loaded old.files name limit ≡ content.Bytes bytes)
-    → Leads (needs name limit next) old (next bytes) (after_call (Load name limit) old)
-fetch_leads name limit next old bytes is = record {
+    → All (λ byte. byte < 256) bytes → Leads (needs name limit next) old (next bytes) (after_call (Load name limit) old)
+fetch_leads name limit next old bytes is are_bytes = record {
   tells = refl;
   faults = refl;
   last_failed = refl;
   asks = λ told. told;
   outcome = λ told. rw (where_told old.tells told is) refl;
+  talk = λ told. rw (where_told old.tells told is) refl;
+  bytes = λ told rest. rw (where_told old.tells told is) (are_bytes, rest);
   calls = λ told. (Load name limit, kept old (Load name limit) told, rw (where_told old.tells told is) refl);
   files = λ told count. rw (where_told old.tells told is) refl;
 }
 
+pub leads_after_fetch : (name : List ℕ) (limit : ℕ) (next : List ℕ → Plan) (old mid : ShelfState) (bytes : List ℕ) → Fetches name limit old mid (Ok bytes) → (final : ShelfState) (ending : PlanEnding)
+    → EndsAs (next bytes) mid final ending → EndsAs (needs name limit next) old final ending
+leads_after_fetch name limit next old mid bytes f final ending e =
+    let P : ShelfState → Type 0 = λ shelf. EndsAs (next bytes) shelf final ending in
+    goes_on (needs name limit next) old (next bytes) (after_call (Load name limit) old) final ending (fetch_leads name limit next old bytes f.by_result.1 f.by_result.3) (subst P f.by_result.0 e)
+
 pub goes_on_after_fetch : (name : List ℕ) (limit : ℕ) (next : List ℕ → Plan) (old mid new : ShelfState) (bytes : List ℕ) (result : Result Answer Stop) → Fetches name limit old mid (Ok bytes) → Performs (next bytes) mid new result → Performs (needs name limit next) old new result
 goes_on_after_fetch name limit next old mid new bytes result f p =
-    let P : ShelfState → Type 0 = λ shelf. Performs (next bytes) shelf new result in
-    goes_on (needs name limit next) old (next bytes) (after_call (Load name limit) old) new result (fetch_leads name limit next old bytes f.by_result.1) (subst P f.by_result.0 p)
+    led_to (needs name limit) (λ n. n bytes) old mid (λ n final ending e. leads_after_fetch name limit n old mid bytes f final ending e) next new result p
 
 -- a save that goes on
 save_leads : (name content : List ℕ) (next : Plan) (old : ShelfState) → Leads (sets name content next) old next (after_call (Save name content) (after_setting name content old))
@@ -337,14 +395,18 @@ save_leads name content next old = record {
   last_failed = refl;
   asks = λ told. told;
   outcome = λ told. rw told refl;
+  talk = λ told. rw told refl;
+  bytes = λ told rest. rw told at rest;
   calls = λ told. (Save name content, rw told refl, rw told refl);
   files = λ told count. rw told refl;
 }
 
 pub goes_on_after_save : (name content : List ℕ) (next : Plan) (old mid new : ShelfState) (done : Unit {0}) (result : Result Answer Stop) → Saves name content old mid (Ok done) → Performs next mid new result → Performs (sets name content next) old new result
 goes_on_after_save name content next old mid new done result s p =
+    let here : ShelfState = after_call (Save name content) (after_setting name content old) in
     let P : ShelfState → Type 0 = λ shelf. Performs next shelf new result in
-    goes_on (sets name content next) old next (after_call (Save name content) (after_setting name content old)) new result (save_leads name content next old) (subst P s.by_result p)
+    led_to {A = Unit {0}} (λ n. sets name content (n tt)) (λ n. n tt) old here (λ n final ending e. goes_on (sets name content (n tt)) old (n tt) here final ending (save_leads name content (n tt) old) e)
+    (λ _. next) new result (subst P s.by_result p)
 
 -- an answer after a save
 pub answers_after_save : (name content : List ℕ) (old new : ShelfState) (done : Unit {0}) (answer : Answer) → Saves name content old new (Ok done) → Performs (sets name content (answers answer.status answer.text)) old new (Ok answer)

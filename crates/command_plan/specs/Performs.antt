@@ -1,19 +1,31 @@
 -- What a command did to a shelf, by how it ended, measured against its plan.
-use Rattle.std.specs.Prelude.{◌≡◌, ℕ, ◌⊎◌, Result, Ok, Err, List}
+use Rattle.std.specs.Prelude.{◌≡◌, ℕ, ◌⊎◌, None, Some, Result, Ok, Err, List}
 use Rattle.ddc_base.specs.declared.outside.Operation.{Operation}
-use Rattle.ddc_base.specs.Outside.{ShelfState}
+use Rattle.ddc_base.specs.declared.outside.PutFail.{PutFail}
+use Rattle.ddc_base.specs.Outside.{ShelfState, SinkState}
+use Rattle.prompt.specs.Converses.{Converses}
+use Rattle.prompt.specs.Prompts.{PromptState}
+use Rattle.prompt.specs.Talks.{Talk}
+use Rattle.command_plan.specs.declared.status.Status.TheVariants.{Yes}
 use Rattle.command_plan.specs.declared.answer.Answer.{Answer}
 use Rattle.command_plan.specs.declared.stop.Stop.{Stop}
 use Rattle.command_plan.specs.declared.stop.Stop.TheVariants as stop
-use Rattle.command_plan.specs.Plan.{Plan, outcome, IsSettled}
+use Rattle.command_plan.specs.Plan.{Plan, outcome, talk_of, IsSettled}
 use Rattle.command_plan.specs.Endings.{Completes, Stops, Fails}
 use Rattle.command_plan.specs.Texts.{shelf_fault_line}
 
--- the plan's calls were all answered, and where it is settled the answer is the outcome's
+-- the plan's calls were all answered, and where it is settled the answer is the outcome's, and the plan ends with no talk
 pub record Answers (plan : Plan) (old new : ShelfState) (answer : Answer) : Type 0 where
   pub shelf : Completes plan old new
   pub status : IsSettled plan old.tells → answer.status ≡ (outcome plan old.files).status
   pub text : IsSettled plan old.tells → answer.text ≡ (outcome plan old.files).text
+  pub talk : IsSettled plan old.tells → talk_of plan old.files ≡ None
+
+-- the plan's calls were all answered, and where it is settled it ends with this talk
+pub record Speaks (plan : Plan) (old new : ShelfState) (spoken : List ℕ → Talk) : Type 0 where
+  pub shelf : Completes plan old new
+  pub status : IsSettled plan old.tells → Yes ≡ (outcome plan old.files).status
+  pub talk : IsSettled plan old.tells → talk_of plan old.files ≡ Some spoken
 
 -- a call of the plan failed, and the text names it
 pub record Faults (plan : Plan) (old new : ShelfState) (text : List ℕ) : Type 0 where
@@ -34,3 +46,17 @@ PerformsBy plan old new (Err stop.OutOfMemory) = WantsMemory plan old new
 -- a command did to a shelf what its plan says
 pub record Performs (plan : Plan) (old new : ShelfState) (result : Result Answer Stop) : Type 0 where
   pub by_result : PerformsBy plan old new result
+
+-- a talk was held: every call of the plan was answered, the plan ends with this talk, and it went as far as the result says
+pub record HoldsTalk (plan : Plan) (old new : ShelfState) (before after : SinkState) (asked now : PromptState) (end : Result (Unit {0}) PutFail) : Type 0 where
+  pub talk : List ℕ → Talk
+  pub speaks : Speaks plan old new talk
+  pub went : Converses talk before after asked now end
+
+abbrev pub HoldsBy : Plan → ShelfState → ShelfState → SinkState → SinkState → PromptState → PromptState → Result (Result (Unit {0}) PutFail) Stop → Type 0
+HoldsBy plan old new before after asked now (Ok end) = HoldsTalk plan old new before after asked now end
+HoldsBy plan old new before after asked now (Err ending) = Performs plan old new (Err ending) × (after ≡ before) × (now ≡ asked)
+
+-- the same of a command that may hold a talk: it held its plan's, or ended before one, with nothing put and no line asked for
+pub record PerformsTalk (plan : Plan) (old new : ShelfState) (before after : SinkState) (asked now : PromptState) (result : Result (Result (Unit {0}) PutFail) Stop) : Type 0 where
+  pub by_result : HoldsBy plan old new before after asked now result

@@ -1,15 +1,16 @@
 -- What the steps of a command do to a shelf. It serves the split of the code: no promise of a command rests on its being read.
-use Rattle.std.specs.Prelude.{◌≡◌, ℕ, ◌≤◌, ◌⊎◌, Result, Ok, Err, List, length}
+use Rattle.std.specs.Prelude.{◌≡◌, ℕ, ◌<◌, ◌≤◌, ◌⊎◌, All, Result, Ok, Err, List, length}
 use Rattle.std.specs.Bool.{OnTrue}
 use Rattle.ddc_base.specs.declared.outside.Operation.TheVariants as operation
 use Rattle.ddc_base.specs.declared.outside.Call.TheVariants.{Load, Save}
 use Rattle.ddc_base.specs.declared.outside.Loaded.TheVariants as content
 use Rattle.ddc_base.specs.Outside.{ShelfState, SaveFails, after_call, after_fault, after_setting, loaded}
+use Rattle.prompt.specs.Talks.{Talk}
 use Rattle.command_plan.specs.declared.status.Status.TheVariants as status
 use Rattle.command_plan.specs.declared.answer.Answer.{Answer}
 use Rattle.command_plan.specs.declared.stop.Stop.{Stop}
 use Rattle.command_plan.specs.declared.stop.Stop.TheVariants as stop
-use Rattle.command_plan.specs.Performs.{Performs}
+use Rattle.command_plan.specs.Performs.{Answers, Faults, Performs, Speaks, WantsMemory}
 use Rattle.command_plan.specs.Plan.{Plan, answers}
 use Rattle.command_plan.specs.Texts.{absent_line, too_long_line, shelf_fault_line}
 
@@ -31,7 +32,10 @@ IsRefusal shelf name limit answer =
 
 abbrev pub FetchesBy : List ℕ → ℕ → ShelfState → ShelfState → Result (List ℕ) Stop → Type 0
 FetchesBy name limit old new (Ok bytes) =
-    (new ≡ after_call (Load name limit) old) × OnTrue old.tells (loaded old.files name limit ≡ content.Bytes bytes) × (length bytes ≤ limit)
+    (new ≡ after_call (Load name limit) old)
+    × OnTrue old.tells (loaded old.files name limit ≡ content.Bytes bytes)
+    × (length bytes ≤ limit)
+    × All (λ byte. byte < 256) bytes
 FetchesBy name limit old new (Err (stop.Answered answer)) = (new ≡ after_call (Load name limit) old) × IsRefusal old name limit answer
 FetchesBy name limit old new (Err (stop.ShelfFault text)) = (new ≡ after_fault operation.Load name old) × (text ≡ shelf_fault_line name)
 FetchesBy name limit old new (Err stop.OutOfMemory) =
@@ -51,10 +55,26 @@ SavesBy name content old new (Err stop.OutOfMemory) = (new ≡ old) ⊎ SaveFail
 pub record Saves (name content : List ℕ) (old new : ShelfState) (result : Result (Unit {0}) Stop) : Type 0 where
   pub by_result : SavesBy name content old new result
 
+-- how a plan ends: with an answer, with a talk, at a call that failed, or for want of memory
+pub data PlanEnding : Type 0 where
+  concluding : Answer → PlanEnding
+  talking : (List ℕ → Talk) → PlanEnding
+  faulting : List ℕ → PlanEnding
+  wanting : PlanEnding
+
+abbrev pub EndsBy : Plan → ShelfState → ShelfState → PlanEnding → Type 0
+EndsBy plan old new (concluding answer) = Answers plan old new answer
+EndsBy plan old new (talking talk) = Speaks plan old new talk
+EndsBy plan old new (faulting text) = Faults plan old new text
+EndsBy plan old new wanting = WantsMemory plan old new
+
+-- the plan ended so
+pub record EndsAs (plan : Plan) (old new : ShelfState) (ending : PlanEnding) : Type 0 where
+  pub by_ending : EndsBy plan old new ending
+
 -- from where the shelf stands now a plan goes on as the rest of it, whatever follows both
 abbrev pub LeadsOn : {A : Type 0} → ((A → Plan) → Plan) → ((A → Plan) → Plan) → ShelfState → ShelfState → Type 0
-LeadsOn {A} plan rest old now =
-    (next : A → Plan) (final : ShelfState) (result : Result Answer Stop) → Performs (rest next) now final result → Performs (plan next) old final result
+LeadsOn {A} plan rest old now = (next : A → Plan) (final : ShelfState) (ending : PlanEnding) → EndsAs (rest next) now final ending → EndsAs (plan next) old final ending
 
 abbrev pub ObtainsBy : {A : Type 0} → ((A → Plan) → Plan) → ShelfState → ShelfState → Result A Stop → Type 0
 ObtainsBy plan old new (Ok value) = LeadsOn plan (λ next. next value) old new

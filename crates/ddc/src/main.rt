@@ -1,12 +1,13 @@
-//! The program ddc: it hands its words and the host's files and output to the top call, and ends with its status. The meaning of sources
+//! The program ddc: it hands its words and the host's files, input and output to the top call, and ends with its status. The meaning of sources
 //! that it names is the one that needs no belief; the program does the same under every other.
 #![tactic(auto)]
 
 use ddc_app::{Status, run};
 use ddc_base::{DirShelf, OutOfMemory, WriterSink};
 use meaning::Assembly;
+use prompt::ReaderPrompt;
 use std::env;
-use std::io::{self, ErrorKind};
+use std::io::{self, ErrorKind, Input};
 use std::process::ExitCode;
 
 /// The words of the command line without the program's own name. They are none where a word is not UTF-8.
@@ -25,7 +26,7 @@ fn command_line(rt: &HostRuntime) -> Result<Vec<String>, OutOfMemory> {
     }
 }
 
-/// Runs the words over the host's files and standard output.
+/// Runs the words over the host's files, standard output and standard input.
 fn run_on_host(rt: &HostRuntime) -> Result<Status, OutOfMemory> {
     let alloc = rt.alloc();
     let owned = command_line(rt)?;
@@ -35,7 +36,8 @@ fn run_on_host(rt: &HostRuntime) -> Result<Status, OutOfMemory> {
     }
     let mut shelf = DirShelf::new(rt);
     let mut out = WriterSink::new(io::writer(rt));
-    Ok(run::<Assembly, _, _>(alloc, words.as_slice(), &mut shelf, &mut out))
+    let mut prompt = ReaderPrompt::new(rt.reader());
+    Ok(run::<Assembly, _, _, _>(alloc, words.as_slice(), &mut shelf, &mut out, &mut prompt))
 }
 
 fn main(rt: HostRuntime) -> ExitCode {

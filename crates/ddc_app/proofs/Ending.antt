@@ -1,6 +1,8 @@
 -- What the top call leaves, from how its command ended and what was said of that.
 use Rattle.std.proofs.Common.{◌≡◌, ℕ, IsTrue, inl, inr, Result, Ok, Err, List, true, false, refl, sym, ap, ◌∙◌}
-use Rattle.ddc_base.specs.Outside.{ShelfState, SinkState, PutFails, after_piece}
+use Rattle.ddc_base.specs.declared.outside.PutFail.{PutFail}
+use Rattle.ddc_base.specs.declared.outside.PutFail.TheVariants as putting
+use Rattle.ddc_base.specs.Outside.{ShelfState, SinkState, PutFails, PutLeaves, after_piece}
 use Rattle.command_plan.specs.declared.status.Status.{Status}
 use Rattle.command_plan.specs.declared.status.Status.TheVariants.{ShelfFault, OutFault, OutOfMemory}
 use Rattle.command_plan.specs.declared.answer.Answer.{Answer}
@@ -12,7 +14,7 @@ use Rattle.command_plan.specs.Endings.{Completes}
 use Rattle.command_plan.specs.Performs.{Answers, Faults, WantsMemory, Performs}
 use Rattle.command_plan.proofs.Performing.{stops_complete}
 use Rattle.ddc_app.specs.Run.{TakesOne, NamesFault, LosesText}
-use Rattle.ddc_app.specs.Inside.Concluding.{PutEnds, SaysEnding}
+use Rattle.ddc_app.specs.Inside.Concluding.{PutEnds, SaysEnding, unless_lost}
 
 -- the five ways in which the top call ends: an answer or a fault that was said, either of them lost in the put, or want of memory
 pub data Ends (plan : Plan) (old new : ShelfState) (before after : SinkState) (result : Status) : Type 0 where
@@ -21,6 +23,13 @@ pub data Ends (plan : Plan) (old new : ShelfState) (before after : SinkState) (r
   loses_answer : (answer : Answer) → Answers plan old new answer → result ≡ OutFault → PutFails answer.text before after → Ends plan old new before after result
   loses_fault : (text : List ℕ) → Faults plan old new text → result ≡ OutFault → PutFails text before after → Ends plan old new before after result
   wants : WantsMemory plan old new → result ≡ OutOfMemory → after ≡ before → Ends plan old new before after result
+
+-- what a put leaves, and the status
+pub put_ends : (before : SinkState) (text : List ℕ) (after : SinkState) (put : Result (Unit {0}) PutFail) (status result : Status) → PutLeaves before text put after → result ≡ unless_lost put status
+    → PutEnds before text after status result
+put_ends before text after (Ok done) status result leaves is = inl (is, leaves)
+put_ends before text after (Err putting.Failed) status result leaves is = inr (inl (is, leaves))
+put_ends before text after (Err putting.OutOfMemory) status result leaves is = inr (inr (is, leaves))
 
 module _ (plan : Plan) (old new : ShelfState) (before after : SinkState) (result : Status) where
   answer_ends : (answer : Answer) → Answers plan old new answer → PutEnds before answer.text after answer.status result → Ends plan old new before after result
@@ -98,7 +107,7 @@ module _ (plan : Plan) (old new : ShelfState) (before after : SinkState) (result
   pub out_fault_of : Ends plan old new before after result → result ≡ OutFault → LosesText plan old new before after
   out_fault_of (says answer a is put) claimed = other answer result OutFault is claimed refl
   out_fault_of (names text f is put) claimed = absurd cc
-  out_fault_of (loses_answer answer a is put) claimed = record { piece = answer.text; put = put; cause = inl (a.shelf, a.text) }
+  out_fault_of (loses_answer answer a is put) claimed = record { piece = answer.text; put = put; cause = inl (a.shelf, λ settled. (a.text settled, a.talk settled)) }
   out_fault_of (loses_fault text f is put) claimed = record { piece = text; put = put; cause = inr (f.call, f.failed, f.names) }
   out_fault_of (wants w is same) claimed = absurd cc
 

@@ -1,4 +1,5 @@
 pub mod Ending
+pub mod Sessions
 pub mod Loads
 pub mod Walks
 pub mod Openings

@@ -15,7 +15,7 @@ use Rattle.ddc_base.specs.Outside.{NamedFiles, loaded, loaded_of}
 use Rattle.ddc_base.proofs.StoredFiles.{others-insert}
 use Rattle.mem_files.specs.Outputs.{IsContent}
 use Rattle.command_plan.specs.declared.status.Status.TheVariants.{FileRefused}
-use Rattle.command_plan.specs.Plan.{Plan, needs, needs_all, follow, outcome}
+use Rattle.command_plan.specs.Plan.{LoadsBytes, Plan, bytes_then, needs, needs_all, follow, outcome}
 use Rattle.command_plan.specs.Words.{are_two_files, bare_name, is_file_word, is_one_file}
 use Rattle.ddc_app.specs.Accepting.{HoldBytes}
 use Rattle.ddc_app.specs.Holding.{AreHeld}
@@ -27,6 +27,11 @@ pub follows : (name : List ℕ) (limit : ℕ) (next : List ℕ → Plan) (files 
     → outcome (needs name limit next) files ≡ outcome (next content) files
 follows name limit next files content held =
     ap (λ l. follow l (λ c. outcome (next c) files) (λ text. record { status = FileRefused; text = text; files = files }) name) held
+
+-- where its loads find bytes, this is one of them
+pub loads_bytes : (name : List ℕ) (limit : ℕ) (next : List ℕ → Plan) (files : NamedFiles) (content : List ℕ) → loaded files name limit ≡ Bytes content
+    → LoadsBytes (needs name limit next) files → All (λ byte. byte < 256) content × LoadsBytes (next content) files
+loads_bytes name limit next files content held bytes = subst (λ l. bytes_then l (λ c. LoadsBytes (next c) files)) held bytes
 
 fits : (size limit : ℕ) → size < limit → nat_le size limit ≡ true
 fits size limit below = grind (arith, nat_tests)
@@ -113,3 +118,16 @@ are_contents room files (name ∷ names) (content ∷ contents) bytes held =
     All-cons IsContent content contents
     (record { bytes = bytes name content one.0; small = le_trans one.1 (min-le_left 268_435_456 room) })
     (are_contents (room - length content) files names contents bytes held.1)
+
+-- the same where a plan's loads found them to be bytes
+pub loaded_contents : (room : ℕ) (files : NamedFiles) (names contents : List (List ℕ)) (next : List (List ℕ) → Plan) → AreHeld 268_435_456 room files names contents
+    → LoadsBytes (needs_all 268_435_456 room names next) files → All IsContent contents
+loaded_contents room files names [] next held bytes = All-nil IsContent
+loaded_contents room files [] (content ∷ contents) next held bytes = absurd held
+loaded_contents room files (name ∷ names) (content ∷ contents) next held bytes =
+    let rest : List ℕ → Plan = λ c. needs_all 268_435_456 (room - length c) names (λ contents. next (c ∷ contents)) in
+    let one = within (min 268_435_456 room) (finite.get files name) content held.0 in
+    let here = loads_bytes name (min 268_435_456 room) rest files content held.0 bytes in
+    All-cons IsContent content contents
+    (record { bytes = here.0; small = le_trans one.1 (min-le_left 268_435_456 room) })
+    (loaded_contents (room - length content) files names contents (λ contents. next (content ∷ contents)) held.1 here.1)

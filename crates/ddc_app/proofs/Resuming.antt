@@ -1,5 +1,5 @@
 -- From the save of a position an audit goes on as it would have without a pause.
-use Rattle.std.proofs.Common.{◌≡◌, ◌≢◌, ℕ, ◌+◌, Bool, true, false, cond, IsTrue, inr, Some, Result, Ok, Err, List, refl, sym, ap, ◌∙◌, subst}
+use Rattle.std.proofs.Common.{◌≡◌, ◌≢◌, ℕ, ◌+◌, Bool, true, false, cond, IsTrue, inl, inr, Some, Result, Ok, Err, List, refl, sym, ap, ◌∙◌, subst}
 use Rattle.std.specs.FinMap as finite
 use Rattle.ddc_base.specs.Outside.{NamedFiles}
 use Rattle.recipe.specs.Kept.{IsRecipe}
@@ -44,7 +44,7 @@ reads_again : (said : Said) (inputs : List (List ℕ)) (p : Position) → IsReci
 unfolding read_as
 reads_again said inputs p is given place =
     let a = answered said inputs (text_of_save (save_of said inputs p)) in
-    by a.result (is_only said inputs (text_of_save (save_of said inputs p)) a.result is given a.resumes p place refl) a.settled where
+    by a.result (is_only said inputs (text_of_save (save_of said inputs p)) a.result is given a.resumes p place (inl refl)) a.settled where
       by : (result : Result Position SaveRefusal) → IsResumedAs p result → result ≢ Err OutOfMemory → result ≡ Ok p
       by (Ok found) same settled = ap Ok same
       by (Err OutOfMemory) same settled = absurd (settled refl)

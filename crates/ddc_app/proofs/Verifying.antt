@@ -1,9 +1,10 @@
 -- What an answer of `verify` says.
-use Rattle.std.proofs.Common.{◌≡◌, ℕ, ◌-◌, Bool, true, false, cond, IsTrue, Option, Some, None, Ok, List, [], ◌∷◌, length, refl, sym, ap, ◌∙◌, subst}
+use Rattle.std.proofs.Common.{◌≡◌, ℕ, ◌-◌, Bool, true, false, cond, IsTrue, Option, Some, None, Ok, List, [], ◌∷◌, length, codes, refl, sym, ap, ◌∙◌, subst}
 use Rattle.std.specs.FinMap as finite
 use Rattle.std.specs.List.{AllZip}
 use Rattle.ddc_base.specs.declared.outside.Loaded.TheVariants.{Bytes}
 use Rattle.ddc_base.specs.Outside.{NamedFiles, loaded}
+use Rattle.recipe.specs.declared.text.refusal.RecipeRefusal.{RecipeRefusal}
 use Rattle.recipe.specs.Kept.{IsRecipe}
 use Rattle.recipe.specs.Reading.{recipe_of}
 use Rattle.recipe.specs.declared.contents.Said.{Said}
@@ -21,17 +22,18 @@ use Rattle.verifier.specs.Conclusion.Verdicts.{Shows}
 use Rattle.command_plan.specs.declared.status.Status.{Status}
 use Rattle.command_plan.specs.declared.status.Status.TheVariants as status
 use Rattle.command_plan.specs.Answered.{is_answer}
-use Rattle.command_plan.specs.Plan.{Plan, Outcome, answers, outcome, unless_refused}
+use Rattle.command_plan.specs.Plan.{LoadsBytes, Plan, Outcome, answers, outcome, unless_refused}
 use Rattle.command_plan.specs.Words.{are_two_files, usage}
-use Rattle.recipe_plan.specs.Recipes.{needs_apart, needs_inputs, paths}
+use Rattle.recipe_plan.specs.Recipes.{is_input, needs_apart, needs_inputs, paths}
 use Rattle.recipe_plan.specs.Reports.{compared_status, needs_report}
-use Rattle.recipe_plan.specs.Texts.{report_line}
+use Rattle.recipe_plan.specs.Texts.{recipe_line, report_line}
 use Rattle.verify_command.specs.Verify.{judged_report, verified, verify_files}
 use Rattle.ddc_app.specs.Accepting.{HoldBytes, is_compared, verify}
+use Rattle.ddc_app.specs.Commands.{plan_of}
 use Rattle.ddc_app.specs.Verified.{ShownBy, Verified}
 use Rattle.ddc_app.specs.Holding.{AreHeld}
-use Rattle.ddc_app.proofs.Loads.{within}
-use Rattle.ddc_app.proofs.Openings.{Holds, are_inputs, is_recipe}
+use Rattle.ddc_app.proofs.Loads.{loads_bytes, within}
+use Rattle.ddc_app.proofs.Openings.{Holds, are_inputs, are_loaded, is_recipe}
 use Rattle.ddc_app.proofs.Walks.{IsRefusal, both_need, both_need_apart, both_need_inputs, both_need_recipe, both_read, told}
 
 -- ---- a replay that comes to a comparison
@@ -40,6 +42,7 @@ record Replayed (recipe report : List ℕ) (files : NamedFiles) (answer : Outcom
   said : Said
   inputs : List (List ℕ)
   holds : Holds recipe said inputs files
+  apart : is_input said report ≡ false
   text : List ℕ
   text_held : loaded files report 1_073_741_824 ≡ Bytes text
   made : Report
@@ -54,7 +57,7 @@ module _ (recipe report : List ℕ) (files : NamedFiles) where
   refused : (status : Status) (text : List ℕ) → IsRefusal status → Goes (told files status text) (told files status text)
   refused status text refusal compared = let both : false ≡ true = sym refusal.1 ∙ compared in absurd cc
 
-  module _ (bytes : List ℕ) (said : Said) (held : loaded files recipe 1_048_576 ≡ Bytes bytes) (reads : recipe_of bytes ≡ Ok said)
+  module _ (bytes : List ℕ) (said : Said) (held : loaded files recipe 1_048_576 ≡ Bytes bytes) (reads : recipe_of bytes ≡ Ok said) (apart : is_input said report ≡ false)
       (text : List ℕ) (text_held : loaded files report 1_073_741_824 ≡ Bytes text) where
     by_fault : (made : Report) → report_of text ≡ Ok made → (inputs : List (List ℕ)) → AreHeld 268_435_456 1_073_741_824 files (paths said) inputs
         → (fault : Option (Part × ℕ)) → first_fault said inputs made ≡ fault
@@ -63,6 +66,7 @@ module _ (recipe report : List ℕ) (files : NamedFiles) where
       said = said;
       inputs = inputs;
       holds = record { bytes = bytes; recipe_held = held; reads = reads; inputs_held = inputs_held };
+      apart = apart;
       text = text;
       text_held = text_held;
       made = made;
@@ -84,7 +88,7 @@ module _ (recipe report : List ℕ) (files : NamedFiles) where
       both_need Goes files refused report 1_073_741_824 reading reading (λ text text_held.
       both_read Goes files refused (report_of text) status.ReportRefused report_line loads loads (refl, refl) (λ made text_reads.
       both_need_inputs Goes files refused said (last made) (last made) (λ inputs inputs_held.
-      by_fault bytes said held reads text text_held made text_reads inputs inputs_held (first_fault said inputs made) refl))))
+      by_fault bytes said held reads apart text text_held made text_reads inputs inputs_held (first_fault said inputs made) refl))))
 
   replayed : (two : Bool) → IsTrue (is_compared (outcome (cond two (verify_files recipe report) usage) files).status)
       → Replayed recipe report files (outcome (cond two (verify_files recipe report) usage) files)
@@ -93,6 +97,23 @@ module _ (recipe report : List ℕ) (files : NamedFiles) where
   replayed true compared =
       let next : Said → Plan = λ said. needs_apart said report (λ _. needs_report report (λ made. needs_inputs said (λ inputs. verified said inputs made))) in
       both_need_recipe Goes files refused recipe next next by_recipe compared
+
+  -- the inputs are bytes where the plan's loads found bytes
+  typed : (two : Bool) (answer : Outcome) → IsTrue (is_compared (outcome (cond two (verify_files recipe report) usage) files).status)
+      → LoadsBytes (cond two (verify_files recipe report) usage) files → (r : Replayed recipe report files answer) → IsInputs r.said r.inputs
+  unfolding verify_files needs_apart
+  typed false answer compared bytes r = absurd cc
+  typed true answer compared bytes r =
+      let last : Report → List (List ℕ) → Plan = λ made inputs. verified r.said inputs made in
+      let loads : Report → Plan = λ made. needs_inputs r.said (last made) in
+      let refuse : ℕ → Plan = λ number. answers status.ReportRefused (report_line number) in
+      let refuse_recipe : RecipeRefusal → Plan = λ refusal. answers status.RecipeRefused (recipe_line refusal) in
+      let next : Said → Plan = λ said. needs_apart said report (λ _. needs_report report (λ made. needs_inputs said (λ inputs. verified said inputs made))) in
+      let read = (loads_bytes recipe 1_048_576 (λ b. unless_refused (recipe_of b) refuse_recipe next) files r.holds.bytes r.holds.recipe_held bytes).1 in
+      let judged : LoadsBytes (next r.said) files = subst (λ reading. LoadsBytes (unless_refused reading refuse_recipe next) files) r.holds.reads read in
+      let reported : LoadsBytes (needs_report report loads) files = subst (λ clash. LoadsBytes (cond clash usage (needs_report report loads)) files) r.apart judged in
+      let made = (loads_bytes report 1_073_741_824 (λ text. unless_refused (report_of text) refuse loads) files r.text r.text_held reported).1 in
+      are_loaded recipe r.said r.inputs files r.holds (last r.made) (subst (λ reading. LoadsBytes (unless_refused reading refuse loads) files) r.text_reads made)
 
 -- each input is held
 all-held : (room : ℕ) (files : NamedFiles) (names contents : List (List ℕ)) → AreHeld 268_435_456 room files names contents
@@ -109,15 +130,17 @@ module _ (prescribes : Prescribes) (compiles : Compiles) where
   by-status said inputs (Equal size) shown = shown
   by-status said inputs (Differs offset made given) shown = shown
 
-  pub verifies : ((said : Said) (inputs : List (List ℕ)) (made : Report) → IsRecipe said → IsInputs said inputs → first_fault said inputs made ≡ None
-      → Shows prescribes compiles said inputs (true_verdict made.compare.result))
-      → (recipe report : List ℕ) (files : NamedFiles) → HoldBytes files → IsTrue (is_compared (verify recipe report files).status)
-      → Verified prescribes compiles recipe report files (verify recipe report files)
-  verifies shows recipe report files bytes compared =
+  abbrev pub Shown : Type 0
+  Shown = (said : Said) (inputs : List (List ℕ)) (made : Report) → IsRecipe said → IsInputs said inputs → first_fault said inputs made ≡ None
+      → Shows prescribes compiles said inputs (true_verdict made.compare.result)
+
+  shows_all : Shown → (recipe report : List ℕ) (files : NamedFiles) → IsTrue (is_compared (verify recipe report files).status)
+      → ((r : Replayed recipe report files (verify recipe report files)) → IsInputs r.said r.inputs) → Verified prescribes compiles recipe report files (verify recipe report files)
+  shows_all shows recipe report files compared are =
       let r = replayed recipe report files (are_two_files recipe report) compared in
       let answers : (verify recipe report files).status ≡ compared_status r.made.compare.result = ap (λ (a : Outcome). a.status) r.leads in
       let rules = is_recipe recipe r.said r.inputs files r.holds in
-      let given = are_inputs recipe r.said r.inputs files r.holds bytes in
+      let given = are r in
       record {
         recipe_bytes = r.holds.bytes;
         recipe_held = (within 1_048_576 (finite.get files recipe) r.holds.bytes r.holds.recipe_held).0;
@@ -138,6 +161,15 @@ module _ (prescribes : Prescribes) (compiles : Compiles) where
         shown = subst (ShownBy prescribes compiles r.said r.inputs) (sym answers)
             (by-status r.said r.inputs r.made.compare.result (shows r.said r.inputs r.made rules given r.none));
       }
+
+  pub verifies : Shown → (recipe report : List ℕ) (files : NamedFiles) → HoldBytes files → IsTrue (is_compared (verify recipe report files).status)
+      → Verified prescribes compiles recipe report files (verify recipe report files)
+  verifies shows recipe report files bytes compared = shows_all shows recipe report files compared (λ r. are_inputs recipe r.said r.inputs files r.holds bytes)
+
+  pub verifies_as_loaded : Shown → (recipe report : List ℕ) (files : NamedFiles) → LoadsBytes (plan_of (codes "verify" ∷ recipe ∷ report ∷ [])) files
+      → IsTrue (is_compared (verify recipe report files).status) → Verified prescribes compiles recipe report files (verify recipe report files)
+  verifies_as_loaded shows recipe report files bytes compared =
+      shows_all shows recipe report files compared (typed recipe report files (are_two_files recipe report) (verify recipe report files) compared bytes)
 
 -- a comparison is an answer
 pub compared_answers : (s : Status) → IsTrue (is_compared s) → IsTrue (is_answer s)

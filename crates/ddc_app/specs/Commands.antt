@@ -1,5 +1,5 @@
 -- The commands by their first word. docs/reference/command-line.md says the same for people.
-use Rattle.std.specs.Prelude.{ℕ, List, [], ◌∷◌, bytes_eq, codes, if◌then◌else◌}
+use Rattle.std.specs.Prelude.{ℕ, Bool, false, List, [], ◌∷◌, bytes_eq, codes, drop, if◌then◌else◌}
 use Rattle.command_plan.specs.Plan.{Plan}
 use Rattle.command_plan.specs.Words.{usage}
 use Rattle.audit_commands.specs.Audit.{audit_plan}
@@ -9,12 +9,14 @@ use Rattle.tool_commands.specs.Hex0.{hex0_plan}
 use Rattle.tool_commands.specs.List.{list_plan}
 use Rattle.tool_commands.specs.RunProgram.{run_plan}
 use Rattle.audit_commands.specs.Pause.{part_plan, resume_plan}
+use Rattle.audit_commands.specs.Step.{step_plan}
+use Rattle.demo_command.specs.Demo.{demo_plan}
 use Rattle.verify_command.specs.Verify.{verify_plan}
 
--- what a command line does
-abbrev pub plan_of : List (List ℕ) → Plan
-plan_of [] = usage
-plan_of (command ∷ words) =
+-- what the commands do that say one text
+abbrev pub text_plan : List (List ℕ) → Plan
+text_plan [] = usage
+text_plan (command ∷ words) =
     if bytes_eq command (codes "hex0") then hex0_plan words
     else (if bytes_eq command (codes "asm") then asm_plan words
     else (if bytes_eq command (codes "list") then list_plan words
@@ -24,4 +26,14 @@ plan_of (command ∷ words) =
     else (if bytes_eq command (codes "resume") then resume_plan words
     else (if bytes_eq command (codes "show") then show_plan words
     else (if bytes_eq command (codes "verify") then verify_plan words
-    else usage))))))))
+    else (if bytes_eq command (codes "demo") then demo_plan words
+    else usage)))))))))
+
+-- whether a command line is one of `step`, the command that may begin a session
+abbrev pub is_step : List (List ℕ) → Bool
+is_step [] = false
+is_step (command ∷ words) = bytes_eq command (codes "step")
+
+-- what a command line does
+abbrev pub plan_of : List (List ℕ) → Plan
+plan_of words = if is_step words then step_plan (drop 1 words) else text_plan words

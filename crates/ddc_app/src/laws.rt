@@ -1,15 +1,17 @@
 //! Laws of what commands come to. Each law is the contract of a function that does nothing.
 
 ghost use Rattle.ddc_app.specs.Accepting.{HoldBytes, audit, is_compared, verify};
+ghost use Rattle.ddc_app.specs.Commands.{plan_of};
 ghost use Rattle.ddc_app.specs.Pausing.{AreWords, IsStepCount, LeavesOthers, LeavesUnwritten, Pieces, IsSavedAt, in_pieces, part, resume};
 ghost use Rattle.ddc_app.specs.Verified.{Verified};
+ghost use Rattle.command_plan.specs.Plan.{LoadsBytes};
 ghost use Rattle.command_plan.specs.declared.status.Status.TheVariants.{Paused};
 ghost use Rattle.ddc_base.specs.Outside.{NamedFiles};
 ghost use Rattle.ddc_base.specs.Lines.{line};
 ghost use Rattle.report.specs.Lines.{line_words};
 ghost use Rattle.report.specs.declared.line.Line.TheVariants.{Left, Stream1, Stream2};
 ghost use Rattle.std.specs.FinMap as map;
-ghost use Rattle.std.specs.Prelude.{◌≡◌, ◌+◌, [], ◌∷◌, All, IsTrue, List, sum, ℕ};
+ghost use Rattle.std.specs.Prelude.{◌≡◌, ◌+◌, [], ◌∷◌, All, IsTrue, List, codes, sum, ℕ};
 ghost use Rattle.tool_commands.specs.RunProgram.{left_line, stream_line};
 ghost use Rattle.wheeler.specs.Stages.{mark_of};
 
@@ -27,6 +29,15 @@ pub fn accepted()
 /// report is true, the text ends in exactly the lines of what is assumed, and the status shows the conclusion that belongs to it.
 pub fn verified<M: Meaning>()
     ensures { (recipe report : List ℕ) (files : NamedFiles) → HoldBytes files → IsTrue (is_compared (verify recipe report files).status)
+        → Verified M.prescribes M.compiles recipe report files (verify recipe report files) }
+{
+    a_true_report_shows::<M>();
+}
+
+/// The same over any files of which those that `verify` loads were found to be bytes, as they are in `run`.
+pub fn verified_as_loaded<M: Meaning>()
+    ensures { (recipe report : List ℕ) (files : NamedFiles) → LoadsBytes (plan_of (codes "verify" ∷ recipe ∷ report ∷ [])) files
+        → IsTrue (is_compared (verify recipe report files).status)
         → Verified M.prescribes M.compiles recipe report files (verify recipe report files) }
 {
     a_true_report_shows::<M>();

@@ -1,18 +1,25 @@
-ghost use Rattle.std.specs.Prelude.{◌≡◌, [], ◌∷◌, ℕ, IsTrue, List, codes, map};
+ghost use Rattle.std.specs.Prelude.{◌≡◌, ◌⊎◌, [], ◌∷◌, ℕ, IsFalse, IsTrue, List, MatchOption, Ok, Err, Some, codes, drop, map};
 ghost use Rattle.ddc_base.specs.Outside.{after_piece};
+ghost use Rattle.ddc_base.specs.declared.outside.PutFail.TheVariants as putting;
+ghost use Rattle.prompt.specs.Converses.{SaysAll};
+ghost use Rattle.prompt.specs.Talks.{Talk};
 ghost use Rattle.command_plan.specs.Answered.{is_answer};
 ghost use Rattle.command_plan.specs.Endings.{Completes};
-ghost use Rattle.command_plan.specs.Performs.{Performs, WantsMemory};
-ghost use Rattle.ddc_app.specs.Accepting.{HoldBytes, is_compared};
+ghost use Rattle.command_plan.specs.Performs.{HoldsTalk, Performs, WantsMemory};
+ghost use Rattle.command_plan.specs.Plan.{talk_of};
+ghost use Rattle.ddc_app.specs.Accepting.{is_compared};
+ghost use Rattle.ddc_app.specs.Commands.{is_step, text_plan};
 ghost use Rattle.ddc_app.specs.Verified.{Verified};
-ghost use Rattle.ddc_app.specs.Run.{plan_for, due, IsDue, TakesOne, NamesFault, LosesText};
-ghost use Rattle.ddc_app.specs.Inside.Concluding.{PutEnds, SaysEnding};
+ghost use Rattle.ddc_app.specs.Run.{plan_for, due, IsDue, IsOneText, LosesText, NamesFault, TakesOne};
+ghost use Rattle.ddc_app.specs.Inside.Concluding.{Closes, Leaves, PutEnds, SaysEnding, unless_lost};
 
-use crate::laws::verified;
-use audit_commands::{audit, part, resume, show};
+use crate::laws::verified_as_loaded;
+use audit_commands::{audit, part, resume, show, step};
 use command_plan::{Answer, Status, Stop, usage};
 use ddc_base::{PutFail, Shelf, Sink};
+use demo_command::demo;
 use meaning::Meaning;
+use prompt::Prompt;
 use std::alloc::Global;
 use tool_commands::{asm, hex0, list, run};
 use verify_command::verify;
@@ -24,54 +31,117 @@ use verify_command::verify;
 /// nothing of it, the call comes to the plan's outcome, unless it ends in a fault that was counted in this call or for want of
 /// memory.
 ///
+/// Every command says one text, and does not ask the prompt, but `step`: where its plan comes to a session, the prompt's lines are
+/// answered one by one, each by a piece of its own.
+///
 /// `M` is what sources mean. The call does the same under every meaning, and what follows from an answer of `verify` holds under each.
-pub fn run<M: Meaning, S: Shelf, K: Sink>(
+pub fn run<M: Meaning, S: Shelf, K: Sink, P: Prompt>(
     alloc: Global,
     words: &[&str],
     shelf: &mut S,
     out: &mut K,
+    prompt: &mut P,
 ) -> Status
-    // An answer is the plan's outcome, given in one piece after exactly the plan's calls, none of which failed.
+    // An answer is the plan's outcome, given after exactly the plan's calls, none of which failed, and in one piece where it is a text.
     ensures status { IsDue words.now (S.state shelf.old) → IsTrue (is_answer result)
         → result ≡ (due words.now (S.state shelf.old)).status }
-    ensures text { IsDue words.now (S.state shelf.old) → IsTrue (is_answer result)
+    ensures text { IsOneText words.now (S.state shelf.old) → IsDue words.now (S.state shelf.old) → IsTrue (is_answer result)
         → K.state out.new ≡ after_piece (due words.now (S.state shelf.old)).text (K.state out.old) }
     ensures calls { IsTrue (is_answer result)
         → Completes (plan_for words.now) (S.state shelf.old) (S.state shelf.new) }
-    ensures one_put { IsTrue (is_answer result) → TakesOne (K.state out.old) (K.state out.new) }
+    ensures one_put { IsOneText words.now (S.state shelf.old) → IsTrue (is_answer result) → TakesOne (K.state out.old) (K.state out.new) }
+
+    // A session that is answered was held to its end: each reply in a piece of its own, in order, and the lines taken.
+    ensures session { IsDue words.now (S.state shelf.old) → (talk : List ℕ → Talk)
+        → talk_of (plan_for words.now) (S.state shelf.old).files ≡ Some talk → IsTrue (is_answer result)
+        → SaysAll talk (K.state out.old) (K.state out.new) (P.state prompt.old) (P.state prompt.new) }
+    ensures replies { IsTrue (is_answer result)
+        → (TakesOne (K.state out.old) (K.state out.new) × (P.state prompt.new ≡ P.state prompt.old))
+        ⊎ HoldsTalk (plan_for words.now) (S.state shelf.old) (S.state shelf.new) (K.state out.old) (K.state out.new)
+        (P.state prompt.old) (P.state prompt.new) (Ok tt) }
 
     // A fault is a call that failed and was counted: the shelf's after a front part of the plan's calls, the sink's in the one put.
     ensures shelf_fault { result ≡ Status.ShelfFault
         → NamesFault (plan_for words.now) (S.state shelf.old) (S.state shelf.new) (K.state out.old) (K.state out.new) }
-    ensures out_fault { result ≡ Status.OutFault
+    ensures out_fault { IsOneText words.now (S.state shelf.old) → result ≡ Status.OutFault
         → LosesText (plan_for words.now) (S.state shelf.old) (S.state shelf.new) (K.state out.old) (K.state out.new) }
 
-    // Want of memory says nothing, and comes after a front part of the plan's calls.
-    ensures silent { result ≡ Status.OutOfMemory → K.state out.new ≡ K.state out.old }
+    // In a session the sink failed in a reply behind whole ones, or the prompt behind whole replies, and nothing more was put.
+    ensures talk_fault { result ≡ Status.OutFault
+        → (LosesText (plan_for words.now) (S.state shelf.old) (S.state shelf.new) (K.state out.old) (K.state out.new)
+        × (P.state prompt.new ≡ P.state prompt.old))
+        ⊎ HoldsTalk (plan_for words.now) (S.state shelf.old) (S.state shelf.new) (K.state out.old) (K.state out.new)
+        (P.state prompt.old) (P.state prompt.new) (Err putting.Failed) }
+
+    // Want of memory says nothing, or nothing behind the whole replies of a session, and comes after a front part of the plan's calls.
+    ensures silent { IsOneText words.now (S.state shelf.old) → result ≡ Status.OutOfMemory → K.state out.new ≡ K.state out.old }
+    ensures talk_want { result ≡ Status.OutOfMemory
+        → ((K.state out.new ≡ K.state out.old) × (P.state prompt.new ≡ P.state prompt.old))
+        ⊎ HoldsTalk (plan_for words.now) (S.state shelf.old) (S.state shelf.new) (K.state out.old) (K.state out.new)
+        (P.state prompt.old) (P.state prompt.new) (Err putting.OutOfMemory) }
     ensures want { result ≡ Status.OutOfMemory
         → WantsMemory (plan_for words.now) (S.state shelf.old) (S.state shelf.new) }
 
-    // What an answer of `verify` shows, whatever sources mean, over files of bytes.
-    ensures shown { HoldBytes (S.state shelf.old).files → IsDue words.now (S.state shelf.old) → (recipe report : List ℕ)
+    // What an answer of `verify` shows, whatever sources mean.
+    ensures shown { IsDue words.now (S.state shelf.old) → (recipe report : List ℕ)
         → map (λ word. word.now) words.now ≡ codes "verify" ∷ recipe ∷ report ∷ [] → IsTrue (is_compared result)
         → Verified M.prescribes M.compiles recipe report (S.state shelf.old).files (due words.now (S.state shelf.old)) }
 
+    // The prompt is asked in a session alone.
+    ensures prompt_stays { IsOneText words.now (S.state shelf.old) ⊎ (result ≡ Status.ShelfFault)
+        → P.state prompt.new ≡ P.state prompt.old }
+
     ensures shelf_tells { (S.state shelf.new).tells ≡ (S.state shelf.old).tells }
     ensures out_tells { (K.state out.new).tells ≡ (K.state out.old).tells }
+    ensures prompt_tells { (P.state prompt.new).tells ≡ (P.state prompt.old).tells }
 {
-    verified::<M>();
-    let ending = perform::<M, S>(alloc, words, shelf);
-    conclude(out, ending)
+    verified_as_loaded::<M>();
+    act::<M, S, K, P>(alloc, words, shelf, out, prompt)
 }
 
-/// Hands over to the command that the first word names.
+/// Hands over to `step`, which may begin a session, or to a command that says one text.
+fn act<M: Meaning, S: Shelf, K: Sink, P: Prompt>(
+    alloc: Global,
+    words: &[&str],
+    shelf: &mut S,
+    out: &mut K,
+    prompt: &mut P,
+) -> Status
+    ensures { Leaves (is_step (map (λ word. word.now) words.now)) (plan_for words.now) (S.state shelf.old) (S.state shelf.new)
+        (K.state out.old) (K.state out.new) (P.state prompt.old) (P.state prompt.new) result }
+{
+    match after_step(words) {
+        Some(words) => {
+            let ended = step::perform(alloc, words, shelf, out, prompt);
+            close(out, ended)
+        }
+        None => {
+            let ending = perform::<M, S>(alloc, words, shelf);
+            conclude(out, ending)
+        }
+    }
+}
+
+/// The words behind `step`, where it is the first.
+fn after_step<'a, 'w>(words: &'a [&'w str]) -> Option<&'a [&'w str]>
+    ensures { MatchOption result (IsFalse (is_step (map (λ word. word.now) words.now)))
+        (λ rest. IsTrue (is_step (map (λ word. word.now) words.now))
+        × (map (λ word. word.now) rest.now ≡ drop 1 (map (λ word. word.now) words.now))) }
+{
+    match words {
+        [first, rest @ ..] if *first == "step" => Some(rest),
+        _ => None,
+    }
+}
+
+/// Hands over to the command that the first word names, of those that say one text.
 #[tactic(auto, using(command_plan::proofs::Performing::performing))]
 fn perform<M: Meaning, S: Shelf>(
     alloc: Global,
     words: &[&str],
     shelf: &mut S,
 ) -> Result<Answer, Stop>
-    ensures { Performs (plan_for words.now) (S.state shelf.old) (S.state shelf.new) result }
+    ensures { Performs (text_plan (map (λ word. word.now) words.now)) (S.state shelf.old) (S.state shelf.new) result }
 {
     let Some((first, words)) = words.split_first() else {
         return usage(alloc);
@@ -86,7 +156,18 @@ fn perform<M: Meaning, S: Shelf>(
         "resume" => resume::perform(alloc, words, shelf),
         "show" => show::perform(alloc, words, shelf),
         "verify" => verify::perform::<M, S>(alloc, words, shelf),
+        "demo" => demo::perform::<M, S>(alloc, words, shelf),
         _ => usage(alloc),
+    }
+}
+
+/// The status of a session that was held, or says what ended the command before it.
+fn close<K: Sink>(out: &mut K, ended: Result<Result<(), PutFail>, Stop>) -> Status
+    ensures { Closes (K.state out.old) ended (K.state out.new) result }
+{
+    match ended {
+        Ok(talked) => unless_lost(talked, Status::Yes),
+        Err(stop) => conclude(out, Err(stop)),
     }
 }
 
@@ -106,7 +187,14 @@ fn conclude<K: Sink>(out: &mut K, ending: Result<Answer, Stop>) -> Status
 fn put<K: Sink>(out: &mut K, text: &[u8], status: Status) -> Status
     ensures { PutEnds (K.state out.old) text.now (K.state out.new) status result }
 {
-    match out.put(text) {
+    unless_lost(out.put(text), status)
+}
+
+/// This status, unless what was put was lost.
+fn unless_lost(put: Result<(), PutFail>, status: Status) -> Status
+    ensures { result ≡ unless_lost put status }
+{
+    match put {
         Ok(()) => status,
         Err(PutFail::Failed) => Status::OutFault,
         Err(PutFail::OutOfMemory) => Status::OutOfMemory,

@@ -90,6 +90,7 @@ fn replace_file<R: Files>(
     match filled.and_then(|()| fs::rename(rt, beside.as_str(), path)) {
         Ok(()) => Ok(()),
         Err(error) => {
+            // The first error is told, whether the file beside can be removed or not.
             fs::remove_file(rt, beside.as_str()).ok();
             Err(error)
         }

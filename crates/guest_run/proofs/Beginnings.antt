@@ -7,7 +7,7 @@ use Rattle.std.proofs.lemmas.Bool.{cases_lt}
 use Rattle.std.proofs.lemmas.Bool.Decides.{nat_tests}
 use Rattle.std.proofs.lemmas.List.Sums.{sum_by-cons}
 use Rattle.paged_mem.specs.Memory.{Memory, bytes_of, maps, with_bytes, zeros}
-use Rattle.paged_mem.specs.Held.{get-with_bytes_below, get-with_bytes_above}
+use Rattle.paged_mem.specs.Inside.Wholeness.{get-with_bytes_below, get-with_bytes_above}
 use Rattle.paged_mem.proofs.Mapped.{length-zeros}
 use Rattle.paged_mem.proofs.Maps.{each_by_maps, maps_by_each}
 use Rattle.paged_mem.proofs.Numbers.{length-bytes_of}

@@ -13,3 +13,4 @@ pub mod Boxes
 pub mod Stretching
 pub mod Endings
 pub mod Fits
+mod RunsByAct

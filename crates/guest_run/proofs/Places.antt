@@ -5,7 +5,7 @@ use Rattle.std.specs.List.{fold}
 use Rattle.std.specs.FinMap.{empty, get, get-empty}
 use Rattle.std.specs.Ordering.{nat_cmp}
 use Rattle.paged_mem.specs.Memory.{Memory, IsFree, maps, with_bytes, zeros}
-use Rattle.paged_mem.specs.Held.{get-with_bytes, get-with_bytes_below, get-with_bytes_above}
+use Rattle.paged_mem.specs.Inside.Wholeness.{get-with_bytes, get-with_bytes_below, get-with_bytes_above}
 use Rattle.paged_mem.proofs.Mapped.{length-zeros}
 use Rattle.paged_mem.proofs.Maps.{maps_by_each}
 use Rattle.elf_load.specs.declared.Segment.{Segment}

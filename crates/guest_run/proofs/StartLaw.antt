@@ -131,6 +131,7 @@ start-valid program setting image are box sound fits small = record {
     zero = refl;
     aligned = sound.entry_aligned;
     whole = memory-whole program image.segments.items setting.args setting.env are sound.placed box.arg_bytes box.env_bytes fits;
+    reserved = tt;
   };
   numbers = record {
     registers = All-set (λ value. value < 2 ^ 64) (replicate 32 0) 2 (stack_pointer setting.args setting.env) (omega arith) (All-replicate (λ value. value < 2 ^ 64) 32 0 (omega arith));

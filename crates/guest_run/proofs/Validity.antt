@@ -84,7 +84,7 @@ valid_after_call : (guest : GuestState) (meant : CallOutcome) → IsValid guest 
 valid_after_call guest (call.goes answer left) valid leaves number keeps =
     let hart = valid.hart in
     let moved : IsHart (record guest.hart { memory = left.memory }) =
-    record { count = hart.count; zero = hart.zero; aligned = hart.aligned; whole = leaves.memory } in
+    record { count = hart.count; zero = hart.zero; aligned = hart.aligned; whole = leaves.memory; reserved = hart.reserved } in
     record {
       hart = answered-hart (record guest.hart { memory = left.memory }) (answer_of answer) moved;
       numbers = answered-numbers (record guest.hart { memory = left.memory }) (answer_of answer) number (record { registers = valid.numbers.registers; pc = valid.numbers.pc });

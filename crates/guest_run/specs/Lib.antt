@@ -6,4 +6,5 @@ pub mod Run
 pub mod Setting
 pub mod Start
 pub mod Program
+pub mod ByAct
 pub mod Inside

@@ -38,7 +38,7 @@ outcome_of guest = syscall (call_number guest) (call_arguments guest) (state gue
 
 -- the hart after a call: x10 has the value, and the next instruction follows
 abbrev pub answered : HartState → ℕ → HartState
-answered hart value = record (with_register hart 10 value) { pc = following hart }
+answered hart value = record (with_register hart 10 value) { pc = following hart; reservation = None }
 
 -- the step of a call that comes to this
 abbrev pub step_of_call : GuestState → CallOutcome → Next

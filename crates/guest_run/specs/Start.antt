@@ -1,6 +1,6 @@
 -- The state in which a program starts, or why it does not.
 -- docs/reference/running.md says the same for people.
-use Rattle.std.specs.Prelude.{◌≡◌, ℕ, nat_lt, if◌then◌else◌, Result, Ok, Err, IsOk, List, replicate, slice_set}
+use Rattle.std.specs.Prelude.{◌≡◌, ℕ, nat_lt, if◌then◌else◌, None, Result, Ok, Err, IsOk, List, replicate, slice_set}
 use Rattle.std.specs.List.{fold}
 use Rattle.std.specs.FinMap as map
 use Rattle.mem_files.specs.World.{World}
@@ -31,6 +31,7 @@ start_state program setting image = record {
     pc = image.entry;
     memory = with_stack (with_segments program image.segments.items)
         (stack_pointer setting.args setting.env) (stack_bytes setting.args setting.env);
+    reservation = None;
   };
   world = start_world setting.files;
   heap = record { first = image.first_break; now = image.first_break; limit = setting.heap };

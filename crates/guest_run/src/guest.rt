@@ -34,7 +34,8 @@ pub struct Guest<R: Ram> {
 }
 
 impl<R: Ram> Model for Guest<R> {
-    ghost use Rattle.guest_run.specs.State.{GuestState, guest_code};
+    ghost use Rattle.guest_run.specs.State.{GuestState};
+    ghost use Rattle.guest_run.specs.Inside.Codes.{guest_code};
     ghost use Rattle.guest_run.specs.Valid.{IsValid};
 
     ghost Value = { GuestState };

@@ -1,5 +1,6 @@
 //! What holds of every start and every run. Each law is the contract of a function that does nothing.
 
+ghost use Rattle.guest_run.specs.ByAct.{ProgramRunBy};
 ghost use Rattle.guest_run.specs.Program.{ProgramRun};
 ghost use Rattle.guest_run.specs.Run.{after, end_at, first_end, End, Exited, Runs};
 ghost use Rattle.guest_run.specs.Setting.{IsBox, Setting};
@@ -11,7 +12,9 @@ ghost use Rattle.mem_files.specs.Sound.{AreBytes, IsSound};
 ghost use Rattle.guest_run.specs.declared.run.RunEnd.{RunEnd};
 ghost use Rattle.guest_run.specs.declared.run.RunEnd.TheVariants.{Spent};
 ghost use Rattle.mem_files.specs.World.{World};
-ghost use Rattle.std.specs.Prelude.{◌≡◌, ◌≢◌, ℕ, ◌+◌, ◌<◌, ◌≤◌, None, Some, Ok, List};
+ghost use Rattle.rv64_machine.specs.Hart.{act};
+ghost use Rattle.rv64_machine.specs.WithoutAtomics.{act_without_atomics};
+ghost use Rattle.std.specs.Prelude.{◌≡◌, ◌↔◌, ◌≢◌, ℕ, ◌+◌, ◌<◌, ◌≤◌, None, Some, Ok, List};
 
 /// Steps can be taken in parts: what follows so many steps from the state after others follows their sum.
 pub fn steps_in_parts()
@@ -113,4 +116,13 @@ pub fn runs_leave_sound_files()
         → ProgramRun program setting n s world → AreLeft (left world) }
     ensures numbers { (program : List ℕ) (setting : Setting) (n s : ℕ) (world : World) → AreBytes program → IsBox setting
         → ProgramRun program setting n s world → (1 ≤ n) × (s < 256) }
+{}
+
+/// A run of a machine that knows the rows of RV64I and M alone, to which the words of the atomic rows are illegal, is the same run where
+/// it exits: the same step, status and files. By all rows it is the run itself.
+pub fn runs_without_atomics_stand()
+    ensures all { (program : List ℕ) (setting : Setting) (n s : ℕ) (world : World)
+        → ProgramRunBy act program setting n s world ↔ ProgramRun program setting n s world }
+    ensures without { (program : List ℕ) (setting : Setting) (n s : ℕ) (world : World)
+        → ProgramRunBy act_without_atomics program setting n s world → ProgramRun program setting n s world }
 {}

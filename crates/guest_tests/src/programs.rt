@@ -198,6 +198,50 @@ fn gives_zeros_at_a_higher_break(rt: HostRuntime) -> Result<(), Fail> {
     Ok(())
 }
 
+/// lr.w x5, (x2); sc.w x10, x5, (x2); exit.
+static RESERVING: [u32; 4] = [0x1001_22af, 0x1851_252f, 0x05d0_0893, 0x0000_0073];
+
+/// A call's number and first argument; lr.w x5, (x2); the call; sc.w x10, x5, (x2); exit.
+fn reserving_over_a_call(number: u32, argument: u32) -> [u32; 7] {
+    [
+        0x0000_0893 | (number & 0xfff) << 20,
+        0x0000_0513 | (argument & 0xfff) << 20,
+        0x1001_22af,
+        0x0000_0073,
+        0x1851_252f,
+        0x05d0_0893,
+        0x0000_0073,
+    ]
+}
+
+/// A call that goes on ends a reservation: one that is served, as brk(0), and one that is refused, as the close of no descriptor.
+#[test]
+fn calls_end_a_reservation(rt: HostRuntime) -> Result<(), Fail> {
+    let alloc = rt.alloc();
+    let held = program_of(alloc, &RESERVING)?;
+    assert!(rt; run_of(alloc, &held, 9)? == (RunEnd::Exited(0), 3));
+    for (number, argument) in [(214, 0), (57, 77)] {
+        let program = program_of(alloc, &reserving_over_a_call(number, argument))?;
+        assert!(rt; run_of(alloc, &program, 9)? == (RunEnd::Exited(1), 6));
+    }
+    Ok(())
+}
+
+/// addi x2, x2, 2, and lr.w x5, (x2) or amoadd.w x5, x5, (x2): the stack pointer of a program without words is 2^38 - 48.
+#[test]
+fn misaligned_atomic_accesses_trap(rt: HostRuntime) -> Result<(), Fail> {
+    let alloc = rt.alloc();
+    let load = program_of(alloc, &[0x0021_0113, 0x1001_22af])?;
+    assert!(rt;
+        run_of(alloc, &load, 9)? == (RunEnd::Trapped(Cause::LoadUnmapped(0x3f_ffff_ffd2)), 1)
+    );
+    let sum = program_of(alloc, &[0x0021_0113, 0x0051_22af])?;
+    assert!(rt;
+        run_of(alloc, &sum, 9)? == (RunEnd::Trapped(Cause::StoreUnmapped(0x3f_ffff_ffd2)), 1)
+    );
+    Ok(())
+}
+
 #[test]
 fn limits_the_texts(rt: HostRuntime) -> Result<(), Fail> {
     let alloc = rt.alloc();

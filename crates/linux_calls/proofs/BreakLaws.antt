@@ -4,7 +4,7 @@ use Rattle.std.specs.Prelude.{nat_lt}
 use Rattle.std.specs.FinMap.{get}
 use borrow.Author.Tests.{ltb-false}
 use Rattle.paged_mem.specs.Memory.{Memory, with_bytes, without, zeros}
-use Rattle.paged_mem.specs.Held.{get-with_bytes_below}
+use Rattle.paged_mem.specs.Inside.Wholeness.{get-with_bytes_below}
 use Rattle.paged_mem.proofs.Maps.{get-without_other}
 use Rattle.paged_mem.proofs.MemoryLaws.{get-zeros}
 use Rattle.linux_calls.specs.HeapOf.{resized}

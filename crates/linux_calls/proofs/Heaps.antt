@@ -11,7 +11,7 @@ use Rattle.std.specs.Prelude.{nat_lt}
 use Rattle.std.proofs.lemmas.Bool.{cases_lt}
 use borrow.Author.Tests.{ltb-true, ltb-false}
 use Rattle.paged_mem.specs.Memory.{Memory, IsFree, maps, with_bytes, without, zeros, page_up}
-use Rattle.paged_mem.specs.Held.{get-with_bytes_below, get-with_bytes_above}
+use Rattle.paged_mem.specs.Inside.Wholeness.{get-with_bytes_below, get-with_bytes_above}
 use Rattle.paged_mem.proofs.Maps.{get-without, get-without_other, maps_by_each, each_by_maps}
 use Rattle.paged_mem.proofs.Mapped.{length-zeros}
 use Rattle.paged_mem.proofs.MemoryLaws.{get-zeros}

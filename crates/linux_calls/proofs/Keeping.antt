@@ -5,7 +5,7 @@ use Rattle.std.specs.FinMap.{get}
 use Rattle.std.proofs.lemmas.Bool.{cases_lt}
 use Rattle.std.proofs.lemmas.Bool.Decides.{nat_tests}
 use Rattle.paged_mem.specs.Memory.{Memory, bytes_at, maps, with_bytes, without, zeros, page_up}
-use Rattle.paged_mem.specs.Held.{get-with_bytes_below, get-with_bytes_above}
+use Rattle.paged_mem.specs.Inside.Wholeness.{get-with_bytes_below, get-with_bytes_above}
 use Rattle.paged_mem.proofs.Mapped.{length-zeros}
 use Rattle.paged_mem.proofs.Maps.{get-without_other}
 use Rattle.mem_files.specs.World.{World}

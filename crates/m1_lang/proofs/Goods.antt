@@ -7,7 +7,7 @@ use Rattle.std.specs.List.{AllByRecursion}
 use Rattle.hex.specs.Hex.{hex_digit_value}
 use Rattle.hex_langs.specs.declared.items.item.Item.{Item}
 use Rattle.hex_langs.specs.declared.items.token.Dialect.TheVariants.{Hex2}
-use Rattle.hex_langs.specs.declared.items.token.Fault.{Fault}
+use Rattle.hex_langs.specs.declared.items.token.TokenFault.{TokenFault}
 use Rattle.hex_langs.specs.declared.items.token.Token.{Token}
 use Rattle.hex_langs.specs.declared.items.token.Token.TheVariants.{Byte, Field}
 use Rattle.hex_langs.specs.Items.Tokens.{byte_of, gap_length, opens_gap, token_at}
@@ -90,7 +90,7 @@ byte_tokens-good (Some (byte ∷ bytes)) are = bytes-good (byte ∷ bytes) are
 
 -- ---- one token of hex2
 
-over-good : (rest : List ℕ) (found : Result (Token × ℕ) Fault) → IsGoodFound found → IsGoodList (one_token (token_over rest found))
+over-good : (rest : List ℕ) (found : Result (Token × ℕ) TokenFault) → IsGoodFound found → IsGoodList (one_token (token_over rest found))
 over-good rest (Err why) good = tt
 over-good rest (Ok found) good = by (found.1 == length rest)
   where

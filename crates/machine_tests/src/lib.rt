@@ -4,6 +4,8 @@
 ghost use Rattle.std.specs.Prelude.{◌≡◌, ◌*◌, ◌^◌, ◌<◌};
 
 #[cfg(test)]
+mod atomics;
+#[cfg(test)]
 mod instructions;
 #[cfg(test)]
 mod machine;

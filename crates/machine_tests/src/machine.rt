@@ -4,7 +4,7 @@ mod cases;
 
 ghost use Rattle.paged_mem.specs.Memory.{with_bytes, zeros};
 ghost use Rattle.std.specs.FinMap as map;
-ghost use Rattle.std.specs.Prelude.{◌≡◌, IfOk, replicate};
+ghost use Rattle.std.specs.Prelude.{◌≡◌, IfOk, None, replicate};
 
 use cases::{BRANCHES, KNOWN, LOADS, REGISTERS, STORES};
 use ddc_base::OutOfMemory;
@@ -20,6 +20,7 @@ fn made<R: Ram>(alloc: Global) -> Result<Hart<R>, OutOfMemory>
       registers = replicate 32 0;
       pc = 65536;
       memory = with_bytes map.empty 65536 (zeros 12288);
+      reservation = None;
     }) }
 {
     let mut ram = R::empty(alloc);

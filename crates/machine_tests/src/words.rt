@@ -3,7 +3,7 @@
 use rv64_table::{Op, laws, row_of, rows};
 
 /// Words as the GNU assembler makes them, with their operations.
-static ASSEMBLED: [(u32, Op); 7] = [
+static ASSEMBLED: [(u32, Op); 10] = [
     (0x4020_8fb3, Op::Sub),
     (0x43f3_5293, Op::Srai),
     (0x41f3_529b, Op::Sraiw),
@@ -11,6 +11,9 @@ static ASSEMBLED: [(u32, Op); 7] = [
     (0x0010_0073, Op::Ebreak),
     (0x02c5_f53b, Op::Remuw),
     (0xffff_f0b7, Op::Lui),
+    (0x1600_b52f, Op::Lrd),
+    (0x18d5_a62f, Op::Scw),
+    (0xe4c5_a52f, Op::Amomaxuw),
 ];
 
 #[test]
@@ -24,4 +27,5 @@ fn rows_of_assembled_words(rt: HostRuntime) {
         assert_eq!(rt; rows()[want as usize], row);
     }
     assert_eq!(rt; row_of(0xffff_ffff), None);
+    assert_eq!(rt; row_of(0x1610_b52f), None);
 }

@@ -1,26 +1,31 @@
 -- Both directions of Wheeler's argument, from the end of a bench.
 use Rattle.std.proofs.Common.{◌≡◌, ◌≢◌, ℕ, Bool, true, false, cond, Option, None, Some, List, [], ◌∷◌, refl, sym, ap, ◌∙◌, subst, All}
-use Rattle.std.specs.Prelude.{bytes_eq, find, option_and_then}
+use Rattle.std.specs.Prelude.{bytes_eq, find, if◌then◌else◌, option_and_then}
 use Rattle.std.proofs.lemmas.List.Elements.{All-head, All-tail}
 use Rattle.std.proofs.lemmas.Option.{same_Some}
 use Rattle.std.proofs.lemmas.Slice.Eq.{bytes_eq-Decides}
 use Rattle.ddc_base.specs.Difference.{first_difference}
+use Rattle.ddc_base.specs.declared.languages.Language.{Language}
+use Rattle.ddc_base.specs.declared.languages.Language.TheVariants.{Hex0, Hex1, Hex2, M1}
 use Rattle.guest_run.specs.Setting.{IsBox}
 use Rattle.recipe.specs.declared.contents.Said.{Said}
+use Rattle.recipe.specs.declared.parts.Source.{Source}
+use Rattle.recipe.specs.declared.parts.SourceLanguage.{SourceLanguage}
+use Rattle.recipe.specs.declared.parts.SourceLanguage.TheVariants.{Defined, Other}
 use Rattle.recipe.specs.declared.parts.Stage.{Stage}
 use Rattle.recipe.specs.Kept.{IsRecipe}
-use Rattle.recipe.specs.Lookups.{hex_check}
+use Rattle.recipe.specs.Lookups.{hex_check, is_hex, source_named}
 use Rattle.report.specs.declared.types.Report.{Report}
 use Rattle.wheeler.specs.declared.answer.Answer.TheVariants.{Completes}
 use Rattle.wheeler.specs.Bench.{bench, compared_at}
-use Rattle.wheeler.specs.Contents.{Contents, box_of, content, program_of}
+use Rattle.wheeler.specs.Contents.{Contents, box_of, check_language, content, defined, program_of}
 use Rattle.wheeler.specs.Stages.{output_of}
 use Rattle.wheeler.specs.Valid.{IsInputs}
 use Rattle.wheeler.proofs.GivenBoxes.{box-is}
 use Rattle.wheeler.proofs.Rules as rules
 use Rattle.meaning.specs.AllContents.{all_contents, text_named}
 use Rattle.meaning.specs.Assumptions.{LinesHold}
-use Rattle.meaning.specs.Checked.{HasCheckItems, HasItemsOf, IsCheckValue}
+use Rattle.meaning.specs.Checked.{HasCheckItems, HasItemsOf, IsCheckValue, IsCheckedIn}
 use Rattle.meaning.specs.Concludes.{Concludes, ConcludesDifferent, ConcludesEqual}
 use Rattle.meaning.specs.Differing.{IsExcluded, IsExcludedByOwn, IsNoValue}
 use Rattle.meaning.specs.Follows.{Follows, FollowsBy, HasParent, IsComparedStage, IsOnlyContent, PrescribesOnly, audited_binary}
@@ -42,6 +47,22 @@ found test P (y ∷ ys) x all is = by_test (test y) refl is (λ later. found tes
       let same = same_Some y x is in
       (subst P same (All-head P y ys all), ap test (sym same) ∙ was)
   by_test false was is later = later is
+
+-- checked in a language that is not M1: the check's source is one of hex0, hex1 or hex2
+hex-checked : (recipe : Said) (stage : Stage) (language : Language) (source : List ℕ) → IsCheckedIn recipe stage language source → language ≢ M1
+    → option_and_then (hex_check recipe.sources) stage.check ≡ Some source
+unfolding check_language
+hex-checked recipe stage language source checked other = rw checked.named (by (source_named recipe.sources source) (rw checked.named at checked.defined)) where
+  spoken : (lang : SourceLanguage) → defined lang ≡ Some language → (if is_hex lang then Some source else None) ≡ Some source
+  spoken (Defined Hex0) is = refl
+  spoken (Defined Hex1) is = refl
+  spoken (Defined Hex2) is = refl
+  spoken (Defined M1) is = absurd (other cc)
+  spoken Other is = absurd cc
+
+  by : (o : Option Source) → option_and_then (λ (s : Source). defined s.lang) o ≡ Some language → option_and_then (λ (s : Source). if is_hex s.lang then Some source else None) o ≡ Some source
+  by None is = absurd cc
+  by (Some s) is = spoken s.lang is
 
 module _ (prescribes : Prescribes) (compiles : Compiles) (laws : Laws prescribes compiles) (recipe : Said) (inputs : List (List ℕ)) (report : Report) (ok : IsRecipe recipe)
     (r : Reached recipe inputs report) where
@@ -108,16 +129,17 @@ module _ (prescribes : Prescribes) (compiles : Compiles) (laws : Laws prescribes
     by_check (Some check) was is = checked-value recipe all stage check source (content recipe all stage.name) was is (ran stage at).right
 
   value : content recipe all recipe.compare.stage ≡ audited_binary recipe inputs → IsCheckValue recipe inputs
-  value same stage source at is = own-value stage source at is ∙ ap Some (equalling same stage at)
+  value same stage language source at checked other = own-value stage source at (hex-checked recipe stage language source checked other) ∙ ap Some (equalling same stage at)
 
   items : content recipe all recipe.compare.stage ≡ audited_binary recipe inputs → HasCheckItems recipe inputs
-  items same stage source at was language =
+  items same stage source at checked =
       subst (HasItemsOf (text_named recipe all source)) (equalling same stage at)
-      (checked-items recipe all stage source (content recipe all stage.name) was language (ran stage at).right)
+      (checked-items recipe all stage source (content recipe all stage.name) checked.named checked.defined (ran stage at).right)
 
   no_value : content recipe all recipe.compare.stage ≢ audited_binary recipe inputs → IsNoValue recipe inputs
-  no_value differs stage source at is value =
-      differing differs stage at (same_Some (content recipe all stage.name) (audited_binary recipe inputs) (sym (own-value stage source at is) ∙ value))
+  no_value differs stage language source at checked other value =
+      let own = own-value stage source at (hex-checked recipe stage language source checked other) in
+      differing differs stage at (same_Some (content recipe all stage.name) (audited_binary recipe inputs) (sym own ∙ value))
 
   equal : content recipe all recipe.compare.stage ≡ audited_binary recipe inputs → ConcludesEqual prescribes compiles recipe inputs
   equal same = record { follows = follows; only = only same; value = value same; items = items same }

@@ -1,5 +1,6 @@
 -- What the audited binary is where it equals a compared stage that is checked. docs/reference/argument.md says the same for people.
-use Rattle.std.specs.Prelude.{◌≡◌, ℕ, Some, Ok, option_and_then, List}
+use Rattle.std.specs.Prelude.{◌≡◌, ◌≢◌, ℕ, Some, Ok, List}
+use Rattle.ddc_base.specs.declared.languages.Language.{Language}
 use Rattle.ddc_base.specs.declared.languages.Language.TheVariants.{M1}
 use Rattle.hex_langs.specs.declared.items.item.Item.{Item}
 use Rattle.hex_langs.specs.declared.items.token.Dialect.TheVariants.{Hex2}
@@ -7,17 +8,21 @@ use Rattle.hex_langs.specs.Items.Reading.{items_of}
 use Rattle.m1_lang.specs.Expansion.{expansion_of}
 use Rattle.recipe.specs.declared.contents.Said.{Said}
 use Rattle.recipe.specs.declared.parts.Stage.{Stage}
-use Rattle.recipe.specs.Lookups.{hex_check}
 use Rattle.wheeler.specs.SourceCheck.Checks.{joined_files}
 use Rattle.wheeler.specs.Contents.{SourceText, check_language}
 use Rattle.meaning.specs.AllContents.{all_contents, text_named}
 use Rattle.meaning.specs.Follows.{IsComparedStage, audited_binary}
 use Rattle.meaning.specs.Values.{binary_of}
 
+-- a stage's artefact is checked in this language, by the source of this name
+pub record IsCheckedIn (recipe : Said) (stage : Stage) (language : Language) (source : List ℕ) : Type 0 where
+  pub named : stage.check ≡ Some source
+  pub defined : check_language recipe stage ≡ Some language
+
 -- checked in hex0, hex1 or hex2: the audited binary is the value of the check's source
 abbrev pub IsCheckValue : Said → List (List ℕ) → Type 0
 IsCheckValue recipe inputs =
-    (stage : Stage) (source : List ℕ) → IsComparedStage recipe stage → option_and_then (hex_check recipe.sources) stage.check ≡ Some source
+    (stage : Stage) (language : Language) (source : List ℕ) → IsComparedStage recipe stage → IsCheckedIn recipe stage language source → language ≢ M1
     → binary_of (text_named recipe (all_contents recipe inputs) source) ≡ Some (audited_binary recipe inputs)
 
 -- a text of hex2 that has the items of an M1 source, one by one
@@ -29,5 +34,5 @@ pub record HasItemsOf (source : SourceText) (text : List ℕ) : Type 0 where
 -- checked in M1: the audited binary is a text of hex2 that has the items of the check's source
 abbrev pub HasCheckItems : Said → List (List ℕ) → Type 0
 HasCheckItems recipe inputs =
-    (stage : Stage) (source : List ℕ) → IsComparedStage recipe stage → stage.check ≡ Some source → check_language recipe stage ≡ Some M1
+    (stage : Stage) (source : List ℕ) → IsComparedStage recipe stage → IsCheckedIn recipe stage M1 source
     → HasItemsOf (text_named recipe (all_contents recipe inputs) source) (audited_binary recipe inputs)

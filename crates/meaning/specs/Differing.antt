@@ -1,14 +1,16 @@
 -- What follows where the audited binary differs from the compared stage. docs/reference/argument.md says the same for people.
-use Rattle.std.specs.Prelude.{◌≡◌, ◌≢◌, ℕ, Some, option_and_then, List}
+use Rattle.std.specs.Prelude.{◌≡◌, ◌≢◌, ℕ, Some, List}
+use Rattle.ddc_base.specs.declared.languages.Language.{Language}
+use Rattle.ddc_base.specs.declared.languages.Language.TheVariants.{M1}
 use Rattle.mem_files.specs.Outputs.{out}
 use Rattle.mem_files.specs.World.{World}
 use Rattle.guest_run.specs.Program.{ProgramRun}
 use Rattle.recipe.specs.declared.contents.Said.{Said}
 use Rattle.recipe.specs.declared.parts.Stage.{Stage}
-use Rattle.recipe.specs.Lookups.{hex_check}
 use Rattle.wheeler.specs.Contents.{Contents, box_of, program_of}
 use Rattle.wheeler.specs.Stages.{output_of}
 use Rattle.meaning.specs.AllContents.{all_contents, text_named}
+use Rattle.meaning.specs.Checked.{IsCheckedIn}
 use Rattle.meaning.specs.Follows.{HasParent, IsComparedStage, audited_binary}
 use Rattle.meaning.specs.Meaning.{Implements, Prescribes}
 use Rattle.meaning.specs.Values.{binary_of}
@@ -40,5 +42,5 @@ IsExcludedByOwn prescribes recipe inputs =
 -- where the compared stage is checked in hex0, hex1 or hex2, the audited binary is not the value of the check's source
 abbrev pub IsNoValue : Said → List (List ℕ) → Type 0
 IsNoValue recipe inputs =
-    (stage : Stage) (source : List ℕ) → IsComparedStage recipe stage → option_and_then (hex_check recipe.sources) stage.check ≡ Some source
+    (stage : Stage) (language : Language) (source : List ℕ) → IsComparedStage recipe stage → IsCheckedIn recipe stage language source → language ≢ M1
     → binary_of (text_named recipe (all_contents recipe inputs) source) ≢ Some (audited_binary recipe inputs)

@@ -7,3 +7,4 @@ pub mod Numbers
 pub mod Counts
 pub mod Keys
 pub mod Listing
+pub mod Codes

@@ -1,12 +1,10 @@
 -- The files of a guest as one value: equal files are equal values (docs/reference/files.md, "What is kept").
-use Rattle.std.specs.Prelude.{ℕ, ◌+◌, Bool, false, ◌==◌, if◌then◌else◌, unwrap_or, List, [], ◌∷◌, length, sum_by, refl}
+use Rattle.std.specs.Prelude.{ℕ, ◌+◌, Bool, false, ◌==◌, if◌then◌else◌, unwrap_or, List, [], ◌∷◌, length, sum_by}
 use Rattle.std.specs.List.{list_any}
 use Rattle.std.specs.Ordering.{nat_cmp}
 use Rattle.std.specs.FinMap as map
-use Rattle.std.specs.Coded.{Coded, code_by, coded×, coded_ℕ, coded_list}
 use Rattle.mem_files.specs.declared.slot.Slot.{Slot}
 use Rattle.mem_files.specs.declared.slot.Slot.TheVariants.{Input, Stream1, Stream2, File}
-use Rattle.mem_files.specs.contracts.slot.Slot as slot
 use Rattle.mem_files.specs.Names.{bytes_cmp}
 
 -- names to file numbers, numbers to contents, descriptors to what they stand for, and the two collected streams
@@ -48,12 +46,3 @@ first_gap n (key ∷ keys) = if key == n then first_gap (n + 1) keys else n
 -- the least number that isn't a key
 abbrev pub lowest_unused : {X : Type 0} → map.FinMap nat_cmp X → ℕ
 lowest_unused m = first_gap 0 (map.keys m)
-
--- how the prover stores a world, as its parts: a crate above that stores one names it
-abbrev pub world_code : Coded World
-world_code =
-    code_by (map.FinMap bytes_cmp ℕ × (map.FinMap nat_cmp (List ℕ) × (map.FinMap nat_cmp Slot × (List ℕ × List ℕ))))
-    (coded× (map.code (coded_list coded_ℕ) coded_ℕ) (coded× (map.code coded_ℕ (coded_list coded_ℕ)) (coded× (map.code coded_ℕ slot.the_row.coded) (coded× (coded_list coded_ℕ) (coded_list coded_ℕ)))))
-    (λ w. (w.names, (w.files, (w.slots, (w.stream1, w.stream2)))))
-    (λ p. record { names = p.0; files = p.1.0; slots = p.1.1.0; stream1 = p.1.1.1.0; stream2 = p.1.1.1.1 })
-    (λ _. refl)

@@ -25,7 +25,8 @@ pub struct Files {
 }
 
 impl Model for Files {
-    ghost use Rattle.mem_files.specs.World.{World, world_code};
+    ghost use Rattle.mem_files.specs.World.{World};
+    ghost use Rattle.mem_files.specs.Inside.Codes.{world_code};
 
     ghost Value = { World };
 

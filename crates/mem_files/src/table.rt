@@ -44,7 +44,8 @@ pub struct Table {
 }
 
 impl Model for Table {
-    ghost use Rattle.mem_files.specs.World.{World, world_code};
+    ghost use Rattle.mem_files.specs.World.{World};
+    ghost use Rattle.mem_files.specs.Inside.Codes.{world_code};
 
     ghost Value = { World };
 

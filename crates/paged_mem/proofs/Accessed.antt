@@ -9,8 +9,8 @@ use Rattle.std.proofs.lemmas.Option.{none-some, same_Some}
 use Rattle.std.proofs.lemmas.List.{get_or_default, get_or-drop, get_or-take}
 use Rattle.paged_mem.specs.Memory.{Memory, maps, bytes_at, bytes_of, reads, with_bytes}
 use Rattle.paged_mem.specs.Inside.Flat.{memory_of, place, slot, Spans, overwritten, number_at}
-use Rattle.paged_mem.specs.Held.{place-some}
-use Rattle.paged_mem.specs.Entries.{Entry, ArePages, AreFull, page_content, flat, held_pages}
+use Rattle.paged_mem.specs.Inside.Wholeness.{place-some}
+use Rattle.paged_mem.specs.Inside.Entries.{Entry, ArePages, AreFull, page_content, flat, held_pages}
 use Rattle.paged_mem.specs.Paged.{TouchesUnheld}
 use Rattle.paged_mem.specs.Ram.{count_of}
 use Rattle.paged_mem.specs.declared.ram.Width.{Width}

@@ -1,5 +1,5 @@
 -- The bytes of entries, one page after the other, and which entries hold bytes.
-use Rattle.std.proofs.Common.{◌≡◌, ℕ, zero, suc, ◌+◌, ◌-◌, ◌*◌, ◌/◌, ◌%◌, ◌<◌, ◌≤◌, None, Some, is_some, if◌then◌else◌, Bool, true, false, List, [], ◌∷◌, ◌++◌, length, get_or, take, drop, replicate, refl, sym, ap, ◌∙◌, arith, rules, ◌⊎◌, inl, inr, length-append, length-take, length-drop, append_assoc}
+use Rattle.std.proofs.Common.{◌≡◌, ℕ, zero, suc, ◌+◌, ◌-◌, ◌*◌, ◌/◌, ◌%◌, ◌<◌, ◌≤◌, None, Some, is_some, IsSome, if◌then◌else◌, Bool, true, false, List, [], ◌∷◌, ◌++◌, length, get_or, take, drop, replicate, refl, sym, ap, ◌∙◌, arith, rules, ◌⊎◌, inl, inr, length-append, length-take, length-drop, append_assoc}
 use Rattle.std.proofs.Math.ListN.{set}
 use Rattle.std.proofs.lemmas.Bool.{cases_lt}
 use Rattle.std.proofs.lemmas.Grind.{same_number_lists}
@@ -7,7 +7,7 @@ use Rattle.std.proofs.lemmas.List.{places, length-replicate, get_or-replicate, g
 use borrow.Rule.Slice.PartMut.{put_mid}
 use Rattle.paged_mem.specs.Memory.{zeros}
 use Rattle.paged_mem.specs.Inside.Flat.{overwritten, number_at}
-use Rattle.paged_mem.specs.Entries.{Entry, AreFull, ArePages, page_content, flat, held_pages}
+use Rattle.paged_mem.specs.Inside.Entries.{Entry, AreFull, ArePages, page_content, flat, held_pages}
 use Rattle.paged_mem.proofs.Mapped.{length-zeros}
 use Rattle.paged_mem.proofs.Views.{get_or-overwritten, get_or-overwritten_other, length-overwritten}
 
@@ -225,6 +225,18 @@ held_pages-set (page ∷ pages) (Some old ∷ entries) zero None = omega arith
 held_pages-set (page ∷ pages) (Some old ∷ entries) zero (Some new) = omega arith
 held_pages-set (page ∷ pages) (None ∷ entries) (suc i) entry = held_pages-set pages entries i entry
 held_pages-set (page ∷ pages) (Some old ∷ entries) (suc i) entry = omega (arith, held_pages-set pages entries i entry)
+
+pub held_pages-set_kept : (pages : List ℕ) (entries : List Entry) (i : ℕ) (entry : Entry) → (IsSome (get_or entries i None) → IsSome entry)
+    → length (held_pages pages entries) ≤ length (held_pages pages (set entries i entry))
+unfolding held_pages
+held_pages-set_kept [] entries i entry kept = omega arith
+held_pages-set_kept (page ∷ pages) [] i entry kept = omega arith
+held_pages-set_kept (page ∷ pages) (None ∷ entries) zero None kept = omega arith
+held_pages-set_kept (page ∷ pages) (None ∷ entries) zero (Some new) kept = omega arith
+held_pages-set_kept (page ∷ pages) (Some old ∷ entries) zero None kept = absurd (let no : false ≡ true = kept refl in cc)
+held_pages-set_kept (page ∷ pages) (Some old ∷ entries) zero (Some new) kept = omega arith
+held_pages-set_kept (page ∷ pages) (None ∷ entries) (suc i) entry kept = held_pages-set_kept pages entries i entry kept
+held_pages-set_kept (page ∷ pages) (Some old ∷ entries) (suc i) entry kept = omega (arith, held_pages-set_kept pages entries i entry kept)
 
 pub is_some-set : (entries : List Entry) (i : ℕ) (entry : Entry) → is_some entry ≡ is_some (get_or entries i None)
     → (k : ℕ) → is_some (get_or (set entries i entry) k None) ≡ is_some (get_or entries k None)

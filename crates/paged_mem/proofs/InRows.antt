@@ -1,8 +1,8 @@
 -- Rows of pages: that two ends make one, and where an address in one stands.
 use Rattle.std.proofs.Common.{◌≡◌, ℕ, ◌+◌, ◌-◌, ◌*◌, ◌/◌, ◌%◌, ◌^◌, ◌<◌, Some, List, length, get_or, ◌∙◌, arith}
 use Rattle.paged_mem.specs.Inside.Flat.{place, Rises, AreLow}
-use Rattle.paged_mem.specs.Held.{place-some}
-use Rattle.paged_mem.specs.Entries.{IsRowOf}
+use Rattle.paged_mem.specs.Inside.Wholeness.{place-some}
+use Rattle.paged_mem.specs.Inside.Entries.{IsRowOf}
 use Rattle.paged_mem.specs.declared.rows.Row.{Row}
 use Rattle.paged_mem.proofs.Places.{place-at}
 use Rattle.paged_mem.proofs.Spans.{between}

@@ -8,7 +8,7 @@ use Rattle.std.proofs.lemmas.List.{get_or-replicate, length-replicate}
 use Rattle.std.proofs.lemmas.List.FromFn.{length-range_with_len}
 use Rattle.paged_mem.specs.Memory.{IsFree, with_bytes, without, zeros}
 use Rattle.paged_mem.specs.Inside.Flat.{memory_of, place, Rises}
-use Rattle.paged_mem.specs.Held.{get-memory_of, contains-memory_of, get-with_bytes, get-with_bytes_below, get-with_bytes_above}
+use Rattle.paged_mem.specs.Inside.Wholeness.{get-memory_of, contains-memory_of, get-with_bytes, get-with_bytes_below, get-with_bytes_above}
 use Rattle.paged_mem.proofs.Maps.{same_memory, get-without, get-without_other}
 use Rattle.paged_mem.proofs.Places.{place-none}
 use Rattle.paged_mem.proofs.Rooms.{place-range, place-range_none, place-front, get_front, get_back, at_front, at_middle, at_back, at_end}

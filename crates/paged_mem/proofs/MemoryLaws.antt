@@ -6,7 +6,7 @@ use Rattle.std.proofs.lemmas.Bool.{cases_lt}
 use Rattle.std.proofs.Math.Nat.{pow-suc, one-le-pow}
 use Rattle.std.proofs.Math.Arith.{mod-mul}
 use Rattle.paged_mem.specs.Memory.{Memory, IsWhole, IsFree, maps, bytes_at, reads, writes, with_bytes, without, zeros, number_of, bytes_of}
-use Rattle.paged_mem.specs.Held.{get-with_bytes, get-with_bytes_below, get-with_bytes_above}
+use Rattle.paged_mem.specs.Inside.Wholeness.{get-with_bytes, get-with_bytes_below, get-with_bytes_above}
 use Rattle.paged_mem.proofs.Maps.{same_memory, get-without, get-without_other, bytes_at-found, bytes_at-none}
 use Rattle.paged_mem.proofs.Numbers.{length-bytes_of}
 use Rattle.paged_mem.proofs.Mapped.{length-zeros, get_or-zeros}

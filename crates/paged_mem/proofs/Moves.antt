@@ -7,7 +7,7 @@ use Rattle.std.proofs.lemmas.List.{get_or-take, get_or-drop, take-append-drop, d
 use Rattle.std.proofs.lemmas.List.FromFn.{length-range_with_len, get_or-range_with_len}
 use Rattle.paged_mem.specs.Memory.{IsFree, maps, bytes_at, with_bytes, without, zeros}
 use Rattle.paged_mem.specs.Inside.Flat.{memory_of, place, Rises, AreLow, IsRank, AreFlatPages}
-use Rattle.paged_mem.specs.Held.{place-some, contains-memory_of}
+use Rattle.paged_mem.specs.Inside.Wholeness.{place-some, contains-memory_of}
 use Rattle.paged_mem.proofs.Maps.{get_in_bytes_at}
 use Rattle.paged_mem.proofs.Places.{place-at, in_a_row}
 use Rattle.paged_mem.proofs.Rooms.{Rises-append, AreLow-append, Rises-range, AreLow-range, Part, part_of}

@@ -4,7 +4,7 @@ use Rattle.std.specs.List.{range_with_len}
 use Rattle.std.proofs.lemmas.List.FromFn.{length-range_with_len}
 use Rattle.paged_mem.specs.Memory.{IsFree, maps, with_bytes, without, zeros}
 use Rattle.paged_mem.specs.Inside.Flat.{memory_of, IsRank}
-use Rattle.paged_mem.specs.Entries.{Entry, ArePages, AreFull, flat, held_pages}
+use Rattle.paged_mem.specs.Inside.Entries.{Entry, ArePages, AreFull, flat, held_pages}
 use Rattle.paged_mem.proofs.Flats.{AreFull-absent, AreFull-append, AreFull-drop, AreFull-take, flat-closed, flat-opened, held_pages-closed, held_pages-opened, length-absent}
 use Rattle.paged_mem.proofs.Moves.{memory_after_map, memory_after_unmap, sound_after_map, sound_after_unmap, within_before_unmap}
 use Rattle.paged_mem.proofs.Rooms.{gap_closed}

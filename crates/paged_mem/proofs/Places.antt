@@ -3,7 +3,7 @@ use Rattle.std.proofs.Common.{◌≡◌, ◌≢◌, ℕ, zero, suc, ◌+◌, ◌
 use Rattle.std.specs.Option.{option_map}
 use Rattle.std.proofs.lemmas.Bool.{cases_eq, cases_order, and_parts, and_from, ltb-true, lt-ltb, eqb-true, eq-eqb, false≢true}
 use Rattle.paged_mem.specs.Inside.Flat.{place, Rises, AreLow, IsRank}
-use Rattle.paged_mem.specs.Held.{place_here, place_later, place-some}
+use Rattle.paged_mem.specs.Inside.Wholeness.{place_here, place_later, place-some}
 
 -- the page with a number stands at one place, and where no page has it there is none
 Rises-tail : (page : ℕ) (pages : List ℕ) → Rises (page ∷ pages) → Rises pages

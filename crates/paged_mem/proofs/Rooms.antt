@@ -8,7 +8,7 @@ use Rattle.std.proofs.lemmas.Option.{none-some}
 use Rattle.std.proofs.lemmas.List.{set_at, get_or_append_left, get_or-append-add, take-append-drop, take_at, drop_at}
 use Rattle.std.proofs.lemmas.List.FromFn.{length-range_with_len, get_or-range_with_len}
 use Rattle.paged_mem.specs.Inside.Flat.{memory_of, place, Rises, AreLow}
-use Rattle.paged_mem.specs.Held.{place_here, place_later, place-some, get-memory_of}
+use Rattle.paged_mem.specs.Inside.Wholeness.{place_here, place_later, place-some, get-memory_of}
 use Rattle.paged_mem.proofs.Places.{place-at, place-none}
 
 -- ---- numbers in a row

@@ -4,7 +4,7 @@ use Rattle.std.specs.Option.{option_map}
 use Rattle.std.specs.FinMap.{get}
 use Rattle.paged_mem.specs.Ram.{IsRun}
 use Rattle.paged_mem.specs.Inside.Flat.{memory_of, place, slot, AreFlatPages, IsRank, IsRowAt}
-use Rattle.paged_mem.specs.Held.{get-memory_of}
+use Rattle.paged_mem.specs.Inside.Wholeness.{get-memory_of}
 use Rattle.paged_mem.proofs.Places.{place-at, place-none, place-rank, never_falls}
 use Rattle.paged_mem.proofs.Views.{maps-span}
 

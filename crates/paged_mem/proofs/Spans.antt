@@ -3,7 +3,7 @@ use Rattle.std.proofs.Common.{◌≡◌, ◌≢◌, ℕ, zero, suc, ◌+◌, ◌
 use Rattle.std.specs.Option.{option_map}
 use Rattle.std.proofs.lemmas.Bool.{cases_eq}
 use Rattle.paged_mem.specs.Inside.Flat.{place, slot, Rises, AreLow, Spans}
-use Rattle.paged_mem.specs.Held.{place-some}
+use Rattle.paged_mem.specs.Inside.Wholeness.{place-some}
 use Rattle.paged_mem.proofs.Places.{place-at, place-none, rising_by, in_a_row}
 
 -- no address at or past 2 ^ 38 is on a page

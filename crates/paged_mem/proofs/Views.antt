@@ -8,7 +8,7 @@ use Rattle.std.proofs.lemmas.List.{get_or-take, get_or-drop, places}
 use Rattle.paged_mem.specs.Memory.{bytes_at, maps, with_bytes}
 use Rattle.paged_mem.specs.Inside.Flat.{memory_of, place, slot, Spans, overwritten}
 use Rattle.paged_mem.proofs.Maps.{same_memory, bytes_at-found, bytes_at-none}
-use Rattle.paged_mem.specs.Held.{place-some, get-memory_of, get-with_bytes, get-with_bytes_below, get-with_bytes_above}
+use Rattle.paged_mem.specs.Inside.Wholeness.{place-some, get-memory_of, get-with_bytes, get-with_bytes_below, get-with_bytes_above}
 
 -- the address whose byte stands at an index
 address_of_slot : (pages : List ℕ) (at s : ℕ) → slot pages at ≡ Some s → at ≡ 4096 * get_or pages (s / 4096) 0 + s % 4096

@@ -3,7 +3,7 @@
 ghost use Rattle.std.specs.Prelude.{◌≡◌, ℕ, ◌+◌, ◌-◌, ◌*◌, ◌%◌, ◌^◌, ◌<◌, ◌≤◌, length, IfSome, slice_index, unwrap_or, Err, Some};
 ghost use Rattle.paged_mem.specs.Memory.{bytes_at, maps, reads};
 ghost use Rattle.paged_mem.specs.Ram.{count_of, RunsFrom, shown_bytes, Stores, StoresNear, Writes};
-ghost use Rattle.paged_mem.specs.Entries.{AreFull, ArePages, AreRowsOf, flat, held_pages};
+ghost use Rattle.paged_mem.specs.Inside.Entries.{AreFull, ArePages, AreRowsOf, flat, held_pages};
 ghost use Rattle.paged_mem.specs.Inside.Flat.{memory_of, number_at, Rises};
 ghost use Rattle.paged_mem.specs.Paged.{pages_touched, TouchesUnheld};
 
@@ -145,6 +145,7 @@ pub fn write_at(
     ensures writes { Writes (memory_of pages.now (flat entries.old)) at source.now result (memory_of pages.now (flat entries.new)) }
     ensures raises { length (held_pages pages.now entries.new)
         ≤ length (held_pages pages.now entries.old) + pages_touched at (length source.now) }
+    ensures kept { length (held_pages pages.now entries.old) ≤ length (held_pages pages.now entries.new) }
     ensures unmapped { result ≡ Err StoreRefusal.Unmapped
         → held_pages pages.now entries.new ≡ held_pages pages.now entries.old }
     ensures wants { result ≡ Err StoreRefusal.OutOfMemory
@@ -215,6 +216,7 @@ pub fn store_at(
         (memory_of pages.now (flat entries.new)) }
     ensures raises { length (held_pages pages.now entries.new)
         ≤ length (held_pages pages.now entries.old) + pages_touched at (count_of width) }
+    ensures kept { length (held_pages pages.now entries.old) ≤ length (held_pages pages.now entries.new) }
     ensures unmapped { result ≡ Err StoreRefusal.Unmapped
         → held_pages pages.now entries.new ≡ held_pages pages.now entries.old }
     ensures wants { result ≡ Err StoreRefusal.OutOfMemory

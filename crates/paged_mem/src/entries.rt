@@ -1,7 +1,7 @@
 //! The entries of pages: reading and writing over several of them.
 
 ghost use Rattle.std.specs.Prelude.{◌≡◌, ◌≢◌, ℕ, ◌+◌, ◌-◌, ◌*◌, ◌%◌, ◌^◌, ◌<◌, ◌≤◌, length, take, drop, is_some, IsSome, OnOk, OnErr, None, List, slice_index, slice_index_or};
-ghost use Rattle.paged_mem.specs.Entries.{AreFull, page_content, flat, held_pages};
+ghost use Rattle.paged_mem.specs.Inside.Entries.{AreFull, page_content, flat, held_pages};
 ghost use Rattle.paged_mem.specs.Inside.Flat.{number_at, overwritten};
 ghost use Rattle.paged_mem.specs.Ram.{count_of};
 
@@ -122,6 +122,7 @@ fn hold(alloc: Global, entry: &mut Entry) -> Result<(), OutOfMemory>
     ensures full { length (page_content entry.new) ≡ 4096 }
     ensures ok { OnOk result (IsSome entry.new) }
     ensures err { OnErr result ((entry.old ≡ None) × (entry.new ≡ None)) }
+    ensures kept { IsSome entry.old → IsSome entry.new }
 {
     if entry.is_some() {
         return Ok(());
@@ -150,6 +151,7 @@ pub fn take_memory(
     ensures bytes { flat entries.new ≡ flat entries.old }
     ensures raises { (pages : List ℕ)
         → length (held_pages pages entries.new) ≤ length (held_pages pages entries.old) + (end - first) }
+    ensures kept { (pages : List ℕ) → length (held_pages pages entries.old) ≤ length (held_pages pages entries.new) }
     ensures ok { OnOk result ((k : ℕ) → first ≤ k → k < end → IsSome (slice_index_or entries.new k None)) }
     ensures err { OnErr result ((k : ℕ) × (first ≤ k) × (k < end) × (slice_index_or entries.old k None ≡ None)) }
 {

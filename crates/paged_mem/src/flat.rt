@@ -1,7 +1,7 @@
 ghost use Rattle.std.specs.Prelude.{◌≡◌, ◌≢◌, ◌*◌, Err};
 ghost use Rattle.paged_mem.specs.Ram.{count_of, Stores, Writes};
 ghost use Rattle.paged_mem.specs.Inside.Flat.{AreFlatPages};
-ghost use Rattle.paged_mem.specs.Held.{AreFlatPages-prop};
+ghost use Rattle.paged_mem.specs.Inside.Wholeness.{AreFlatPages-prop};
 
 use crate::mapping::{map_pages, unmap_pages};
 use crate::pages::{fill, number, put, put_number, row_from, span};
@@ -23,7 +23,9 @@ pub struct FlatRam {
 }
 
 impl Model for FlatRam {
-    ghost use Rattle.paged_mem.specs.Held.{Held, held_code, IsWhole-memory_of};
+    ghost use Rattle.paged_mem.specs.Held.{Held};
+    ghost use Rattle.paged_mem.specs.Inside.Codes.{held_code};
+    ghost use Rattle.paged_mem.specs.Inside.Wholeness.{IsWhole-memory_of};
     ghost use Rattle.paged_mem.specs.Inside.Flat.{memory_of};
 
     ghost Value = { Held };

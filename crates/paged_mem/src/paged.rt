@@ -1,8 +1,8 @@
 ghost use Rattle.std.specs.Prelude.{◌≡◌, ℕ, ◌+◌, ◌*◌, ◌%◌, ◌^◌, ◌≤◌, [], Err, IsTrue, OnOk, OnErr, length};
 ghost use Rattle.paged_mem.specs.Memory.{IsFree, maps, with_bytes, without, zeros};
 ghost use Rattle.paged_mem.specs.Ram.{count_of, Stores, StoresNear, Writes};
-ghost use Rattle.paged_mem.specs.Entries.{ArePages, AreRowsOf};
-ghost use Rattle.paged_mem.specs.Held.{ArePages-prop, AreRowsOf-prop};
+ghost use Rattle.paged_mem.specs.Inside.Entries.{ArePages, AreRowsOf};
+ghost use Rattle.paged_mem.specs.Inside.Wholeness.{ArePages-prop, AreRowsOf-prop};
 ghost use Rattle.paged_mem.specs.Paged.{pages_touched, TouchesUnheld};
 ghost use Rattle.std.specs.FinMap as map;
 
@@ -33,8 +33,10 @@ pub struct PagedRam {
 }
 
 impl Model for PagedRam {
-    ghost use Rattle.paged_mem.specs.Held.{PagedMemory, paged_code, IsWhole-memory_of};
-    ghost use Rattle.paged_mem.specs.Entries.{flat, held_pages};
+    ghost use Rattle.paged_mem.specs.Held.{PagedMemory};
+    ghost use Rattle.paged_mem.specs.Inside.Codes.{paged_code};
+    ghost use Rattle.paged_mem.specs.Inside.Wholeness.{IsWhole-memory_of};
+    ghost use Rattle.paged_mem.specs.Inside.Entries.{flat, held_pages};
     ghost use Rattle.paged_mem.specs.Inside.Flat.{memory_of};
 
     ghost Value = { PagedMemory };
@@ -77,11 +79,13 @@ impl Ram for PagedRam {
         load_at(&self.pages, &self.entries, &self.rows, at, width)
     }
 
-    /// Takes the memory of each page that it touches and that holds no bytes yet, before it writes.
+    /// Takes the memory of each page that it touches and that holds no bytes yet, before it writes. Where that is wanting, no byte
+    /// has changed, and some of these pages may hold their zeros.
     #[inline(always)]
     fn store(&mut self, at: u64, width: Width, value: u64) -> Result<(), StoreRefusal>
         ensures stores { Stores self.old.bytes at (count_of width) value result self.new.bytes }
         ensures raises { length self.new.held ≤ length self.old.held + pages_touched at (count_of width) }
+        ensures kept { length self.old.held ≤ length self.new.held }
         ensures unmapped { result ≡ Err StoreRefusal.Unmapped → self.new.held ≡ self.old.held }
         ensures wants { result ≡ Err StoreRefusal.OutOfMemory → TouchesUnheld self.old.held at (count_of width) }
     {
@@ -121,6 +125,7 @@ impl Ram for PagedRam {
     fn write_from(&mut self, at: u64, source: &[u8]) -> Result<(), StoreRefusal>
         ensures writes { Writes self.old.bytes at source.now result self.new.bytes }
         ensures raises { length self.new.held ≤ length self.old.held + pages_touched at (length source.now) }
+        ensures kept { length self.old.held ≤ length self.new.held }
         ensures unmapped { result ≡ Err StoreRefusal.Unmapped → self.new.held ≡ self.old.held }
         ensures wants { result ≡ Err StoreRefusal.OutOfMemory → TouchesUnheld self.old.held at (length source.now) }
     {

@@ -1,7 +1,7 @@
 //! Rows of pages, in which an address is found without a search.
 
 ghost use Rattle.std.specs.Prelude.{◌≡◌, ℕ, ◌+◌, ◌/◌, ◌^◌, ◌<◌, IfSome, List, Some};
-ghost use Rattle.paged_mem.specs.Entries.{AreRowsOf, IsRowOf};
+ghost use Rattle.paged_mem.specs.Inside.Entries.{AreRowsOf, IsRowOf};
 ghost use Rattle.paged_mem.specs.Inside.Flat.{AreLow, Rises, place};
 
 use crate::PAGE;

@@ -36,7 +36,7 @@ impl Recipe {
         Recipe { said }
     }
 
-    /// The SHA-256 digest of the recipe's bytes.
+    /// The SHA-256 digest (FIPS 180-4) of the recipe's bytes.
     pub fn digest(&self) -> &Digest
         ensures value { result.now ≡ self.now.digest }
         ensures kept { IsRecipe self.now }

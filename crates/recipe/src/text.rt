@@ -1,6 +1,6 @@
 //! What stands at a key of a recipe's tables: its value, or the refusal.
 //!
-//! Its rules for people: docs/reference/recipe.md.
+//! The tables are those of a document of TOML 1.0.0 (toml.io), whose bytes are UTF-8 (RFC 3629). Its rules for people: docs/reference/recipe.md.
 
 mod documents;
 mod fields;

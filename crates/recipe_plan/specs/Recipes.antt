@@ -10,10 +10,13 @@ use Rattle.command_plan.specs.Words.{is_one_file, usage}
 use Rattle.command_plan.specs.Plan.{Plan, answers, needs, needs_all, unless_refused}
 use Rattle.recipe_plan.specs.Texts.{recipe_line}
 
+-- a text is read as a recipe
+abbrev pub reads_recipe : List ℕ → (Said → Plan) → Plan
+reads_recipe text next = unless_refused (recipe_of text) (λ refusal. answers RecipeRefused (recipe_line refusal)) next
+
 -- the recipe is needed, of at most 1,048,576 bytes, and read
 abbrev pub needs_recipe : List ℕ → (Said → Plan) → Plan
-needs_recipe file next =
-    needs file 1_048_576 (λ bytes. unless_refused (recipe_of bytes) (λ refusal. answers RecipeRefused (recipe_line refusal)) next)
+needs_recipe file next = needs file 1_048_576 (λ bytes. reads_recipe bytes next)
 
 -- the paths of the inputs, in order
 abbrev pub paths : Said → List (List ℕ)

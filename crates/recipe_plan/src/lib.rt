@@ -10,5 +10,5 @@ mod reports;
 pub mod texts;
 
 pub use inputs::fetch_inputs;
-pub use recipes::{apart, fetch_recipe};
+pub use recipes::{apart, fetch_recipe, read_recipe};
 pub use reports::fetch_report;

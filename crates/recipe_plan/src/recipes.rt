@@ -2,11 +2,10 @@
 
 ghost use Rattle.std.specs.Prelude.{◌≡◌};
 ghost use Rattle.ddc_base.specs.Outside.{IsFileName, ShelfState};
-ghost use Rattle.recipe.specs.Reading.{recipe_of};
 ghost use Rattle.command_plan.specs.declared.status.Status.TheVariants.{RecipeRefused};
-ghost use Rattle.command_plan.specs.Plan.{answers, unless_refused};
+ghost use Rattle.command_plan.specs.Plan.{answers};
 ghost use Rattle.command_plan.specs.Steps.{Obtains, Says};
-ghost use Rattle.recipe_plan.specs.Recipes.{is_input, needs_apart, needs_recipe};
+ghost use Rattle.recipe_plan.specs.Recipes.{is_input, needs_apart, needs_recipe, reads_recipe};
 ghost use Rattle.recipe_plan.specs.Texts.{recipe_line};
 
 use crate::texts;
@@ -30,10 +29,16 @@ pub fn fetch_recipe<S: Shelf>(alloc: Global, shelf: &mut S, file: &str) -> Resul
 
 /// Reads a recipe, and lets its text go.
 fn read(alloc: Global, bytes: Bytes) -> Result<Recipe, Stop>
-    ensures { (shelf : ShelfState) → Obtains (unless_refused (recipe_of bytes) (λ refusal. answers RecipeRefused (recipe_line refusal)))
-        shelf shelf result }
+    ensures { (shelf : ShelfState) → Obtains (reads_recipe bytes) shelf shelf result }
 {
-    match recipe::read(alloc, bytes.as_slice()) {
+    read_recipe(alloc, bytes.as_slice())
+}
+
+/// Reads a text as a recipe.
+pub fn read_recipe(alloc: Global, text: &[u8]) -> Result<Recipe, Stop>
+    ensures { (shelf : ShelfState) → Obtains (reads_recipe text.now) shelf shelf result }
+{
+    match recipe::read(alloc, text) {
         Ok(recipe) => Ok(recipe),
         Err(RecipeRefusal::OutOfMemory) => Err(Stop::OutOfMemory),
         Err(refusal) => Err(Stop::Answered(refused(alloc, refusal)?)),

@@ -1,4 +1,5 @@
--- A report: which are well formed, their one text, and where a text is none. docs/reference/report.md says the same for people.
+-- A report: which are well formed, their one text, and where a text is none. Its digests are those of SHA-256 (FIPS 180-4).
+-- docs/reference/report.md says the same for people.
 use Rattle.std.specs.Prelude.{◌≡◌, ◌≢◌, ℕ, ◌<◌, ◌≤◌, ◌^◌, Bool, true, ◌&&◌, All, List, [], ◌∷◌, ◌++◌, length, take, map, Result, Ok, Err, ◌⊎◌, IsTrue}
 use Rattle.std.specs.List.{flat_map}
 use Rattle.std.specs.Ordering.{nat_cmp, is_lt}

@@ -9,7 +9,7 @@ pub type LeftLines = ListOf<LeftLine>;
 /// The stages' blocks, in the recipe's order.
 pub type StageLines = ListOf<StageLine>;
 
-/// What a report says of some content: how many bytes it has, and their SHA-256 digest.
+/// What a report says of some content: how many bytes it has, and their SHA-256 digest (FIPS 180-4).
 #[derive(Clone, Copy, Debug, PartialEq, Eq)]
 pub struct Mark {
     pub length: u64,

@@ -4,9 +4,9 @@ use Rattle.std.specs.Prelude.{◌==◌, bit_and, ℤ, pos, if◌then◌else◌}
 use Rattle.std.specs.Int.{w64, cast_unsigned}
 use Rattle.std.proofs.lemmas.Bool.{and_parts, and_from, eqb-true, eq-eqb}
 use Rattle.rv64_table.specs.declared.Form.{Form}
-use Rattle.rv64_table.specs.declared.Form.TheVariants.{R, I, H, K, S, B, U, J, E}
+use Rattle.rv64_table.specs.declared.Form.TheVariants.{R, I, H, K, S, B, U, J, E, L, A}
 use Rattle.rv64_table.specs.Table.{mask_of}
-use Rattle.rv64_table.specs.Inside.Lookup.{has_fields, fits_funct3, fits_funct7}
+use Rattle.rv64_table.specs.Inside.Lookup.{has_fields, fits_funct3, fits_registers, fits_funct7}
 use Rattle.rv64_table.proofs.RowsByField.{matches-form}
 use Rattle.rv64_table.proofs.Masks.{and-fixed}
 use Rattle.rv64_table.proofs.Places.{Wants}
@@ -38,11 +38,12 @@ low z = cast_unsigned w64 z % 2 ^ 32
 
 -- a word with the wanted fields matches
 matches-from : (form : Form) (want w : ℕ) → w < 2 ^ 32 → has_fields form ≡ true → Wants form want → w % 2 ^ 7 ≡ want % 2 ^ 7
+    → fits_registers form (want / 2 ^ 15 % 2 ^ 10) (w / 2 ^ 15 % 2 ^ 10) ≡ true
     → fits_funct3 form (want / 2 ^ 12 % 2 ^ 3) (w / 2 ^ 12 % 2 ^ 3) ≡ true → fits_funct7 form (want / 2 ^ 25) (w / 2 ^ 25) ≡ true
     → (bit_and w (mask_of form) == want) ≡ true
-matches-from form want w below fields wants opcode funct3 funct7 =
+matches-from form want w below fields wants opcode registers funct3 funct7 =
     matches-form form w want below fields
-    ∙ and_from _ _ (eq-eqb _ _ opcode) (and_from _ _ (eq-eqb _ _ wants.rd) (and_from _ _ funct3 (and_from _ _ (eq-eqb _ _ wants.rs) funct7)))
+    ∙ and_from _ _ (eq-eqb _ _ opcode) (and_from _ _ (eq-eqb _ _ wants.rd) (and_from _ _ funct3 (and_from _ _ registers funct7)))
 
 pub reads : (form : Form) (want d a b : ℕ) (z : ℤ) (w : ℕ) → Given form want d a b z
     → w ≡ want + d * 2 ^ 7 + a * 2 ^ 15 + b * 2 ^ 20 + immediate_bits form (low z) → Reads form want d a b z w
@@ -52,7 +53,7 @@ reads R want d a b z w g e =
     let below : w < 2 ^ 32 = omega arith in
     record {
       below = below;
-      matches = matches-from R want w below refl wants (omega arith) (eq-eqb _ _ (omega arith)) (eq-eqb _ _ (omega arith));
+      matches = matches-from R want w below refl wants (omega arith) (eq-eqb _ _ wants.rs) (eq-eqb _ _ (omega arith)) (eq-eqb _ _ (omega arith));
       rd = omega arith;
       rs1 = omega arith;
       rs2 = omega arith;
@@ -65,7 +66,7 @@ reads I want d a b z w g e =
     let below : w < 2 ^ 32 = omega arith in
     record {
       below = below;
-      matches = matches-from I want w below refl wants (omega arith) (eq-eqb _ _ (omega arith)) (wants.funct7);
+      matches = matches-from I want w below refl wants (omega arith) (eq-eqb _ _ wants.rs) (eq-eqb _ _ (omega arith)) (wants.funct7);
       rd = omega arith;
       rs1 = omega arith;
       rs2 = omega arith;
@@ -79,7 +80,7 @@ reads H want d a b z w g e =
     let below : w < 2 ^ 32 = omega arith in
     record {
       below = below;
-      matches = matches-from H want w below refl wants (omega arith) (eq-eqb _ _ (omega arith)) (and_from _ _ funct7.0 (eq-eqb _ _ (omega arith)));
+      matches = matches-from H want w below refl wants (omega arith) (eq-eqb _ _ wants.rs) (eq-eqb _ _ (omega arith)) (and_from _ _ funct7.0 (eq-eqb _ _ (omega arith)));
       rd = omega arith;
       rs1 = omega arith;
       rs2 = omega arith;
@@ -91,7 +92,7 @@ reads K want d a b z w g e =
     let below : w < 2 ^ 32 = omega arith in
     record {
       below = below;
-      matches = matches-from K want w below refl wants (omega arith) (eq-eqb _ _ (omega arith)) (eq-eqb _ _ (omega arith));
+      matches = matches-from K want w below refl wants (omega arith) (eq-eqb _ _ wants.rs) (eq-eqb _ _ (omega arith)) (eq-eqb _ _ (omega arith));
       rd = omega arith;
       rs1 = omega arith;
       rs2 = omega arith;
@@ -104,7 +105,7 @@ reads S want d a b z w g e =
     let below : w < 2 ^ 32 = omega arith in
     record {
       below = below;
-      matches = matches-from S want w below refl wants (omega arith) (eq-eqb _ _ (omega arith)) (wants.funct7);
+      matches = matches-from S want w below refl wants (omega arith) (eq-eqb _ _ wants.rs) (eq-eqb _ _ (omega arith)) (wants.funct7);
       rd = omega arith;
       rs1 = omega arith;
       rs2 = omega arith;
@@ -119,7 +120,7 @@ reads B want d a b z w g e =
     let below : w < 2 ^ 32 = omega arith in
     record {
       below = below;
-      matches = matches-from B want w below refl wants (omega arith) (eq-eqb _ _ (omega arith)) (wants.funct7);
+      matches = matches-from B want w below refl wants (omega arith) (eq-eqb _ _ wants.rs) (eq-eqb _ _ (omega arith)) (wants.funct7);
       rd = omega arith;
       rs1 = omega arith;
       rs2 = omega arith;
@@ -135,7 +136,7 @@ reads U want d a b z w g e =
     let below : w < 2 ^ 32 = omega arith in
     record {
       below = below;
-      matches = matches-from U want w below refl wants (omega arith) (wants.funct3) (wants.funct7);
+      matches = matches-from U want w below refl wants (omega arith) (eq-eqb _ _ wants.rs) (wants.funct3) (wants.funct7);
       rd = omega arith;
       rs1 = omega arith;
       rs2 = omega arith;
@@ -151,7 +152,7 @@ reads J want d a b z w g e =
     let below : w < 2 ^ 32 = omega arith in
     record {
       below = below;
-      matches = matches-from J want w below refl wants (omega arith) (wants.funct3) (wants.funct7);
+      matches = matches-from J want w below refl wants (omega arith) (eq-eqb _ _ wants.rs) (wants.funct3) (wants.funct7);
       rd = omega arith;
       rs1 = omega arith;
       rs2 = omega arith;
@@ -167,4 +168,36 @@ reads E want d a b z w g e =
       rs1 = omega arith;
       rs2 = omega arith;
       imm = ap pos number ∙ unsigned-code 0 z (omega arith) g.imm;
+    }
+reads L want d a b z w g e =
+    let wants = g.wants refl in
+    let funct7 = and_parts (want / 2 ^ 25 % 2 ^ 2 == 0) _ wants.funct7 in
+    let even : want / 2 ^ 25 % 2 ^ 2 ≡ 0 = eqb-true _ _ funct7.0 in
+    let free : want / 2 ^ 15 % 2 ^ 10 ≡ 0 = wants.rs in
+    let number : bits w 26 25 ≡ low z % 2 ^ 2 = omega arith in
+    let below : w < 2 ^ 32 = omega arith in
+    let wanted : want / 2 ^ 15 % 2 ^ 10 % 2 ^ 5 ≡ 0 = omega arith in
+    let rs2 : w / 2 ^ 15 % 2 ^ 10 / 2 ^ 5 ≡ want / 2 ^ 15 % 2 ^ 10 / 2 ^ 5 = omega arith in
+    record {
+      below = below;
+      matches = matches-from L want w below refl wants (omega arith) (and_from _ _ (eq-eqb _ _ wanted) (eq-eqb _ _ rs2)) (eq-eqb _ _ (omega arith)) (and_from _ _ funct7.0 (eq-eqb _ _ (omega arith)));
+      rd = omega arith;
+      rs1 = omega arith;
+      rs2 = omega arith;
+      imm = ap pos number ∙ unsigned-code 2 z (omega arith) g.imm;
+    }
+reads A want d a b z w g e =
+    let wants = g.wants refl in
+    let funct7 = and_parts (want / 2 ^ 25 % 2 ^ 2 == 0) _ wants.funct7 in
+    let even : want / 2 ^ 25 % 2 ^ 2 ≡ 0 = eqb-true _ _ funct7.0 in
+    let free : want / 2 ^ 15 % 2 ^ 10 ≡ 0 = wants.rs in
+    let number : bits w 26 25 ≡ low z % 2 ^ 2 = omega arith in
+    let below : w < 2 ^ 32 = omega arith in
+    record {
+      below = below;
+      matches = matches-from A want w below refl wants (omega arith) (eq-eqb _ _ wants.rs) (eq-eqb _ _ (omega arith)) (and_from _ _ funct7.0 (eq-eqb _ _ (omega arith)));
+      rd = omega arith;
+      rs1 = omega arith;
+      rs2 = omega arith;
+      imm = ap pos number ∙ unsigned-code 2 z (omega arith) g.imm;
     }

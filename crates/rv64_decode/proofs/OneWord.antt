@@ -3,9 +3,9 @@ use Rattle.std.proofs.Common.{◌≡◌, ℕ, ◌+◌, ◌-◌, ◌*◌, ◌/◌
 use Rattle.std.specs.Prelude.{◌==◌, bit_and, pos, if◌then◌else◌}
 use Rattle.std.proofs.lemmas.Bool.{and_parts, eqb-true}
 use Rattle.rv64_table.specs.declared.Form.{Form}
-use Rattle.rv64_table.specs.declared.Form.TheVariants.{R, I, H, K, S, B, U, J, E}
+use Rattle.rv64_table.specs.declared.Form.TheVariants.{R, I, H, K, S, B, U, J, E, L, A}
 use Rattle.rv64_table.specs.Table.{mask_of}
-use Rattle.rv64_table.specs.Inside.Lookup.{has_fields, fits_funct3, fits_funct7}
+use Rattle.rv64_table.specs.Inside.Lookup.{has_fields, fits_funct3, fits_registers, fits_funct7}
 use Rattle.rv64_table.proofs.RowsByField.{matches-form}
 use Rattle.rv64_table.proofs.Masks.{and-fixed}
 use Rattle.rv64_decode.specs.Fields.{bits, branch_offset, jump_offset, immediate, has_rd, has_rs1, has_rs2}
@@ -15,6 +15,7 @@ use Rattle.rv64_decode.proofs.Signed.{signed-same}
 record Fixed (form : Form) (want w : ℕ) : Type 0 where
   opcode : w % 2 ^ 7 ≡ want % 2 ^ 7
   funct3 : fits_funct3 form (want / 2 ^ 12 % 2 ^ 3) (w / 2 ^ 12 % 2 ^ 3) ≡ true
+  registers : fits_registers form (want / 2 ^ 15 % 2 ^ 10) (w / 2 ^ 15 % 2 ^ 10) ≡ true
   funct7 : fits_funct7 form (want / 2 ^ 25) (w / 2 ^ 25) ≡ true
 
 fixed : (form : Form) (want w : ℕ) → w < 2 ^ 32 → has_fields form ≡ true → (bit_and w (mask_of form) == want) ≡ true → Fixed form want w
@@ -23,7 +24,7 @@ fixed form want w below fields matches =
     let rd = and_parts _ _ opcode.1 in
     let funct3 = and_parts _ _ rd.1 in
     let rs = and_parts _ _ funct3.1 in
-    record { opcode = eqb-true _ _ opcode.0; funct3 = funct3.0; funct7 = rs.1 }
+    record { opcode = eqb-true _ _ opcode.0; funct3 = funct3.0; registers = rs.0; funct7 = rs.1 }
 
 -- two words of a row with the same fields
 pub record Alike (form : Form) (want v w : ℕ) : Type 0 where
@@ -121,3 +122,29 @@ one-word E want v w g =
     let ev : bit_and v (2 ^ 32 - 1) ≡ want = eqb-true _ _ g.fits_v in
     let ew : bit_and w (2 ^ 32 - 1) ≡ want = eqb-true _ _ g.fits_w in
     sym (and-fixed 32 v g.below_v) ∙ ev ∙ sym ew ∙ and-fixed 32 w g.below_w
+one-word L want v w g =
+    let fv = fixed L want v g.below_v refl g.fits_v in
+    let fw = fixed L want w g.below_w refl g.fits_w in
+    let v3 : v / 2 ^ 12 % 2 ^ 3 ≡ want / 2 ^ 12 % 2 ^ 3 = eqb-true _ _ fv.funct3 in
+    let w3 : w / 2 ^ 12 % 2 ^ 3 ≡ want / 2 ^ 12 % 2 ^ 3 = eqb-true _ _ fw.funct3 in
+    let vr = and_parts (want / 2 ^ 15 % 2 ^ 10 % 2 ^ 5 == 0) (v / 2 ^ 15 % 2 ^ 10 / 2 ^ 5 == want / 2 ^ 15 % 2 ^ 10 / 2 ^ 5) fv.registers in
+    let wr = and_parts (want / 2 ^ 15 % 2 ^ 10 % 2 ^ 5 == 0) (w / 2 ^ 15 % 2 ^ 10 / 2 ^ 5 == want / 2 ^ 15 % 2 ^ 10 / 2 ^ 5) fw.registers in
+    let v2 : v / 2 ^ 15 % 2 ^ 10 / 2 ^ 5 ≡ want / 2 ^ 15 % 2 ^ 10 / 2 ^ 5 = eqb-true _ _ vr.1 in
+    let w2 : w / 2 ^ 15 % 2 ^ 10 / 2 ^ 5 ≡ want / 2 ^ 15 % 2 ^ 10 / 2 ^ 5 = eqb-true _ _ wr.1 in
+    let v5 = and_parts (want / 2 ^ 25 % 2 ^ 2 == 0) (v / 2 ^ 25 / 2 ^ 2 == want / 2 ^ 25 / 2 ^ 2) fv.funct7 in
+    let w5 = and_parts (want / 2 ^ 25 % 2 ^ 2 == 0) (w / 2 ^ 25 / 2 ^ 2 == want / 2 ^ 25 / 2 ^ 2) fw.funct7 in
+    let v7 : v / 2 ^ 25 / 2 ^ 2 ≡ want / 2 ^ 25 / 2 ^ 2 = eqb-true _ _ v5.1 in
+    let w7 : w / 2 ^ 25 / 2 ^ 2 ≡ want / 2 ^ 25 / 2 ^ 2 = eqb-true _ _ w5.1 in
+    let same : bits v 26 25 ≡ bits w 26 25 = let both : pos (bits v 26 25) ≡ pos (bits w 26 25) = g.imm in cc in
+    omega arith
+one-word A want v w g =
+    let fv = fixed A want v g.below_v refl g.fits_v in
+    let fw = fixed A want w g.below_w refl g.fits_w in
+    let v3 : v / 2 ^ 12 % 2 ^ 3 ≡ want / 2 ^ 12 % 2 ^ 3 = eqb-true _ _ fv.funct3 in
+    let w3 : w / 2 ^ 12 % 2 ^ 3 ≡ want / 2 ^ 12 % 2 ^ 3 = eqb-true _ _ fw.funct3 in
+    let v5 = and_parts (want / 2 ^ 25 % 2 ^ 2 == 0) (v / 2 ^ 25 / 2 ^ 2 == want / 2 ^ 25 / 2 ^ 2) fv.funct7 in
+    let w5 = and_parts (want / 2 ^ 25 % 2 ^ 2 == 0) (w / 2 ^ 25 / 2 ^ 2 == want / 2 ^ 25 / 2 ^ 2) fw.funct7 in
+    let v7 : v / 2 ^ 25 / 2 ^ 2 ≡ want / 2 ^ 25 / 2 ^ 2 = eqb-true _ _ v5.1 in
+    let w7 : w / 2 ^ 25 / 2 ^ 2 ≡ want / 2 ^ 25 / 2 ^ 2 = eqb-true _ _ w5.1 in
+    let same : bits v 26 25 ≡ bits w 26 25 = let both : pos (bits v 26 25) ≡ pos (bits w 26 25) = g.imm in cc in
+    omega arith

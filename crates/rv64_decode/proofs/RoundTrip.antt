@@ -5,7 +5,7 @@ use Rattle.std.proofs.lemmas.Bool.{and_parts, and_from, ltb-true, lt-ltb}
 use Rattle.rv64_table.specs.declared.Row.{Row}
 use Rattle.rv64_table.specs.declared.Op.TheVariants.{Lui}
 use Rattle.rv64_table.specs.declared.Form.{Form}
-use Rattle.rv64_table.specs.declared.Form.TheVariants.{R, I, H, K, S, B, U, J, E}
+use Rattle.rv64_table.specs.declared.Form.TheVariants.{R, I, H, K, S, B, U, J, E, L, A}
 use Rattle.rv64_table.specs.Table.{mask_of, row, matches, row_for, row_with, op_number, table}
 use Rattle.rv64_table.proofs.Apart.{row_for-matches}
 use Rattle.rv64_table.proofs.OpRows.{row_with-at, op-at}
@@ -42,6 +42,8 @@ immediate-matches J w =
     let offset = jump_offset w in
     and_from _ _ (signed-range 21 offset (omega arith) (omega arith) (omega arith)) (signed-multiple 21 1 offset (omega arith) (omega arith) (omega arith))
 immediate-matches E w = refl
+immediate-matches L w = unsigned-range 2 (bits w 26 25) (omega arith)
+immediate-matches A w = unsigned-range 2 (bits w 26 25) (omega arith)
 
 pub instruction-matches : (r : Row) (w : ℕ) → fits_form r.form (instruction r w) ≡ true
 instruction-matches r w =

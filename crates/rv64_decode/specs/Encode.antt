@@ -4,7 +4,7 @@
 use Rattle.std.specs.Prelude.{ℕ, ◌+◌, ◌-◌, ◌*◌, ◌%◌, ◌^◌, Bool, false, ◌&&◌, ◌==◌, nat_lt, ℤ, pos, neg_ℤ, int_lt, int_le, unsigned_abs, if◌then◌else◌}
 use Rattle.std.specs.Option.{option_map_or}
 use Rattle.rv64_table.specs.declared.Form.{Form}
-use Rattle.rv64_table.specs.declared.Form.TheVariants.{R, I, H, K, S, B, U, J, E}
+use Rattle.rv64_table.specs.declared.Form.TheVariants.{R, I, H, K, S, B, U, J, E, L, A}
 use Rattle.rv64_table.specs.Table.{row_with}
 use Rattle.rv64_decode.specs.declared.Inst.{Inst}
 use Rattle.rv64_decode.specs.Fields.{bits, has_rd, has_rs1, has_rs2}
@@ -32,6 +32,8 @@ has_immediate B z = is_signed 13 z && is_multiple 2 z
 has_immediate U z = is_signed 32 z && is_multiple (2 ^ 12) z
 has_immediate J z = is_signed 21 z && is_multiple 2 z
 has_immediate E z = is_unsigned 0 z
+has_immediate L z = is_unsigned 2 z
+has_immediate A z = is_unsigned 2 z
 
 -- the fields lie in a form: registers below 32 where it has them and 0 where not, and an immediate of the form
 abbrev pub fits_form : Form → Inst → Bool
@@ -56,6 +58,8 @@ immediate_bits B n = bits n 12 12 * 2 ^ 31 + bits n 10 5 * 2 ^ 25 + bits n 4 1 *
 immediate_bits U n = bits n 31 12 * 2 ^ 12
 immediate_bits J n = bits n 20 20 * 2 ^ 31 + bits n 10 1 * 2 ^ 21 + bits n 11 11 * 2 ^ 20 + bits n 19 12 * 2 ^ 12
 immediate_bits E n = 0
+immediate_bits L n = bits n 1 0 * 2 ^ 25
+immediate_bits A n = bits n 1 0 * 2 ^ 25
 
 -- a row's wanted bits, an instruction's registers at their places and the placed immediate
 abbrev pub joined_fields : ℕ → Inst → ℕ → ℕ

@@ -3,7 +3,7 @@
 -- docs/reference/instructions.md says the same for readers.
 use Rattle.std.specs.Prelude.{ℕ, ◌+◌, ◌-◌, ◌*◌, ◌/◌, ◌%◌, ◌^◌, Bool, true, false, ℤ, pos, ◌-ℤ◌, nat_lt, if◌then◌else◌}
 use Rattle.rv64_table.specs.declared.Form.{Form}
-use Rattle.rv64_table.specs.declared.Form.TheVariants.{R, I, H, K, S, B, U, J, E}
+use Rattle.rv64_table.specs.declared.Form.TheVariants.{R, I, H, K, S, B, U, J, E, L, A}
 
 -- bits high..low of a word
 abbrev pub bits : ℕ → ℕ → ℕ → ℕ
@@ -32,6 +32,8 @@ immediate B word = signed 13 (branch_offset word)
 immediate U word = signed 32 (bits word 31 12 * 2 ^ 12)
 immediate J word = signed 21 (jump_offset word)
 immediate E word = pos 0
+immediate L word = pos (bits word 26 25)
+immediate A word = pos (bits word 26 25)
 
 -- whether words of a form name a destination register
 abbrev pub has_rd : Form → Bool
@@ -52,4 +54,5 @@ abbrev pub has_rs2 : Form → Bool
 has_rs2 R = true
 has_rs2 S = true
 has_rs2 B = true
+has_rs2 A = true
 has_rs2 _ = false

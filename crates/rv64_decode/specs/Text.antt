@@ -1,13 +1,13 @@
 -- The printed text of an instruction, as a list of bytes.
 -- docs/reference/instructions.md has the table that this is.
-use Rattle.std.specs.Prelude.{ℕ, zero, suc, ◌+◌, ◌/◌, ◌%◌, ◌^◌, nat_lt, ℤ, List, [], ◌∷◌, ◌++◌, if◌then◌else◌, codes, decimal}
+use Rattle.std.specs.Prelude.{ℕ, zero, suc, ◌+◌, ◌/◌, ◌%◌, ◌^◌, nat_lt, ℤ, List, [], ◌∷◌, ◌++◌, if◌then◌else◌, ◌==◌, codes, decimal}
 use Rattle.std.specs.Fmt.{signed_decimal}
 use Rattle.std.specs.Int.{w64, cast_unsigned}
 use Rattle.std.specs.Option.{option_map_or}
 use Rattle.rv64_table.specs.declared.Form.{Form}
-use Rattle.rv64_table.specs.declared.Form.TheVariants.{R, I, H, K, S, B, U, J, E}
+use Rattle.rv64_table.specs.declared.Form.TheVariants.{R, I, H, K, S, B, U, J, E, L, A}
 use Rattle.rv64_table.specs.declared.Op.{Op}
-use Rattle.rv64_table.specs.declared.Op.TheVariants.{Lui, Auipc, Jal, Jalr, Beq, Bne, Blt, Bge, Bltu, Bgeu, Lb, Lh, Lw, Ld, Lbu, Lhu, Lwu, Sb, Sh, Sw, Sd, Addi, Slti, Sltiu, Xori, Ori, Andi, Slli, Srli, Srai, Add, Sub, Sll, Slt, Sltu, Xor, Srl, Sra, Or, And, Fence, Ecall, Ebreak, Addiw, Slliw, Srliw, Sraiw, Addw, Subw, Sllw, Srlw, Sraw, Mul, Mulh, Mulhsu, Mulhu, Div, Divu, Rem, Remu, Mulw, Divw, Divuw, Remw, Remuw}
+use Rattle.rv64_table.specs.declared.Op.TheVariants.{Lui, Auipc, Jal, Jalr, Beq, Bne, Blt, Bge, Bltu, Bgeu, Lb, Lh, Lw, Ld, Lbu, Lhu, Lwu, Sb, Sh, Sw, Sd, Addi, Slti, Sltiu, Xori, Ori, Andi, Slli, Srli, Srai, Add, Sub, Sll, Slt, Sltu, Xor, Srl, Sra, Or, And, Fence, Ecall, Ebreak, Addiw, Slliw, Srliw, Sraiw, Addw, Subw, Sllw, Srlw, Sraw, Mul, Mulh, Mulhsu, Mulhu, Div, Divu, Rem, Remu, Mulw, Divw, Divuw, Remw, Remuw, Lrw, Scw, Amoswapw, Amoaddw, Amoxorw, Amoandw, Amoorw, Amominw, Amomaxw, Amominuw, Amomaxuw, Lrd, Scd, Amoswapd, Amoaddd, Amoxord, Amoandd, Amoord, Amomind, Amomaxd, Amominud, Amomaxud}
 use Rattle.rv64_table.specs.Table.{row_with}
 use Rattle.rv64_decode.specs.declared.Inst.{Inst}
 use Rattle.rv64_decode.specs.Fields.{bits}
@@ -79,6 +79,28 @@ name Divw = codes "divw"
 name Divuw = codes "divuw"
 name Remw = codes "remw"
 name Remuw = codes "remuw"
+name Lrw = codes "lr.w"
+name Scw = codes "sc.w"
+name Amoswapw = codes "amoswap.w"
+name Amoaddw = codes "amoadd.w"
+name Amoxorw = codes "amoxor.w"
+name Amoandw = codes "amoand.w"
+name Amoorw = codes "amoor.w"
+name Amominw = codes "amomin.w"
+name Amomaxw = codes "amomax.w"
+name Amominuw = codes "amominu.w"
+name Amomaxuw = codes "amomaxu.w"
+name Lrd = codes "lr.d"
+name Scd = codes "sc.d"
+name Amoswapd = codes "amoswap.d"
+name Amoaddd = codes "amoadd.d"
+name Amoxord = codes "amoxor.d"
+name Amoandd = codes "amoand.d"
+name Amoord = codes "amoor.d"
+name Amomind = codes "amomin.d"
+name Amomaxd = codes "amomax.d"
+name Amominud = codes "amominu.d"
+name Amomaxud = codes "amomaxu.d"
 
 -- a register
 abbrev pub register : ℕ → List ℕ
@@ -137,6 +159,22 @@ form_i_text Lwu inst = memory_text inst inst.rd
 form_i_text Fence inst = name inst.op
 form_i_text _ inst = immediate_text inst
 
+-- the order of accesses that aq (2) and rl (1) ask for, as a suffix of the name
+abbrev pub order_suffix : ℕ → List ℕ
+order_suffix bits = if bits == 1 then codes ".rl" else (if bits == 2 then codes ".aq" else (if bits == 3 then codes ".aqrl" else []))
+
+-- the name with the order of accesses, and the register that is set
+abbrev pub ordered_text : Inst → List ℕ
+ordered_text inst = name inst.op ++ order_suffix (cast_unsigned w64 inst.imm) ++ codes " " ++ register inst.rd
+
+-- of a load-reserved: a register and the address that a register holds
+abbrev pub load_reserved_text : Inst → List ℕ
+load_reserved_text inst = ordered_text inst ++ codes ", (" ++ register inst.rs1 ++ codes ")"
+
+-- of the other atomic rows: the same with rs2 before the address
+abbrev pub atomic_text : Inst → List ℕ
+atomic_text inst = ordered_text inst ++ codes ", " ++ register inst.rs2 ++ codes ", (" ++ register inst.rs1 ++ codes ")"
+
 -- by the form of the operation; stores print rs2 first
 abbrev pub form_text : Form → Inst → ℕ → List ℕ
 form_text R inst pc = registers_text inst
@@ -148,6 +186,8 @@ form_text B inst pc = branch_text inst pc
 form_text U inst pc = upper_text inst
 form_text J inst pc = jump_text inst pc
 form_text E inst pc = name inst.op
+form_text L inst pc = load_reserved_text inst
+form_text A inst pc = atomic_text inst
 
 -- the text of an instruction at an address
 unfoldable pub text : Inst → ℕ → List ℕ

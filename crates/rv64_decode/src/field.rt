@@ -63,7 +63,7 @@ pub fn has_rs1(form: Form) -> bool
 pub fn has_rs2(form: Form) -> bool
     ensures { result ≡ fields.has_rs2 form }
 {
-    matches!(form, Form::R | Form::S | Form::B)
+    matches!(form, Form::R | Form::S | Form::B | Form::A)
 }
 
 /// The immediate of a word of a form, 0 where the form has none.
@@ -78,6 +78,7 @@ pub fn immediate(form: Form, word: u32) -> i64
         Form::K => i64::from(bits(word, 24, 20)),
         Form::S => store_offset(word),
         Form::B => branch_offset(word),
+        Form::L | Form::A => i64::from(bits(word, 26, 25)),
         Form::U => signed(32, bits(word, 31, 12) << 12),
         Form::J => jump_offset(word),
     }

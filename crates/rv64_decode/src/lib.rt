@@ -1,7 +1,7 @@
-//! Instruction words of RV64I and M to instructions and back, and their printed text.
+//! Instruction words of RV64I, M and A to instructions and back, and their printed text.
 //!
 //! The public source is The RISC-V Instruction Set Manual, Volume I (Unprivileged ISA): "RV32I Base Integer
-//! Instruction Set", the sections "Base Instruction Formats" and "Immediate Encoding Variants".
+//! Instruction Set", the sections "Base Instruction Formats" and "Immediate Encoding Variants", and the chapter "A".
 #![tactic(auto)]
 
 mod field;
@@ -28,7 +28,7 @@ pub struct Inst {
     pub rs1: u8,
     /// The second source register, below 32.
     pub rs2: u8,
-    /// The immediate, sign-extended where its form is signed.
+    /// The immediate, sign-extended where its form is signed; the two bits for the order of accesses in the atomic rows, aq above rl.
     pub imm: i64,
 }
 

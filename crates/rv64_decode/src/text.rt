@@ -88,7 +88,7 @@ impl InstText {
 
     fn push_operands(&mut self, form: Form, inst: &Inst, pc: u64)
         requires named { self.old ≡ spec.name inst.now.op }
-        requires short { length self.old ≤ 6 }
+        requires short { length self.old ≤ 9 }
         ensures { self.new ≡ spec.form_text form inst.now pc }
     {
         match form {
@@ -101,12 +101,14 @@ impl InstText {
             Form::U => self.push_upper(inst),
             Form::J => self.push_jump(inst, pc),
             Form::E => {}
+            Form::L => self.push_load_reserved(inst),
+            Form::A => self.push_atomic(inst),
         }
     }
 
     fn push_registers(&mut self, inst: &Inst)
         requires named { self.old ≡ spec.name inst.now.op }
-        requires short { length self.old ≤ 6 }
+        requires short { length self.old ≤ 9 }
         ensures { self.new ≡ spec.registers_text inst.now }
     {
         self.push_register(b" ", inst.rd);
@@ -116,7 +118,7 @@ impl InstText {
 
     fn push_immediate(&mut self, inst: &Inst)
         requires named { self.old ≡ spec.name inst.now.op }
-        requires short { length self.old ≤ 6 }
+        requires short { length self.old ≤ 9 }
         ensures { self.new ≡ spec.immediate_text inst.now }
     {
         self.push_register(b" ", inst.rd);
@@ -126,7 +128,7 @@ impl InstText {
 
     fn push_memory(&mut self, inst: &Inst, value: u8)
         requires named { self.old ≡ spec.name inst.now.op }
-        requires short { length self.old ≤ 6 }
+        requires short { length self.old ≤ 9 }
         ensures { self.new ≡ spec.memory_text inst.now value }
     {
         self.push_register(b" ", value);
@@ -137,7 +139,7 @@ impl InstText {
 
     fn push_form_i(&mut self, inst: &Inst)
         requires named { self.old ≡ spec.name inst.now.op }
-        requires short { length self.old ≤ 6 }
+        requires short { length self.old ≤ 9 }
         ensures { self.new ≡ spec.form_i_text inst.now.op inst.now }
     {
         match inst.op {
@@ -154,9 +156,41 @@ impl InstText {
         }
     }
 
+    /// The order of accesses, and the register that is set.
+    fn push_ordered(&mut self, inst: &Inst)
+        requires named { self.old ≡ spec.name inst.now.op }
+        requires short { length self.old ≤ 9 }
+        ensures text { self.new ≡ spec.ordered_text inst.now }
+        ensures room { length self.new ≤ 19 }
+    {
+        self.push(order_suffix(inst.imm.cast_unsigned()).as_bytes());
+        self.push_register(b" ", inst.rd);
+    }
+
+    fn push_load_reserved(&mut self, inst: &Inst)
+        requires named { self.old ≡ spec.name inst.now.op }
+        requires short { length self.old ≤ 9 }
+        ensures { self.new ≡ spec.load_reserved_text inst.now }
+    {
+        self.push_ordered(inst);
+        self.push_register(b", (", inst.rs1);
+        self.push(b")");
+    }
+
+    fn push_atomic(&mut self, inst: &Inst)
+        requires named { self.old ≡ spec.name inst.now.op }
+        requires short { length self.old ≤ 9 }
+        ensures { self.new ≡ spec.atomic_text inst.now }
+    {
+        self.push_ordered(inst);
+        self.push_register(b", ", inst.rs2);
+        self.push_register(b", (", inst.rs1);
+        self.push(b")");
+    }
+
     fn push_branch(&mut self, inst: &Inst, pc: u64)
         requires named { self.old ≡ spec.name inst.now.op }
-        requires short { length self.old ≤ 6 }
+        requires short { length self.old ≤ 9 }
         ensures { self.new ≡ spec.branch_text inst.now pc }
     {
         self.push_register(b" ", inst.rs1);
@@ -166,7 +200,7 @@ impl InstText {
 
     fn push_upper(&mut self, inst: &Inst)
         requires named { self.old ≡ spec.name inst.now.op }
-        requires short { length self.old ≤ 6 }
+        requires short { length self.old ≤ 9 }
         ensures { self.new ≡ spec.upper_text inst.now }
     {
         self.push_register(b" ", inst.rd);
@@ -175,7 +209,7 @@ impl InstText {
 
     fn push_jump(&mut self, inst: &Inst, pc: u64)
         requires named { self.old ≡ spec.name inst.now.op }
-        requires short { length self.old ≤ 6 }
+        requires short { length self.old ≤ 9 }
         ensures { self.new ≡ spec.jump_text inst.now pc }
     {
         self.push_register(b" ", inst.rd);
@@ -200,6 +234,19 @@ fn target(pc: u64, imm: i64) -> u64
     pc.wrapping_add(imm.cast_unsigned())
 }
 
+/// The order of accesses, as a suffix of the name.
+fn order_suffix(bits: u64) -> &'static str
+    ensures text { result.now ≡ spec.order_suffix bits }
+    ensures room { length result.now ≤ 5 }
+{
+    match bits {
+        1 => ".rl",
+        2 => ".aq",
+        3 => ".aqrl",
+        _ => "",
+    }
+}
+
 fn hex_digit(digit: u8) -> u8
     requires { digit ≤ 15 }
     ensures { result ≡ spec.hex_digit digit }
@@ -219,7 +266,7 @@ macro_rules! names {
 
 fn name(op: Op) -> &'static str
     ensures text { result.now ≡ spec.name op }
-    ensures room { length result.now ≤ 6 }
+    ensures room { length result.now ≤ 9 }
 {
     names! { op;
         Lui "lui" Auipc "auipc" Jal "jal" Jalr "jalr" Beq "beq" Bne "bne" Blt "blt" Bge "bge"
@@ -231,5 +278,10 @@ fn name(op: Op) -> &'static str
         Addw "addw" Subw "subw" Sllw "sllw" Srlw "srlw" Sraw "sraw" Mul "mul" Mulh "mulh"
         Mulhsu "mulhsu" Mulhu "mulhu" Div "div" Divu "divu" Rem "rem" Remu "remu" Mulw "mulw"
         Divw "divw" Divuw "divuw" Remw "remw" Remuw "remuw"
+        Lrw "lr.w" Scw "sc.w" Amoswapw "amoswap.w" Amoaddw "amoadd.w" Amoxorw "amoxor.w"
+        Amoandw "amoand.w" Amoorw "amoor.w" Amominw "amomin.w" Amomaxw "amomax.w"
+        Amominuw "amominu.w" Amomaxuw "amomaxu.w" Lrd "lr.d" Scd "sc.d" Amoswapd "amoswap.d"
+        Amoaddd "amoadd.d" Amoxord "amoxor.d" Amoandd "amoand.d" Amoord "amoor.d" Amomind "amomin.d"
+        Amomaxd "amomax.d" Amominud "amominu.d" Amomaxud "amomaxu.d"
     }
 }

@@ -3,3 +3,4 @@ pub mod StoredBytes
 pub mod Acts
 pub mod Keeping
 pub mod Numbers
+pub mod ActsWithoutAtomics

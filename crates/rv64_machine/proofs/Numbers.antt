@@ -12,14 +12,15 @@ use Rattle.paged_mem.specs.declared.ram.Width.{Width}
 use Rattle.paged_mem.specs.declared.ram.Width.TheVariants.{W1, W2, W4, W8}
 use Rattle.paged_mem.proofs.Maps.{length_of_bytes_at}
 use Rattle.rv64_table.specs.declared.Op.{Op}
-use Rattle.rv64_table.specs.declared.Op.TheVariants.{Lui, Auipc, Jal, Jalr, Beq, Bne, Blt, Bge, Bltu, Bgeu, Lb, Lh, Lw, Ld, Lbu, Lhu, Lwu, Sb, Sh, Sw, Sd, Addi, Slti, Sltiu, Xori, Ori, Andi, Slli, Srli, Srai, Add, Sub, Sll, Slt, Sltu, Xor, Srl, Sra, Or, And, Fence, Ecall, Ebreak, Addiw, Slliw, Srliw, Sraiw, Addw, Subw, Sllw, Srlw, Sraw, Mul, Mulh, Mulhsu, Mulhu, Div, Divu, Rem, Remu, Mulw, Divw, Divuw, Remw, Remuw}
+use Rattle.rv64_table.specs.declared.Op.TheVariants.{Lui, Auipc, Jal, Jalr, Beq, Bne, Blt, Bge, Bltu, Bgeu, Lb, Lh, Lw, Ld, Lbu, Lhu, Lwu, Sb, Sh, Sw, Sd, Addi, Slti, Sltiu, Xori, Ori, Andi, Slli, Srli, Srai, Add, Sub, Sll, Slt, Sltu, Xor, Srl, Sra, Or, And, Fence, Ecall, Ebreak, Addiw, Slliw, Srliw, Sraiw, Addw, Subw, Sllw, Srlw, Sraw, Mul, Mulh, Mulhsu, Mulhu, Div, Divu, Rem, Remu, Mulw, Divw, Divuw, Remw, Remuw, Lrw, Scw, Amoswapw, Amoaddw, Amoxorw, Amoandw, Amoorw, Amominw, Amomaxw, Amominuw, Amomaxuw, Lrd, Scd, Amoswapd, Amoaddd, Amoxord, Amoandd, Amoord, Amomind, Amomaxd, Amominud, Amomaxud}
 use Rattle.rv64_decode.specs.declared.Inst.{Inst}
 use Rattle.rv64_machine.specs.Arithmetic.{flag, floored, high_product, quotient, quotient_unsigned, remainder, remainder_unsigned, sign_extended, wrapped}
 use Rattle.rv64_machine.specs.Meaning.{meaning}
 use Rattle.rv64_machine.specs.declared.effect.Effect.{Effect}
-use Rattle.rv64_machine.specs.declared.effect.Effect.TheVariants.{Put, Jump, Branch, Load, LoadSigned, Store, Next, Call, Break}
+use Rattle.rv64_machine.specs.declared.effect.Effect.TheVariants.{Put, Jump, Branch, Load, LoadSigned, Store, Next, Call, Break, LoadReserved, StoreConditional, Amo}
 use Rattle.rv64_machine.specs.declared.answer.Cause.TheVariants.{FetchMisaligned, StoreUnmapped}
-use Rattle.rv64_machine.specs.Hart.{GoesOn, Traps, HartState, HasNumbers, act, arrives, carried, effect_of, fetched, following, loads, passes, runs, with_register}
+use Rattle.rv64_machine.specs.Atomics.{amo_result}
+use Rattle.rv64_machine.specs.Hart.{loads_reserved, after_conditional, stores_conditional, performs_amo, reads_aligned, is_reserved, GoesOn, Traps, HartState, HasNumbers, act, arrives, carried, effect_of, fetched, following, loads, passes, runs, with_register}
 use Rattle.rv64_decode.specs.Decode.{decoded}
 use Rattle.paged_mem.proofs.Wholes.{bytes_at-bytes}
 
@@ -73,6 +74,9 @@ IsSmall (Store width at value) = Unit {0}
 IsSmall Next = Unit {0}
 IsSmall Call = Unit {0}
 IsSmall Break = Unit {0}
+IsSmall (LoadReserved width at) = Unit {0}
+IsSmall (StoreConditional width at value) = Unit {0}
+IsSmall (Amo operation width at value) = Unit {0}
 
 meaning-small : (op : Op) (a b i pc : ℕ) → a < 2 ^ 64 → b < 2 ^ 64 → i < 2 ^ 64 → pc < 2 ^ 64 → IsSmall (meaning op a b i pc)
 meaning-small Lui a b i pc ha hb hi hp = hi
@@ -140,6 +144,28 @@ meaning-small Divw a b i pc ha hb hi hp = wrapped-small _
 meaning-small Divuw a b i pc ha hb hi hp = wrapped-small _
 meaning-small Remw a b i pc ha hb hi hp = wrapped-small _
 meaning-small Remuw a b i pc ha hb hi hp = wrapped-small _
+meaning-small Lrw a b i pc ha hb hi hp = tt
+meaning-small Scw a b i pc ha hb hi hp = tt
+meaning-small Amoswapw a b i pc ha hb hi hp = tt
+meaning-small Amoaddw a b i pc ha hb hi hp = tt
+meaning-small Amoxorw a b i pc ha hb hi hp = tt
+meaning-small Amoandw a b i pc ha hb hi hp = tt
+meaning-small Amoorw a b i pc ha hb hi hp = tt
+meaning-small Amominw a b i pc ha hb hi hp = tt
+meaning-small Amomaxw a b i pc ha hb hi hp = tt
+meaning-small Amominuw a b i pc ha hb hi hp = tt
+meaning-small Amomaxuw a b i pc ha hb hi hp = tt
+meaning-small Lrd a b i pc ha hb hi hp = tt
+meaning-small Scd a b i pc ha hb hi hp = tt
+meaning-small Amoswapd a b i pc ha hb hi hp = tt
+meaning-small Amoaddd a b i pc ha hb hi hp = tt
+meaning-small Amoxord a b i pc ha hb hi hp = tt
+meaning-small Amoandd a b i pc ha hb hi hp = tt
+meaning-small Amoord a b i pc ha hb hi hp = tt
+meaning-small Amomind a b i pc ha hb hi hp = tt
+meaning-small Amomaxd a b i pc ha hb hi hp = tt
+meaning-small Amominud a b i pc ha hb hi hp = tt
+meaning-small Amomaxud a b i pc ha hb hi hp = tt
 
 register-small : (registers : List ℕ) (number : ℕ) → All (λ value. value < 2 ^ 64) registers → get_or registers number 0 < 2 ^ 64
 register-small registers number are = elim (cases_lt number (length registers)) [
@@ -229,6 +255,34 @@ carried-numbers hart next rd (Store width at value) small whole is goes = by_tes
 carried-numbers hart next rd Next small whole is goes = passes-numbers hart next is goes
 carried-numbers hart next rd Call small whole is goes = cc
 carried-numbers hart next rd Break small whole is goes = cc
+carried-numbers hart next rd (LoadReserved width at) small whole is goes = by_found (reads_aligned hart.memory at (count_of width)) goes
+  where
+    by_found : (o : Option ℕ) → loads_reserved hart rd (count_of width) at o ≡ GoesOn next → HasNumbers next
+    by_found None e = cc
+    by_found (Some value) e =
+        let put = register-numbers hart rd (sign_extended (8 * count_of width) value) (wrapped-small _) is in
+        passes-numbers (record (with_register hart rd (sign_extended (8 * count_of width) value)) { reservation = Some (count_of width, at) }) next
+        (record { registers = put.registers; pc = put.pc }) e
+carried-numbers hart next rd (StoreConditional width at value) small whole is goes = by_found (reads_aligned hart.memory at (count_of width)) goes
+  where
+    by_held : (held : Bool) → HasNumbers (after_conditional hart rd (count_of width) at value held)
+    by_held true = let put = register-numbers hart rd 0 (omega arith) is in record { registers = put.registers; pc = put.pc }
+    by_held false = let put = register-numbers hart rd 1 (omega arith) is in record { registers = put.registers; pc = put.pc }
+
+    by_found : (o : Option ℕ) → stores_conditional hart rd (count_of width) at value o ≡ GoesOn next → HasNumbers next
+    by_found None e = cc
+    by_found (Some old) e =
+        passes-numbers (after_conditional hart rd (count_of width) at value (is_reserved hart.reservation (count_of width) at)) next
+        (by_held (is_reserved hart.reservation (count_of width) at)) e
+carried-numbers hart next rd (Amo operation width at value) small whole is goes = by_found (reads_aligned hart.memory at (count_of width)) goes
+  where
+    by_found : (o : Option ℕ) → performs_amo hart rd operation (count_of width) at value o ≡ GoesOn next → HasNumbers next
+    by_found None e = cc
+    by_found (Some old) e =
+        let put = register-numbers hart rd (sign_extended (8 * count_of width) old) (wrapped-small _) is in
+        passes-numbers
+        (record (with_register hart rd (sign_extended (8 * count_of width) old)) { memory = writes hart.memory at (count_of width) (amo_result operation (8 * count_of width) old value) }) next
+        (record { registers = put.registers; pc = put.pc }) e
 
 pub act-numbers : (hart next : HartState) → IsWhole hart.memory → HasNumbers hart → act hart ≡ GoesOn next → HasNumbers next
 unfolding act
@@ -247,5 +301,5 @@ act-numbers hart next whole is goes = by_word (reads hart.memory hart.pc 4) goes
     by_word (Some word) e = by_inst word (decoded word) e
 
 -- the hart after a call
-pub answered-numbers : (hart : HartState) (value : ℕ) → value < 2 ^ 64 → HasNumbers hart → HasNumbers (record (with_register hart 10 value) { pc = following hart })
+pub answered-numbers : (hart : HartState) (value : ℕ) → value < 2 ^ 64 → HasNumbers hart → HasNumbers (record (with_register hart 10 value) { pc = following hart; reservation = None })
 answered-numbers hart value small is = let kept = register-numbers hart 10 value small is in record { registers = kept.registers; pc = mod-small (hart.pc + 4) }

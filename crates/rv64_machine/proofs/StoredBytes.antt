@@ -4,7 +4,7 @@ use Rattle.std.specs.FinMap.{contains_key}
 use Rattle.std.proofs.lemmas.Bool.{cases_lt, false≢true}
 use Rattle.paged_mem.proofs.Maps.{get_in_bytes_at}
 use Rattle.paged_mem.proofs.Numbers.{length-bytes_of}
-use Rattle.paged_mem.specs.Held.{get-with_bytes, get-with_bytes_above, get-with_bytes_below}
+use Rattle.paged_mem.specs.Inside.Wholeness.{get-with_bytes, get-with_bytes_above, get-with_bytes_below}
 use Rattle.paged_mem.specs.Memory.{Memory, bytes_at, bytes_of, maps, writes}
 
 pub ruleset stored = (length-bytes_of)

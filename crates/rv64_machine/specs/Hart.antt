@@ -1,9 +1,10 @@
 -- A hart and one act of it (docs/reference/machine.md).
-use Rattle.std.specs.Prelude.{◌≡◌, ℕ, zero, suc, ◌*◌, ◌%◌, ◌^◌, ◌<◌, ◌==◌, Bool, true, false, if◌then◌else◌, IsTrue, length, All, List, slice_index, slice_set, Option, None, Some, option_map, option_and_then, refl}
-use Rattle.std.specs.Coded.{Coded, code_by, coded×, coded_ℕ, coded_list}
+use Rattle.std.specs.Prelude.{◌≡◌, ℕ, zero, suc, ◌*◌, ◌%◌, ◌^◌, ◌<◌, ◌==◌, ◌&&◌, ◌⊎◌, Bool, true, false, if◌then◌else◌, IsTrue, length, All, List, slice_index, slice_set, Option, None, Some, option_map, option_and_then, refl}
+use Rattle.std.specs.Coded.{Coded, code_by, coded×, coded_ℕ, coded_list, coded_option}
 use Rattle.std.specs.FinMap as map
 use Rattle.paged_mem.specs.Memory.{IsWhole, Memory, maps, reads, writes}
 use Rattle.paged_mem.specs.Ram.{count_of}
+use Rattle.paged_mem.specs.declared.ram.Width.{Width}
 use Rattle.rv64_decode.specs.declared.Inst.{Inst}
 use Rattle.rv64_decode.specs.Decode.{decoded}
 use Rattle.rv64_machine.specs.declared.answer.Cause.{Cause}
@@ -11,34 +12,51 @@ use Rattle.rv64_machine.specs.declared.answer.Cause.TheVariants as cause
 use Rattle.rv64_machine.specs.declared.answer.StepEnd.{StepEnd}
 use Rattle.rv64_machine.specs.declared.answer.StepEnd.TheVariants as end
 use Rattle.rv64_machine.specs.declared.effect.Effect.{Effect}
-use Rattle.rv64_machine.specs.declared.effect.Effect.TheVariants.{Put, Jump, Branch, Load, LoadSigned, Store, Next, Call, Break}
+use Rattle.rv64_machine.specs.declared.effect.Effect.TheVariants.{Put, Jump, Branch, Load, LoadSigned, Store, Next, Call, Break, LoadReserved, StoreConditional, Amo}
+use Rattle.rv64_machine.specs.declared.effect.AmoOperation.{AmoOperation}
+use Rattle.rv64_machine.specs.declared.answer.Reservation.{Reservation}
+use Rattle.rv64_machine.specs.Atomics.{amo_result}
 use Rattle.rv64_machine.specs.Arithmetic.{sign_extended, sum, wrapped}
 use Rattle.rv64_machine.specs.Meaning.{meaning}
 
--- the state of a hart: the registers x0 to x31, the address of the next instruction, and memory
+-- a reservation, which a load-reserved registers: how many bytes it holds, 4 or 8, and their address, a multiple of that and below 2^38.
+-- The standard leaves the set of reserved bytes to the machine; that it is these bytes alone is this project's profile
+abbrev pub IsReservation : Option (ℕ × ℕ) → Type 0
+IsReservation None = Unit {0}
+IsReservation (Some (count, at)) = ((count ≡ 4) ⊎ (count ≡ 8)) × (at % count ≡ 0) × (at < 2 ^ 38)
+
+-- a reservation of the code's
+abbrev pub reserved_bytes : Reservation → ℕ × ℕ
+reserved_bytes held = (count_of held.wide, held.at)
+
+-- the state of a hart: the registers x0 to x31, the address of the next instruction, memory, and the reservation where one is held
 pub record HartState : Type 0 where
   pub registers : List ℕ
   pub pc : ℕ
   pub memory : Memory
+  pub reservation : Option (ℕ × ℕ)
 
--- the states that a hart can be in: 32 registers of which x0 is 0, a pc at a multiple of 4, and whole pages of bytes
+-- the states that a hart can be in: 32 registers of which x0 is 0, a pc at a multiple of 4, whole pages of bytes, and a reservation that
+-- can be
 pub record IsHart (hart : HartState) : Type 0 where
   pub count : length hart.registers ≡ 32
   pub zero : slice_index hart.registers 0 ≡ 0
   pub aligned : hart.pc % 4 ≡ 0
   pub whole : IsWhole hart.memory
+  pub reserved : IsReservation hart.reservation
 
 -- registers and pc are numbers of 64 bits
 pub record HasNumbers (hart : HartState) : Type 0 where
   pub registers : All (λ value. value < 2 ^ 64) hart.registers
   pub pc : hart.pc < 2 ^ 64
 
--- a state is stored as its three parts
+-- a state is stored as its four parts
 abbrev pub code : Coded HartState
 code =
-    code_by (List ℕ × (ℕ × Memory)) (coded× (coded_list coded_ℕ) (coded× coded_ℕ (map.code coded_ℕ coded_ℕ)))
-    (λ h. (h.registers, (h.pc, h.memory)))
-    (λ p. record { registers = p.0; pc = p.1.0; memory = p.1.1 })
+    code_by (List ℕ × (ℕ × (Memory × Option (ℕ × ℕ))))
+    (coded× (coded_list coded_ℕ) (coded× coded_ℕ (coded× (map.code coded_ℕ coded_ℕ) (coded_option (coded× coded_ℕ coded_ℕ)))))
+    (λ h. (h.registers, (h.pc, (h.memory, h.reservation))))
+    (λ p. record { registers = p.0; pc = p.1.0; memory = p.1.1.0; reservation = p.1.1.1 })
     (λ _. refl)
 
 -- one act: the hart goes on in a state, calls the system, or traps; both of the latter leave the state
@@ -70,6 +88,48 @@ abbrev pub loads : HartState → ℕ → ℕ → Option ℕ → Act
 loads hart rd at None = Traps (cause.LoadUnmapped at)
 loads hart rd at (Some value) = passes (with_register hart rd value)
 
+-- the number at an address, where that is a multiple of the width and mapped. Of a misaligned address the standard has an exception, which
+-- may be an access fault: here it is always that
+abbrev pub reads_aligned : Memory → ℕ → ℕ → Option ℕ
+reads_aligned memory at count = if at % count == 0 then reads memory at count else None
+
+-- whether the reservation is of these bytes: of this width and at this address
+abbrev pub is_reserved : Option (ℕ × ℕ) → ℕ → ℕ → Bool
+is_reserved None count at = false
+is_reserved (Some held) count at = held.0 == count && held.1 == at
+
+-- a width that can be reserved
+abbrev pub IsReservable : Width → Type 0
+IsReservable width = (count_of width ≡ 4) ⊎ (count_of width ≡ 8)
+
+-- a load-reserved is of such a width
+abbrev pub ReservesReservable : Effect → Type 0
+ReservesReservable (LoadReserved width at) = IsReservable width
+ReservesReservable _ = Unit {0}
+
+-- the act of a load-reserved which found this ("A", "Load-Reserved/Store-Conditional Instructions")
+abbrev pub loads_reserved : HartState → ℕ → ℕ → ℕ → Option ℕ → Act
+loads_reserved hart rd count at None = Traps (cause.LoadUnmapped at)
+loads_reserved hart rd count at (Some value) =
+    passes (record (with_register hart rd (sign_extended (8 * count) value)) { reservation = Some (count, at) })
+
+-- the state after a store-conditional whose bytes are reserved or not: it stores and puts 0 into rd, or puts 1; the reservation ends either
+-- way
+abbrev pub after_conditional : HartState → ℕ → ℕ → ℕ → ℕ → Bool → HartState
+after_conditional hart rd count at value true = record (with_register hart rd 0) { memory = writes hart.memory at count value; reservation = None }
+after_conditional hart rd count at value false = record (with_register hart rd 1) { reservation = None }
+
+-- the act of a store-conditional which found this: its address is tried first, as a store's
+abbrev pub stores_conditional : HartState → ℕ → ℕ → ℕ → ℕ → Option ℕ → Act
+stores_conditional hart rd count at value None = Traps (cause.StoreUnmapped at)
+stores_conditional hart rd count at value (Some old) = passes (after_conditional hart rd count at value (is_reserved hart.reservation count at))
+
+-- the act of an atomic memory operation which found this: the old number goes to rd ("A", "Atomic Memory Operations")
+abbrev pub performs_amo : HartState → ℕ → AmoOperation → ℕ → ℕ → ℕ → Option ℕ → Act
+performs_amo hart rd operation count at value None = Traps (cause.StoreUnmapped at)
+performs_amo hart rd operation count at value (Some old) =
+    passes (record (with_register hart rd (sign_extended (8 * count) old)) { memory = writes hart.memory at count (amo_result operation (8 * count) old value) })
+
 -- the act of a row's effect
 abbrev pub carried : HartState → ℕ → Effect → Act
 carried hart rd (Put value) = passes (with_register hart rd value)
@@ -85,6 +145,9 @@ carried hart rd (Store width at value) =
 carried hart rd Next = passes hart
 carried hart rd Call = Calls
 carried hart rd Break = Traps cause.Break
+carried hart rd (LoadReserved width at) = loads_reserved hart rd (count_of width) at (reads_aligned hart.memory at (count_of width))
+carried hart rd (StoreConditional width at value) = stores_conditional hart rd (count_of width) at value (reads_aligned hart.memory at (count_of width))
+carried hart rd (Amo operation width at value) = performs_amo hart rd operation (count_of width) at value (reads_aligned hart.memory at (count_of width))
 
 -- the effect of an instruction: its row's, on the values of its registers
 abbrev pub effect_of : HartState → Inst → Effect
@@ -114,9 +177,11 @@ abbrev pub goes_on : Act → Bool
 goes_on (GoesOn next) = true
 goes_on _ = false
 
--- whether an effect is that of a store
+-- whether an effect is that of a store: of a store-conditional and an atomic memory operation too
 abbrev pub is_store : Option Effect → Bool
 is_store (Some (Store width at value)) = true
+is_store (Some (StoreConditional width at value)) = true
+is_store (Some (Amo operation width at value)) = true
 is_store _ = false
 
 -- how a step ended, and the state that it left, of a hart with this act and this effect

@@ -1,2 +1,3 @@
--- What serves the code's split of the table of meanings: no promise rests on these files being read.
+-- What serves the code alone: no promise rests on these files being read.
 pub mod Computed
+pub mod FlatEnds

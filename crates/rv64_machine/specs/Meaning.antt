@@ -1,12 +1,14 @@
--- What each row of the instruction table does, one line a row (RISC-V Unprivileged ISA, "RV32I", "RV64I", "M").
+-- What each row of the instruction table does, one line a row (RISC-V Unprivileged ISA, "RV32I", "RV64I", "M", "A"; of the last,
+-- "Load-Reserved/Store-Conditional Instructions", the extension Zalrsc, and "Atomic Memory Operations", the extension Zaamo).
 -- docs/reference/machine.md says the same for readers.
 use Rattle.std.specs.Prelude.{ℕ, ◌*◌, ◌/◌, ◌%◌, ◌==◌, Bool, not, nat_le, nat_lt, int_lt, pos, bit_and, bit_or, bit_xor}
 use Rattle.rv64_table.specs.declared.Op.{Op}
-use Rattle.rv64_table.specs.declared.Op.TheVariants.{Lui, Auipc, Jal, Jalr, Beq, Bne, Blt, Bge, Bltu, Bgeu, Lb, Lh, Lw, Ld, Lbu, Lhu, Lwu, Sb, Sh, Sw, Sd, Addi, Slti, Sltiu, Xori, Ori, Andi, Slli, Srli, Srai, Add, Sub, Sll, Slt, Sltu, Xor, Srl, Sra, Or, And, Fence, Ecall, Ebreak, Addiw, Slliw, Srliw, Sraiw, Addw, Subw, Sllw, Srlw, Sraw, Mul, Mulh, Mulhsu, Mulhu, Div, Divu, Rem, Remu, Mulw, Divw, Divuw, Remw, Remuw}
+use Rattle.rv64_table.specs.declared.Op.TheVariants.{Lui, Auipc, Jal, Jalr, Beq, Bne, Blt, Bge, Bltu, Bgeu, Lb, Lh, Lw, Ld, Lbu, Lhu, Lwu, Sb, Sh, Sw, Sd, Addi, Slti, Sltiu, Xori, Ori, Andi, Slli, Srli, Srai, Add, Sub, Sll, Slt, Sltu, Xor, Srl, Sra, Or, And, Fence, Ecall, Ebreak, Addiw, Slliw, Srliw, Sraiw, Addw, Subw, Sllw, Srlw, Sraw, Mul, Mulh, Mulhsu, Mulhu, Div, Divu, Rem, Remu, Mulw, Divw, Divuw, Remw, Remuw, Lrw, Scw, Amoswapw, Amoaddw, Amoxorw, Amoandw, Amoorw, Amominw, Amomaxw, Amominuw, Amomaxuw, Lrd, Scd, Amoswapd, Amoaddd, Amoxord, Amoandd, Amoord, Amomind, Amomaxd, Amominud, Amomaxud}
 use Rattle.rv64_decode.specs.Fields.{signed}
 use Rattle.paged_mem.specs.declared.ram.Width.TheVariants.{W1, W2, W4, W8}
 use Rattle.rv64_machine.specs.declared.effect.Effect.{Effect}
-use Rattle.rv64_machine.specs.declared.effect.Effect.TheVariants.{Put, Jump, Branch, Load, LoadSigned, Store, Next, Call, Break}
+use Rattle.rv64_machine.specs.declared.effect.AmoOperation.TheVariants as operation
+use Rattle.rv64_machine.specs.declared.effect.Effect.TheVariants.{Put, Jump, Branch, Load, LoadSigned, Store, Next, Call, Break, LoadReserved, StoreConditional, Amo}
 use Rattle.rv64_machine.specs.Arithmetic.{difference, flag, high_product, low_word, product, quotient, quotient_unsigned, remainder, remainder_unsigned, shifted_left, shifted_right, shifted_right_signed, sign_extended, sum}
 
 -- a is less than b as a signed number
@@ -21,7 +23,8 @@ even address = address / 2 * 2
 abbrev pub word : ℕ → ℕ
 word n = sign_extended 32 n
 
--- what a row does: a and b are the values of rs1 and rs2, i is the immediate sign-extended to 64 bits
+-- what a row does: a and b are the values of rs1 and rs2, i is the immediate sign-extended to 64 bits. The atomic rows' address is a;
+-- their i is the order of accesses, which does nothing on one hart
 abbrev pub meaning : Op → ℕ → ℕ → ℕ → ℕ → Effect
 meaning Lui a b i pc = Put i
 meaning Auipc a b i pc = Put (sum 64 pc i)
@@ -88,3 +91,25 @@ meaning Divw a b i pc = Put (word (quotient 32 (low_word a) (low_word b)))
 meaning Divuw a b i pc = Put (word (quotient_unsigned 32 (low_word a) (low_word b)))
 meaning Remw a b i pc = Put (word (remainder 32 (low_word a) (low_word b)))
 meaning Remuw a b i pc = Put (word (remainder_unsigned (low_word a) (low_word b)))
+meaning Lrw a b i pc = LoadReserved W4 a
+meaning Scw a b i pc = StoreConditional W4 a b
+meaning Amoswapw a b i pc = Amo operation.Swap W4 a b
+meaning Amoaddw a b i pc = Amo operation.Add W4 a b
+meaning Amoxorw a b i pc = Amo operation.Xor W4 a b
+meaning Amoandw a b i pc = Amo operation.And W4 a b
+meaning Amoorw a b i pc = Amo operation.Or W4 a b
+meaning Amominw a b i pc = Amo operation.Min W4 a b
+meaning Amomaxw a b i pc = Amo operation.Max W4 a b
+meaning Amominuw a b i pc = Amo operation.MinUnsigned W4 a b
+meaning Amomaxuw a b i pc = Amo operation.MaxUnsigned W4 a b
+meaning Lrd a b i pc = LoadReserved W8 a
+meaning Scd a b i pc = StoreConditional W8 a b
+meaning Amoswapd a b i pc = Amo operation.Swap W8 a b
+meaning Amoaddd a b i pc = Amo operation.Add W8 a b
+meaning Amoxord a b i pc = Amo operation.Xor W8 a b
+meaning Amoandd a b i pc = Amo operation.And W8 a b
+meaning Amoord a b i pc = Amo operation.Or W8 a b
+meaning Amomind a b i pc = Amo operation.Min W8 a b
+meaning Amomaxd a b i pc = Amo operation.Max W8 a b
+meaning Amominud a b i pc = Amo operation.MinUnsigned W8 a b
+meaning Amomaxud a b i pc = Amo operation.MaxUnsigned W8 a b

@@ -1,7 +1,7 @@
 ghost use Rattle.std.specs.Prelude.{◌≡◌};
 ghost use Rattle.rv64_machine.specs.Arithmetic.{wrapped};
 ghost use Rattle.rv64_machine.specs.Meaning.{meaning};
-ghost use Rattle.rv64_machine.specs.Inside.Computed.{computed};
+ghost use Rattle.rv64_machine.specs.Inside.Computed.{computed, other_effect};
 
 use crate::arithmetic::{
     difference, difference_word, even, extended, flag, high_signed, high_signed_unsigned,
@@ -27,13 +27,46 @@ pub enum Effect {
     /// rd takes the number at the address, sign-extended.
     LoadSigned(Width, u64),
     /// The low bytes of the value go to the address.
-    Store { width: Width, at: u64, value: u64 },
+    Store {
+        width: Width,
+        at: u64,
+        value: u64,
+    },
     /// Nothing.
     Next,
     /// The system is called.
     Call,
     /// The hart stops.
     Break,
+    /// rd takes the number at the address, sign-extended, and its bytes are reserved.
+    LoadReserved(Width, u64),
+    /// Where these bytes are reserved, they take the low bytes of the value and rd 0; elsewhere rd takes 1. The reservation ends.
+    StoreConditional {
+        width: Width,
+        at: u64,
+        value: u64,
+    },
+    /// rd takes the number at the address, sign-extended, and what the operation makes of it and the value goes there.
+    Amo {
+        operation: AmoOperation,
+        width: Width,
+        at: u64,
+        value: u64,
+    },
+}
+
+/// What an atomic memory operation makes of the number in memory and the value of rs2.
+#[derive(Clone, Copy, Debug, PartialEq, Eq)]
+pub enum AmoOperation {
+    Swap,
+    Add,
+    Xor,
+    And,
+    Or,
+    Min,
+    Max,
+    MinUnsigned,
+    MaxUnsigned,
 }
 
 /// The effect of a row on the values of rs1 and rs2, the immediate and the pc: a line for each row, as in
@@ -68,6 +101,38 @@ pub fn effect_of(op: Op, a: u64, b: u64, imm: i64, pc: u64) -> Effect
         Op::Fence => Effect::Next,
         Op::Ecall => Effect::Call,
         Op::Ebreak => Effect::Break,
+        _ => other_effect_of(op, a, b, i),
+    }
+}
+
+/// The effect of the rows that need neither the immediate as an offset nor the pc: the atomic rows, and those that compute a value.
+#[inline(always)]
+fn other_effect_of(op: Op, a: u64, b: u64, i: u64) -> Effect
+    ensures { result ≡ other_effect op a b i }
+{
+    match op {
+        Op::Lrw => Effect::LoadReserved(Width::W4, a),
+        Op::Scw => store_conditional(Width::W4, a, b),
+        Op::Amoswapw => amo(AmoOperation::Swap, Width::W4, a, b),
+        Op::Amoaddw => amo(AmoOperation::Add, Width::W4, a, b),
+        Op::Amoxorw => amo(AmoOperation::Xor, Width::W4, a, b),
+        Op::Amoandw => amo(AmoOperation::And, Width::W4, a, b),
+        Op::Amoorw => amo(AmoOperation::Or, Width::W4, a, b),
+        Op::Amominw => amo(AmoOperation::Min, Width::W4, a, b),
+        Op::Amomaxw => amo(AmoOperation::Max, Width::W4, a, b),
+        Op::Amominuw => amo(AmoOperation::MinUnsigned, Width::W4, a, b),
+        Op::Amomaxuw => amo(AmoOperation::MaxUnsigned, Width::W4, a, b),
+        Op::Lrd => Effect::LoadReserved(Width::W8, a),
+        Op::Scd => store_conditional(Width::W8, a, b),
+        Op::Amoswapd => amo(AmoOperation::Swap, Width::W8, a, b),
+        Op::Amoaddd => amo(AmoOperation::Add, Width::W8, a, b),
+        Op::Amoxord => amo(AmoOperation::Xor, Width::W8, a, b),
+        Op::Amoandd => amo(AmoOperation::And, Width::W8, a, b),
+        Op::Amoord => amo(AmoOperation::Or, Width::W8, a, b),
+        Op::Amomind => amo(AmoOperation::Min, Width::W8, a, b),
+        Op::Amomaxd => amo(AmoOperation::Max, Width::W8, a, b),
+        Op::Amominud => amo(AmoOperation::MinUnsigned, Width::W8, a, b),
+        Op::Amomaxud => amo(AmoOperation::MaxUnsigned, Width::W8, a, b),
         _ => Effect::Put(value_of(op, a, b, i)),
     }
 }
@@ -78,6 +143,27 @@ fn store(width: Width, at: u64, value: u64) -> Effect
     ensures { result ≡ Effect.Store width at value }
 {
     Effect::Store { width, at, value }
+}
+
+/// The effect of a store-conditional.
+#[inline(always)]
+fn store_conditional(width: Width, at: u64, value: u64) -> Effect
+    ensures { result ≡ Effect.StoreConditional width at value }
+{
+    Effect::StoreConditional { width, at, value }
+}
+
+/// The effect of an atomic memory operation.
+#[inline(always)]
+fn amo(operation: AmoOperation, width: Width, at: u64, value: u64) -> Effect
+    ensures { result ≡ Effect.Amo operation width at value }
+{
+    Effect::Amo {
+        operation,
+        width,
+        at,
+        value,
+    }
 }
 
 /// What a row that computes from rs1 and rs2 or the immediate puts into rd, a line for each such row; 0 for the others.

@@ -1,64 +1,69 @@
-ghost use Rattle.std.specs.Prelude.{All, ◌≡◌, ℕ, ◌+◌, ◌-◌, ◌*◌, ◌%◌, ◌^◌, ◌<◌, ◌≤◌, IfSome, Some, option_map, replicate, slice_index, if◌then◌else◌};
+ghost use Rattle.std.specs.Prelude.{All, None, ◌==◌, ◌≡◌, ℕ, ◌+◌, ◌-◌, ◌*◌, ◌%◌, ◌^◌, ◌<◌, ◌≤◌, IfSome, Some, option_map, replicate, slice_index, if◌then◌else◌};
 ghost use Rattle.rv64_decode.specs.Decode.{decoded};
 ghost use Rattle.rv64_table.specs.Table.{row_for};
 ghost use Rattle.paged_mem.specs.Memory.{reads};
 ghost use Rattle.paged_mem.specs.Ram.{count_of, Stores};
 ghost use Rattle.rv64_machine.specs.Arithmetic.{sign_extended};
-ghost use Rattle.rv64_machine.specs.Hart.{carried, effect_of, EndsStep, following, HartState, HasNumbers, IsHart, runs, ActsInARow, Acts, with_register};
+ghost use Rattle.rv64_machine.specs.Inside.FlatEnds.{step_end};
+ghost use Rattle.rv64_machine.specs.Hart.{IsReservation, IsReservable, ReservesReservable, reads_aligned, is_reserved, reserved_bytes, carried, effect_of, EndsStep, following, HartState, HasNumbers, IsHart, runs, ActsInARow, Acts, with_register};
 ghost use Rattle.std.specs.FinMap.{contains_key};
 ghost use Rattle.std.specs.Borrow.{Lends, sem};
 ghost use Rattle.rv64_machine.specs.contracts.hart.Hart.{the_row};
 
-use crate::answer::{Cause, StepEnd};
+use crate::answer::{Cause, FlatEnd, Reservation, StepEnd};
 use crate::arithmetic::{sum, widened};
-use crate::effect::{Effect, effect_of};
+use crate::atomics::amo_result;
+use crate::effect::{AmoOperation, Effect, effect_of};
 use paged_mem::{Ram, StoreRefusal, Width};
 use rv64_decode::decode_as;
-use rv64_table::{Op, row_of};
+use rv64_table::{Op, row_of, row_without_atomics};
 use std::marker::Model;
 
 macro_rules! by_operation {
     ($hart:expr, $op:expr, $word:expr; $($name:ident)*) => {
         match $op {
-            $(Op::$name => $hart.perform(Op::$name, $word)),*
+            $(Op::$name => $hart.perform(Op::$name, $word),)*
+            _ => $hart.obey_seldom($word),
         }
     };
 }
 
-/// A hart of RV64IM with its memory.
+/// A hart of RV64IMA with its memory.
 ///
-/// Contracts see it as its state: the registers, the pc, and the memory as one map of bytes.
+/// Contracts see it as its state: the registers, the pc, the memory as one map of bytes, and the reservation.
 #[derive(Debug, Drop)]
 pub struct Hart<R: Ram> {
     registers: [u64; 32],
     pc: u64,
     ram: R,
+    reservation: Option<Reservation>,
 }
 
 impl<R: Ram> Model for Hart<R> {
-    ghost use Rattle.std.specs.Prelude.{◌≡◌, ◌%◌, length, slice_index};
-    ghost use Rattle.rv64_machine.specs.Hart.{HartState, code};
+    ghost use Rattle.std.specs.Prelude.{◌≡◌, ◌%◌, length, option_map, slice_index};
+    ghost use Rattle.rv64_machine.specs.Hart.{HartState, IsReservation, code, reserved_bytes};
 
     ghost Value = { HartState };
 
     ghost coded = { code };
 
-    ghost view = { λ h. record { registers = h.registers; pc = h.pc; memory = R.bytes h.ram } };
+    ghost view = { λ h. record { registers = h.registers; pc = h.pc; memory = R.bytes h.ram; reservation = option_map reserved_bytes h.reservation } };
 
     ghost invariant = { λ h.
-        (length h.registers ≡ 32) × (slice_index h.registers 0 ≡ 0) × (h.pc % 4 ≡ 0) };
+        (length h.registers ≡ 32) × (slice_index h.registers 0 ≡ 0) × (h.pc % 4 ≡ 0) × IsReservation (option_map reserved_bytes h.reservation) };
 }
 
 impl<R: Ram> Hart<R> {
-    /// A hart at `pc` whose registers are all 0.
+    /// A hart at `pc` whose registers are all 0, without a reservation.
     pub fn new(ram: R, pc: u64) -> Hart<R>
         requires { pc % 4 ≡ 0 }
-        ensures { result ≡ record { registers = replicate 32 0; pc = pc; memory = R.bytes ram } }
+        ensures { result ≡ record { registers = replicate 32 0; pc = pc; memory = R.bytes ram; reservation = None } }
     {
         Hart {
             registers: [0; 32],
             pc,
             ram,
+            reservation: None,
         }
     }
 
@@ -115,11 +120,27 @@ impl<R: Ram> Hart<R> {
         &mut self.ram
     }
 
-    /// Answers a call: x10 takes the value, and the hart goes on at the next instruction.
+    /// What is reserved, if anything is.
+    pub fn reservation(&self) -> Option<Reservation>
+        ensures { option_map reserved_bytes result ≡ self.now.reservation }
+    {
+        self.reservation
+    }
+
+    /// Sets what is reserved.
+    pub fn set_reservation(&mut self, held: Option<Reservation>)
+        requires { IsReservation (option_map reserved_bytes held) }
+        ensures { self.new ≡ record self.old { reservation = option_map reserved_bytes held } }
+    {
+        self.reservation = held;
+    }
+
+    /// Answers a call: x10 takes the value, the reservation ends, and the hart goes on at the next instruction.
     pub fn answer(&mut self, value: u64)
-        ensures { self.new ≡ record (with_register self.old 10 value) { pc = following self.old } }
+        ensures { self.new ≡ record (with_register self.old 10 value) { pc = following self.old; reservation = None } }
     {
         self.registers[10] = value;
+        self.reservation = None;
         self.pass();
     }
 
@@ -219,8 +240,8 @@ impl<R: Ram> Hart<R> {
     fn obey(&mut self, word: u32) -> StepEnd
         ensures { EndsStep (runs self.old word (decoded word)) (option_map (effect_of self.old) (decoded word)) self.old result self.new }
     {
-        match row_of(word) {
-            None => StepEnd::Trap(Cause::Illegal(word)),
+        match row_without_atomics(word) {
+            None => self.obey_seldom(word),
             Some(op) => self.dispatch(op, word),
         }
     }
@@ -237,6 +258,34 @@ impl<R: Ram> Hart<R> {
             Addi Slti Sltiu Xori Ori Andi Slli Srli Srai Add Sub Sll Slt Sltu Xor Srl Sra Or And Fence Ecall Ebreak
             Addiw Slliw Srliw Sraiw Addw Subw Sllw Srlw Sraw
             Mul Mulh Mulhsu Mulhu Div Divu Rem Remu Mulw Divw Divuw Remw Remuw
+        }
+    }
+
+    /// Carries out a word of an atomic row or of none.
+    #[inline(always)]
+    fn obey_seldom(&mut self, word: u32) -> StepEnd
+        ensures { EndsStep (runs self.old word (decoded word)) (option_map (effect_of self.old) (decoded word)) self.old result self.new }
+    {
+        self.obey_rare(word).step_end()
+    }
+
+    /// The same, out of the loop: the arms of the atomic rows would make it too large to be compiled as one, and an answer that does not
+    /// fit two registers would be cleared in memory at each of its steps.
+    #[cold]
+    #[inline(never)]
+    fn obey_rare(&mut self, word: u32) -> FlatEnd
+        ensures { EndsStep (runs self.old word (decoded word)) (option_map (effect_of self.old) (decoded word)) self.old (step_end result) self.new }
+    {
+        FlatEnd::of(self.obey_by_row(word))
+    }
+
+    /// Carries out a word of any row or of none.
+    fn obey_by_row(&mut self, word: u32) -> StepEnd
+        ensures { EndsStep (runs self.old word (decoded word)) (option_map (effect_of self.old) (decoded word)) self.old result self.new }
+    {
+        match row_of(word) {
+            None => StepEnd::Trap(Cause::Illegal(word)),
+            Some(op) => self.perform(op, word),
         }
     }
 
@@ -260,7 +309,8 @@ impl<R: Ram> Hart<R> {
     /// Carries out the effect of an instruction with this rd.
     #[inline(always)]
     fn carry_out(&mut self, rd: u8, effect: Effect) -> StepEnd
-        requires { rd < 32 }
+        requires rd { rd < 32 }
+        requires wide { ReservesReservable effect }
         ensures { EndsStep (carried self.old rd effect) (Some effect) self.old result self.new }
     {
         match effect {
@@ -276,6 +326,112 @@ impl<R: Ram> Hart<R> {
             Effect::Next => self.pass(),
             Effect::Call => StepEnd::Call,
             Effect::Break => StepEnd::Trap(Cause::Break),
+            Effect::LoadReserved(width, at) => self.load_reserved(rd, width, at),
+            Effect::StoreConditional { width, at, value } => self.store_conditional(
+                rd, width, at, value,
+            ),
+            Effect::Amo {
+                operation,
+                width,
+                at,
+                value,
+            } => self.amo(rd, operation, width, at, value),
+        }
+    }
+
+    /// Carries out a load-reserved.
+    #[cold]
+    #[inline(never)]
+    fn load_reserved(&mut self, rd: u8, width: Width, at: u64) -> StepEnd
+        requires rd { rd < 32 }
+        requires wide { IsReservable width }
+        ensures { EndsStep (carried self.old rd (Effect.LoadReserved width at)) None self.old result self.new }
+    {
+        // The pc's contract tells that the hart keeps its rules.
+        let _pc = self.pc();
+        match self.reads_aligned(at, width) {
+            Some(value) => {
+                self.set_reg(rd, widened(width, value));
+                self.set_reservation(Some(Reservation { wide: width, at }));
+                self.pass()
+            }
+            None => StepEnd::Trap(Cause::LoadUnmapped(at)),
+        }
+    }
+
+    /// Carries out a store-conditional.
+    #[cold]
+    #[inline(never)]
+    fn store_conditional(&mut self, rd: u8, width: Width, at: u64, value: u64) -> StepEnd
+        requires { rd < 32 }
+        ensures { EndsStep (carried self.old rd (Effect.StoreConditional width at value))
+            (Some (Effect.StoreConditional width at value)) self.old result self.new }
+    {
+        match self.reads_aligned(at, width) {
+            Some(_) => {
+                if !self.is_reserved(width, at) {
+                    self.set_reg(rd, 1);
+                    self.set_reservation(None);
+                    return self.pass();
+                }
+                match self.store_anywhere(at, width, value) {
+                    Ok(()) => {
+                        self.set_reg(rd, 0);
+                        self.set_reservation(None);
+                        self.pass()
+                    }
+                    Err(StoreRefusal::Unmapped) => StepEnd::Trap(Cause::StoreUnmapped(at)),
+                    Err(StoreRefusal::OutOfMemory) => StepEnd::OutOfMemory,
+                }
+            }
+            None => StepEnd::Trap(Cause::StoreUnmapped(at)),
+        }
+    }
+
+    /// Carries out an atomic memory operation.
+    #[cold]
+    #[inline(never)]
+    fn amo(&mut self, rd: u8, operation: AmoOperation, width: Width, at: u64, value: u64) -> StepEnd
+        requires { rd < 32 }
+        ensures { EndsStep (carried self.old rd (Effect.Amo operation width at value))
+            (Some (Effect.Amo operation width at value)) self.old result self.new }
+    {
+        match self.reads_aligned(at, width) {
+            Some(old) => match self.store_anywhere(
+                at,
+                width,
+                amo_result(operation, width, old, value),
+            ) {
+                Ok(()) => {
+                    self.set_reg(rd, widened(width, old));
+                    self.pass()
+                }
+                Err(StoreRefusal::Unmapped) => StepEnd::Trap(Cause::StoreUnmapped(at)),
+                Err(StoreRefusal::OutOfMemory) => StepEnd::OutOfMemory,
+            },
+            None => StepEnd::Trap(Cause::StoreUnmapped(at)),
+        }
+    }
+
+    /// The number at an address, where that is a multiple of the width and mapped.
+    fn reads_aligned(&self, at: u64, width: Width) -> Option<u64>
+        ensures value { result ≡ reads_aligned self.now.memory at (count_of width) }
+        ensures fits { IfSome result (λ value. value < 2 ^ (8 * count_of width)) }
+    {
+        if is_multiple(at, width) {
+            self.load_anywhere(at, width)
+        } else {
+            None
+        }
+    }
+
+    /// Whether these bytes are reserved.
+    fn is_reserved(&self, width: Width, at: u64) -> bool
+        ensures { result ≡ is_reserved self.now.reservation (count_of width) at }
+    {
+        match self.reservation {
+            Some(held) => held.wide.count() == width.count() && held.at == at,
+            None => false,
         }
     }
 
@@ -358,6 +514,18 @@ impl<R: Ram> Hart<R> {
     {
         self.pc = sum(self.pc, 4);
         StepEnd::Done
+    }
+}
+
+/// Whether an address is a multiple of a width.
+fn is_multiple(at: u64, width: Width) -> bool
+    ensures { result ≡ (at % count_of width == 0) }
+{
+    match width {
+        Width::W1 => true,
+        Width::W2 => at % 2 == 0,
+        Width::W4 => at % 4 == 0,
+        Width::W8 => at % 8 == 0,
     }
 }
 

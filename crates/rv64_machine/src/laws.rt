@@ -5,9 +5,10 @@ ghost use Rattle.paged_mem.specs.Ram.{count_of};
 ghost use Rattle.paged_mem.specs.declared.ram.Width.{Width};
 ghost use Rattle.rv64_decode.specs.Decode.{decoded};
 ghost use Rattle.rv64_machine.specs.Hart.{act, effect_at, following, GoesOn, HartState, HasNumbers, is_store, IsHart, runs, Acts, with_register};
+ghost use Rattle.rv64_machine.specs.WithoutAtomics.{ActsWithoutAtomicsStand};
 ghost use Rattle.rv64_machine.specs.declared.effect.Effect.TheVariants.{Store};
 ghost use Rattle.std.specs.FinMap.{contains_key, get};
-ghost use Rattle.std.specs.Prelude.{◌≡◌, ◌≢◌, ℕ, ◌+◌, ◌*◌, ◌%◌, ◌^◌, ◌<◌, ◌≤◌, ◌⊎◌, false, Some};
+ghost use Rattle.std.specs.Prelude.{◌≡◌, ◌≢◌, ℕ, ◌+◌, ◌*◌, ◌%◌, ◌^◌, ◌<◌, ◌≤◌, ◌⊎◌, false, Some, None};
 
 use crate::answer::StepEnd;
 use crate::hart::Hart;
@@ -28,7 +29,7 @@ pub fn equal_harts_step_alike<R: Ram, S: Ram>(
     (one.step(), other.step())
 }
 
-/// A row other than a store leaves memory as it was.
+/// A row other than a store, and other than an atomic row that stores, leaves memory as it was.
 pub fn only_stores_write()
     ensures { (hart next : HartState) → act hart ≡ GoesOn next → is_store (effect_at hart) ≡ false
         → next.memory ≡ hart.memory }
@@ -69,7 +70,12 @@ pub fn acts_keep_the_rules()
 /// The answer to a call does too.
 pub fn answers_keep_the_rules()
     ensures rules { (hart : HartState) (value : ℕ) → IsHart hart
-        → IsHart (record (with_register hart 10 value) { pc = following hart }) }
+        → IsHart (record (with_register hart 10 value) { pc = following hart; reservation = None }) }
     ensures numbers { (hart : HartState) (value : ℕ) → value < 2 ^ 64 → HasNumbers hart
-        → HasNumbers (record (with_register hart 10 value) { pc = following hart }) }
+        → HasNumbers (record (with_register hart 10 value) { pc = following hart; reservation = None }) }
+{}
+
+/// What a hart without the atomic rows does, a hart with them does too, and the reservation stays.
+pub fn acts_without_atomics_stand()
+    ensures { (hart : HartState) → ActsWithoutAtomicsStand hart }
 {}

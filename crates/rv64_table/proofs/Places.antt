@@ -83,7 +83,8 @@ abbrev pub is_regular : Row → Bool
 is_regular r =
     (r.mask == mask_of r.form)
     && (nat_lt r.want (2 ^ 32)
-    && (not (has_fields r.form) || fits_fields r.form r.want (r.want / 2 ^ 12 % 2 ^ 3) (r.want / 2 ^ 25)))
+    && (not (has_fields r.form)
+    || ((r.want / 2 ^ 15 % 2 ^ 10 == 0) && fits_fields r.form r.want (r.want / 2 ^ 12 % 2 ^ 3) (r.want / 2 ^ 25) (r.want / 2 ^ 15 % 2 ^ 10))))
 
 -- the parts of what a form with fields wants
 pub record Wants (form : Form) (want : ℕ) : Type 0 where
@@ -92,14 +93,16 @@ pub record Wants (form : Form) (want : ℕ) : Type 0 where
   pub rs : want / 2 ^ 15 % 2 ^ 10 ≡ 0
   pub funct7 : fits_funct7 form (want / 2 ^ 25) (want / 2 ^ 25) ≡ true
 
-wants : (form : Form) (want : ℕ) → (not (has_fields form) || fits_fields form want (want / 2 ^ 12 % 2 ^ 3) (want / 2 ^ 25)) ≡ true → has_fields form ≡ true
+wants : (form : Form) (want : ℕ) → (not (has_fields form)
+    || ((want / 2 ^ 15 % 2 ^ 10 == 0) && fits_fields form want (want / 2 ^ 12 % 2 ^ 3) (want / 2 ^ 25) (want / 2 ^ 15 % 2 ^ 10))) ≡ true → has_fields form ≡ true
     → Wants form want
 wants form want h p =
     let own = rw p at h in
-    let rd = and_parts _ _ own in
+    let free = and_parts _ _ own in
+    let rd = and_parts _ _ free.1 in
     let funct3 = and_parts _ _ rd.1 in
     let rs = and_parts _ _ funct3.1 in
-    record { rd = eqb-true _ _ rd.0; funct3 = funct3.0; rs = eqb-true _ _ rs.0; funct7 = rs.1 }
+    record { rd = eqb-true _ _ rd.0; funct3 = funct3.0; rs = eqb-true _ _ free.0; funct7 = rs.1 }
 
 -- what holds of each row of the table
 pub record IsRegular (r : Row) : Type 0 where

@@ -1,14 +1,15 @@
 -- The table of instructions, and the row of a word.
--- The source: RISC-V Unprivileged ISA, "RV32/64G Instruction Set Listings", the tables RV32I, RV64I, RV32M and RV64M.
+-- The source: RISC-V Unprivileged ISA, "RV32/64G Instruction Set Listings", the tables RV32I, RV64I, RV32M, RV64M, RV32A and RV64A.
 -- docs/reference/instructions.md says the same for readers.
-use Rattle.std.specs.Prelude.{ℕ, ◌+◌, ◌*◌, ◌^◌, ◌≡◌, Bool, ◌==◌, IsTrue, List, [], ◌∷◌, Option, Some, find, slice_get, bit_and}
+use Rattle.std.specs.Prelude.{ℕ, ◌+◌, ◌*◌, ◌^◌, ◌≡◌, Bool, nat_le, ◌==◌, IsTrue, List, [], ◌∷◌, Option, None, Some, if◌then◌else◌, find, slice_get, bit_and}
 use Rattle.rv64_table.specs.declared.Row.{Row}
 use Rattle.rv64_table.specs.declared.Form.{Form}
-use Rattle.rv64_table.specs.declared.Form.TheVariants.{R, I, H, K, S, B, U, J, E}
+use Rattle.rv64_table.specs.declared.Form.TheVariants.{R, I, H, K, S, B, U, J, E, L, A}
 use Rattle.rv64_table.specs.declared.Op.{Op}
-use Rattle.rv64_table.specs.declared.Op.TheVariants.{Lui, Auipc, Jal, Jalr, Beq, Bne, Blt, Bge, Bltu, Bgeu, Lb, Lh, Lw, Ld, Lbu, Lhu, Lwu, Sb, Sh, Sw, Sd, Addi, Slti, Sltiu, Xori, Ori, Andi, Slli, Srli, Srai, Add, Sub, Sll, Slt, Sltu, Xor, Srl, Sra, Or, And, Fence, Ecall, Ebreak, Addiw, Slliw, Srliw, Sraiw, Addw, Subw, Sllw, Srlw, Sraw, Mul, Mulh, Mulhsu, Mulhu, Div, Divu, Rem, Remu, Mulw, Divw, Divuw, Remw, Remuw}
+use Rattle.rv64_table.specs.declared.Op.TheVariants.{Lui, Auipc, Jal, Jalr, Beq, Bne, Blt, Bge, Bltu, Bgeu, Lb, Lh, Lw, Ld, Lbu, Lhu, Lwu, Sb, Sh, Sw, Sd, Addi, Slti, Sltiu, Xori, Ori, Andi, Slli, Srli, Srai, Add, Sub, Sll, Slt, Sltu, Xor, Srl, Sra, Or, And, Fence, Ecall, Ebreak, Addiw, Slliw, Srliw, Sraiw, Addw, Subw, Sllw, Srlw, Sraw, Mul, Mulh, Mulhsu, Mulhu, Div, Divu, Rem, Remu, Mulw, Divw, Divuw, Remw, Remuw, Lrw, Scw, Amoswapw, Amoaddw, Amoxorw, Amoandw, Amoorw, Amominw, Amomaxw, Amominuw, Amomaxuw, Lrd, Scd, Amoswapd, Amoaddd, Amoxord, Amoandd, Amoord, Amomind, Amomaxd, Amominud, Amomaxud}
 
--- the bits that a form fixes: the opcode in bits 6..0, funct3 in 14..12, funct7 (H: funct6) from 31 on, or all
+-- the bits that a form fixes: the opcode in bits 6..0, funct3 in 14..12, funct7 (H: funct6, L and A: funct5) from 31 on, L's
+-- rs2 too, or all
 abbrev pub mask_of : Form → ℕ
 mask_of R = 0xFE00707F
 mask_of I = 0x0000707F
@@ -19,6 +20,8 @@ mask_of B = 0x0000707F
 mask_of U = 0x0000007F
 mask_of J = 0x0000007F
 mask_of E = 0xFFFFFFFF
+mask_of L = 0xF9F0707F
+mask_of A = 0xF800707F
 
 -- the row of an operation by its form, opcode, funct3 and funct7, the last two 0 where the form does not fix them
 abbrev pub row : Form → ℕ → ℕ → ℕ → Op → Row
@@ -28,6 +31,10 @@ row form opcode funct3 funct7 op =
 -- the row of an operation whose word has no fields
 abbrev pub whole_word : ℕ → Op → Row
 whole_word word op = record { mask = mask_of E; want = word; form = E; op = op }
+
+-- the row of an atomic operation by its form, funct3 and funct5, which is funct7 without the two bits for the order of accesses
+abbrev pub atomic : Form → ℕ → ℕ → Op → Row
+atomic form funct3 funct5 op = row form 0x2F funct3 (funct5 * 2 ^ 2) op
 
 -- the table
 unfoldable pub table : List Row
@@ -97,6 +104,28 @@ table =
     ∷ row R 0x3B 5 0x01 Divuw
     ∷ row R 0x3B 6 0x01 Remw
     ∷ row R 0x3B 7 0x01 Remuw
+    ∷ atomic L 2 0x02 Lrw
+    ∷ atomic A 2 0x03 Scw
+    ∷ atomic A 2 0x01 Amoswapw
+    ∷ atomic A 2 0x00 Amoaddw
+    ∷ atomic A 2 0x04 Amoxorw
+    ∷ atomic A 2 0x0C Amoandw
+    ∷ atomic A 2 0x08 Amoorw
+    ∷ atomic A 2 0x10 Amominw
+    ∷ atomic A 2 0x14 Amomaxw
+    ∷ atomic A 2 0x18 Amominuw
+    ∷ atomic A 2 0x1C Amomaxuw
+    ∷ atomic L 3 0x02 Lrd
+    ∷ atomic A 3 0x03 Scd
+    ∷ atomic A 3 0x01 Amoswapd
+    ∷ atomic A 3 0x00 Amoaddd
+    ∷ atomic A 3 0x04 Amoxord
+    ∷ atomic A 3 0x0C Amoandd
+    ∷ atomic A 3 0x08 Amoord
+    ∷ atomic A 3 0x10 Amomind
+    ∷ atomic A 3 0x14 Amomaxd
+    ∷ atomic A 3 0x18 Amominud
+    ∷ atomic A 3 0x1C Amomaxud
     ∷ []
 
 -- the word has the bits that the row wants where its mask is set
@@ -174,6 +203,36 @@ op_number Divw = 61
 op_number Divuw = 62
 op_number Remw = 63
 op_number Remuw = 64
+op_number Lrw = 65
+op_number Scw = 66
+op_number Amoswapw = 67
+op_number Amoaddw = 68
+op_number Amoxorw = 69
+op_number Amoandw = 70
+op_number Amoorw = 71
+op_number Amominw = 72
+op_number Amomaxw = 73
+op_number Amominuw = 74
+op_number Amomaxuw = 75
+op_number Lrd = 76
+op_number Scd = 77
+op_number Amoswapd = 78
+op_number Amoaddd = 79
+op_number Amoxord = 80
+op_number Amoandd = 81
+op_number Amoord = 82
+op_number Amomind = 83
+op_number Amomaxd = 84
+op_number Amominud = 85
+op_number Amomaxud = 86
+
+-- whether an operation is one of the extension A: their rows stand behind the 65 of RV64I and M
+abbrev pub is_atomic : Op → Bool
+is_atomic op = nat_le 65 (op_number op)
+
+-- the operation where it is none of these
+abbrev pub unless_atomic : Op → Option Op
+unless_atomic op = if is_atomic op then None else Some op
 
 -- the row of an operation
 abbrev pub row_with : Op → Option Row

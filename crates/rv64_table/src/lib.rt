@@ -1,7 +1,7 @@
-//! The instructions of RV64I and M, as one table of 65 rows, and the row that a word belongs to.
+//! The instructions of RV64I, M and A, as one table of 87 rows, and the row that a word belongs to.
 //!
 //! The public source is The RISC-V Instruction Set Manual, Volume I (Unprivileged ISA): the chapters
-//! "RV32I", "RV64I" and "M" and the chapter "RV32/64G Instruction Set Listings".
+//! "RV32I", "RV64I", "M" and "A" and the chapter "RV32/64G Instruction Set Listings".
 #![tactic(auto)]
 
 ghost use Rattle.std.specs.Prelude.{◌≡◌};
@@ -10,7 +10,7 @@ ghost use Rattle.rv64_table.specs.Table.{table};
 pub mod laws;
 mod lookup;
 
-pub use lookup::row_of;
+pub use lookup::{row_of, row_without_atomics};
 
 /// The shape of an instruction word: which of its bits are fixed, and which fields the others hold.
 #[derive(Clone, Copy, PartialEq, Eq, Debug)]
@@ -33,6 +33,10 @@ pub enum Form {
     J,
     /// No fields: every bit is fixed.
     E,
+    /// As A, but without a second source register: load-reserved.
+    L,
+    /// As R, but funct7 is funct5 and two bits for the order of accesses, which stand as the immediate.
+    A,
 }
 
 /// The operations, named after the standard's mnemonics, in the order of the table.
@@ -103,6 +107,28 @@ pub enum Op {
     Divuw,
     Remw,
     Remuw,
+    Lrw,
+    Scw,
+    Amoswapw,
+    Amoaddw,
+    Amoxorw,
+    Amoandw,
+    Amoorw,
+    Amominw,
+    Amomaxw,
+    Amominuw,
+    Amomaxuw,
+    Lrd,
+    Scd,
+    Amoswapd,
+    Amoaddd,
+    Amoxord,
+    Amoandd,
+    Amoord,
+    Amomind,
+    Amomaxd,
+    Amominud,
+    Amomaxud,
 }
 
 macro_rules! forms {
@@ -131,6 +157,9 @@ impl Op {
             U: Lui Auipc;
             J: Jal;
             E: Ecall Ebreak;
+            L: Lrw Lrd;
+            A: Scw Amoswapw Amoaddw Amoxorw Amoandw Amoorw Amominw Amomaxw Amominuw Amomaxuw Scd
+                Amoswapd Amoaddd Amoxord Amoandd Amoord Amomind Amomaxd Amominud Amomaxud;
         }
     }
 
@@ -171,7 +200,7 @@ macro_rules! table {
 }
 
 /// The table, by the masks and values of the words themselves.
-static ROWS: [Row; 65] = table! {
+static ROWS: [Row; 87] = table! {
     U 0x0000_007F 0x0000_0037 Lui
     U 0x0000_007F 0x0000_0017 Auipc
     J 0x0000_007F 0x0000_006F Jal
@@ -237,17 +266,39 @@ static ROWS: [Row; 65] = table! {
     R 0xFE00_707F 0x0200_503B Divuw
     R 0xFE00_707F 0x0200_603B Remw
     R 0xFE00_707F 0x0200_703B Remuw
+    L 0xF9F0_707F 0x1000_202F Lrw
+    A 0xF800_707F 0x1800_202F Scw
+    A 0xF800_707F 0x0800_202F Amoswapw
+    A 0xF800_707F 0x0000_202F Amoaddw
+    A 0xF800_707F 0x2000_202F Amoxorw
+    A 0xF800_707F 0x6000_202F Amoandw
+    A 0xF800_707F 0x4000_202F Amoorw
+    A 0xF800_707F 0x8000_202F Amominw
+    A 0xF800_707F 0xA000_202F Amomaxw
+    A 0xF800_707F 0xC000_202F Amominuw
+    A 0xF800_707F 0xE000_202F Amomaxuw
+    L 0xF9F0_707F 0x1000_302F Lrd
+    A 0xF800_707F 0x1800_302F Scd
+    A 0xF800_707F 0x0800_302F Amoswapd
+    A 0xF800_707F 0x0000_302F Amoaddd
+    A 0xF800_707F 0x2000_302F Amoxord
+    A 0xF800_707F 0x6000_302F Amoandd
+    A 0xF800_707F 0x4000_302F Amoord
+    A 0xF800_707F 0x8000_302F Amomind
+    A 0xF800_707F 0xA000_302F Amomaxd
+    A 0xF800_707F 0xC000_302F Amominud
+    A 0xF800_707F 0xE000_302F Amomaxud
 };
 
 #[tactic(auto, unfolding(crate::specs::Table::table))]
-fn listed() -> &'static [Row; 65]
+fn listed() -> &'static [Row; 87]
     ensures { result.now ≡ table }
 {
     &ROWS
 }
 
 /// The table, row by row in the standard's order.
-pub fn rows() -> [Row; 65]
+pub fn rows() -> [Row; 87]
     ensures { result ≡ table }
 {
     *listed()

@@ -1,7 +1,7 @@
-//! The row of a word, by its opcode and its fields funct3 and funct7.
+//! The row of a word, by its opcode and its fields funct3, funct7 and, of a load-reserved, rs2.
 
-ghost use Rattle.std.specs.Prelude.{◌≡◌, option_map, find};
-ghost use Rattle.rv64_table.specs.Table.{matches, row_for, table};
+ghost use Rattle.std.specs.Prelude.{◌≡◌, option_and_then, option_map, find};
+ghost use Rattle.rv64_table.specs.Table.{matches, row_for, table, unless_atomic};
 ghost use Rattle.rv64_table.specs.Inside.Lookup.{pick, rows_of};
 
 use crate::Op;
@@ -32,10 +32,23 @@ const OPCODE_OP_IMM_32: u32 = 0x1B;
 
 const OPCODE_OP_32: u32 = 0x3B;
 
+const OPCODE_AMO: u32 = 0x2F;
+
 /// The operation whose row has these bits: `word & mask == want`. None where the word has no row.
 #[inline(always)]
 pub fn row_of(word: u32) -> Option<Op>
     ensures { result ≡ option_map (λ r. r.op) (row_for word) }
+{
+    if word & 0x7F == OPCODE_AMO {
+        return atomic((word >> 12) & 0x7, word >> 25, (word >> 15) & 0x3FF);
+    }
+    row_without_atomics(word)
+}
+
+/// The same, but none where the row is an atomic one: a loop asks this first, since those are rare.
+#[inline(always)]
+pub fn row_without_atomics(word: u32) -> Option<Op>
+    ensures { result ≡ option_and_then unless_atomic (option_map (λ r. r.op) (row_for word)) }
 {
     let funct3 = (word >> 12) & 0x7;
     let funct7 = word >> 25;
@@ -53,13 +66,14 @@ pub fn row_of(word: u32) -> Option<Op>
         OPCODE_SYSTEM => system(word),
         OPCODE_OP_IMM_32 => op_imm_32(funct3, funct7),
         OPCODE_OP_32 => op_32(funct3, funct7),
+        OPCODE_AMO => None,
         _ => None,
     }
 }
 
 #[tactic(auto, unfolding(crate::specs::Table::table))]
 fn jalr(funct3: u32) -> Option<Op>
-    ensures { result ≡ pick (rows_of OPCODE_JALR table) funct3 0 }
+    ensures { result ≡ pick (rows_of OPCODE_JALR table) funct3 0 0 }
 {
     match funct3 {
         0 => Some(Op::Jalr),
@@ -69,7 +83,7 @@ fn jalr(funct3: u32) -> Option<Op>
 
 #[tactic(auto, unfolding(crate::specs::Table::table))]
 fn branch(funct3: u32) -> Option<Op>
-    ensures { result ≡ pick (rows_of OPCODE_BRANCH table) funct3 0 }
+    ensures { result ≡ pick (rows_of OPCODE_BRANCH table) funct3 0 0 }
 {
     match funct3 {
         0 => Some(Op::Beq),
@@ -84,7 +98,7 @@ fn branch(funct3: u32) -> Option<Op>
 
 #[tactic(auto, unfolding(crate::specs::Table::table))]
 fn load(funct3: u32) -> Option<Op>
-    ensures { result ≡ pick (rows_of OPCODE_LOAD table) funct3 0 }
+    ensures { result ≡ pick (rows_of OPCODE_LOAD table) funct3 0 0 }
 {
     match funct3 {
         0 => Some(Op::Lb),
@@ -100,7 +114,7 @@ fn load(funct3: u32) -> Option<Op>
 
 #[tactic(auto, unfolding(crate::specs::Table::table))]
 fn store(funct3: u32) -> Option<Op>
-    ensures { result ≡ pick (rows_of OPCODE_STORE table) funct3 0 }
+    ensures { result ≡ pick (rows_of OPCODE_STORE table) funct3 0 0 }
 {
     match funct3 {
         0 => Some(Op::Sb),
@@ -113,7 +127,7 @@ fn store(funct3: u32) -> Option<Op>
 
 #[tactic(auto, unfolding(crate::specs::Table::table))]
 fn op_imm(funct3: u32, funct7: u32) -> Option<Op>
-    ensures { result ≡ pick (rows_of OPCODE_OP_IMM table) funct3 funct7 }
+    ensures { result ≡ pick (rows_of OPCODE_OP_IMM table) funct3 funct7 0 }
 {
     match (funct3, funct7 >> 1) {
         (0, _) => Some(Op::Addi),
@@ -131,7 +145,7 @@ fn op_imm(funct3: u32, funct7: u32) -> Option<Op>
 
 #[tactic(auto, unfolding(crate::specs::Table::table))]
 fn op(funct3: u32, funct7: u32) -> Option<Op>
-    ensures { result ≡ pick (rows_of OPCODE_OP table) funct3 funct7 }
+    ensures { result ≡ pick (rows_of OPCODE_OP table) funct3 funct7 0 }
 {
     match (funct7, funct3) {
         (0x00, 0) => Some(Op::Add),
@@ -158,7 +172,7 @@ fn op(funct3: u32, funct7: u32) -> Option<Op>
 
 #[tactic(auto, unfolding(crate::specs::Table::table))]
 fn misc_mem(funct3: u32) -> Option<Op>
-    ensures { result ≡ pick (rows_of OPCODE_MISC_MEM table) funct3 0 }
+    ensures { result ≡ pick (rows_of OPCODE_MISC_MEM table) funct3 0 0 }
 {
     match funct3 {
         0 => Some(Op::Fence),
@@ -168,7 +182,7 @@ fn misc_mem(funct3: u32) -> Option<Op>
 
 #[tactic(auto, unfolding(crate::specs::Table::table))]
 fn op_imm_32(funct3: u32, funct7: u32) -> Option<Op>
-    ensures { result ≡ pick (rows_of OPCODE_OP_IMM_32 table) funct3 funct7 }
+    ensures { result ≡ pick (rows_of OPCODE_OP_IMM_32 table) funct3 funct7 0 }
 {
     match (funct3, funct7) {
         (0, _) => Some(Op::Addiw),
@@ -181,7 +195,7 @@ fn op_imm_32(funct3: u32, funct7: u32) -> Option<Op>
 
 #[tactic(auto, unfolding(crate::specs::Table::table))]
 fn op_32(funct3: u32, funct7: u32) -> Option<Op>
-    ensures { result ≡ pick (rows_of OPCODE_OP_32 table) funct3 funct7 }
+    ensures { result ≡ pick (rows_of OPCODE_OP_32 table) funct3 funct7 0 }
 {
     match (funct7, funct3) {
         (0x00, 0) => Some(Op::Addw),
@@ -194,6 +208,38 @@ fn op_32(funct3: u32, funct7: u32) -> Option<Op>
         (0x01, 5) => Some(Op::Divuw),
         (0x01, 6) => Some(Op::Remw),
         (0x01, 7) => Some(Op::Remuw),
+        _ => None,
+    }
+}
+
+/// By funct5, which stands above the two bits for the order of accesses; rs2, above rs1 in `registers`, is 0 in a load-reserved.
+#[tactic(auto, unfolding(crate::specs::Table::table))]
+fn atomic(funct3: u32, funct7: u32, registers: u32) -> Option<Op>
+    ensures { result ≡ pick (rows_of OPCODE_AMO table) funct3 funct7 registers }
+{
+    match (funct3, funct7 >> 2, registers >> 5) {
+        (2, 0x02, 0) => Some(Op::Lrw),
+        (2, 0x03, _) => Some(Op::Scw),
+        (2, 0x01, _) => Some(Op::Amoswapw),
+        (2, 0x00, _) => Some(Op::Amoaddw),
+        (2, 0x04, _) => Some(Op::Amoxorw),
+        (2, 0x0C, _) => Some(Op::Amoandw),
+        (2, 0x08, _) => Some(Op::Amoorw),
+        (2, 0x10, _) => Some(Op::Amominw),
+        (2, 0x14, _) => Some(Op::Amomaxw),
+        (2, 0x18, _) => Some(Op::Amominuw),
+        (2, 0x1C, _) => Some(Op::Amomaxuw),
+        (3, 0x02, 0) => Some(Op::Lrd),
+        (3, 0x03, _) => Some(Op::Scd),
+        (3, 0x01, _) => Some(Op::Amoswapd),
+        (3, 0x00, _) => Some(Op::Amoaddd),
+        (3, 0x04, _) => Some(Op::Amoxord),
+        (3, 0x0C, _) => Some(Op::Amoandd),
+        (3, 0x08, _) => Some(Op::Amoord),
+        (3, 0x10, _) => Some(Op::Amomind),
+        (3, 0x14, _) => Some(Op::Amomaxd),
+        (3, 0x18, _) => Some(Op::Amominud),
+        (3, 0x1C, _) => Some(Op::Amomaxud),
         _ => None,
     }
 }

@@ -1,15 +1,18 @@
 -- The fields of a save's text, one by one: how each is read and how it is spelled fit each other.
-use Rattle.std.proofs.Common.{◌≡◌, ℕ, ◌^◌, ◌<◌, true, Option, None, List, ◌++◌, length, Result, Ok, Err, refl, sym, ap, arith}
+use Rattle.std.proofs.Common.{◌≡◌, ℕ, ◌^◌, ◌<◌, true, Option, None, List, ◌++◌, length, Result, Ok, Err, refl, sym, ap, ◌∙◌, arith, inl, inr}
 use Rattle.std.specs.Prelude.{IfOk}
 use Rattle.std.specs.Int.{w16, w32}
 use Rattle.std.proofs.lemmas.List.{append-nil}
-use Rattle.save_text.specs.ByteFields.Spelling.{blob_text, number_text}
-use Rattle.save_text.proofs.ByteFieldsLemmas.Spells.{AreBytes, Nothing, Spells, all_read, spells, spells_begun, spells_blob32, spells_bytes, spells_counted, spells_number, spells_that, spells_u32, spells_u64, then, whole_again, whole_takes, wide16}
-use Rattle.save_text.proofs.StateTextLemmas.Texts.{spells_state}
+use Rattle.save_text.specs.ByteFields.Spelling.{blob_text, list_text, number_text}
+use Rattle.save_text.specs.declared.byte_fields.form.TextForm.{TextForm}
+use Rattle.save_text.specs.declared.byte_fields.form.TextForm.TheVariants.{First, Second}
+use Rattle.save_text.proofs.ByteFieldsLemmas.Spells.{AreBytes, Nothing, Spells, SpellsForms, all_read, by_form, spells, spells_begun_in, spells_blob32, spells_bytes, spells_counted, spells_number, spells_that, spells_u32, spells_u64, then, whole_again, whole_takes, wide16}
+use Rattle.save_text.proofs.StateTextLemmas.Texts.{spells_state_in}
+use Rattle.save_text.specs.StateText.Spelled.{HasPlaceIn, state_text_in}
 use Rattle.save_text.specs.declared.state_text.reading.TextRefusal.{TextRefusal}
 use Rattle.save_text.specs.declared.parts.Parts.{Parts}
-use Rattle.save_text.specs.SaveText.{SaveText, after_left, digest_at, parsed_save, is_behind, saved_left_at, save_magic, mark_at, saved_name_at, save_at, saved_stage_at}
-use Rattle.save_text.specs.Spelled.{IsSavedDigest, IsSavedLeft, IsSavedMark, IsStageText, IsSaveText, digest_text, left_text, mark_text, stage_text, text_of_save}
+use Rattle.save_text.specs.SaveText.{SaveText, after_left, digest_at, fields_at, parsed_save, is_behind, saved_left_at, save_magic, mark_at, saved_name_at, save_at, saved_stage_at}
+use Rattle.save_text.specs.Spelled.{IsSavedDigest, IsSavedLeft, IsSavedMark, IsStageText, IsSaveText, IsTextOfSave, digest_text, left_text, mark_text, save_text_in, stage_text}
 use Rattle.save_text.specs.Seen.{ReadsSaveText, save_view}
 
 pub spells_digest : Spells digest_at digest_text IsSavedDigest
@@ -71,28 +74,46 @@ spells_stage any =
     (λ s f. let g = f.1 in record { steps = g.0; stream1 = g.1.0; stream2 = g.1.1.0; left = g.1.1.1.0; made = g.1.1.1.1.0 })
     (λ s f. (tt, (f.steps, (f.stream1, (f.stream2, (f.left, (f.made, tt)))))))
 
-pub spells_save : Spells save_at text_of_save IsSaveText
-unfolding save_at text_of_save
-spells_save =
+abbrev fields_text : TextForm → SaveText → List ℕ
+fields_text form save = digest_text save.recipe ++ (list_text digest_text save.inputs ++ (list_text stage_text save.stages ++ state_text_in form save.state))
+
+spells_fields : (form : TextForm) → Spells (fields_at form) (fields_text form) (λ save. IsSaveText save × HasPlaceIn form save.state.reservation)
+unfolding fields_at
+spells_fields form =
     spells (
-    then {K = Nothing} (λ s. tt) (spells_begun save_magic refl) (λ begun f.
-    then (λ s. s.recipe) spells_digest (λ recipe f1.
+    then {K = Nothing} (λ s. s.recipe) spells_digest (λ recipe f1.
     then (λ s. s.inputs) (spells_counted (λ input. 0) (λ (any : ℕ). spells_digest) 0) (λ inputs f2.
     then (λ s. s.stages) (spells_counted (λ stage. 0) spells_stage 0) (λ stages f3.
-    then (λ s. s.state) spells_state (λ state f4.
+    then (λ s. s.state) (spells_state_in form) (λ state f4.
     all_read (record { recipe = recipe; inputs = inputs; stages = stages; state = state })
-    (λ s k. λ i. record { recipe = k.0.0.0.1 i; inputs = k.0.0.1 i; stages = k.0.1 i; state = k.1 i }) (((((tt, refl), refl), refl), refl), refl)))))))
+    (λ s k. λ i. record { recipe = k.0.0.0.1 i; inputs = k.0.0.1 i; stages = k.0.1 i; state = k.1 i }) ((((tt, refl), refl), refl), refl))))))
     (λ s f. grind (arith, append-nil))
-    (λ s f. let g = f.1.1 in record { recipe = g.0; inputs = g.1.0; stages = g.1.1.0; state = g.1.1.1.0 })
-    (λ s f. (tt, (tt, (f.recipe, (f.inputs, (f.stages, (f.state, tt)))))))
+    (λ s f. let g = f.1 in (record { recipe = g.0; inputs = g.1.0; stages = g.1.1.0; state = g.1.1.1.0.0 }, g.1.1.1.0.1))
+    (λ s f. let t = f.0 in (tt, (t.recipe, (t.inputs, (t.stages, ((t.state, f.1), tt))))))
+
+magic_long : (form : TextForm) → length (save_magic form) ≡ 8
+magic_long First = refl
+magic_long Second = refl
+
+pub spells_save : SpellsForms save_at save_text_in (λ form save. IsSaveText save × HasPlaceIn form save.state.reservation)
+unfolding save_at save_text_in
+spells_save = by_form (spells_begun_in save_magic magic_long refl) spells_fields
 
 -- ---- with nothing behind it
 
-pub formed_again : (s : SaveText) → IsSaveText s → parsed_save (text_of_save s) ≡ Ok s
-unfolding parsed_save
-formed_again s fits = whole_again spells_save s fits
+in_form : (form : TextForm) (save : SaveText) (text : List ℕ) → HasPlaceIn form save.state.reservation → text ≡ save_text_in form save → IsTextOfSave save text
+in_form First save text none is = inr (none, is)
+in_form Second save text any is = inl is
 
-pub is_found : (text : List ℕ) (r : Result Parts TextRefusal) → AreBytes text → ReadsSaveText r (parsed_save text) → IfOk r (λ p. IsSaveText (save_view p) × (text ≡ text_of_save (save_view p)))
+pub formed_again : (save : SaveText) (text : List ℕ) → IsSaveText save → IsTextOfSave save text → parsed_save text ≡ Ok save
 unfolding parsed_save
-is_found text (Ok p) fits given = whole_takes spells_save text (save_view p) fits given
+formed_again save text fits (inl is) = ap parsed_save is ∙ whole_again spells_save Second save (fits, tt)
+formed_again save text fits (inr old) = ap parsed_save old.1 ∙ whole_again spells_save First save (fits, old.0)
+
+pub spelled : (text : List ℕ) (save : SaveText) → AreBytes text → parsed_save text ≡ Ok save → IsSaveText save × IsTextOfSave save text
+unfolding parsed_save
+spelled text save fits is = let p = whole_takes spells_save text save fits is in (p.1.0, in_form p.0 save text p.1.1 p.2)
+
+pub is_found : (text : List ℕ) (r : Result Parts TextRefusal) → AreBytes text → ReadsSaveText r (parsed_save text) → IfOk r (λ p. IsSaveText (save_view p) × IsTextOfSave (save_view p) text)
+is_found text (Ok p) fits given = spelled text (save_view p) fits given
 is_found text (Err e) fits given = tt

@@ -1,5 +1,6 @@
 pub mod SaveText
 pub mod Spelled
 pub mod Seen
+pub mod Inside
 pub mod ByteFields
 pub mod StateText

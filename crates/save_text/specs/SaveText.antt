@@ -6,8 +6,10 @@ use Rattle.std.specs.Cmp.Lexicographic.{slice_cmp}
 use Rattle.ddc_base.specs.declared.digests.Digest.{Digest}
 use Rattle.report.specs.declared.types.LeftLine.{LeftLine}
 use Rattle.report.specs.declared.types.Mark.{Mark}
-use Rattle.save_text.specs.ByteFields.Reader.{Reader, ◌>>=◌, begun, blob, bytes, counted, done, that, u16, u32, u64, whole}
-use Rattle.save_text.specs.StateText.StateText.{StateText, state_at}
+use Rattle.save_text.specs.ByteFields.Reader.{Reader, ◌>>=◌, begun_in, blob, bytes, counted, done, that, u16, u32, u64, whole}
+use Rattle.save_text.specs.declared.byte_fields.form.TextForm.{TextForm}
+use Rattle.save_text.specs.declared.byte_fields.form.TextForm.TheVariants.{First, Second}
+use Rattle.save_text.specs.StateText.StateText.{StateText, state_in}
 
 -- ---- what a text says
 
@@ -27,9 +29,10 @@ pub record SaveText : Type 0 where
 
 -- ---- how it is read
 
--- the eight bytes that begin each text: `ddcsave1`
-abbrev pub save_magic : List ℕ
-save_magic = 100 ∷ 100 ∷ 99 ∷ 115 ∷ 97 ∷ 118 ∷ 101 ∷ 49 ∷ []
+-- the eight bytes that begin each text of a form: `ddcsave1` and `ddcsave2`
+abbrev pub save_magic : TextForm → List ℕ
+save_magic First = 100 ∷ 100 ∷ 99 ∷ 115 ∷ 97 ∷ 118 ∷ 101 ∷ 49 ∷ []
+save_magic Second = 100 ∷ 100 ∷ 99 ∷ 115 ∷ 97 ∷ 118 ∷ 101 ∷ 50 ∷ []
 
 unfoldable pub digest_at : Reader Digest
 digest_at = do
@@ -71,14 +74,20 @@ saved_stage_at any = do
   made ← blob w32
   done (record { steps = steps; stream1 = stream1; stream2 = stream2; left = left; made = made })
 
-unfoldable pub save_at : Reader SaveText
-save_at = do
-  start ← begun save_magic
+-- what stands behind the magic of a form: its state has the same form
+unfoldable pub fields_at : TextForm → Reader SaveText
+fields_at form = do
   recipe ← digest_at
   inputs ← counted (λ (any : ℕ). digest_at) (λ input. 0) 0
   stages ← counted {S = ℕ} saved_stage_at (λ stage. 0) 0
-  state ← state_at
+  state ← state_in form
   done (record { recipe = recipe; inputs = inputs; stages = stages; state = state })
+
+-- a text of either form
+unfoldable pub save_at : Reader SaveText
+save_at = do
+  form ← begun_in (save_magic First) (save_magic Second)
+  fields_at form
 
 -- what a text says, or the offset of its first wrong field: nothing follows the state
 unfoldable pub parsed_save : List ℕ → Result SaveText ℕ

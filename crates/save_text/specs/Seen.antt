@@ -1,5 +1,5 @@
 -- What the code has, as the definitions see it.
-use Rattle.std.specs.Prelude.{◌≡◌, ℕ, map, Result, Ok, Err}
+use Rattle.std.specs.Prelude.{◌≡◌, ℕ, map, IsOk, Result, Ok, Err}
 use Rattle.ddc_base.specs.declared.digests.Digest.{Digest}
 use Rattle.save_text.specs.StateText.Seen as state
 use Rattle.save_text.specs.declared.state_text.reading.TextRefusal.{TextRefusal}
@@ -18,8 +18,8 @@ stage_view s = record { steps = s.steps; stream1 = s.stream1; stream2 = s.stream
 abbrev pub save_view : Parts → SaveText
 save_view p = record { recipe = p.recipe; inputs = map input_view p.inputs.items; stages = map stage_view p.done.items; state = state.state_view p.state }
 
--- what was read is what the text says; want of memory says nothing of it
+-- what was read is what the text says; want of memory comes only where the text's form holds
 abbrev pub ReadsSaveText : Result Parts TextRefusal → Result SaveText ℕ → Type 0
 ReadsSaveText (Ok p) read = read ≡ Ok (save_view p)
 ReadsSaveText (Err (Form offset)) read = read ≡ Err offset
-ReadsSaveText (Err OutOfMemory) read = Unit {0}
+ReadsSaveText (Err OutOfMemory) read = IsOk read

@@ -1,10 +1,12 @@
 -- How a save is spelled, and which have a text.
-use Rattle.std.specs.Prelude.{◌≡◌, ℕ, ◌^◌, ◌<◌, true, Option, None, List, ◌++◌, All, length}
+use Rattle.std.specs.Prelude.{◌≡◌, ◌⊎◌, ℕ, ◌^◌, ◌<◌, true, Option, None, List, ◌++◌, All, length}
 use Rattle.std.specs.Int.{w16, w32, w64}
 use Rattle.ddc_base.specs.declared.digests.Digest.{Digest}
 use Rattle.report.specs.declared.types.LeftLine.{LeftLine}
 use Rattle.report.specs.declared.types.Mark.{Mark}
 use Rattle.save_text.specs.ByteFields.Spelling.{Counted, IsBlob, blob_text, list_text, number_text}
+use Rattle.save_text.specs.declared.byte_fields.form.TextForm.{TextForm}
+use Rattle.save_text.specs.declared.byte_fields.form.TextForm.TheVariants.{First, Second}
 use Rattle.save_text.specs.StateText.Spelled as state
 use Rattle.save_text.specs.SaveText.{SaveText, StageText, after_left, is_behind, save_magic}
 
@@ -23,9 +25,16 @@ unfoldable pub stage_text : StageText → List ℕ
 stage_text stage =
     number_text w64 stage.steps ++ (mark_text stage.stream1 ++ (mark_text stage.stream2 ++ (list_text left_text stage.left ++ blob_text w32 stage.made)))
 
-unfoldable pub text_of_save : SaveText → List ℕ
-text_of_save save =
-    save_magic ++ (digest_text save.recipe ++ (list_text digest_text save.inputs ++ (list_text stage_text save.stages ++ state.text_of_state save.state)))
+unfoldable pub save_text_in : TextForm → SaveText → List ℕ
+save_text_in form save =
+    save_magic form ++ (digest_text save.recipe ++ (list_text digest_text save.inputs ++ (list_text stage_text save.stages ++ state.state_text_in form save.state)))
+
+-- what is written has the second form
+abbrev pub text_of_save : SaveText → List ℕ
+text_of_save save = save_text_in Second save
+
+abbrev pub old_text_of_save : SaveText → List ℕ
+old_text_of_save save = save_text_in First save
 
 -- its lengths have a place in a text
 pub record IsShortStage (stage : StageText) : Type 0 where
@@ -62,3 +71,9 @@ pub record IsSaveText (save : SaveText) : Type 0 where
   pub inputs : Counted (λ (any : ℕ). IsSavedDigest) (λ input. 0) 0 save.inputs
   pub stages : Counted (λ (any : ℕ). IsStageText) (λ stage. 0) 0 save.stages
   pub state : state.IsStateText save.state
+
+-- ---- which are its texts
+
+-- a save has one text of the second form; where nothing is reserved it has also an old text, of the first
+abbrev pub IsTextOfSave : SaveText → List ℕ → Type 0
+IsTextOfSave save text = (text ≡ text_of_save save) ⊎ ((save.state.reservation ≡ None) × (text ≡ old_text_of_save save))

@@ -3,11 +3,14 @@
 //! A field is a little-endian number, a byte, so many bytes, a length with so many bytes, or a list of items.
 
 mod cursor;
+mod form;
 mod item;
 pub mod laws;
 mod spelling;
 
 pub use cursor::{Cursor, Stop, WrongField};
+pub use form::TextForm;
+pub(crate) use item::pass_counted;
 pub use item::{Item, counted, items, put_counted};
 pub(crate) use spelling::all_or_none;
 pub use spelling::{put_blob16, put_blob32, put_u16, put_u32, put_u64};

@@ -1,18 +1,19 @@
 //! How each field of a save is read and written.
 
-ghost use Rattle.std.specs.Prelude.{◌≡◌, ◌<◌, ◌^◌, ◌++◌, All, None, OnErr, OnOk, length};
+ghost use Rattle.std.specs.Prelude.{◌≡◌, ◌<◌, ◌^◌, ◌++◌, All, None, OnErr, OnOk, length, map};
 ghost use Rattle.std.specs.Io.{StartsWith};
 ghost use Rattle.std.specs.Option.{option_copied};
 ghost use Rattle.std.specs.Ordering.{is_lt, nat_cmp};
 ghost use Rattle.std.specs.Cmp.Lexicographic.{slice_cmp};
 ghost use Rattle.save_text.specs.ByteFields.Reader.{Finds, GivesField, counted, several};
 ghost use Rattle.save_text.specs.ByteFields.Spelling.{list_text};
-ghost use Rattle.save_text.specs.SaveText.{after_left, digest_at, is_behind, saved_left_at, mark_at, saved_name_at};
+ghost use Rattle.save_text.specs.SaveText.{after_left, digest_at, is_behind, saved_left_at, saved_stage_at, mark_at, saved_name_at};
+ghost use Rattle.save_text.specs.Seen.{stage_view};
+ghost use Rattle.save_text.specs.Inside.Passing.{GoesPast};
 ghost use Rattle.save_text.specs.Spelled.{digest_text, left_text, mark_text};
 
 use crate::byte_fields::{Cursor, Item, Stop, WrongField, put_blob16, put_u32};
 use crate::parts::{InputPart, StagePart};
-use crate::writing::put_stage;
 use ddc_base::digests::Digest;
 use ddc_base::{Bytes, OutOfMemory};
 use report::{LeftLine, LeftLines, Mark};
@@ -149,7 +150,7 @@ impl<'a> Item<'a> for InputPart {
 
     ghost IsShort = { λ _. Unit {0} };
 
-    fn take(_alloc: Global, cursor: &mut Cursor<'a>, _least: u64) -> Result<InputPart, Stop> {
+    fn take(cursor: &mut Cursor<'a>, _least: u64) -> Result<InputPart, WrongField> {
         let digest = digest_of(cursor)?;
         Ok(InputPart { digest })
     }
@@ -164,52 +165,90 @@ impl<'a> Item<'a> for InputPart {
     }
 }
 
-impl<'a> Item<'a> for StagePart {
-    ghost use Rattle.save_text.specs.SaveText.{StageText, saved_stage_at};
-    ghost use Rattle.save_text.specs.Spelled.{IsShortStage, stage_text};
-    ghost use Rattle.save_text.specs.Seen.{stage_view};
+/// A stage that is done.
+#[tactic(auto, unfolding(crate::specs::SaveText::saved_stage_at))]
+fn stage_of(alloc: Global, cursor: &mut Cursor<'_>) -> Result<StagePart, Stop>
+    ensures { GivesField stage_view result cursor.new (saved_stage_at 0 cursor.old) }
+{
+    let steps = cursor.u64()?;
+    let stream1 = mark_of(cursor)?;
+    let stream2 = mark_of(cursor)?;
+    let count = cursor.u32()?;
+    let left = left_of(alloc, cursor, count)?;
+    let made = cursor.blob32()?;
+    Ok(StagePart {
+        steps,
+        stream1,
+        stream2,
+        left,
+        made: Bytes::from_slice(alloc, made)?,
+    })
+}
 
-    ghost Seen = { StageText };
-
-    ghost seen = { stage_view };
-
-    ghost read_from = { saved_stage_at };
-
-    ghost next_least = { λ stage. 0 };
-
-    ghost text = { stage_text };
-
-    ghost IsShort = { IsShortStage };
-
-    #[tactic(auto, unfolding(crate::specs::SaveText::saved_stage_at))]
-    fn take(alloc: Global, cursor: &mut Cursor<'a>, _least: u64) -> Result<StagePart, Stop> {
-        let steps = cursor.u64()?;
-        let stream1 = mark_of(cursor)?;
-        let stream2 = mark_of(cursor)?;
-        let count = cursor.u32()?;
-        let left = left_of(alloc, cursor, count)?;
-        let made = cursor.blob32()?;
-        Ok(StagePart {
-            steps,
-            stream1,
-            stream2,
-            left,
-            made: Bytes::from_slice(alloc, made)?,
-        })
+/// So many stages that are done.
+fn several_stages(
+    alloc: Global,
+    cursor: &mut Cursor<'_>,
+    count: u32,
+) -> Result<Vec<StagePart>, Stop>
+    ensures { GivesField (λ v. map stage_view v.items) result cursor.new (several saved_stage_at (λ stage. 0) 0 count cursor.old) }
+{
+    let mut stages = Vec::new(alloc);
+    for _ in 0..count {
+        let stage = stage_of(alloc, cursor)?;
+        stages.push(stage)?;
     }
+    Ok(stages)
+}
 
-    fn least_after(&self) -> u64 {
-        0
-    }
+/// A count of 4 bytes, and that many stages that are done.
+pub(crate) fn stages_of(alloc: Global, cursor: &mut Cursor<'_>) -> Result<Vec<StagePart>, Stop>
+    ensures { GivesField (λ v. map stage_view v.items) result cursor.new (counted saved_stage_at (λ stage. 0) 0 cursor.old) }
+{
+    let count = cursor.u32()?;
+    several_stages(alloc, cursor, count)
+}
 
-    #[tactic(auto, using(crate::proofs::ByteFieldsLemmas::Kept::kept))]
-    fn add(&self, out: &mut Bytes) -> Result<(), OutOfMemory> {
-        put_stage(
-            out,
-            self.steps,
-            (self.stream1, self.stream2),
-            self.left.as_slice(),
-            self.made.as_slice(),
-        )
+/// Goes past the files that a stage left.
+fn pass_left(cursor: &mut Cursor<'_>, count: u32) -> Result<(), WrongField>
+    ensures { GoesPast result cursor.new (several saved_left_at after_left None count cursor.old) }
+{
+    let mut last = None;
+    for _ in 0..count {
+        let (name, _mark) = line_of(cursor, last)?;
+        last = Some(name);
     }
+    Ok(())
+}
+
+/// Goes past a stage that is done.
+#[tactic(auto, unfolding(crate::specs::SaveText::saved_stage_at))]
+fn pass_stage(cursor: &mut Cursor<'_>) -> Result<(), WrongField>
+    ensures { GoesPast result cursor.new (saved_stage_at 0 cursor.old) }
+{
+    let _steps = cursor.u64()?;
+    let _stream1 = mark_of(cursor)?;
+    let _stream2 = mark_of(cursor)?;
+    let count = cursor.u32()?;
+    pass_left(cursor, count)?;
+    let _made = cursor.blob32()?;
+    Ok(())
+}
+
+/// Goes past so many stages that are done.
+fn pass_several_stages(cursor: &mut Cursor<'_>, count: u32) -> Result<(), WrongField>
+    ensures { GoesPast result cursor.new (several saved_stage_at (λ stage. 0) 0 count cursor.old) }
+{
+    for _ in 0..count {
+        pass_stage(cursor)?;
+    }
+    Ok(())
+}
+
+/// Goes past a count of 4 bytes, and that many stages that are done.
+pub(crate) fn pass_stages(cursor: &mut Cursor<'_>) -> Result<(), WrongField>
+    ensures { GoesPast result cursor.new (counted saved_stage_at (λ stage. 0) 0 cursor.old) }
+{
+    let count = cursor.u32()?;
+    pass_several_stages(cursor, count)
 }

@@ -1,10 +1,12 @@
-//! A save is read as it is spelled. Each law is the contract of a function that does nothing.
+//! A save is read as it is spelled, in each form. Each law is the contract of a function that does nothing.
 
-ghost use Rattle.save_text.specs.ByteFields.Law.{IsReadAsSpelled};
+ghost use Rattle.std.specs.Prelude.{◌≡◌};
+ghost use Rattle.save_text.specs.ByteFields.Law.{IsReadInForms};
 ghost use Rattle.save_text.specs.SaveText.{save_at};
-ghost use Rattle.save_text.specs.Spelled.{IsSaveText, text_of_save};
+ghost use Rattle.save_text.specs.Spelled.{IsSaveText, save_text_in};
+ghost use Rattle.save_text.specs.StateText.Spelled.{HasPlaceIn};
 
 /// The text of a save, and with it its lists.
 pub fn saves_are_read_as_spelled()
-    ensures { IsReadAsSpelled save_at text_of_save IsSaveText }
+    ensures { IsReadInForms save_at save_text_in (λ form save. IsSaveText save × HasPlaceIn form save.state.reservation) }
 {}

@@ -1,28 +1,40 @@
 ghost use Rattle.std.specs.Prelude.{◌≡◌, IfOk, Ok};
 ghost use Rattle.save_text.specs.ByteFields.Reader.{GivesField};
-ghost use Rattle.save_text.specs.SaveText.{SaveText, parsed_save, save_at};
-ghost use Rattle.save_text.specs.Spelled.{IsSaveText, text_of_save};
+ghost use Rattle.save_text.specs.SaveText.{SaveText, fields_at, parsed_save, save_at};
+ghost use Rattle.save_text.specs.Spelled.{IsSaveText, IsTextOfSave};
 ghost use Rattle.save_text.specs.Seen.{ReadsSaveText, save_view};
+ghost use Rattle.save_text.specs.Inside.Passing.{GoesPast, JudgesForm};
 
-use crate::byte_fields::{Cursor, Stop, counted};
-use crate::fields::digest_of;
-use crate::parts::Parts;
-use crate::state_text::{TextRefusal, parts_at};
+use crate::byte_fields::{Cursor, Stop, TextForm, WrongField, counted, pass_counted};
+use crate::fields::{digest_of, pass_stages, stages_of};
+use crate::parts::{InputPart, Parts};
+use crate::state_text::{TextRefusal, parts_in, pass_state_in};
 use std::alloc::Global;
 
 /// The eight bytes that begin the text of a save.
-pub const MAGIC: [u8; 8] = *b"ddcsave1";
+pub const MAGIC: [u8; 8] = *b"ddcsave2";
 
-/// A save's text at the front of what is left.
+/// Those that began one of the first form.
+const OLD_MAGIC: [u8; 8] = *b"ddcsave1";
+
+/// A save's text of either form at the front of what is left.
 #[tactic(auto, unfolding(crate::specs::SaveText::save_at))]
 fn save_of<'a>(alloc: Global, cursor: &mut Cursor<'a>) -> Result<Parts<'a>, Stop>
     ensures { GivesField save_view result cursor.new (save_at cursor.old) }
 {
-    cursor.begins_with(&MAGIC)?;
+    let form = cursor.begins_with_either(&OLD_MAGIC, &MAGIC)?;
+    fields_of(alloc, cursor, form)
+}
+
+/// What stands behind the magic of a form.
+#[tactic(auto, unfolding(crate::specs::SaveText::fields_at))]
+fn fields_of<'a>(alloc: Global, cursor: &mut Cursor<'a>, form: TextForm) -> Result<Parts<'a>, Stop>
+    ensures { GivesField save_view result cursor.new (fields_at form cursor.old) }
+{
     let recipe = digest_of(cursor)?;
     let inputs = counted(alloc, cursor)?;
-    let done = counted(alloc, cursor)?;
-    let state = parts_at(alloc, cursor)?;
+    let done = stages_of(alloc, cursor)?;
+    let state = parts_in(alloc, cursor, form)?;
     Ok(Parts {
         recipe,
         inputs,
@@ -31,13 +43,49 @@ fn save_of<'a>(alloc: Global, cursor: &mut Cursor<'a>) -> Result<Parts<'a>, Stop
     })
 }
 
+/// Goes past a save's text of either form at the front of what is left.
+#[tactic(auto, unfolding(crate::specs::SaveText::save_at))]
+fn pass_save(cursor: &mut Cursor<'_>) -> Result<(), WrongField>
+    ensures { GoesPast result cursor.new (save_at cursor.old) }
+{
+    let form = cursor.begins_with_either(&OLD_MAGIC, &MAGIC)?;
+    pass_fields(cursor, form)
+}
+
+/// Goes past what stands behind the magic of a form.
+#[tactic(auto, unfolding(crate::specs::SaveText::fields_at))]
+fn pass_fields(cursor: &mut Cursor<'_>, form: TextForm) -> Result<(), WrongField>
+    ensures { GoesPast result cursor.new (fields_at form cursor.old) }
+{
+    let _recipe = digest_of(cursor)?;
+    pass_counted::<InputPart>(cursor)?;
+    pass_stages(cursor)?;
+    pass_state_in(cursor, form)
+}
+
+/// Whether a text has the form of a save's, all of it.
+#[tactic(auto, unfolding(crate::specs::SaveText::parsed_save))]
+fn judge(text: &[u8]) -> Result<(), TextRefusal>
+    ensures { JudgesForm result (parsed_save text.now) }
+{
+    let mut cursor = Cursor::new(text);
+    match pass_save(&mut cursor) {
+        Ok(()) => {}
+        Err(field) => return Err(TextRefusal::Form((text.len() - field.left) as u64)),
+    }
+    match cursor.len() {
+        0 => Ok(()),
+        left => Err(TextRefusal::Form((text.len() - left) as u64)),
+    }
+}
+
 /// What the text of a save says. Each field is judged given those before it, so an offset is that of the first wrong one; a wrong field of the
-/// state has its place in the save.
+/// state has its place in the save. The form is judged first, which takes no memory.
 pub fn read(alloc: Global, text: &[u8]) -> Result<Parts<'_>, TextRefusal>
-    // What is read is spelled so.
-    ensures found { IfOk result (λ p. IsSaveText (save_view p) × (text.now ≡ text_of_save (save_view p))) }
+    // What is read is spelled so, in one of the two forms.
+    ensures found { IfOk result (λ p. IsSaveText (save_view p) × IsTextOfSave (save_view p) text.now) }
     // What is spelled so is read, unless memory runs out.
-    ensures only { (save : SaveText) → IsSaveText save → text.now ≡ text_of_save save → ReadsSaveText result (Ok save) }
+    ensures only { (save : SaveText) → IsSaveText save → IsTextOfSave save text.now → ReadsSaveText result (Ok save) }
     // Which field is the first wrong one.
     ensures exact { ReadsSaveText result (parsed_save text.now) }
 {
@@ -48,14 +96,11 @@ pub fn read(alloc: Global, text: &[u8]) -> Result<Parts<'_>, TextRefusal>
 fn all(alloc: Global, text: &[u8]) -> Result<Parts<'_>, TextRefusal>
     ensures { ReadsSaveText result (parsed_save text.now) }
 {
+    judge(text)?;
     let mut cursor = Cursor::new(text);
-    let parts = match save_of(alloc, &mut cursor) {
-        Ok(parts) => parts,
-        Err(Stop::Wrong(left)) => return Err(TextRefusal::Form((text.len() - left) as u64)),
-        Err(Stop::OutOfMemory) => return Err(TextRefusal::OutOfMemory),
-    };
-    match cursor.len() {
-        0 => Ok(parts),
-        left => Err(TextRefusal::Form((text.len() - left) as u64)),
+    match save_of(alloc, &mut cursor) {
+        Ok(parts) => Ok(parts),
+        Err(Stop::OutOfMemory) => Err(TextRefusal::OutOfMemory),
+        Err(Stop::Wrong(_)) => unreachable!(),
     }
 }

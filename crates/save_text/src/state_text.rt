@@ -11,6 +11,7 @@ mod reading;
 mod writing;
 
 pub use listing::{descriptors_of, files_of};
-pub use parts::{Descriptor, File, Page, Parts, Run};
-pub use reading::{TextRefusal, parts_at, read};
+pub use parts::{Descriptor, File, Page, Parts, Reserved, Run};
+pub(crate) use reading::{parts_in, pass_state_in};
+pub use reading::{TextRefusal, read};
 pub use writing::put_parts;

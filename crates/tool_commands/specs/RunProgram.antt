@@ -1,5 +1,5 @@
--- `run PROGRAM STEPS ARG..`: how a program's run ends within so many steps, and what it leaves. docs/reference/command-line.md says the
--- same for people.
+-- `run PROGRAM STEPS ARG..`: how a program's run ends within so many steps, and what it leaves, by its length and its SHA-256 (FIPS 180-4).
+-- docs/reference/command-line.md says the same for people.
 use Rattle.std.specs.Prelude.{ℕ, ◌+◌, Bool, ◌&&◌, ◌==◌, Option, Some, None, Result, Ok, Err, List, [], ◌∷◌, ◌++◌, length, unwrap_or, codes, decimal, if◌then◌else◌}
 use Rattle.std.specs.List.{flat_map, list_all}
 use Rattle.std.specs.FinMap as map

@@ -1,7 +1,7 @@
 -- Exactly the saves of places in an audit are read, each as its place.
 use Rattle.std.proofs.Common.{◌≡◌, ℕ, List, [], ◌∷◌, map, Result, Ok, Err, refl, sym, ap, subst, ◌∙◌}
 use Rattle.std.specs.Prelude.{IfOk}
-use Rattle.save_text.proofs.ByteFieldsLemmas.Spells.{AreBytes, whole_takes}
+use Rattle.save_text.proofs.ByteFieldsLemmas.Spells.{AreBytes}
 use Rattle.guest_run.specs.State.{GuestState}
 use Rattle.guest_run.specs.Valid.{IsValid}
 use Rattle.recipe.specs.declared.contents.Said.{Said}
@@ -12,9 +12,9 @@ use Rattle.checkpoints.proofs.SameText.{same_text}
 use Rattle.checkpoints.proofs.States.{in_range, joined, same_guest}
 use Rattle.save_text.specs.declared.parts.InputPart.{InputPart}
 use Rattle.save_text.specs.SaveText.{SaveText, StageText, parsed_save}
-use Rattle.save_text.specs.Spelled.{IsSaveText, text_of_save}
+use Rattle.save_text.specs.Spelled.{IsSaveText, IsTextOfSave}
 use Rattle.save_text.specs.Seen.{input_view}
-use Rattle.save_text.proofs.Texts.{formed_again, spells_save}
+use Rattle.save_text.proofs.Texts.{formed_again, spelled}
 use Rattle.wheeler.specs.declared.answer.Finished.{Finished}
 use Rattle.wheeler.specs.Positions.{Position, at, todo}
 use Rattle.wheeler.specs.Valid.{AreDone, IsInputs, IsPosition}
@@ -60,10 +60,6 @@ same_save recipe inputs save text is range =
 same_position : (recipe : Said) (inputs : List (List ℕ)) (p : Position) → IsValid p.at → position_of (save_of recipe inputs p) ≡ p
 same_position recipe inputs p valid = λ i. at (same_done p.done i) (same_guest p.at valid i)
 
-spelled : (text : List ℕ) (save : SaveText) → AreBytes text → parsed_save text ≡ Ok save → IsSaveText save × (text ≡ text_of_save save)
-unfolding parsed_save
-spelled text save fits is = whole_takes spells_save text save fits is
-
 same_said : (text : List ℕ) (s t : SaveText) → parsed_save text ≡ Ok s → parsed_save text ≡ Ok t → s ≡ t
 same_said text s t a b = let both : ◌≡◌ {A = Result SaveText ℕ} (Ok s) (Ok t) = sym a ∙ b in cc
 
@@ -86,11 +82,11 @@ is_place recipe inputs text (Ok p) valid (save, formed_is, is, (stage, stages, p
 is_place recipe inputs text (Err refusal) valid resumes = tt
 
 pub is_found : (recipe : Said) (inputs : List (List ℕ)) (text : List ℕ) (result : Result Position SaveRefusal) → AreBytes text → Resumes recipe inputs text result
-    → IfOk result (λ p. text ≡ text_of_save (save_of recipe inputs p))
+    → IfOk result (λ p. IsTextOfSave (save_of recipe inputs p) text)
 is_found recipe inputs text (Ok p) fits (save, formed_is, is, (stage, stages, place), found) =
     let spelt = spelled text save fits formed_is in
     let same : save_of recipe inputs p ≡ save = ap (save_of recipe inputs) found ∙ same_save recipe inputs save spelt.0 is place.range in
-    spelt.1 ∙ ap text_of_save (sym same)
+    subst (λ (said : SaveText). IsTextOfSave said text) (sym same) spelt.1
 is_found recipe inputs text (Err refusal) fits resumes = tt
 
 -- the save of a position
@@ -114,12 +110,12 @@ saves_a_place recipe inputs p (stage, stages, ok) =
       },
     )
 
-formed_of : (recipe : Said) (inputs : List (List ℕ)) (text : List ℕ) (p : Position) → kept.IsRecipe recipe → IsInputs recipe inputs → IsPosition recipe p → text ≡ text_of_save (save_of recipe inputs p)
+formed_of : (recipe : Said) (inputs : List (List ℕ)) (text : List ℕ) (p : Position) → kept.IsRecipe recipe → IsInputs recipe inputs → IsPosition recipe p → IsTextOfSave (save_of recipe inputs p) text
     → parsed_save text ≡ Ok (save_of recipe inputs p)
-formed_of recipe inputs text p is given place said = ap parsed_save said ∙ formed_again (save_of recipe inputs p) (has_text recipe inputs p is given place)
+formed_of recipe inputs text p is given place said = formed_again (save_of recipe inputs p) text (has_text recipe inputs p is given place) said
 
 pub is_only : (recipe : Said) (inputs : List (List ℕ)) (text : List ℕ) (result : Result Position SaveRefusal) → kept.IsRecipe recipe → IsInputs recipe inputs → Resumes recipe inputs text result
-    → (p : Position) → IsPosition recipe p → text ≡ text_of_save (save_of recipe inputs p) → IsResumedAs p result
+    → (p : Position) → IsPosition recipe p → IsTextOfSave (save_of recipe inputs p) text → IsResumedAs p result
 is_only recipe inputs text (Ok found) is given resumes p place said =
     let same = same_said text resumes.0 (save_of recipe inputs p) resumes.1 (formed_of recipe inputs text p is given place said) in
     resumes.4 ∙ ap position_of same ∙ same_position recipe inputs p place.2.valid
@@ -139,6 +135,6 @@ pub stood : (recipe : Said) (inputs : List (List ℕ)) (text : List ℕ) (save :
     → parsed_save text ≡ Ok save → IsOf recipe inputs save → Stands recipe save result → Resumes recipe inputs text result
 stood recipe inputs text save (Ok p) is of stands = (save, is, of, stands.0, stands.1)
 stood recipe inputs text save (Err State) is of stands = (save, is, of, stands)
-stood recipe inputs text save (Err OutOfMemory) is of stands = tt
+stood recipe inputs text save (Err OutOfMemory) is of stands = rw is refl
 stood recipe inputs text save (Err (Form offset)) is of stands = absurd stands
 stood recipe inputs text save (Err OtherRecipe) is of stands = absurd stands

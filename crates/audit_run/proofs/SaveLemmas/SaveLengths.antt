@@ -1,5 +1,5 @@
 -- The save of every position is short.
-use Rattle.std.proofs.Common.{ℕ, ◌+◌, ◌*◌, ◌<◌, List, [], ◌∷◌, length, map, All, arith}
+use Rattle.std.proofs.Common.{◌≡◌, ℕ, ◌+◌, ◌*◌, ◌<◌, List, [], ◌∷◌, length, map, All, arith, refl, inl, inr}
 use Rattle.std.specs.List.{flat_map}
 use Rattle.std.proofs.lemmas.List.{length-map}
 use Rattle.std.proofs.lemmas.List.Folds.{flat_map-map}
@@ -14,8 +14,10 @@ use Rattle.recipe.specs.Kept.{IsRecipe}
 use Rattle.report.specs.declared.types.LeftLine.{LeftLine}
 use Rattle.report.specs.declared.types.Mark.{Mark}
 use Rattle.report.proofs.Marks.{is_digest}
+use Rattle.save_text.specs.declared.byte_fields.form.TextForm.{TextForm}
+use Rattle.save_text.specs.declared.byte_fields.form.TextForm.TheVariants.{First, Second}
 use Rattle.save_text.specs.SaveText.{save_magic}
-use Rattle.save_text.specs.Spelled.{digest_text, left_text, mark_text, stage_text, text_of_save}
+use Rattle.save_text.specs.Spelled.{IsTextOfSave, digest_text, left_text, mark_text, save_text_in, stage_text, text_of_save}
 use Rattle.save_text.specs.StateText.Spelled as state_text
 use Rattle.wheeler.specs.declared.answer.Finished.{Finished}
 use Rattle.wheeler.specs.Positions.{Position}
@@ -50,9 +52,13 @@ stages_most stages [] are = All-nil IsShort
 stages_most [] (f ∷ done) are = absurd are
 stages_most (stage ∷ stages) (f ∷ done) are = All-cons IsShort f done (stage_most stage f are.0) (stages_most stages done are.1)
 
-save_most : (recipe : Said) (inputs : List (List ℕ)) (p : Position) → IsRecipe recipe → IsInputs recipe inputs → IsPosition recipe p → HasAtMost 3_273_774_448 (text_of_save (save_of recipe inputs p))
-unfolding text_of_save
-save_most recipe inputs p is given (stage, stages, ok) =
+magic_long : (form : TextForm) → length (save_magic form) ≡ 8
+magic_long First = refl
+magic_long Second = refl
+
+save_most : (form : TextForm) (recipe : Said) (inputs : List (List ℕ)) (p : Position) → IsRecipe recipe → IsInputs recipe inputs → IsPosition recipe p → HasAtMost 3_273_774_457 (save_text_in form (save_of recipe inputs p))
+unfolding save_text_in
+save_most form recipe inputs p is given (stage, stages, ok) =
     let rules = rule.rules recipe is in
     let digest = rules.digest.count in
     let few_inputs = rules.few_inputs in
@@ -64,9 +70,13 @@ save_most recipe inputs p is given (stage, stages, ok) =
     let given_inputs = alike digest_text 32 (map digest_of inputs) (All-map (λ digest. HasAtMost 32 (digest_text digest)) digest_of inputs (λ k d less. input_most _)) in
     let done : HasAtMost (length p.done * 1_200_216 + artefact_bytes p.done) (flat_map stage_text (map stage_of p.done)) =
     rw flat_map-map (items (λ f. stage_text (stage_of f)) (λ f. length f.made) 1_200_216 p.done (stages_most recipe.stages p.done ok.done.each)) in
-    let at : HasAtMost 1_892_769_088 (state_text.text_of_state (state_of p.at)) = record { long = state.short p.at ok.valid } in
-    within (joined (itself save_magic) (joined said (joined (counted digest_text (map digest_of inputs) given_inputs) (joined (counted stage_text (map stage_of p.done) done) at))))
-    (omega (arith, length-map inputs digest_of))
+    let at : HasAtMost 1_892_769_097 (state_text.state_text_in form (state_of p.at)) = record { long = state.short form p.at ok.valid } in
+    within (joined (itself (save_magic form)) (joined said (joined (counted digest_text (map digest_of inputs) given_inputs) (joined (counted stage_text (map stage_of p.done) done) at))))
+    (omega (arith, magic_long form, length-map inputs digest_of))
 
 pub short : (recipe : Said) (inputs : List (List ℕ)) (p : Position) → IsRecipe recipe → IsInputs recipe inputs → IsPosition recipe p → length (text_of_save (save_of recipe inputs p)) < 4_294_967_296
-short recipe inputs p is given at = let long = (save_most recipe inputs p is given at).long in omega arith
+short recipe inputs p is given at = let long = (save_most Second recipe inputs p is given at).long in omega arith
+
+pub texts_short : (recipe : Said) (inputs : List (List ℕ)) (p : Position) (text : List ℕ) → IsRecipe recipe → IsInputs recipe inputs → IsPosition recipe p → IsTextOfSave (save_of recipe inputs p) text → length text < 4_294_967_296
+texts_short recipe inputs p text is given at (inl new) = rw new (short recipe inputs p is given at)
+texts_short recipe inputs p text is given at (inr old) = let long = (save_most First recipe inputs p is given at).long in rw old.1 (omega arith)

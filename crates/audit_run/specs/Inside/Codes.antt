@@ -2,7 +2,8 @@
 use Rattle.std.specs.Prelude.{◌≡◌, ℕ, List, Option, refl, ◌⊎◌}
 use Rattle.std.proofs.Common.{inl, inr}
 use Rattle.std.specs.Coded.{Coded, code_by, coded×, coded⊎, coded_ℕ, coded_list, coded_option}
-use Rattle.guest_run.specs.State.{GuestState, guest_code}
+use Rattle.guest_run.specs.State.{GuestState}
+use Rattle.guest_run.specs.Inside.Codes.{guest_code}
 use Rattle.recipe.specs.contracts.contents.Said as said
 use Rattle.recipe.specs.declared.contents.Said.{Said}
 use Rattle.wheeler.specs.contracts.answer.Answer as answers

@@ -1,5 +1,6 @@
--- The save of an audit, and the position that a save says. docs/reference/save.md says the same for people.
-use Rattle.std.specs.Prelude.{◌≡◌, ◌≢◌, ◌<◌, ℕ, List, ◌∷◌, map, Result, Ok, Err}
+-- The save of an audit, and the position that a save says. Recipes and inputs are known by their SHA-256 (FIPS 180-4). docs/reference/save.md
+-- says the same for people.
+use Rattle.std.specs.Prelude.{◌≡◌, ◌≢◌, ◌<◌, ℕ, IsOk, List, ◌∷◌, map, Result, Ok, Err}
 use Rattle.sha2.specs.Sha256.{sha256}
 use Rattle.ddc_base.specs.declared.digests.Digest.{Digest}
 use Rattle.recipe.specs.declared.contents.Said.{Said}
@@ -64,13 +65,14 @@ Stands recipe save (Err OutOfMemory) = Unit {0}
 Stands recipe save (Err (Form offset)) = ⊥
 Stands recipe save (Err OtherRecipe) = ⊥
 
--- what becomes of a text: its form is judged first, then whether it is of this recipe and these inputs, then whether it is a place
+-- what becomes of a text: its form is judged first, then whether it is of this recipe and these inputs, then whether it is a place. Want of
+-- memory comes only where the form holds
 abbrev pub Resumes : Said → List (List ℕ) → List ℕ → Result Position SaveRefusal → Type 0
 Resumes recipe inputs text (Ok p) = (save : SaveText) × (parsed_save text ≡ Ok save) × IsOf recipe inputs save × IsPlace recipe save × (p ≡ position_of save)
 Resumes recipe inputs text (Err (Form offset)) = parsed_save text ≡ Err offset
 Resumes recipe inputs text (Err OtherRecipe) = (save : SaveText) × (parsed_save text ≡ Ok save) × ¬ (IsOf recipe inputs save)
 Resumes recipe inputs text (Err State) = (save : SaveText) × (parsed_save text ≡ Ok save) × IsOf recipe inputs save × ¬ (IsPlace recipe save)
-Resumes recipe inputs text (Err OutOfMemory) = Unit {0}
+Resumes recipe inputs text (Err OutOfMemory) = IsOk (parsed_save text)
 
 -- the answer to a text: what the rules allow of it where memory is not wanting, of which there is exactly one
 -- (`laws::every_text_has_one_answer`)

@@ -6,7 +6,7 @@ ghost use Rattle.audit_run.specs.Save.Saves.{SaveAnswer, IsOf, IsPlace, Resumes,
 ghost use Rattle.recipe.specs.Kept.{IsRecipe};
 ghost use Rattle.recipe.specs.declared.contents.Said.{Said};
 ghost use Rattle.save_text.specs.SaveText.{SaveText};
-ghost use Rattle.save_text.specs.Spelled.{text_of_save};
+ghost use Rattle.save_text.specs.Spelled.{IsTextOfSave};
 ghost use Rattle.std.specs.Prelude.{◌≡◌, ◌≢◌, ◌<◌, ◌↔◌, ℕ, Err, IsTrue, List, length};
 ghost use Rattle.wheeler.specs.Positions.{Position};
 ghost use Rattle.wheeler.specs.Valid.{IsInputs, IsPosition};
@@ -27,8 +27,8 @@ pub fn the_tests_are_the_rules()
     ensures place { (recipe : Said) (save : SaveText) → IsTrue (is_place recipe save) ↔ IsPlace recipe save }
 {}
 
-/// The save of every position has fewer than 4,294,967,296 bytes.
+/// The texts of the save of every position have fewer than 4,294,967,296 bytes.
 pub fn saves_are_short()
-    ensures { (recipe : Said) (inputs : List (List ℕ)) (p : Position) → IsRecipe recipe → IsInputs recipe inputs → IsPosition recipe p
-        → length (text_of_save (save_of recipe inputs p)) < 4_294_967_296 }
+    ensures { (recipe : Said) (inputs : List (List ℕ)) (p : Position) (text : List ℕ) → IsRecipe recipe → IsInputs recipe inputs → IsPosition recipe p
+        → IsTextOfSave (save_of recipe inputs p) text → length text < 4_294_967_296 }
 {}

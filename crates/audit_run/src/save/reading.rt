@@ -5,7 +5,7 @@ ghost use Rattle.audit_run.specs.Save.Saves.{IsResumedAs, Resumes, Stands, diges
 ghost use Rattle.audit_run.specs.Save.Inside.Seen.{AreDigests};
 ghost use Rattle.guest_run.specs.Valid.{IsValid};
 ghost use Rattle.recipe.specs.Kept.{IsRecipe};
-ghost use Rattle.save_text.specs.Spelled.{IsSaveText, text_of_save};
+ghost use Rattle.save_text.specs.Spelled.{IsSaveText, IsTextOfSave};
 ghost use Rattle.save_text.specs.Seen.{stage_view, save_view};
 ghost use Rattle.wheeler.specs.Positions.{Position, at};
 ghost use Rattle.wheeler.specs.Valid.{IsInputs, IsPosition};
@@ -95,11 +95,11 @@ pub fn read(
     text: &[u8],
 ) -> Result<Resumed, SaveRefusal>
     requires { IsInputs recipe.now inputs.now }
-    // What is read is a place in the audit, and has this text.
+    // What is read is a place in the audit, and this is a text of its save.
     ensures place { IfOk result (λ p. IsPosition recipe.now p) }
-    ensures found { IfOk result (λ p. text.now ≡ text_of_save (save_of recipe.now inputs.now p)) }
-    // The save of every place in the audit, reached or not, is read as that place, unless memory runs out.
-    ensures only { (p : Position) → IsPosition recipe.now p → text.now ≡ text_of_save (save_of recipe.now inputs.now p) → IsResumedAs p result }
+    ensures found { IfOk result (λ p. IsTextOfSave (save_of recipe.now inputs.now p) text.now) }
+    // Each text of the save of every place in the audit, reached or not, is read as that place, unless memory runs out.
+    ensures only { (p : Position) → IsPosition recipe.now p → IsTextOfSave (save_of recipe.now inputs.now p) text.now → IsResumedAs p result }
     // When each refusal comes.
     ensures exact { Resumes recipe.now inputs.now text.now result }
 {

@@ -16,8 +16,8 @@ use save_text::byte_fields::put_u32;
 use save_text::{MAGIC, put_stage};
 use std::alloc::Global;
 
-/// The one text of an audit that stands in a stage.
-#[tactic(auto, using(crate::proofs::SaveLemmas::Written::written), unfolding(save_text::specs::Spelled::text_of_save))]
+/// The one text of an audit that stands in a stage that has the second form.
+#[tactic(auto, using(crate::proofs::SaveLemmas::Written::written), unfolding(save_text::specs::Spelled::save_text_in))]
 pub fn write(
     alloc: Global,
     recipe: &Recipe,

@@ -72,7 +72,8 @@ pub fn start_stage(
     requires stage { IsStageOf recipe.now stage.now }
     requires inputs { All IsContent inputs.now }
     requires done { AreMade done.now }
-    ensures { IfOk result (λ begun. Begins (start_stage recipe.now (contents inputs.now done.now) stage.now) begun) }
+    ensures begins { IfOk result (λ begun. Begins (start_stage recipe.now (contents inputs.now done.now) stage.now) begun) }
+    ensures fresh { IfOk result (λ begun. IfOk begun (λ guest. guest.steps ≡ 0)) }
 {
     let given = box_of(alloc, recipe, stage, inputs, done)?;
     let program = content(recipe, inputs, done, &stage.program);

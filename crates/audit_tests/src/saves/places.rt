@@ -84,8 +84,8 @@ static DONE: &[Row] = &[
     ),
 ];
 
-/// The state begins at 577, its pc is at 593, x8 at 657 and the heap's limit at 865. The last descriptor's file is at 9,171, its cursor at
-/// 9,175, and the last field at 9,188.
+/// The state begins at 577, its pc is at 593, x8 at 657, what is reserved at 849 and the heap's limit at 866. The last descriptor's file is at
+/// 9,172, its cursor at 9,176, and the last field at 9,189.
 static PRESENT: &[Row] = &[
     // Steps: none, the last that is left, none left.
     (&[(585, 1, &[0])], None),
@@ -96,32 +96,49 @@ static PRESENT: &[Row] = &[
     (&[(593, 1, &[1])], STATE),
     (&[(593, 1, &[0])], None),
     (&[(657, 2, &[2, 0])], None),
-    // Heaps of guests, which the stage does not give.
-    (&[(865, 4, &[0xff, 0xff, 0xff, 0x1f])], STATE),
-    (&[(865, 4, &[1, 0, 0, 0x20])], STATE),
-    (&[(865, 4, &[0, 0, 0, 0x40])], STATE),
-    // A file that is not listed, and one that is; a cursor that is too large, and the largest.
-    (&[(9_171, 1, &[2])], STATE),
-    (&[(9_171, 1, &[0])], None),
-    (&[(9_175, 8, &[0, 0, 0, 0, 0, 0, 0, 0x80])], STATE),
+    // Bytes that are reserved: 1, or 4 or 8 at a multiple of these below 2^38.
+    (&[(849, 1, &[1])], Some(SaveRefusal::Form(849))),
+    (&[(849, 1, &[4, 0, 0, 1, 0, 0, 0, 0, 0])], None),
+    (&[(849, 1, &[4, 2, 0, 1, 0, 0, 0, 0, 0])], STATE),
+    (&[(849, 1, &[8, 4, 0, 1, 0, 0, 0, 0, 0])], STATE),
     (
-        &[(9_175, 8, &[0xff, 0xff, 0xff, 0xff, 0xff, 0xff, 0xff, 0x7f])],
+        &[(849, 1, &[8, 0xf8, 0xff, 0xff, 0xff, 0x3f, 0, 0, 0])],
+        None,
+    ),
+    (&[(849, 1, &[8, 0, 0, 0, 0, 0x40, 0, 0, 0])], STATE),
+    // The first form, which says nothing of it; a save of one form with a state of the other.
+    (&[(849, 1, b""), (584, 1, b"1"), (7, 1, b"1")], None),
+    (&[(7, 1, b"1")], Some(SaveRefusal::Form(577))),
+    (
+        &[(849, 1, b""), (584, 1, b"1")],
+        Some(SaveRefusal::Form(577)),
+    ),
+    // Heaps of guests, which the stage does not give.
+    (&[(866, 4, &[0xff, 0xff, 0xff, 0x1f])], STATE),
+    (&[(866, 4, &[1, 0, 0, 0x20])], STATE),
+    (&[(866, 4, &[0, 0, 0, 0x40])], STATE),
+    // A file that is not listed, and one that is; a cursor that is too large, and the largest.
+    (&[(9_172, 1, &[2])], STATE),
+    (&[(9_172, 1, &[0])], None),
+    (&[(9_176, 8, &[0, 0, 0, 0, 0, 0, 0, 0x80])], STATE),
+    (
+        &[(9_176, 8, &[0xff, 0xff, 0xff, 0xff, 0xff, 0xff, 0xff, 0x7f])],
         None,
     ),
     // The end.
-    (&[(9_191, 1, b"")], Some(SaveRefusal::Form(9_188))),
-    (&[(9_188, 1, &[1])], Some(SaveRefusal::Form(9_192))),
-    (&[(9_192, 0, b"\0")], Some(SaveRefusal::Form(9_192))),
+    (&[(9_192, 1, b"")], Some(SaveRefusal::Form(9_189))),
+    (&[(9_189, 1, &[1])], Some(SaveRefusal::Form(9_193))),
+    (&[(9_193, 0, b"\0")], Some(SaveRefusal::Form(9_193))),
     // The form is said before another recipe, and that before what is no place.
     (
-        &[(9_192, 0, b"\0"), (593, 1, &[1]), (8, 1, &[0x11])],
-        Some(SaveRefusal::Form(9_192)),
+        &[(9_193, 0, b"\0"), (593, 1, &[1]), (8, 1, &[0x11])],
+        Some(SaveRefusal::Form(9_193)),
     ),
     (&[(593, 1, &[1]), (8, 1, &[0x11])], OTHER),
     (&[(176, 1, &[0]), (171, 1, &[0xac])], OTHER),
     (
-        &[(9_192, 0, b"\0"), (176, 1, &[0])],
-        Some(SaveRefusal::Form(9_192)),
+        &[(9_193, 0, b"\0"), (176, 1, &[0])],
+        Some(SaveRefusal::Form(9_193)),
     ),
 ];
 
@@ -142,7 +159,7 @@ fn refusal_of(
 fn each_rule_has_its_refusal(rt: HostRuntime) -> Result<(), Fail> {
     let alloc = rt.alloc();
     let text = save_at(alloc, 45)?;
-    assert_eq!(rt; text.len(), 9_192);
+    assert_eq!(rt; text.len(), 9_193);
     for rows in [FRONT, DONE, PRESENT] {
         for (edits, wanted) in rows {
             assert_eq!(rt;

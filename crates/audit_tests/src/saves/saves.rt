@@ -1,3 +1,5 @@
+ghost use Rattle.std.specs.Prelude.{◌≤◌};
+
 use crate::saves::are_inputs;
 use crate::saves::worked::{RECIPE, REPORT, edited, inputs, with};
 use audit_run::{Audit, Progress, SaveRefusal};
@@ -74,35 +76,67 @@ fn place_after(steps: u64) -> (u32, u64) {
     }
 }
 
+/// Whether a resumed audit stands after so many steps, and has the undivided report.
+fn goes_on(alloc: Global, audit: &mut Audit, steps: u64) -> Result<bool, OutOfMemory> {
+    let stands = audit.place() == place_after(steps) && audit.advance(100) == Progress::Equal;
+    Ok(stands && report_of(alloc, audit)?.as_slice() == REPORT.as_bytes())
+}
+
+/// The same of the audit that a save says.
+fn is_resumed(alloc: Global, text: &[u8], steps: u64) -> Result<bool, OutOfMemory> {
+    match resumed(alloc, RECIPE, b"abc", text) {
+        Ok(mut audit) => goes_on(alloc, &mut audit, steps),
+        Err(_) => Ok(false),
+    }
+}
+
 #[test]
 fn a_resumed_audit_has_the_undivided_report(rt: HostRuntime) -> Result<(), Fail> {
     let alloc = rt.alloc();
     for steps in 1..64 {
         let text = save_at(alloc, steps)?;
-        let result = resumed(alloc, RECIPE, b"abc", text.as_slice());
-        assert!(rt; result.is_ok());
-        if let Ok(mut audit) = result {
-            assert_eq!(rt; audit.place(), place_after(steps));
-            assert_eq!(rt; audit.advance(100), Progress::Equal);
-            let report = report_of(alloc, &audit)?;
-            assert_eq!(rt; report.as_slice(), REPORT.as_bytes());
-        }
+        assert!(rt; is_resumed(alloc, text.as_slice(), steps)?, "{steps}");
     }
     Ok(())
+}
+
+/// What the next piece of an audit comes to: a save, or the report.
+enum Came {
+    Saved(Bytes),
+    Reported(Bytes),
+}
+
+/// Advances an audit by so many steps.
+fn advanced(alloc: Global, audit: &mut Audit, steps: u64) -> Result<Came, OutOfMemory>
+    requires { 1 ≤ steps }
+{
+    match audit.advance(steps) {
+        Progress::Paused => Ok(Came::Saved(audit.save()?)),
+        Progress::Equal => Ok(Came::Reported(report_of(alloc, audit)?)),
+        _ => Err(OutOfMemory),
+    }
+}
+
+/// Resumes the worked audit, and advances it by so many steps.
+fn resumed_by(alloc: Global, text: &[u8], steps: u64) -> Result<Came, OutOfMemory>
+    requires { 1 ≤ steps }
+{
+    match resumed(alloc, RECIPE, b"abc", text) {
+        Ok(mut audit) => advanced(alloc, &mut audit, steps),
+        Err(_) => Err(OutOfMemory),
+    }
 }
 
 /// The report of the worked audit in pieces of so many steps, which is saved and resumed behind each of them.
 fn report_by(alloc: Global, steps: u64) -> Result<Bytes, OutOfMemory> {
     let mut text = save_at(alloc, steps)?;
+    if steps == 0 {
+        return Err(OutOfMemory);
+    }
     for _ in 0..64 {
-        let mut audit = match resumed(alloc, RECIPE, b"abc", text.as_slice()) {
-            Ok(audit) if steps > 0 => audit,
-            _ => return Err(OutOfMemory),
-        };
-        match audit.advance(steps) {
-            Progress::Paused => text = audit.save()?,
-            Progress::Equal => return report_of(alloc, &audit),
-            _ => return Err(OutOfMemory),
+        match resumed_by(alloc, text.as_slice(), steps)? {
+            Came::Saved(save) => text = save,
+            Came::Reported(report) => return Ok(report),
         }
     }
     Err(OutOfMemory)
@@ -118,6 +152,14 @@ fn pieces_have_the_undivided_report(rt: HostRuntime) -> Result<(), Fail> {
     Ok(())
 }
 
+/// The report of an audit that goes on from a text.
+fn report_from(alloc: Global, text: &[u8]) -> Result<Bytes, OutOfMemory> {
+    match resumed_by(alloc, text, 1_000)? {
+        Came::Reported(report) => Ok(report),
+        Came::Saved(_) => Err(OutOfMemory),
+    }
+}
+
 /// After 45 steps x8, at 657, has how many bytes the copier reads at once, and a turn of its loop takes 11 steps.
 #[test]
 fn an_audit_goes_on_from_what_a_save_says(rt: HostRuntime) -> Result<(), Fail> {
@@ -130,18 +172,50 @@ fn an_audit_goes_on_from_what_a_save_says(rt: HostRuntime) -> Result<(), Fail> {
     ];
     for (bytes, line) in table {
         let text = edited(alloc, text.as_slice(), (657, 2, &[bytes, 0]))?;
-        let mut audit = match resumed(alloc, RECIPE, b"abc", text.as_slice()) {
-            Ok(audit) => audit,
-            Err(_) => return Err("refused".into()),
-        };
-        assert_eq!(rt; audit.advance(1_000), Progress::Equal);
+        let report = report_from(alloc, text.as_slice())?;
         let wanted = with(alloc, REPORT, "stage two 32", line)?;
-        assert_eq!(rt;
-            report_of(alloc, &audit)?.as_slice(),
-            wanted.as_bytes(),
-            "{line}"
-        );
+        assert_eq!(rt; report.as_slice(), wanted.as_bytes(), "{line}");
     }
+    Ok(())
+}
+
+/// The save after so many steps as the first form has it: both magics end with another byte, and nothing says what is reserved. The state
+/// begins at 176 in the first stage, and at 577 behind it.
+fn old_save_at(alloc: Global, steps: u64) -> Result<Bytes, OutOfMemory> {
+    let (magic, reserved) = if steps < 32 { (183, 448) } else { (584, 849) };
+    let text = save_at(alloc, steps)?;
+    let text = edited(alloc, text.as_slice(), (reserved, 1, b""))?;
+    let text = edited(alloc, text.as_slice(), (magic, 1, b"1"))?;
+    edited(alloc, text.as_slice(), (7, 1, b"1"))
+}
+
+#[test]
+fn an_old_save_has_the_undivided_report(rt: HostRuntime) -> Result<(), Fail> {
+    let alloc = rt.alloc();
+    for steps in 1..64 {
+        let old = old_save_at(alloc, steps)?;
+        assert!(rt; is_resumed(alloc, old.as_slice(), steps)?, "{steps}");
+    }
+    Ok(())
+}
+
+/// The save of an audit that goes on from a text by so many steps.
+fn saved_from(alloc: Global, text: &[u8], steps: u64) -> Result<Bytes, OutOfMemory>
+    requires { 1 ≤ steps }
+{
+    match resumed_by(alloc, text, steps)? {
+        Came::Saved(save) => Ok(save),
+        Came::Reported(_) => Err(OutOfMemory),
+    }
+}
+
+/// It is saved again in the second form.
+#[test]
+fn an_old_save_is_saved_anew(rt: HostRuntime) -> Result<(), Fail> {
+    let alloc = rt.alloc();
+    let old = old_save_at(alloc, 40)?;
+    let saved = saved_from(alloc, old.as_slice(), 5)?;
+    assert_eq!(rt; saved.as_slice(), save_at(alloc, 45)?.as_slice());
     Ok(())
 }
 

@@ -5,7 +5,7 @@ use Rattle.std.specs.Ordering.{nat_cmp}
 use Rattle.std.specs.FinMap.{get, contains_key, empty, get-empty}
 use Rattle.std.proofs.lemmas.Bool.{cases_eq, cases_lt, eqb-true}
 use Rattle.paged_mem.specs.Memory.{Memory, IsWhole, bytes_at, with_bytes, zeros}
-use Rattle.paged_mem.specs.Held.{get-with_bytes, get-with_bytes_below, get-with_bytes_above}
+use Rattle.paged_mem.specs.Inside.Wholeness.{get-with_bytes, get-with_bytes_below, get-with_bytes_above}
 use Rattle.paged_mem.proofs.Maps.{same_memory, get_in_bytes_at, length_of_bytes_at, maps_by_each}
 use Rattle.paged_mem.proofs.Mapped.{length-zeros}
 use Rattle.paged_mem.proofs.MemoryLaws.{get-zeros, get-past}

@@ -5,7 +5,7 @@ use Rattle.std.proofs.lemmas.Bool.{cases_lt}
 use Rattle.std.proofs.lemmas.Grind.{reverse_onto}
 use Rattle.std.proofs.lemmas.List.{map-append, take_more}
 use Rattle.paged_mem.specs.Memory.{Memory, with_bytes}
-use Rattle.paged_mem.specs.Held.{get-with_bytes, get-with_bytes_below, get-with_bytes_above}
+use Rattle.paged_mem.specs.Inside.Wholeness.{get-with_bytes, get-with_bytes_below, get-with_bytes_above}
 use Rattle.paged_mem.proofs.Maps.{same_memory}
 use Rattle.save_text.specs.declared.state_text.parts.Page.{Page}
 use Rattle.save_text.specs.StateText.StateText.{PageText, after_page}

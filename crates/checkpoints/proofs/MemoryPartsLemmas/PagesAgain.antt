@@ -4,7 +4,7 @@ use Rattle.std.specs.List.{list_all}
 use Rattle.std.specs.FinMap.{get}
 use Rattle.std.proofs.lemmas.List.{append-nil}
 use Rattle.paged_mem.specs.Memory.{Memory, bytes_at, prepended, with_bytes}
-use Rattle.paged_mem.specs.Held.{get-with_bytes_below, get-with_bytes_above}
+use Rattle.paged_mem.specs.Inside.Wholeness.{get-with_bytes_below, get-with_bytes_above}
 use Rattle.paged_mem.proofs.MemoryLaws.{bytes_at-with_bytes}
 use Rattle.save_text.specs.StateText.StateText.{PageText, is_page, after_page}
 use Rattle.checkpoints.specs.MemoryParts.Canonical.{listed_page, page_texts_from, with_pages, AreShown}

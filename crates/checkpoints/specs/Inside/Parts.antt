@@ -1,11 +1,18 @@
--- What becomes of the memory and of the files that a text says, each by itself.
-use Rattle.std.specs.Prelude.{◌≡◌, Result, Ok, Err}
+-- What becomes of the reservation, of the memory and of the files that a text says, each by itself.
+use Rattle.std.specs.Prelude.{◌≡◌, ℕ, Option, Result, Ok, Err}
 use Rattle.mem_files.specs.Lists.{AreInRange, AreJoined, FileLists, world_of}
 use Rattle.mem_files.specs.World.{World}
+use Rattle.rv64_machine.specs.Hart.{IsReservation}
 use Rattle.save_text.specs.StateText.StateText.{StateText}
 use Rattle.checkpoints.specs.declared.file_parts.restoring.RestoreRefusal.{RestoreRefusal}
 use Rattle.checkpoints.specs.declared.file_parts.restoring.RestoreRefusal.TheVariants as restored
 use Rattle.checkpoints.specs.Checkpoint.{AreMappable, IsInMemory}
+
+-- why there is no reservation
+abbrev pub RefusesReservation : Option (ℕ × ℕ) → RestoreRefusal → Type 0
+RefusesReservation reservation restored.Range = ¬ (IsReservation reservation)
+RefusesReservation reservation restored.FileRef = ⊥
+RefusesReservation reservation restored.OutOfMemory = ⊥
 
 -- why there is no memory; want of memory comes only where the runs can be mapped
 abbrev pub RefusesMemory : StateText → RestoreRefusal → Type 0

@@ -1,5 +1,5 @@
 -- The rules of what a text says, as tests that compute. They are the rules (proofs/Decided.antt), so no promise rests on this file being read.
-use Rattle.std.specs.Prelude.{ℕ, zero, suc, ◌+◌, ◌-◌, ◌*◌, ◌%◌, ◌^◌, Bool, true, not, ◌&&◌, ◌==◌, nat_le, nat_lt, is_none, List, [], ◌∷◌, length, map, sum_by}
+use Rattle.std.specs.Prelude.{ℕ, zero, suc, ◌+◌, ◌-◌, ◌*◌, ◌%◌, ◌^◌, Bool, true, not, ◌&&◌, ◌||◌, ◌==◌, nat_le, nat_lt, is_none, Option, None, Some, List, [], ◌∷◌, length, map, sum_by}
 use Rattle.std.specs.FinMap.{get}
 use Rattle.std.specs.List.{list_all}
 use Rattle.std.specs.Ordering.{eq_by_cmp}
@@ -64,8 +64,12 @@ is_in_memory s = are_mappable s.runs && list_all (λ page. maps (mapped_of s) (4
 
 -- states
 
+abbrev pub is_reservation : Option (ℕ × ℕ) → Bool
+is_reservation None = true
+is_reservation (Some held) = (held.0 == 4 || held.0 == 8) && (held.1 % held.0 == 0 && nat_lt held.1 (2 ^ 38))
+
 unfoldable pub is_in_range : StateText → Bool
-is_in_range s = s.pc % 4 == 0 && (is_in_memory s && (is_fit (memory_of s) s.heap && are_files_in_range (lists_in s)))
+is_in_range s = s.pc % 4 == 0 && (is_reservation s.reservation && (is_in_memory s && (is_fit (memory_of s) s.heap && are_files_in_range (lists_in s))))
 
 unfoldable pub is_joined : StateText → Bool
 is_joined s = list_all (λ e. is_listed s.files e.1) s.descriptors && list_all (λ file. is_used s.descriptors file) s.files

@@ -8,7 +8,7 @@ use Rattle.hex.specs.Hex.{hex_digit_value, is_hex_digit}
 use Rattle.hex_langs.specs.declared.items.item.Item.{Item}
 use Rattle.hex_langs.specs.declared.items.item.Item.TheVariants as item
 use Rattle.hex_langs.specs.declared.items.token.Dialect.{Dialect}
-use Rattle.hex_langs.specs.declared.items.token.Fault.{Fault}
+use Rattle.hex_langs.specs.declared.items.token.TokenFault.{TokenFault}
 use Rattle.hex_langs.specs.declared.items.token.Token.TheVariants.{Byte}
 use Rattle.hex_langs.specs.Hex0.{begins_comment, digits_of, HasEvenDigits, hex0_of, line_feed, lines_of, pairs}
 use Rattle.hex_langs.specs.Items.Plain.{is_plain, is_plain_line}
@@ -99,7 +99,7 @@ behind-gap dialect at (byte ∷ left) = by (opens_gap byte) refl
 -- ---- what is read and what hex0 gives, together
 
 -- nothing but these bytes
-abbrev bytes_alone : List ℕ → Formed Fault
+abbrev bytes_alone : List ℕ → Formed TokenFault
 bytes_alone bytes = record { items = map item.Byte bytes; end = Whole }
 
 -- with an even number of digits left the rest gives their pairs

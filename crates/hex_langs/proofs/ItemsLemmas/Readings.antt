@@ -7,8 +7,8 @@ use Rattle.std.proofs.Math.Seq.{take-length}
 use Rattle.hex.specs.Hex.{is_hex_digit}
 use Rattle.hex_langs.specs.declared.items.item.Item.{Item}
 use Rattle.hex_langs.specs.declared.items.token.Dialect.{Dialect}
-use Rattle.hex_langs.specs.declared.items.token.Fault.{Fault}
-use Rattle.hex_langs.specs.declared.items.token.Fault.TheVariants as fault
+use Rattle.hex_langs.specs.declared.items.token.TokenFault.{TokenFault}
+use Rattle.hex_langs.specs.declared.items.token.TokenFault.TheVariants as fault
 use Rattle.hex_langs.specs.declared.items.token.Token.{Token}
 use Rattle.hex_langs.specs.declared.items.words.Open.{Open}
 use Rattle.hex_langs.specs.declared.items.words.Halt.{Halt}
@@ -51,7 +51,7 @@ reading-token dialect at byte left token more code found =
     rw code (rw found (ap (Then at token) (reading-inside dialect (at + 1) more left)))
 
 -- at a place without one
-pub reading-fault : (dialect : Dialect) (at : ℕ) (byte : ℕ) (left : List ℕ) (why : Fault) → opens_gap byte ≡ false
+pub reading-fault : (dialect : Dialect) (at : ℕ) (byte : ℕ) (left : List ℕ) (why : TokenFault) → opens_gap byte ≡ false
     → token_at dialect byte left ≡ Err why → reading dialect at 0 (byte ∷ left) ≡ Faulty why at
 unfolding reading
 reading-fault dialect at byte left why code found = rw code (rw found refl)
@@ -118,7 +118,7 @@ moves-token dialect source at more token within code found =
     ∙ ap (λ (n : ℕ). Then at token (reading dialect n 0 (drop more (drop (at + 1) source)))) next_is
     ∙ ap (λ (left : List ℕ). Then at token (reading dialect (at + (1 + more)) 0 left)) left_is
 
-pub moves-fault : (dialect : Dialect) (source : List ℕ) (at : ℕ) (why : Fault) → at < length source
+pub moves-fault : (dialect : Dialect) (source : List ℕ) (at : ℕ) (why : TokenFault) → at < length source
     → opens_gap (get_or source at 0) ≡ false
     → token_at dialect (get_or source at 0) (drop (at + 1) source) ≡ Err why
     → reading dialect at 0 (drop at source) ≡ Faulty why at
@@ -133,26 +133,26 @@ pub takes-ok : (meant : Step) (next : Option Open) (old new : List Item) → Tak
 takes-ok (Ok step) next old new takes = (step.0, ap (λ (word : Option Open). Ok (step.0, word)) (sym takes.1), takes.0)
 takes-ok (Err why) next old new takes = absurd takes
 
-judged-few : (whole : Formed Fault) → length whole.items ≤ 33554432 → limited_items whole ≡ answer whole.items whole.end
+judged-few : (whole : Formed TokenFault) → length whole.items ≤ 33554432 → limited_items whole ≡ answer whole.items whole.end
 judged-few whole few = let fits : nat_lt 33554432 (length whole.items) ≡ false = grind (arith, nat_tests) in cond-false _ _ _ fits
 
-judged-many : (whole : Formed Fault) → 33554432 < length whole.items → limited_items whole ≡ Err TooLong
+judged-many : (whole : Formed TokenFault) → 33554432 < length whole.items → limited_items whole ≡ Err TooLong
 judged-many whole many = let over : nat_lt 33554432 (length whole.items) ≡ true = grind (arith, nat_tests) in cond-true _ _ _ over
 
 -- the items so far are few, and nothing comes behind them
-pub judged-end : (whole : Formed Fault) (items : List Item) (end : Ending Fault) → whole ≡ with_front items (record { items = []; end = end })
+pub judged-end : (whole : Formed TokenFault) (items : List Item) (end : Ending TokenFault) → whole ≡ with_front items (record { items = []; end = end })
     → length items ≤ 33554432 → limited_items whole ≡ answer items end
 judged-end whole items end is few =
     let all : whole ≡ record { items = items; end = end } = is ∙ ap (λ (all : List Item). record { items = all; end = end }) (append-nil items) in
     ap limited_items all ∙ judged-few (record { items = items; end = end }) few
 
-judged-more : (whole : Formed Fault) (items more : List Item) (later : Formed Fault) → whole ≡ with_front items (with_front more later)
+judged-more : (whole : Formed TokenFault) (items more : List Item) (later : Formed TokenFault) → whole ≡ with_front items (with_front more later)
     → 33554432 < length items + length more → limited_items whole ≡ Err TooLong
 judged-more whole items more later is many =
     rw is (judged-many (with_front items (with_front more later)) (omega (arith, length-append {A = Item})))
 
 -- a token that has no place, or one item too many
-too_long : (whole : Formed Fault) (items new : List Item) (word : Option Open) (at : ℕ) (token : Token) (later : Reading Fault) (meant : Step)
+too_long : (whole : Formed TokenFault) (items new : List Item) (word : Option Open) (at : ℕ) (token : Token) (later : Reading TokenFault) (meant : Step)
     → whole ≡ with_front items (formed word (Then at token later)) → taken word at token ≡ meant
     → Takes (Err halt.TooLong) meant items new → length items ≤ 33554432 → limited_items whole ≡ Err TooLong
 too_long whole items new word at token later (Ok step) is means takes few =
@@ -160,7 +160,7 @@ too_long whole items new word at token later (Ok step) is means takes few =
 too_long whole items new word at token later (Err why) is means takes few =
     judged-end whole items (Halted halt.TooLong) (is ∙ ap (with_front items) (formed-halt word at token later halt.TooLong (means ∙ takes))) few
 
-pub refuses : (whole : Formed Fault) (items new : List Item) (word : Option Open) (at : ℕ) (token : Token) (later : Reading Fault) (why : Halt)
+pub refuses : (whole : Formed TokenFault) (items new : List Item) (word : Option Open) (at : ℕ) (token : Token) (later : Reading TokenFault) (why : Halt)
     → whole ≡ with_front items (formed word (Then at token later)) → Takes (Err why) (taken word at token) items new
     → length items ≤ 33554432 → ReadsItems (limited_items whole) (Err (halted why))
 refuses whole items new word at token later (halt.Dangling first) is takes few =
@@ -179,7 +179,7 @@ pub items_of-long : (dialect : Dialect) (source : List ℕ) → 67108864 < lengt
 unfolding items_of
 items_of-long dialect source long = let over : nat_lt 67108864 (length source) ≡ true = grind (arith, nat_tests) in cond-true _ _ _ over
 
-pub reads-fault : (meant : Result (List Item) HexRefusal) (why : Fault) (at : ℕ) → meant ≡ Err (fault_at why at) → ReadsItems meant (Err (fault_at why at))
+pub reads-fault : (meant : Result (List Item) HexRefusal) (why : TokenFault) (at : ℕ) → meant ≡ Err (fault_at why at) → ReadsItems meant (Err (fault_at why at))
 reads-fault meant fault.OddDigits at is = is
 reads-fault meant fault.BadField at is = is
 

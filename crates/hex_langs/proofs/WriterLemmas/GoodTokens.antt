@@ -7,8 +7,8 @@ use Rattle.hex.specs.Hex.{hex_digit_value, is_hex_digit}
 use Rattle.hex_langs.specs.declared.items.item.Kind.TheVariants.{I, B, J, U}
 use Rattle.hex_langs.specs.declared.items.item.Item.TheVariants as item
 use Rattle.hex_langs.specs.declared.items.token.Dialect.TheVariants.{Hex2}
-use Rattle.hex_langs.specs.declared.items.token.Fault.{Fault}
-use Rattle.hex_langs.specs.declared.items.token.Fault.TheVariants.{BadField}
+use Rattle.hex_langs.specs.declared.items.token.TokenFault.{TokenFault}
+use Rattle.hex_langs.specs.declared.items.token.TokenFault.TheVariants.{BadField}
 use Rattle.hex_langs.specs.declared.items.token.Token.{Token}
 use Rattle.hex_langs.specs.declared.items.token.Token.TheVariants.{Reference, Alone}
 use Rattle.hex_langs.specs.Items.Tokens.{byte_at, byte_of, ends_name, field_at, field_of, gap_length, low_digit, name_length, named_by, pair_at, pair_with, rel_at, second_name, token_at}
@@ -38,11 +38,11 @@ byte-below (Some high) (Some low) first second = omega (arith, first, second)
 
 -- ---- what is found
 
-abbrev pub IsGoodFound : Result (Token × ℕ) Fault → Type 0
+abbrev pub IsGoodFound : Result (Token × ℕ) TokenFault → Type 0
 IsGoodFound (Ok found) = IsGood found.0
 IsGoodFound (Err why) = Unit {0}
 
-either : (test : Bool) (first second : Result (Token × ℕ) Fault) → IsGoodFound first → IsGoodFound second → IsGoodFound (cond test first second)
+either : (test : Bool) (first second : Result (Token × ℕ) TokenFault) → IsGoodFound first → IsGoodFound second → IsGoodFound (cond test first second)
 either true first second here there = here
 either false first second here there = there
 

@@ -13,7 +13,7 @@ use Rattle.hex_langs.specs.declared.items.item.Item.{Item}
 use Rattle.hex_langs.specs.declared.items.item.Item.TheVariants as item
 use Rattle.hex_langs.specs.declared.items.token.Dialect.{Dialect}
 use Rattle.hex_langs.specs.declared.items.token.Dialect.TheVariants.{Hex2}
-use Rattle.hex_langs.specs.declared.items.token.Fault.{Fault}
+use Rattle.hex_langs.specs.declared.items.token.TokenFault.{TokenFault}
 use Rattle.hex_langs.specs.declared.items.token.Token.{Token}
 use Rattle.hex_langs.specs.declared.items.token.Token.TheVariants.{Byte, Reference, Alone}
 use Rattle.hex_langs.specs.Items.Tokens.{ends_name, gap_from, gap_length, is_blank, name_length, named_by, opens_gap, pair_at, token_at}
@@ -182,7 +182,7 @@ unfolding encode_with
 line-byte byte small at rest = (
   at + 2 + 1,
   ap (formed None) (reads-byte at byte (10 ∷ rest) small)
-      ∙ ap (λ (r : Reading Fault). with_front (item.Byte byte ∷ []) (formed None r)) (line_feed (at + 2) rest),
+      ∙ ap (λ (r : Reading TokenFault). with_front (item.Byte byte ∷ []) (formed None r)) (line_feed (at + 2) rest),
 )
 
 pub line-label : (name : List ℕ) → IsHexName name → ReadsLine (item.Label name)
@@ -190,7 +190,7 @@ line-label name is at rest = (
   at + 1 + length name + 1,
   ap (λ (l : List ℕ). formed None (reading Hex2 at 0 (58 ∷ l))) (append_assoc name (10 ∷ []) rest)
       ∙ ap (formed None) (reads-named at 58 (λ n. Alone (item.Label n)) name rest 10 is refl refl (label-token (name ++ 10 ∷ rest)))
-      ∙ ap (λ (r : Reading Fault). with_front (item.Label name ∷ []) (formed None r)) (line_feed (at + 1 + length name) rest),
+      ∙ ap (λ (r : Reading TokenFault). with_front (item.Label name ∷ []) (formed None r)) (line_feed (at + 1 + length name) rest),
 )
 
 pub line-abs : (name : List ℕ) → IsHexName name → ReadsLine (item.Abs name)
@@ -198,14 +198,14 @@ line-abs name is at rest = (
   at + 1 + length name + 1,
   ap (λ (l : List ℕ). formed None (reading Hex2 at 0 (38 ∷ l))) (append_assoc name (10 ∷ []) rest)
       ∙ ap (formed None) (reads-named at 38 (λ n. Alone (item.Abs n)) name rest 10 is refl refl (abs-token (name ++ 10 ∷ rest)))
-      ∙ ap (λ (r : Reading Fault). with_front (item.Abs name ∷ []) (formed None r)) (line_feed (at + 1 + length name) rest),
+      ∙ ap (λ (r : Reading TokenFault). with_front (item.Abs name ∷ []) (formed None r)) (line_feed (at + 1 + length name) rest),
 )
 
 pub line-pad : ReadsLine item.Pad
 line-pad at rest = (
   at + 1 + 0 + 1,
   ap (formed None) (reading-token Hex2 at 60 (10 ∷ rest) (Alone item.Pad) 0 refl (pad-token (10 ∷ rest)))
-      ∙ ap (λ (r : Reading Fault). with_front (item.Pad ∷ []) (formed None r)) (line_feed (at + 1 + 0) rest),
+      ∙ ap (λ (r : Reading TokenFault). with_front (item.Pad ∷ []) (formed None r)) (line_feed (at + 1 + 0) rest),
 )
 
 pub line-rel : (name : List ℕ) → IsHexName name → ReadsLine (item.Rel name)
@@ -214,7 +214,7 @@ line-rel name is at rest = (
   ap (λ (l : List ℕ). formed None (reading Hex2 at 0 (37 ∷ l))) (append_assoc name (10 ∷ []) rest)
       ∙ ap (formed None) (reading-token Hex2 at 37 (name ++ 10 ∷ rest) (Alone (item.Rel name)) (length name) refl (rel-token name rest is))
       ∙ ap (λ (l : List ℕ). with_front (item.Rel name ∷ []) (formed None (reading Hex2 (at + 1 + length name) 0 l))) (drop-append_seam name (10 ∷ rest))
-      ∙ ap (λ (r : Reading Fault). with_front (item.Rel name ∷ []) (formed None r)) (line_feed (at + 1 + length name) rest),
+      ∙ ap (λ (r : Reading TokenFault). with_front (item.Rel name ∷ []) (formed None r)) (line_feed (at + 1 + length name) rest),
 )
 
 gap-left : (name other rest : List ℕ) → (name ++ 62 ∷ (other ++ 10 ∷ [])) ++ rest ≡ name ++ 62 ∷ (other ++ 10 ∷ rest)
@@ -230,7 +230,7 @@ line-gap name other is also at rest =
       ap (λ (l : List ℕ). formed None (reading Hex2 at 0 (37 ∷ l))) (gap-left name other rest)
           ∙ ap (formed None) (reading-token Hex2 at 37 (name ++ 62 ∷ (other ++ 10 ∷ rest)) (Alone (item.Gap name other)) (length name + 1 + length other) refl (gap-token name other rest is also))
           ∙ ap (λ (l : List ℕ). with_front (item.Gap name other ∷ []) (formed None (reading Hex2 (at + 1 + (length name + 1 + length other)) 0 l))) past
-          ∙ ap (λ (r : Reading Fault). with_front (item.Gap name other ∷ []) (formed None r)) (line_feed (at + 1 + (length name + 1 + length other)) rest),
+          ∙ ap (λ (r : Reading TokenFault). with_front (item.Gap name other ∷ []) (formed None r)) (line_feed (at + 1 + (length name + 1 + length other)) rest),
     )
 
 -- the two digits of a byte
@@ -266,10 +266,10 @@ line-word value kind name small is at rest =
       place + 2 + 2 + 2 + 2 + 1,
       ap (λ (l : List ℕ). formed None (reading Hex2 at 0 (kind_sign kind ∷ l))) (word-left name E rest)
           ∙ ap (formed None) (reads-named at (kind_sign kind) (Reference kind) name (E ++ 10 ∷ rest) 32 is refl (sign-code kind) (reference-token kind (name ++ 32 ∷ (E ++ 10 ∷ rest))))
-          ∙ ap (λ (r : Reading Fault). formed None (Then at (Reference kind name) r)) (space (at + 1 + length name) (E ++ 10 ∷ rest))
-          ∙ ap (λ (r : Reading Fault). formed None (Then at (Reference kind name) r)) (word-bytes value place rest)
+          ∙ ap (λ (r : Reading TokenFault). formed None (Then at (Reference kind name) r)) (space (at + 1 + length name) (E ++ 10 ∷ rest))
+          ∙ ap (λ (r : Reading TokenFault). formed None (Then at (Reference kind name) r)) (word-bytes value place rest)
           ∙ ap (λ (n : ℕ). with_front (item.Word n kind name ∷ []) (formed None (reading Hex2 (place + 2 + 2 + 2 + 2) 0 (10 ∷ rest)))) back
-          ∙ ap (λ (r : Reading Fault). with_front (item.Word value kind name ∷ []) (formed None r)) (line_feed (place + 2 + 2 + 2 + 2) rest),
+          ∙ ap (λ (r : Reading TokenFault). with_front (item.Word value kind name ∷ []) (formed None r)) (line_feed (place + 2 + 2 + 2 + 2) rest),
     )
 
 pub line-reads : (it : Item) → IsWritable it → ReadsLine it

@@ -4,8 +4,8 @@
 use Rattle.std.specs.Prelude.{◌≡◌, ℕ, zero, suc, ◌+◌, ◌-◌, nat_lt, if◌then◌else◌, List, [], ◌∷◌, ◌++◌, length, Option, Some, None, Result, Ok, Err}
 use Rattle.hex_langs.specs.declared.items.item.Item.{Item}
 use Rattle.hex_langs.specs.declared.items.token.Dialect.{Dialect}
-use Rattle.hex_langs.specs.declared.items.token.Fault.{Fault}
-use Rattle.hex_langs.specs.declared.items.token.Fault.TheVariants as fault
+use Rattle.hex_langs.specs.declared.items.token.TokenFault.{TokenFault}
+use Rattle.hex_langs.specs.declared.items.token.TokenFault.TheVariants as fault
 use Rattle.hex_langs.specs.declared.items.token.Token.{Token}
 use Rattle.hex_langs.specs.declared.items.words.Open.{Open}
 use Rattle.hex_langs.specs.declared.items.words.Halt.{Halt}
@@ -22,7 +22,7 @@ pub data Reading (F : Type 0) : Type 0 where
   Then : (at : ℕ) (token : Token) (later : Reading F) → Reading F
 
 -- what stands from an offset on, of which the first bytes belong to a token or gap that is already read
-unfoldable pub reading : Dialect → ℕ → ℕ → List ℕ → Reading Fault
+unfoldable pub reading : Dialect → ℕ → ℕ → List ℕ → Reading TokenFault
 reading dialect at inside [] = NoToken
 reading dialect at (suc inside) (byte ∷ left) = reading dialect (at + 1) inside left
 reading dialect at zero (byte ∷ left) =
@@ -69,17 +69,17 @@ halted (halt.Second at) = BadField at
 halted halt.TooLong = TooLong
 halted halt.OutOfMemory = OutOfMemory
 
-abbrev pub fault_at : Fault → ℕ → HexRefusal
+abbrev pub fault_at : TokenFault → ℕ → HexRefusal
 fault_at fault.OddDigits at = OddDigits at
 fault_at fault.BadField at = BadField at
 
-abbrev pub answer : List Item → Ending Fault → Result (List Item) HexRefusal
+abbrev pub answer : List Item → Ending TokenFault → Result (List Item) HexRefusal
 answer items Whole = Ok items
 answer items (Halted why) = Err (halted why)
 answer items (Faulted why at) = Err (fault_at why at)
 
 -- more items than a list may have are refused where the first one too many would be formed
-abbrev pub limited_items : Formed Fault → Result (List Item) HexRefusal
+abbrev pub limited_items : Formed TokenFault → Result (List Item) HexRefusal
 limited_items formed = if nat_lt 33554432 (length formed.items) then Err TooLong else answer formed.items formed.end
 
 -- the items of a source, or its first refusal

@@ -9,8 +9,8 @@ use Rattle.hex_langs.specs.declared.items.item.Kind.TheVariants.{I, B, J, U}
 use Rattle.hex_langs.specs.declared.items.item.Item.TheVariants as item
 use Rattle.hex_langs.specs.declared.items.token.Dialect.{Dialect}
 use Rattle.hex_langs.specs.declared.items.token.Dialect.TheVariants.{Hex1, Hex2}
-use Rattle.hex_langs.specs.declared.items.token.Fault.{Fault}
-use Rattle.hex_langs.specs.declared.items.token.Fault.TheVariants.{OddDigits, BadField}
+use Rattle.hex_langs.specs.declared.items.token.TokenFault.{TokenFault}
+use Rattle.hex_langs.specs.declared.items.token.TokenFault.TheVariants.{OddDigits, BadField}
 use Rattle.hex_langs.specs.declared.items.token.Sign.{Sign}
 use Rattle.hex_langs.specs.declared.items.token.Sign.TheVariants as sign
 use Rattle.hex_langs.specs.declared.items.token.Token.{Token}
@@ -59,29 +59,29 @@ abbrev pub low_digit : List ℕ → Option ℕ
 low_digit [] = None
 low_digit (byte ∷ left) = hex_digit_value byte
 
-abbrev pub pair_with : ℕ → Option ℕ → Result (Token × ℕ) Fault
+abbrev pub pair_with : ℕ → Option ℕ → Result (Token × ℕ) TokenFault
 pair_with gap (Some value) = Ok (Byte value, gap + 1)
 pair_with gap None = Err OddDigits
 
-unfoldable pub pair_at : ℕ → List ℕ → Result (Token × ℕ) Fault
+unfoldable pub pair_at : ℕ → List ℕ → Result (Token × ℕ) TokenFault
 pair_at digit left = pair_with (gap_length left) (byte_of (hex_digit_value digit) (low_digit (drop (gap_length left) left)))
 
 -- the byte of the digits at a place and after it
 abbrev pub byte_at : List ℕ → ℕ → Option ℕ
 byte_at left place = byte_of (hex_digit_value (slice_index left place)) (hex_digit_value (slice_index left (place + 1)))
 
-abbrev pub field_of : Option ℕ → Option ℕ → Option ℕ → Option ℕ → Result (Token × ℕ) Fault
+abbrev pub field_of : Option ℕ → Option ℕ → Option ℕ → Option ℕ → Result (Token × ℕ) TokenFault
 field_of (Some a) (Some b) (Some c) (Some d) = Ok (Field (from_le_bytes w32 (a ∷ b ∷ c ∷ d ∷ [])), 8)
 field_of _ _ _ _ = Err BadField
 
 -- behind `.` at once 8 digits
-unfoldable pub field_at : List ℕ → Result (Token × ℕ) Fault
+unfoldable pub field_at : List ℕ → Result (Token × ℕ) TokenFault
 field_at left =
     if nat_lt (length left) 8 then Err BadField
     else field_of (byte_at left 0) (byte_at left 2) (byte_at left 4) (byte_at left 6)
 
 -- behind a sign at once a name
-abbrev pub named_by : (List ℕ → Token) → ℕ → List ℕ → Result (Token × ℕ) Fault
+abbrev pub named_by : (List ℕ → Token) → ℕ → List ℕ → Result (Token × ℕ) TokenFault
 named_by make size left = if size == 0 then Err BadField else Ok (make (take size left), size)
 
 -- what a sign makes of the name behind it
@@ -91,12 +91,12 @@ sign_token sign.Absolute name = Alone (item.Abs name)
 sign_token (sign.Reference kind) name = Reference kind name
 
 -- behind `%` a name, and in hex2 perhaps `>` and a second one
-abbrev pub second_name : ℕ → ℕ → List ℕ → Result (Token × ℕ) Fault
+abbrev pub second_name : ℕ → ℕ → List ℕ → Result (Token × ℕ) TokenFault
 second_name size more left =
     if more == 0 then Err BadField
     else Ok (Alone (item.Gap (take size left) (take more (drop (size + 1) left))), size + 1 + more)
 
-abbrev pub rel_at : Dialect → List ℕ → Result (Token × ℕ) Fault
+abbrev pub rel_at : Dialect → List ℕ → Result (Token × ℕ) TokenFault
 rel_at Hex1 left = named_by (λ name. Alone (item.Rel name)) (name_length Hex1 left) left
 rel_at Hex2 left =
     if slice_index left (name_length Hex2 left) == 62 && not (name_length Hex2 left == 0)
@@ -104,7 +104,7 @@ rel_at Hex2 left =
     else named_by (λ name. Alone (item.Rel name)) (name_length Hex2 left) left
 
 -- `<`, which hex1 lacks
-abbrev pub pad_at : Dialect → ℕ → List ℕ → Result (Token × ℕ) Fault
+abbrev pub pad_at : Dialect → ℕ → List ℕ → Result (Token × ℕ) TokenFault
 pad_at Hex1 byte left = Err BadField
 pad_at Hex2 byte left =
     if byte == 60 then Ok (Alone item.Pad, 0)
@@ -112,7 +112,7 @@ pad_at Hex2 byte left =
 
 -- the table of tokens, by the first byte and what stands after it: the token, and how many bytes it takes after the first.
 -- The signs are `.` `:` `!` `@` `$` `~` `&` `%`, and `<` in hex2 alone
-unfoldable pub token_at : Dialect → ℕ → List ℕ → Result (Token × ℕ) Fault
+unfoldable pub token_at : Dialect → ℕ → List ℕ → Result (Token × ℕ) TokenFault
 token_at dialect byte left =
     if is_hex_digit byte then pair_at byte left
     else if byte == 46 then field_at left
@@ -126,6 +126,6 @@ token_at dialect byte left =
     else pad_at dialect byte left
 
 -- what two digits give, without the token
-abbrev pub IsPair : Result (ℕ × ℕ) Fault → Result (Token × ℕ) Fault → Type 0
+abbrev pub IsPair : Result (ℕ × ℕ) TokenFault → Result (Token × ℕ) TokenFault → Type 0
 IsPair (Ok pair) meant = meant ≡ Ok (Byte pair.0, pair.1)
 IsPair (Err why) meant = meant ≡ Err why

@@ -6,7 +6,9 @@ ghost use Rattle.hex_langs.specs.declared.items.token.Dialect.TheVariants.{Hex1,
 ghost use Rattle.std.specs.Prelude.{◌≡◌, ◌++◌, ◌≤◌, ◌<◌, length};
 
 use crate::items::items::Items;
-use crate::items::token::{Dialect, Fault, gap_length, is_digit, opens_gap, pair_at, token_at};
+use crate::items::token::{
+    Dialect, TokenFault, gap_length, is_digit, opens_gap, pair_at, token_at,
+};
 use crate::items::words::{Halt, take, take_byte};
 use ddc_base::OutOfMemory;
 use std::alloc::Global;
@@ -140,12 +142,12 @@ fn items_of<'s>(alloc: Global, dialect: Dialect, source: &'s [u8]) -> Result<Ite
 }
 
 /// The refusal of a place without a token.
-fn fault_at(fault: Fault, at: usize) -> HexRefusal
+fn fault_at(fault: TokenFault, at: usize) -> HexRefusal
     ensures { result ≡ fault_at fault at }
 {
     match fault {
-        Fault::OddDigits => HexRefusal::OddDigits(at as u64),
-        Fault::BadField => HexRefusal::BadField(at as u64),
+        TokenFault::OddDigits => HexRefusal::OddDigits(at as u64),
+        TokenFault::BadField => HexRefusal::BadField(at as u64),
     }
 }
 

@@ -18,7 +18,7 @@ pub enum Dialect {
 
 /// Why there is no token.
 #[derive(Clone, Copy, Debug)]
-pub enum Fault {
+pub enum TokenFault {
     OddDigits,
     BadField,
 }
@@ -133,22 +133,22 @@ pub fn byte_of(high: u8, low: u8) -> Option<u8>
 
 /// The byte of a digit and of the next one past blanks and comments, and how many bytes behind the first digit it takes.
 #[tactic(auto, unfolding(crate::specs::Items::Tokens::pair_at))]
-pub(crate) fn pair_at(digit: u8, rest: &[u8]) -> Result<(u8, usize), Fault>
+pub(crate) fn pair_at(digit: u8, rest: &[u8]) -> Result<(u8, usize), TokenFault>
     ensures value { IsPair result (pair_at digit rest.now) }
     ensures within { IfOk result (λ found. found.1 ≤ length rest.now) }
 {
     let gap = gap_length(rest);
     match rest[gap..].first() {
-        None => Err(Fault::OddDigits),
+        None => Err(TokenFault::OddDigits),
         Some(low) => match byte_of(digit, *low) {
-            None => Err(Fault::OddDigits),
+            None => Err(TokenFault::OddDigits),
             Some(value) => Ok((value, gap + 1)),
         },
     }
 }
 
 /// The token of such a byte.
-fn byte_token<'s>(pair: Result<(u8, usize), Fault>) -> Result<(Token<'s>, usize), Fault>
+fn byte_token<'s>(pair: Result<(u8, usize), TokenFault>) -> Result<(Token<'s>, usize), TokenFault>
     ensures { IsPair pair result }
 {
     let (value, more) = pair?;
@@ -165,12 +165,12 @@ fn byte_at(rest: &[u8], place: usize) -> Option<u8>
 
 /// Behind `.` at once 8 digits.
 #[tactic(auto, unfolding(crate::specs::Items::Tokens::field_at))]
-fn field_at<'s>(rest: &'s [u8]) -> Result<(Token<'s>, usize), Fault>
+fn field_at<'s>(rest: &'s [u8]) -> Result<(Token<'s>, usize), TokenFault>
     ensures value { result ≡ field_at rest.now }
     ensures within { IfOk result (λ found. found.1 ≤ length rest.now) }
 {
     if rest.len() < 8 {
-        return Err(Fault::BadField);
+        return Err(TokenFault::BadField);
     }
     match (
         byte_at(rest, 0),
@@ -181,7 +181,7 @@ fn field_at<'s>(rest: &'s [u8]) -> Result<(Token<'s>, usize), Fault>
         (Some(a), Some(b), Some(c), Some(d)) => {
             Ok((Token::Field(u32::from_le_bytes([a, b, c, d])), 8))
         }
-        _ => Err(Fault::BadField),
+        _ => Err(TokenFault::BadField),
     }
 }
 
@@ -205,25 +205,25 @@ fn signed<'s>(sign: Sign, name: Name<'s>) -> Token<'s>
 }
 
 /// Behind a sign at once a name.
-fn named<'s>(dialect: Dialect, sign: Sign, rest: &'s [u8]) -> Result<(Token<'s>, usize), Fault>
+fn named<'s>(dialect: Dialect, sign: Sign, rest: &'s [u8]) -> Result<(Token<'s>, usize), TokenFault>
     ensures value { result ≡ named_by (sign_token sign) (name_length dialect rest.now) rest.now }
     ensures within { IfOk result (λ found. found.1 ≤ length rest.now) }
 {
     let size = name_length(dialect, rest);
     if size == 0 {
-        return Err(Fault::BadField);
+        return Err(TokenFault::BadField);
     }
     Ok((signed(sign, Name::new(&rest[..size])), size))
 }
 
 /// Behind `%` a name, and in hex2 perhaps `>` and a second one.
-fn relative<'s>(dialect: Dialect, rest: &'s [u8]) -> Result<(Token<'s>, usize), Fault>
+fn relative<'s>(dialect: Dialect, rest: &'s [u8]) -> Result<(Token<'s>, usize), TokenFault>
     ensures value { result ≡ rel_at dialect rest.now }
     ensures within { IfOk result (λ found. found.1 ≤ length rest.now) }
 {
     let size = name_length(dialect, rest);
     if size == 0 {
-        return Err(Fault::BadField);
+        return Err(TokenFault::BadField);
     }
     match dialect {
         Dialect::Hex1 => Ok((Token::Alone(Item::Rel(Name::new(&rest[..size]))), size)),
@@ -238,7 +238,7 @@ fn relative<'s>(dialect: Dialect, rest: &'s [u8]) -> Result<(Token<'s>, usize), 
 }
 
 /// The second name behind the first one's `>`.
-fn gap_behind<'s>(size: usize, rest: &'s [u8]) -> Result<(Token<'s>, usize), Fault>
+fn gap_behind<'s>(size: usize, rest: &'s [u8]) -> Result<(Token<'s>, usize), TokenFault>
     requires { size < length rest.now }
     ensures value { result ≡ second_name size (name_length Hex2 (drop (size + 1) rest.now)) rest.now }
     ensures within { IfOk result (λ found. found.1 ≤ length rest.now) }
@@ -246,7 +246,7 @@ fn gap_behind<'s>(size: usize, rest: &'s [u8]) -> Result<(Token<'s>, usize), Fau
     let second = &rest[size + 1..];
     let more = name_length(Dialect::Hex2, second);
     if more == 0 {
-        return Err(Fault::BadField);
+        return Err(TokenFault::BadField);
     }
     let gap = Item::Gap(Name::new(&rest[..size]), Name::new(&second[..more]));
     Ok((Token::Alone(gap), size + 1 + more))
@@ -254,7 +254,11 @@ fn gap_behind<'s>(size: usize, rest: &'s [u8]) -> Result<(Token<'s>, usize), Fau
 
 /// The token that begins with a byte, by what stands after it, and how many of those bytes it takes.
 #[tactic(auto, unfolding(crate::specs::Items::Tokens::token_at))]
-pub fn token_at<'s>(dialect: Dialect, byte: u8, rest: &'s [u8]) -> Result<(Token<'s>, usize), Fault>
+pub fn token_at<'s>(
+    dialect: Dialect,
+    byte: u8,
+    rest: &'s [u8],
+) -> Result<(Token<'s>, usize), TokenFault>
     ensures value { result ≡ token_at dialect byte rest.now }
     ensures within { IfOk result (λ found. found.1 ≤ length rest.now) }
 {
@@ -273,13 +277,13 @@ pub fn token_at<'s>(dialect: Dialect, byte: u8, rest: &'s [u8]) -> Result<(Token
 }
 
 /// `<`, which hex1 lacks.
-fn pad_at<'s>(dialect: Dialect, byte: u8) -> Result<(Token<'s>, usize), Fault>
+fn pad_at<'s>(dialect: Dialect, byte: u8) -> Result<(Token<'s>, usize), TokenFault>
     ensures value { (rest : List ℕ) → result ≡ pad_at dialect byte rest }
     ensures within { IfOk result (λ found. found.1 ≡ 0) }
 {
     match (dialect, byte) {
         (Dialect::Hex2, b'<') => Ok((Token::Alone(Item::Pad), 0)),
-        _ => Err(Fault::BadField),
+        _ => Err(TokenFault::BadField),
     }
 }
 

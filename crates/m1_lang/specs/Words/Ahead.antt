@@ -1,5 +1,6 @@
 -- What stands from an offset of a source on, past blanks and comments: a word, a quote that isn't closed, or nothing more.
--- docs/reference/m1.md says the same for people.
+-- Public source: the language M1 of stage0-posix and mescc-tools, whose exact rules here are this project's profile. docs/reference/m1.md says
+-- the same for people.
 use Rattle.std.specs.Prelude.{◌≡◌, ℕ, ◌+◌, ◌<◌, ◌≤◌, List, length, drop}
 use Rattle.m1_lang.specs.Words.Words.{Words, words_from, NoWord, Unclosed, Found}
 use Rattle.m1_lang.specs.declared.words.splitting.Ahead.{Ahead}

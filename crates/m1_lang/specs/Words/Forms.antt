@@ -4,7 +4,7 @@
 use Rattle.std.specs.Prelude.{ℕ, ◌+◌, ◌-◌, ◌*◌, ◌/◌, ◌%◌, ◌==◌, Bool, false, ◌&&◌, ◌||◌, if◌then◌else◌, List, [], ◌∷◌, ◌++◌, length, take, map, replicate, Option, Some, None, Result, Ok, Err, ℤ, pos, neg_ℤ, ◌+ℤ◌, int_le, int_lt}
 use Rattle.std.specs.Int.{w32, to_le_bytes}
 use Rattle.hex_langs.specs.declared.items.token.Dialect.TheVariants.{Hex2}
-use Rattle.hex_langs.specs.declared.items.token.Fault.{Fault}
+use Rattle.hex_langs.specs.declared.items.token.TokenFault.{TokenFault}
 use Rattle.hex_langs.specs.declared.items.token.Token.{Token}
 use Rattle.hex_langs.specs.declared.items.token.Token.TheVariants.{Byte, Field}
 use Rattle.hex_langs.specs.Items.Tokens.{token_at}
@@ -30,7 +30,7 @@ byte_tokens (Some (byte ∷ bytes)) = Some (map Byte (byte ∷ bytes))
 byte_tokens _ = None
 
 -- the token, if it takes all of these bytes
-abbrev pub token_over : List ℕ → Result (Token × ℕ) Fault → Option Token
+abbrev pub token_over : List ℕ → Result (Token × ℕ) TokenFault → Option Token
 token_over rest (Ok found) = if found.1 == length rest then Some found.0 else None
 token_over rest (Err why) = None
 

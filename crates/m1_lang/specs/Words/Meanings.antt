@@ -1,5 +1,5 @@
--- The tokens that the meaning of a word stands for, which gives many bytes as a text of the source. docs/reference/m1.md says the same for
--- people.
+-- The tokens that the meaning of a word stands for, which gives many bytes as a text of the source. Public source: the language M1 of
+-- stage0-posix and mescc-tools, whose exact rules here are this project's profile. docs/reference/m1.md says the same for people.
 use Rattle.std.specs.Prelude.{◌≡◌, ℕ, List, [], ◌∷◌, map, Option, Some, None, Result, Ok, Err}
 use Rattle.std.specs.Int.{w32, to_le_bytes}
 use Rattle.hex.specs.Hex.{hex_digit_value}

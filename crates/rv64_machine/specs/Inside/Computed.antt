@@ -1,8 +1,9 @@
 -- What the rows that compute a value compute, taken from the table of meanings; it serves the code's split of that table.
 -- No promise rests on its being read.
-use Rattle.std.specs.Prelude.{ℕ}
+use Rattle.std.specs.Prelude.{ℕ, if◌then◌else◌}
 use Rattle.rv64_table.specs.declared.Op.{Op}
 use Rattle.rv64_table.specs.declared.Op.TheVariants.{Lui, Auipc}
+use Rattle.rv64_table.specs.Table.{is_atomic}
 use Rattle.rv64_machine.specs.declared.effect.Effect.{Effect}
 use Rattle.rv64_machine.specs.declared.effect.Effect.TheVariants.{Put}
 use Rattle.rv64_machine.specs.Meaning.{meaning}
@@ -17,3 +18,7 @@ abbrev pub computed : Op → ℕ → ℕ → ℕ → ℕ
 computed Lui a b i = 0
 computed Auipc a b i = 0
 computed op a b i = value_put (meaning op a b i 0)
+
+-- the effect of an atomic row, or of one that computes a value from a, b and i alone
+abbrev pub other_effect : Op → ℕ → ℕ → ℕ → Effect
+other_effect op a b i = if is_atomic op then meaning op a b i 0 else Put (computed op a b i)

@@ -1,8 +1,8 @@
--- How the code finds a row: by the opcode, and then by funct3 and funct7 alone. No promise rests on its being read.
+-- How the code finds a row: by the opcode, and then by funct3, funct7 and, in form L, rs2 alone. No promise rests on its being read.
 use Rattle.std.specs.Prelude.{ℕ, ◌/◌, ◌%◌, ◌^◌, Bool, true, false, ◌&&◌, ◌==◌, List, Option, option_map, find, filter}
 use Rattle.rv64_table.specs.declared.Row.{Row}
 use Rattle.rv64_table.specs.declared.Form.{Form}
-use Rattle.rv64_table.specs.declared.Form.TheVariants.{R, H, K, U, J, E}
+use Rattle.rv64_table.specs.declared.Form.TheVariants.{R, H, K, U, J, E, L, A}
 use Rattle.rv64_table.specs.declared.Op.{Op}
 
 -- the rows of an opcode
@@ -20,21 +20,28 @@ fits_funct3 U want funct3 = want == 0
 fits_funct3 J want funct3 = want == 0
 fits_funct3 _ want funct3 = funct3 == want
 
--- funct7 (H: its upper six bits) is the wanted one, or free in the form
+-- funct7 (H: its upper six bits, L and A: its upper five) is the wanted one, or free in the form
 abbrev pub fits_funct7 : Form → ℕ → ℕ → Bool
 fits_funct7 R want funct7 = funct7 == want
 fits_funct7 K want funct7 = funct7 == want
 fits_funct7 H want funct7 = (want % 2 == 0) && (funct7 / 2 == want / 2)
+fits_funct7 L want funct7 = (want % 2 ^ 2 == 0) && (funct7 / 2 ^ 2 == want / 2 ^ 2)
+fits_funct7 A want funct7 = (want % 2 ^ 2 == 0) && (funct7 / 2 ^ 2 == want / 2 ^ 2)
 fits_funct7 _ want funct7 = want == 0
 
--- a form's wanted bits above the opcode are these two fields, and 0 where it has registers or an immediate
-abbrev pub fits_fields : Form → ℕ → ℕ → ℕ → Bool
-fits_fields form want funct3 funct7 =
+-- bits 24..15, which hold rs2 above rs1, are free in the form, or (L) rs2 is the wanted one
+abbrev pub fits_registers : Form → ℕ → ℕ → Bool
+fits_registers L want registers = (want % 2 ^ 5 == 0) && (registers / 2 ^ 5 == want / 2 ^ 5)
+fits_registers _ want registers = want == 0
+
+-- a form's wanted bits above the opcode are these fields, and 0 where it has registers or an immediate
+abbrev pub fits_fields : Form → ℕ → ℕ → ℕ → ℕ → Bool
+fits_fields form want funct3 funct7 registers =
     (want / 2 ^ 7 % 2 ^ 5 == 0)
     && (fits_funct3 form (want / 2 ^ 12 % 2 ^ 3) funct3
-    && ((want / 2 ^ 15 % 2 ^ 10 == 0)
+    && (fits_registers form (want / 2 ^ 15 % 2 ^ 10) registers
     && fits_funct7 form (want / 2 ^ 25) funct7))
 
--- the operation of the row among these that has these two fields
-abbrev pub pick : List Row → ℕ → ℕ → Option Op
-pick rows funct3 funct7 = option_map (λ r. r.op) (find (λ r. fits_fields r.form r.want funct3 funct7) rows)
+-- the operation of the row among these that has these fields
+abbrev pub pick : List Row → ℕ → ℕ → ℕ → Option Op
+pick rows funct3 funct7 registers = option_map (λ r. r.op) (find (λ r. fits_fields r.form r.want funct3 funct7 registers) rows)

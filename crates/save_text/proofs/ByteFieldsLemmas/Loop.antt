@@ -42,3 +42,30 @@ is_done item next s front count i left total le so_far =
     let k : count - i ≡ 0 = omega arith in
     let one : with_front front (several item next s (count - i) left) ≡ Ok (front, left) = rw k (ap (λ xs. Ok (xs, left)) (append-nil front)) in
     sym so_far ∙ one
+
+-- ---- past items, whatever they are
+
+-- some items were read before those that are still read
+abbrev pub Went : {A S : Type 0} → (S → Reader A) → (A → S) → S → ℕ → List ℕ → Read (List A) → Type 0
+Went {A} {S} item next s count left total = (front : List A) × (with_front front (several item next s count left) ≡ total)
+
+none_before : {A : Type 0} (read : Read (List A)) → with_front [] read ≡ read
+none_before (Ok r) = refl
+none_before (Err at) = refl
+
+pub sets_out : {A S : Type 0} (item : S → Reader A) (next : A → S) (s : S) (count : ℕ) (left : List ℕ) → Went item next s (count - 0) left (several item next s count left)
+sets_out item next s count left =
+    let all : count - 0 ≡ count = omega arith in
+    ([], none_before (several item next s (count - 0) left) ∙ ap (λ n. several item next s n left) all)
+
+pub went_on : {A S : Type 0} (item : S → Reader A) (next : A → S) (s after_x : S) (count i : ℕ) (left : List ℕ) (x : A) (after : List ℕ) (total : Read (List A)) → i < count → item s left ≡ Ok (x, after) → next x ≡ after_x
+    → Went item next s (count - i) left total → Went item next after_x (count - (i + 1)) after total
+went_on item next s after_x count i left x after total lt h is went = (went.0 ++ x ∷ [], goes_on item next s after_x went.0 count i left x after total lt h is went.1)
+
+pub went_wrong : {A S : Type 0} (item : S → Reader A) (next : A → S) (s : S) (at count i : ℕ) (left : List ℕ) (total : Read (List A)) → i < count → item s left ≡ Err at
+    → Went item next s (count - i) left total → total ≡ Err at
+went_wrong item next s at count i left total lt h went = stops item next s at went.0 count i left total lt h went.1
+
+pub went_past : {A S : Type 0} (item : S → Reader A) (next : A → S) (s : S) (count i : ℕ) (left : List ℕ) (total : Read (List A)) → count ≤ i → Went item next s (count - i) left total
+    → (xs : List A) × (total ≡ Ok (xs, left))
+went_past item next s count i left total le went = (went.0, is_done item next s went.0 count i left total le went.1)

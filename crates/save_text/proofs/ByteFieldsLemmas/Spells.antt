@@ -1,14 +1,18 @@
 -- A reader and a spelling that fit each other, and how they are put together.
 use Rattle.std.proofs.Common.{◌≡◌, ◌⊎◌, ℕ, zero, suc, ◌+◌, ◌^◌, ◌<◌, ◌≤◌, Bool, true, false, cond, ltb, nat_le, eqb, List, [], ◌∷◌, ◌++◌, length, get_or, take, drop, Result, Ok, Err, refl, sym, ap, subst, ◌∙◌, append_assoc, arith, inl, inr}
+use Rattle.std.specs.Prelude.{IsOk}
 use Rattle.std.specs.List.{flat_map}
 use Rattle.std.specs.Int.{Width, w16, w32, w64, byte_len, from_le_bytes, to_le_bytes}
 use Rattle.std.proofs.lemmas.Bool.{cases_lt, ltb-false, le-ltb, leb-true, le-leb, eqb-true}
 use Rattle.std.proofs.lemmas.List.{append-nil, take_at, drop_at, take-append-drop, length-append, length-take, get_or-drop, get_or-take, get_or_past, nil_from_length}
 use Rattle.std.proofs.lemmas.List.Concat.{flat_map-cons}
 use Rattle.std.proofs.lemmas.Nat.{le_bytes_2, le_bytes_4, le_bytes_8, from_le_bytes-to_le_bytes_2, from_le_bytes-to_le_bytes_4, from_le_bytes-to_le_bytes_8}
+use Rattle.std.specs.Prelude.{◌||◌}
 use Rattle.std.specs.Str.{bytes_eq}
 use Rattle.std.specs.Cmp.Lexicographic.{same_text, nat_list_eq_equiv}
-use Rattle.save_text.specs.ByteFields.Reader.{Read, begun, Reader, read_onward, ◌>>=◌, done, number_of_width, byte, bytes, tested, that, blob, several, alike, counted, ended, placed_in, whole, u32, u32_from, u64}
+use Rattle.save_text.specs.declared.byte_fields.form.TextForm.{TextForm}
+use Rattle.save_text.specs.declared.byte_fields.form.TextForm.TheVariants.{First, Second}
+use Rattle.save_text.specs.ByteFields.Reader.{Read, begun, begun_in, Reader, read_onward, ◌>>=◌, done, number_of_width, byte, bytes, tested, that, blob, several, alike, counted, ended, placed_in, whole, u32, u32_from, u64}
 use Rattle.save_text.specs.ByteFields.Spelling.{number_text, blob_text, list_text, InTurn, Alike, Counted, IsBlob}
 
 -- each is a byte
@@ -341,6 +345,63 @@ spells_begun magic long =
     same_bytes : (xs : List ℕ) → bytes_eq xs xs ≡ true
     same_bytes xs = nat_list_eq_equiv.refl xs
 
+-- ---- a text of two forms
+
+-- what is read is spelled so in one of the forms, what is spelled so in a form is read, whatever follows, and a wrong field begins within what was left
+pub record SpellsForms {A : Type 0} (field : Reader A) (text : TextForm → A → List ℕ) (Fits : TextForm → A → Type 0) : Type 0 where
+  pub takes : (left : List ℕ) (x : A) (rest : List ℕ) → AreBytes left → field left ≡ Ok (x, rest) → (form : TextForm) × Takes left (text form x) rest × Fits form x
+  pub again : (form : TextForm) (x : A) (rest : List ℕ) → Fits form x → field (text form x ++ rest) ≡ Ok (x, rest)
+  pub within : (left : List ℕ) (at : ℕ) → AreBytes left → field left ≡ Err at → at ≤ length left
+
+-- the bytes that begin a text of one of two forms
+pub spells_begun_in : (magic : TextForm → List ℕ) → ((form : TextForm) → length (magic form) ≡ 8) → bytes_eq (magic First) (magic Second) ≡ false → Spells (begun_in (magic First) (magic Second)) magic Nothing
+spells_begun_in magic long differ =
+    spells (
+    then {K = Nothing} magic (spells_that (λ found. bytes_eq (magic First) found || bytes_eq (magic Second) found) (spells_bytes 8)) (λ found f.
+    all_read (cond (bytes_eq (magic First) found) First Second) (λ form k. form_again form found k.1) (tt, found_is found (bytes_eq (magic First) found) (bytes_eq (magic Second) found) refl refl f.1)))
+    (λ form f. append-nil (magic form))
+    (λ form f. tt)
+    (λ form f. (tt, ((record { long = long form }, is_one form), tt)))
+  where
+    found_is : (found : List ℕ) (b c : Bool) → bytes_eq (magic First) found ≡ b → bytes_eq (magic Second) found ≡ c → (b || c) ≡ true → found ≡ magic (cond b First Second)
+    found_is found true c e f g = sym (same_text (magic First) found (sym e))
+    found_is found false true e f g = sym (same_text (magic Second) found (sym f))
+    found_is found false false e f g = absurd cc
+
+    same : (xs : List ℕ) → bytes_eq xs xs ≡ true
+    same xs = nat_list_eq_equiv.refl xs
+
+    form_again : (form : TextForm) (found : List ℕ) → found ≡ magic form → cond (bytes_eq (magic First) found) First Second ≡ form
+    form_again First found e = ap (λ (xs : List ℕ). cond (bytes_eq (magic First) xs) First Second) e ∙ ap (λ b. cond b First Second) (same (magic First))
+    form_again Second found e = ap (λ (xs : List ℕ). cond (bytes_eq (magic First) xs) First Second) e ∙ ap (λ b. cond b First Second) differ
+
+    is_one : (form : TextForm) → (bytes_eq (magic First) (magic form) || bytes_eq (magic Second) (magic form)) ≡ true
+    is_one First = rw (same (magic First)) refl
+    is_one Second = rw (differ, same (magic Second)) refl
+
+-- the bytes that begin it, and then what its form has
+pub by_form : {A : Type 0} {begin : Reader TextForm} {magic : TextForm → List ℕ} {field : TextForm → Reader A} {text : TextForm → A → List ℕ} {F : TextForm → A → Type 0}
+    → Spells begin magic Nothing → ((form : TextForm) → Spells (field form) (text form) (F form)) → SpellsForms (begin >>= field) (λ form x. magic form ++ text form x) F
+by_form {A} {begin} {magic} {field} {text} {F} first each = record {
+  takes = λ left x rest fits e.
+      let a = onward_ok (begin left) field x rest e in
+      let p = first.takes left a.0 a.1 fits a.2 in
+      let q = (each a.0).takes a.1 x rest p.0.rest_fits a.3 in
+      let whole : left ≡ (magic a.0 ++ text a.0 x) ++ rest = p.0.parts ∙ ap (λ (w : List ℕ). magic a.0 ++ w) q.0.parts ∙ sym (append_assoc (magic a.0) (text a.0 x) rest) in
+      (a.0, record { parts = whole; rest_fits = q.0.rest_fits }, q.1);
+  again = λ form x rest fits.
+      ap (λ (w : List ℕ). read_onward (begin w) field) (append_assoc (magic form) (text form x) rest)
+      ∙ ap (λ (r : Read TextForm). read_onward r field) (first.again form (text form x ++ rest) tt)
+      ∙ (each form).again x rest fits;
+  within = λ left at fits e.
+      elim (stops (begin left) field at e) [
+        | inl f ↦ first.within left at fits f
+        | inr a ↦ (let p = first.takes left a.0 a.1 fits a.2 in
+            let q : at ≤ length a.1 = (each a.0).within a.1 at p.0.rest_fits a.3 in
+            omega (arith, shorter left (magic a.0) a.1 p.0))
+      ];
+}
+
 -- ---- a whole text
 
 abbrev only_if : {A : Type 0} → Bool → A → ℕ → Result A ℕ
@@ -363,18 +424,30 @@ all_taken {A} size (Ok (y, left)) x e = closing (eqb (length left) 0) refl e
         λ i. Ok (same i, none i)
     closing false was e = absurd cc
 
--- what a whole text says is spelled so
-pub whole_takes : {A : Type 0} {field : Reader A} {text : A → List ℕ} {F : A → Type 0} → Spells field text F → (bytes : List ℕ) (x : A) → AreBytes bytes → whole field bytes ≡ Ok x → F x × (bytes ≡ text x)
+-- what a whole text says is spelled so in one of the forms
+pub whole_takes : {A : Type 0} {field : Reader A} {text : TextForm → A → List ℕ} {F : TextForm → A → Type 0} → SpellsForms field text F → (bytes : List ℕ) (x : A) → AreBytes bytes → whole field bytes ≡ Ok x
+    → (form : TextForm) × F form x × (bytes ≡ text form x)
 whole_takes {A} {field} {text} s bytes x fits e =
     let p = s.takes bytes x [] fits (all_taken (length bytes) (field bytes) x e) in
-    (p.1, p.0.parts ∙ append-nil (text x))
+    (p.0, p.2, p.1.parts ∙ append-nil (text p.0 x))
 
 -- what is spelled so is a whole text
-pub whole_again : {A : Type 0} {field : Reader A} {text : A → List ℕ} {F : A → Type 0} → Spells field text F → (x : A) → F x → whole field (text x) ≡ Ok x
-whole_again {A} {field} {text} s x fits =
-    let read : field (text x) ≡ Ok (x, []) = ap field (sym (append-nil (text x))) ∙ s.again x [] fits in
+pub whole_again : {A : Type 0} {field : Reader A} {text : TextForm → A → List ℕ} {F : TextForm → A → Type 0} → SpellsForms field text F → (form : TextForm) (x : A) → F form x → whole field (text form x) ≡ Ok x
+whole_again {A} {field} {text} s form x fits =
+    let read : field (text form x) ≡ Ok (x, []) = ap field (sym (append-nil (text form x))) ∙ s.again form x [] fits in
     rw read refl
 
--- what is left behind a field is no longer than what was left before it
-pub rest_within : {A : Type 0} {field : Reader A} {text : A → List ℕ} {F : A → Type 0} → Spells field text F → (bytes : List ℕ) (x : A) (rest : List ℕ) → AreBytes bytes → field bytes ≡ Ok (x, rest) → length rest ≤ length bytes
-rest_within {A} {field} {text} s bytes x rest fits e = shorter bytes (text x) rest (s.takes bytes x rest fits e).0
+-- what is left behind a text is no longer than what was left before it
+pub rest_within : {A : Type 0} {field : Reader A} {text : TextForm → A → List ℕ} {F : TextForm → A → Type 0} → SpellsForms field text F → (bytes : List ℕ) (x : A) (rest : List ℕ) → AreBytes bytes → field bytes ≡ Ok (x, rest)
+    → length rest ≤ length bytes
+rest_within {A} {field} {text} s bytes x rest fits e = let p = s.takes bytes x rest fits e in shorter bytes (text p.0 x) rest p.1
+
+-- ---- texts whose form holds
+
+-- what is read at the front of a text whose form holds is what the text says
+pub formed_so : {A : Type 0} (field : Reader A) (text : List ℕ) (x : A) (rest : List ℕ) → IsOk (whole field text) → field text ≡ Ok (x, rest) → whole field text ≡ Ok x
+formed_so {A} field text x rest formed is = rw is (by (eqb (length rest) 0) (rw is at formed))
+  where
+    by : (b : Bool) → IsOk (placed_in {A = A} (length text) (cond b (Ok x) (Err (length rest)))) → placed_in (length text) (cond b (Ok x) (Err (length rest))) ≡ Ok x
+    by true formed = refl
+    by false formed = cc

@@ -1,11 +1,14 @@
 -- The fields of a state's text, one by one: how each is read and how it is spelled fit each other.
-use Rattle.std.proofs.Common.{◌≡◌, ℕ, zero, suc, ◌^◌, ◌<◌, ◌≤◌, Bool, true, false, nat_le, Option, None, Some, List, [], ◌∷◌, ◌++◌, length, Result, Ok, Err, refl, sym, ap, subst, ◌∙◌, arith, ltb, inl, inr}
+use Rattle.std.proofs.Common.{◌≡◌, ◌⊎◌, ℕ, zero, suc, ◌^◌, ◌<◌, ◌≤◌, Bool, true, false, eqb, nat_le, Option, None, Some, List, [], ◌∷◌, ◌++◌, length, Result, Ok, Err, refl, sym, ap, subst, ◌∙◌, arith, ltb, inl, inr}
 use Rattle.std.specs.Int.{w16, w32, w64}
-use Rattle.std.proofs.lemmas.Bool.{leb-true, le-ltb, cases_lt}
+use Rattle.std.specs.Prelude.{◌||◌}
+use Rattle.std.proofs.lemmas.Bool.{eqb-true, leb-true, le-ltb, cases_lt}
 use Rattle.std.proofs.lemmas.List.{append-nil}
+use Rattle.save_text.specs.declared.byte_fields.form.TextForm.{TextForm}
+use Rattle.save_text.specs.declared.byte_fields.form.TextForm.TheVariants.{First, Second}
 use Rattle.save_text.specs.ByteFields.Reader.{alike, blob, byte, bytes, done, u64}
 use Rattle.save_text.specs.ByteFields.Spelling.{Alike, IsBlob, blob_text, number_text}
-use Rattle.save_text.proofs.ByteFieldsLemmas.Spells.{AreBytes, whole_again, whole_takes, Nothing, Spells, all_read, spells, spells_alike, spells_blob16, spells_blob32, spells_byte, spells_begun, spells_bytes, spells_counted, spells_from, spells_that, spells_u32, spells_u64, then}
+use Rattle.save_text.proofs.ByteFieldsLemmas.Spells.{AreBytes, SpellsForms, by_form, whole_again, whole_takes, Nothing, Spells, all_read, spells, spells_alike, spells_blob16, spells_blob32, spells_byte, spells_begun, spells_begun_in, spells_bytes, spells_counted, spells_from, spells_that, spells_u32, spells_u64, then}
 use Rattle.mem_files.specs.declared.slot.Access.{Access}
 use Rattle.mem_files.specs.declared.slot.Mode.{Mode}
 use Rattle.mem_files.specs.declared.slot.Mode.TheVariants as mode
@@ -15,8 +18,78 @@ use Rattle.std.specs.Prelude.{IfOk}
 use Rattle.save_text.specs.declared.state_text.parts.Parts.{Parts}
 use Rattle.save_text.specs.declared.state_text.reading.TextRefusal.{TextRefusal}
 use Rattle.save_text.specs.StateText.Seen.{ReadsStateText, state_view}
-use Rattle.save_text.specs.StateText.StateText.{StateText, parsed_state, access_at, access_of_code, after_descriptor, after_file, after_page, after_run, are_flags, body_at, descriptor_at, file_at, heap_at, is_page, state_magic, optional_name, page_at, run_at, slot_at, state_at}
-use Rattle.save_text.specs.StateText.Spelled.{IsDescriptor, IsFile, IsHeap, IsNameText, IsPage, IsSavedRun, IsSlot, IsStateText, body_text, descriptor_text, file_text, flags_of, heap_text, kind_of, name_bytes, page_text, run_text, slot_text, text_of_state, u64s}
+use Rattle.save_text.specs.StateText.StateText.{StateText, parsed_state, access_at, access_of_code, after_descriptor, after_file, after_page, after_run, are_flags, body_at, descriptor_at, file_at, heap_at, is_page, is_reserved_count, state_magic, optional_name, page_at, reservation_at, reserved_at, run_at, slot_at, state_at, state_in}
+use Rattle.save_text.specs.StateText.Spelled.{HasPlaceIn, IsDescriptor, IsFile, IsHeap, IsNameText, IsPage, IsReserved, IsSavedRun, IsSlot, IsStateText, IsTextOfState, body_text, descriptor_text, file_text, flags_of, heap_text, kind_of, name_bytes, page_text, reservation_text, reserved_count, reserved_text, run_text, slot_text, state_text_in, u64s}
+
+-- ---- a reservation
+
+abbrev first_address : Option (ℕ × ℕ) → ℕ
+first_address None = 0
+first_address (Some held) = held.1
+
+abbrev IsReservedOf : ℕ → Option (ℕ × ℕ) → Type 0
+IsReservedOf count held = IsReserved held × (count ≡ reserved_count held)
+
+none_only : (held : Option (ℕ × ℕ)) → IsReservedOf 0 held → (None ≡ held) × Unit {0}
+none_only None f = (refl, tt)
+none_only (Some held) f = absurd (elim f.0.0 [ inl e ↦ omega (arith, e, f.1) | inr e ↦ omega (arith, e, f.1) ])
+
+some_is : (more at : ℕ) (held : Option (ℕ × ℕ)) → (suc more ≡ reserved_count held) × (at ≡ first_address held) → Some (suc more, at) ≡ held
+some_is more at None k = absurd (omega (arith, k.0))
+some_is more at (Some held) k = λ i. Some (k.0 i, k.1 i)
+
+abbrev AddressParts : ℕ → Option (ℕ × ℕ) → Type 0
+AddressParts more held = (suc more ≡ reserved_count held) × ((first_address held < 2 ^ 64) × Unit {0})
+
+address_text : (more : ℕ) (held : Option (ℕ × ℕ)) → AddressParts more held → number_text w64 (first_address held) ++ [] ≡ reserved_text held
+address_text more None k = absurd (omega (arith, k.0))
+address_text more (Some held) k = append-nil (number_text w64 held.1)
+
+one_count : (n : ℕ) → is_reserved_count n ≡ true → (n ≡ 0) ⊎ ((n ≡ 4) ⊎ (n ≡ 8))
+one_count n is = by (eqb n 0) (eqb n 4) (eqb n 8) refl refl refl is
+  where
+    by : (a b c : Bool) → eqb n 0 ≡ a → eqb n 4 ≡ b → eqb n 8 ≡ c → (a || (b || c)) ≡ true → (n ≡ 0) ⊎ ((n ≡ 4) ⊎ (n ≡ 8))
+    by true b c e f g is = inl (eqb-true n 0 e)
+    by false true c e f g is = inr (inl (eqb-true n 4 f))
+    by false false true e f g is = inr (inr (eqb-true n 8 g))
+    by false false false e f g is = absurd cc
+
+four_or_eight : (more : ℕ) → is_reserved_count (suc more) ≡ true → (suc more ≡ 4) ⊎ (suc more ≡ 8)
+four_or_eight more is = elim (one_count (suc more) is) [ inl e ↦ absurd (omega (arith, e)) | inr some ↦ some ]
+
+address_fits : (more : ℕ) → is_reserved_count (suc more) ≡ true → (held : Option (ℕ × ℕ)) → AddressParts more held → IsReservedOf (suc more) held
+address_fits more is None k = absurd (omega (arith, k.0))
+address_fits more is (Some held) k = ((subst (λ (n : ℕ). (n ≡ 4) ⊎ (n ≡ 8)) k.0 (four_or_eight more is), k.1.0), k.0)
+
+address_back : (more : ℕ) (held : Option (ℕ × ℕ)) → IsReservedOf (suc more) held → AddressParts more held
+address_back more None f = absurd (omega (arith, f.1))
+address_back more (Some held) f = (f.1, (f.0.1, tt))
+
+spells_reserved : (count : ℕ) → is_reserved_count count ≡ true → Spells (reserved_at count) reserved_text (IsReservedOf count)
+unfolding reserved_at
+spells_reserved zero is =
+    spells (all_read {K = λ held. None ≡ held} None (λ held k. k) refl)
+    (λ held f. ap reserved_text f.0) (λ held f. subst (IsReservedOf 0) f.0 (tt, refl)) none_only
+spells_reserved (suc more) is =
+    spells (
+    then {K = λ held. suc more ≡ reserved_count held} first_address spells_u64 (λ at f.
+    all_read (Some (suc more, at)) (some_is more at) (refl, refl)))
+    (address_text more) (address_fits more is) (address_back more)
+
+count_fits : (held : Option (ℕ × ℕ)) → IsReserved held → (reserved_count held < 256) × (is_reserved_count (reserved_count held) ≡ true)
+count_fits None f = (omega arith, refl)
+count_fits (Some held) f = elim f.0 [ inl e ↦ (omega (arith, e), rw e refl) | inr e ↦ (omega (arith, e), rw e refl) ]
+
+pub spells_reservation : (form : TextForm) → Spells (reservation_at form) (reservation_text form) (λ held. IsReserved held × HasPlaceIn form held)
+unfolding reservation_at
+spells_reservation First =
+    spells (all_read {K = λ held. None ≡ held} None (λ held k. k) refl)
+    (λ held f. refl) (λ held f. subst (λ (h : Option (ℕ × ℕ)). IsReserved h × (h ≡ None)) f.0 (tt, refl)) (λ held f. (sym f.1, tt))
+spells_reservation Second =
+    spells (
+    then {G = IsReserved} {K = Nothing} reserved_count (spells_that is_reserved_count spells_byte) (λ count f.
+    spells (spells_reserved count f.1) (λ held g. refl) (λ held g. ((tt, g.1), g.0)) (λ held g. (g.1, g.0.1))))
+    (λ held f. refl) (λ held f. (f.1.1, tt)) (λ held f. (tt, (count_fits held f.0, f.0)))
 
 pub spells_heap : Spells heap_at heap_text IsHeap
 unfolding heap_at
@@ -253,13 +326,14 @@ spells_descriptor least =
 spells_registers : Spells (alike u64 31) u64s (λ ns. (length ns ≡ 31) × Alike (λ n. n < 2 ^ 64) ns)
 spells_registers = spells_alike spells_u64 31
 
-pub spells_body : Spells body_at body_text IsStateText
+pub spells_body : (form : TextForm) → Spells (body_at form) (body_text form) (λ s. IsStateText s × HasPlaceIn form s.reservation)
 unfolding body_at body_text
-spells_body =
+spells_body form =
     spells (
     then {K = Nothing} (λ s. s.steps) spells_u64 (λ steps f1.
     then (λ s. s.pc) spells_u64 (λ pc f2.
     then (λ s. s.registers) spells_registers (λ registers f3.
+    then (λ s. s.reservation) (spells_reservation form) (λ reservation f10.
     then (λ s. s.heap) spells_heap (λ heap f0.
     then (λ s. s.runs) (spells_counted after_run spells_run 0) (λ runs f4.
     then (λ s. s.pages) (spells_counted after_page spells_page 0) (λ pages f5.
@@ -267,28 +341,45 @@ spells_body =
     then (λ s. s.descriptors) (spells_counted after_descriptor spells_descriptor 0) (λ descriptors f7.
     then (λ s. s.stream1) spells_blob32 (λ stream1 f8.
     then (λ s. s.stream2) spells_blob32 (λ stream2 f9.
-    all_read (record { steps = steps; pc = pc; registers = registers; heap = heap; runs = runs; pages = pages; files = files; descriptors = descriptors; stream1 = stream1; stream2 = stream2 })
-    (λ s k. λ i. record { steps = k.0.0.0.0.0.0.0.0.0.1 i; pc = k.0.0.0.0.0.0.0.0.1 i; registers = k.0.0.0.0.0.0.0.1 i; heap = k.0.0.0.0.0.0.1 i; runs = k.0.0.0.0.0.1 i; pages = k.0.0.0.0.1 i; files = k.0.0.0.1 i; descriptors = k.0.0.1 i; stream1 = k.0.1 i; stream2 = k.1 i })
-    ((((((((((tt, refl), refl), refl), refl), refl), refl), refl), refl), refl), refl))))))))))))
+    all_read (record { steps = steps; pc = pc; registers = registers; reservation = reservation; heap = heap; runs = runs; pages = pages; files = files; descriptors = descriptors; stream1 = stream1; stream2 = stream2 })
+    (λ s k. λ i. record { steps = k.0.0.0.0.0.0.0.0.0.0.1 i; pc = k.0.0.0.0.0.0.0.0.0.1 i; registers = k.0.0.0.0.0.0.0.0.1 i; reservation = k.0.0.0.0.0.0.0.1 i; heap = k.0.0.0.0.0.0.1 i; runs = k.0.0.0.0.0.1 i; pages = k.0.0.0.0.1 i; files = k.0.0.0.1 i; descriptors = k.0.0.1 i; stream1 = k.0.1 i; stream2 = k.1 i })
+    (((((((((((tt, refl), refl), refl), refl), refl), refl), refl), refl), refl), refl), refl)))))))))))))
     (λ s f. grind (arith, append-nil))
-    (λ s f. let g = f.1 in record { steps = g.0; pc = g.1.0; registers = g.1.1.0.0; register = g.1.1.0.1; heap = g.1.1.1.0; runs = g.1.1.1.1.0; pages = g.1.1.1.1.1.0; files = g.1.1.1.1.1.1.0; descriptors = g.1.1.1.1.1.1.1.0; stream1 = g.1.1.1.1.1.1.1.1.0; stream2 = g.1.1.1.1.1.1.1.1.1.0 })
-    (λ s f. (tt, (f.steps, (f.pc, ((f.registers, f.register), (f.heap, (f.runs, (f.pages, (f.files, (f.descriptors, (f.stream1, (f.stream2, tt))))))))))))
+    (λ s f. let g = f.1 in (record { steps = g.0; pc = g.1.0; registers = g.1.1.0.0; register = g.1.1.0.1; reservation = g.1.1.1.0.0; heap = g.1.1.1.1.0; runs = g.1.1.1.1.1.0; pages = g.1.1.1.1.1.1.0; files = g.1.1.1.1.1.1.1.0; descriptors = g.1.1.1.1.1.1.1.1.0; stream1 = g.1.1.1.1.1.1.1.1.1.0; stream2 = g.1.1.1.1.1.1.1.1.1.1.0 }, g.1.1.1.0.1))
+    (λ s f. let t = f.0 in (tt, (t.steps, (t.pc, ((t.registers, t.register), ((t.reservation, f.1), (t.heap, (t.runs, (t.pages, (t.files, (t.descriptors, (t.stream1, (t.stream2, tt)))))))))))))
 
-pub spells_state : Spells state_at text_of_state IsStateText
-unfolding state_at
-spells_state =
+magic_long : (form : TextForm) → length (state_magic form) ≡ 8
+magic_long First = refl
+magic_long Second = refl
+
+-- a text of a form that is known before
+pub spells_state_in : (form : TextForm) → Spells (state_in form) (state_text_in form) (λ s. IsStateText s × HasPlaceIn form s.reservation)
+unfolding state_in
+spells_state_in form =
     spells (
-    then {K = Nothing} (λ s. tt) (spells_begun state_magic refl) (λ begun f.
-    spells spells_body (λ s g. refl) (λ s g. ((tt, refl), g)) (λ s g. g.1)))
+    then {K = Nothing} (λ s. tt) (spells_begun (state_magic form) (magic_long form)) (λ begun f.
+    spells (spells_body form) (λ s g. refl) (λ s g. ((tt, refl), g)) (λ s g. g.1)))
     (λ s f. refl) (λ s f. f.1.1) (λ s f. (tt, (tt, f)))
+
+pub spells_state : SpellsForms state_at state_text_in (λ form s. IsStateText s × HasPlaceIn form s.reservation)
+unfolding state_at
+spells_state = by_form (spells_begun_in state_magic magic_long refl) spells_body
 
 -- ---- with nothing behind it
 
-pub formed_again : (s : StateText) → IsStateText s → parsed_state (text_of_state s) ≡ Ok s
-unfolding parsed_state
-formed_again s fits = whole_again spells_state s fits
+in_form : (form : TextForm) (s : StateText) (text : List ℕ) → HasPlaceIn form s.reservation → text ≡ state_text_in form s → IsTextOfState s text
+in_form First s text none is = inr (none, is)
+in_form Second s text any is = inl is
 
-pub is_found : (text : List ℕ) (r : Result Parts TextRefusal) → AreBytes text → ReadsStateText r (parsed_state text) → IfOk r (λ p. IsStateText (state_view p) × (text ≡ text_of_state (state_view p)))
+pub formed_again : (s : StateText) (text : List ℕ) → IsStateText s → IsTextOfState s text → parsed_state text ≡ Ok s
 unfolding parsed_state
-is_found text (Ok p) fits given = whole_takes spells_state text (state_view p) fits given
+formed_again s text fits (inl is) = ap parsed_state is ∙ whole_again spells_state Second s (fits, tt)
+formed_again s text fits (inr old) = ap parsed_state old.1 ∙ whole_again spells_state First s (fits, old.0)
+
+pub spelled : (text : List ℕ) (s : StateText) → AreBytes text → parsed_state text ≡ Ok s → IsStateText s × IsTextOfState s text
+unfolding parsed_state
+spelled text s fits is = let p = whole_takes spells_state text s fits is in (p.1.0, in_form p.0 s text p.1.1 p.2)
+
+pub is_found : (text : List ℕ) (r : Result Parts TextRefusal) → AreBytes text → ReadsStateText r (parsed_state text) → IfOk r (λ p. IsStateText (state_view p) × IsTextOfState (state_view p) text)
+is_found text (Ok p) fits given = spelled text (state_view p) fits given
 is_found text (Err e) fits given = tt

@@ -1,7 +1,9 @@
 -- Reading a text from left to right, field by field.
-use Rattle.std.specs.Prelude.{◌≡◌, ℕ, zero, suc, ◌-◌, Bool, ◌==◌, nat_lt, nat_le, List, [], ◌∷◌, length, take, drop, slice_index, Result, Ok, Err, if◌then◌else◌}
+use Rattle.std.specs.Prelude.{◌≡◌, ℕ, zero, suc, ◌-◌, Bool, ◌||◌, ◌==◌, nat_lt, nat_le, List, [], ◌∷◌, length, take, drop, slice_index, Result, Ok, Err, if◌then◌else◌}
 use Rattle.std.specs.Int.{Width, w16, w32, w64, byte_len, from_le_bytes}
 use Rattle.std.specs.Str.{bytes_eq}
+use Rattle.save_text.specs.declared.byte_fields.form.TextForm.{TextForm}
+use Rattle.save_text.specs.declared.byte_fields.form.TextForm.TheVariants.{First, Second}
 use Rattle.save_text.specs.declared.byte_fields.cursor.WrongField.{WrongField}
 use Rattle.save_text.specs.declared.byte_fields.cursor.Stop.{Stop}
 use Rattle.save_text.specs.declared.byte_fields.cursor.Stop.TheVariants.{Wrong, OutOfMemory}
@@ -62,6 +64,12 @@ abbrev pub begun : List ℕ → Reader (Unit {0})
 begun magic = do
   found ← that (bytes_eq magic) (bytes 8)
   done tt
+
+-- the eight bytes that begin each text of one of two forms: which of them this text has
+abbrev pub begun_in : List ℕ → List ℕ → Reader TextForm
+begun_in first second = do
+  found ← that (λ found. bytes_eq first found || bytes_eq second found) (bytes 8)
+  done (if bytes_eq first found then First else Second)
 
 -- a length, and that many bytes
 unfoldable pub blob : Width → Reader (List ℕ)

@@ -1,5 +1,5 @@
 -- How a state is spelled, and which have a text.
-use Rattle.std.specs.Prelude.{◌≡◌, ℕ, ◌+◌, ◌^◌, ◌<◌, ◌≤◌, if◌then◌else◌, IsTrue, Option, None, Some, List, [], ◌∷◌, ◌++◌, length}
+use Rattle.std.specs.Prelude.{◌≡◌, ◌⊎◌, ℕ, ◌+◌, ◌^◌, ◌<◌, ◌≤◌, if◌then◌else◌, IsTrue, Option, None, Some, List, [], ◌∷◌, ◌++◌, length}
 use Rattle.std.specs.List.{flat_map}
 use Rattle.std.specs.Int.{w16, w32, w64}
 use Rattle.save_text.specs.ByteFields.Spelling.{Alike, Counted, IsBlob, blob_text, list_text, number_text}
@@ -10,6 +10,8 @@ use Rattle.mem_files.specs.declared.slot.Mode.{Mode}
 use Rattle.mem_files.specs.declared.slot.Mode.TheVariants as mode
 use Rattle.mem_files.specs.declared.slot.Access.{Access}
 use Rattle.linux_calls.specs.declared.Heap.{Heap}
+use Rattle.save_text.specs.declared.byte_fields.form.TextForm.{TextForm}
+use Rattle.save_text.specs.declared.byte_fields.form.TextForm.TheVariants.{First, Second}
 use Rattle.save_text.specs.declared.state_text.parts.Run.{Run}
 use Rattle.save_text.specs.StateText.StateText.{PageText, StateText, after_descriptor, after_file, after_page, after_run, is_page, state_magic}
 
@@ -17,6 +19,18 @@ use Rattle.save_text.specs.StateText.StateText.{PageText, StateText, after_descr
 
 abbrev pub u64s : List ℕ → List ℕ
 u64s numbers = flat_map (number_text w64) numbers
+
+abbrev pub reserved_count : Option (ℕ × ℕ) → ℕ
+reserved_count None = 0
+reserved_count (Some held) = held.0
+
+abbrev pub reserved_text : Option (ℕ × ℕ) → List ℕ
+reserved_text None = []
+reserved_text (Some held) = number_text w64 held.1
+
+abbrev pub reservation_text : TextForm → Option (ℕ × ℕ) → List ℕ
+reservation_text First held = []
+reservation_text Second held = reserved_count held ∷ reserved_text held
 
 abbrev pub heap_text : Heap → List ℕ
 heap_text heap = number_text w64 heap.first ++ (number_text w64 heap.now ++ number_text w64 heap.limit)
@@ -61,16 +75,33 @@ slot_text (slot.File number cursor access) = number_text w32 number ++ (number_t
 abbrev pub descriptor_text : ℕ × Slot → List ℕ
 descriptor_text d = number_text w32 d.0 ++ (kind_of d.1 ∷ slot_text d.1)
 
-unfoldable pub body_text : StateText → List ℕ
-body_text s =
-    number_text w64 s.steps ++ (number_text w64 s.pc ++ (u64s s.registers ++ (heap_text s.heap
+unfoldable pub body_text : TextForm → StateText → List ℕ
+body_text form s =
+    number_text w64 s.steps ++ (number_text w64 s.pc ++ (u64s s.registers ++ (reservation_text form s.reservation ++ (heap_text s.heap
     ++ (list_text run_text s.runs ++ (list_text page_text s.pages ++ (list_text file_text s.files ++ (list_text descriptor_text s.descriptors
-    ++ (blob_text w32 s.stream1 ++ blob_text w32 s.stream2))))))))
+    ++ (blob_text w32 s.stream1 ++ blob_text w32 s.stream2)))))))))
 
+abbrev pub state_text_in : TextForm → StateText → List ℕ
+state_text_in form s = state_magic form ++ body_text form s
+
+-- what is written has the second form
 abbrev pub text_of_state : StateText → List ℕ
-text_of_state s = state_magic ++ body_text s
+text_of_state s = state_text_in Second s
+
+abbrev pub old_text_of_state : StateText → List ℕ
+old_text_of_state s = state_text_in First s
 
 -- ---- which have a text
+
+-- 4 or 8 bytes are reserved, or none
+abbrev pub IsReserved : Option (ℕ × ℕ) → Type 0
+IsReserved None = Unit {0}
+IsReserved (Some held) = ((held.0 ≡ 4) ⊎ (held.0 ≡ 8)) × (held.1 < 2 ^ 64)
+
+-- the first form has no place for a reservation
+abbrev pub HasPlaceIn : TextForm → Option (ℕ × ℕ) → Type 0
+HasPlaceIn First reservation = reservation ≡ None
+HasPlaceIn Second reservation = Unit {0}
 
 pub record IsHeap (heap : Heap) : Type 0 where
   pub first : heap.first < 2 ^ 64
@@ -116,6 +147,7 @@ pub record IsStateText (s : StateText) : Type 0 where
   pub pc : s.pc < 2 ^ 64
   pub registers : length s.registers ≡ 31
   pub register : Alike (λ n. n < 2 ^ 64) s.registers
+  pub reservation : IsReserved s.reservation
   pub heap : IsHeap s.heap
   pub runs : Counted IsSavedRun after_run 0 s.runs
   pub pages : Counted IsPage after_page 0 s.pages
@@ -123,3 +155,9 @@ pub record IsStateText (s : StateText) : Type 0 where
   pub descriptors : Counted IsDescriptor after_descriptor 0 s.descriptors
   pub stream1 : IsBlob (2 ^ 32) s.stream1
   pub stream2 : IsBlob (2 ^ 32) s.stream2
+
+-- ---- which are its texts
+
+-- a state has one text of the second form; without a reservation it has also an old text, of the first
+abbrev pub IsTextOfState : StateText → List ℕ → Type 0
+IsTextOfState s text = (text ≡ text_of_state s) ⊎ ((s.reservation ≡ None) × (text ≡ old_text_of_state s))

@@ -1,8 +1,8 @@
 -- What the text of a state says, and how it is read, field by field. docs/reference/save.md says the same for people.
-use Rattle.std.specs.Prelude.{ℕ, zero, suc, ◌+◌, ◌%◌, Bool, ◌&&◌, not, ◌==◌, nat_le, nat_lt, Option, None, Some, List, [], ◌∷◌, Result}
+use Rattle.std.specs.Prelude.{ℕ, zero, suc, ◌+◌, ◌%◌, Bool, ◌&&◌, ◌||◌, not, ◌==◌, nat_le, nat_lt, Option, None, Some, List, [], ◌∷◌, Result}
 use Rattle.std.specs.List.{list_all}
 use Rattle.std.specs.Int.{w16, w32}
-use Rattle.save_text.specs.ByteFields.Reader.{Reader, ◌>>=◌, alike, begun, blob, byte, bytes, counted, done, that, u32, u32_from, u64, whole}
+use Rattle.save_text.specs.ByteFields.Reader.{Reader, ◌>>=◌, alike, begun, begun_in, blob, byte, bytes, counted, done, that, u32, u32_from, u64, whole}
 use Rattle.mem_files.specs.Lists.{ListedFile}
 use Rattle.mem_files.specs.declared.slot.Slot.{Slot}
 use Rattle.mem_files.specs.declared.slot.Slot.TheVariants as slot
@@ -10,6 +10,8 @@ use Rattle.mem_files.specs.declared.slot.Mode.{Mode}
 use Rattle.mem_files.specs.declared.slot.Mode.TheVariants as mode
 use Rattle.mem_files.specs.declared.slot.Access.{Access}
 use Rattle.linux_calls.specs.declared.Heap.{Heap}
+use Rattle.save_text.specs.declared.byte_fields.form.TextForm.{TextForm}
+use Rattle.save_text.specs.declared.byte_fields.form.TextForm.TheVariants.{First, Second}
 use Rattle.save_text.specs.declared.state_text.parts.Run.{Run}
 
 -- ---- what a text says
@@ -18,11 +20,12 @@ pub record PageText : Type 0 where
   pub number : ℕ
   pub bytes : List ℕ
 
--- the registers are x1 to x31
+-- the registers are x1 to x31; a reservation is how many bytes are reserved, and from which address on
 pub record StateText : Type 0 where
   pub steps : ℕ
   pub pc : ℕ
   pub registers : List ℕ
+  pub reservation : Option (ℕ × ℕ)
   pub heap : Heap
   pub runs : List Run
   pub pages : List PageText
@@ -33,9 +36,28 @@ pub record StateText : Type 0 where
 
 -- ---- how it is read
 
--- the eight bytes that begin each text: `ddcstat1`
-abbrev pub state_magic : List ℕ
-state_magic = 100 ∷ 100 ∷ 99 ∷ 115 ∷ 116 ∷ 97 ∷ 116 ∷ 49 ∷ []
+-- the eight bytes that begin each text of a form: `ddcstat1` and `ddcstat2`
+abbrev pub state_magic : TextForm → List ℕ
+state_magic First = 100 ∷ 100 ∷ 99 ∷ 115 ∷ 116 ∷ 97 ∷ 116 ∷ 49 ∷ []
+state_magic Second = 100 ∷ 100 ∷ 99 ∷ 115 ∷ 116 ∷ 97 ∷ 116 ∷ 50 ∷ []
+
+-- how many bytes can be reserved: none, 4 or 8
+abbrev pub is_reserved_count : ℕ → Bool
+is_reserved_count count = count == 0 || (count == 4 || count == 8)
+
+-- so many bytes that are reserved, from an address on
+unfoldable pub reserved_at : ℕ → Reader (Option (ℕ × ℕ))
+reserved_at zero = done None
+reserved_at (suc more) = do
+  at ← u64
+  done (Some (suc more, at))
+
+-- what is reserved: a text of the first form says nothing of it
+unfoldable pub reservation_at : TextForm → Reader (Option (ℕ × ℕ))
+reservation_at First = done None
+reservation_at Second = do
+  count ← that is_reserved_count byte
+  reserved_at count
 
 unfoldable pub heap_at : Reader Heap
 heap_at = do
@@ -121,12 +143,13 @@ descriptor_at least = do
 abbrev pub after_descriptor : ℕ × Slot → ℕ
 after_descriptor descriptor = descriptor.0 + 1
 
--- what stands behind the magic
-unfoldable pub body_at : Reader StateText
-body_at = do
+-- what stands behind the magic of a form
+unfoldable pub body_at : TextForm → Reader StateText
+body_at form = do
   steps ← u64
   pc ← u64
   registers ← alike u64 31
+  reservation ← reservation_at form
   heap ← heap_at
   runs ← counted run_at after_run 0
   pages ← counted page_at after_page 0
@@ -134,12 +157,19 @@ body_at = do
   descriptors ← counted descriptor_at after_descriptor 0
   stream1 ← blob w32
   stream2 ← blob w32
-  done (record { steps = steps; pc = pc; registers = registers; heap = heap; runs = runs; pages = pages; files = files; descriptors = descriptors; stream1 = stream1; stream2 = stream2 })
+  done (record { steps = steps; pc = pc; registers = registers; reservation = reservation; heap = heap; runs = runs; pages = pages; files = files; descriptors = descriptors; stream1 = stream1; stream2 = stream2 })
 
+-- a text of this form
+unfoldable pub state_in : TextForm → Reader StateText
+state_in form = do
+  start ← begun (state_magic form)
+  body_at form
+
+-- a text of either form
 unfoldable pub state_at : Reader StateText
 state_at = do
-  start ← begun state_magic
-  body_at
+  form ← begun_in (state_magic First) (state_magic Second)
+  body_at form
 
 -- what a text says, or the offset of its first wrong field: nothing follows the state
 unfoldable pub parsed_state : List ℕ → Result StateText ℕ

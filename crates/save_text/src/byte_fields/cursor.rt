@@ -1,8 +1,9 @@
 ghost use Rattle.std.specs.Prelude.{◌≡◌, ℕ, List, length, nat_le, ◌≤◌, IfOk};
 ghost use Rattle.std.specs.Int.{w16, w32, w64};
 ghost use Rattle.save_text.specs.declared.byte_fields.cursor.Stop.TheVariants.{OutOfMemory, Wrong};
-ghost use Rattle.save_text.specs.ByteFields.Reader.{Finds, begun, byte, bytes, blob, number_of_width, u16, u32, u32_from, u64};
+ghost use Rattle.save_text.specs.ByteFields.Reader.{Finds, begun, begun_in, byte, bytes, blob, number_of_width, u16, u32, u32_from, u64};
 
+use crate::byte_fields::form::TextForm;
 use std::alloc::{AllocError, AllocFailed};
 use std::marker::Model;
 
@@ -121,6 +122,25 @@ impl<'a> Cursor<'a> {
             return Err(WrongField { left: start });
         }
         Ok(())
+    }
+
+    /// The eight bytes that begin each text of one of two forms: which of them this text has.
+    pub fn begins_with_either(
+        &mut self,
+        first: &[u8; 8],
+        second: &[u8; 8],
+    ) -> Result<TextForm, WrongField>
+        ensures { Finds (λ x. x) result self.new (begun_in first.now second.now self.old) }
+    {
+        let start = self.len();
+        let found = self.bytes(8)?;
+        if found == first.as_slice() {
+            return Ok(TextForm::First);
+        }
+        if found == second.as_slice() {
+            return Ok(TextForm::Second);
+        }
+        Err(WrongField { left: start })
     }
 
     /// A number of 2 bytes.

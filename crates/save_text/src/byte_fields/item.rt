@@ -1,9 +1,10 @@
 ghost use Rattle.std.specs.Prelude.{◌≡◌, ◌<◌, ◌^◌, ℕ, List, ◌++◌, All, OnErr, OnOk, length, map};
 ghost use Rattle.std.specs.Io.{StartsWith};
-ghost use Rattle.save_text.specs.ByteFields.Reader.{Reader, GivesField, counted, several};
+ghost use Rattle.save_text.specs.ByteFields.Reader.{Finds, GivesField, Reader, counted, several};
 ghost use Rattle.save_text.specs.ByteFields.Spelling.{list_text};
+ghost use Rattle.save_text.specs.Inside.Passing.{GoesPast};
 
-use crate::byte_fields::cursor::{Cursor, Stop};
+use crate::byte_fields::cursor::{Cursor, Stop, WrongField};
 use crate::byte_fields::spelling::{all_or_none, put_u32};
 use ddc_base::{Bytes, OutOfMemory};
 use std::alloc::Global;
@@ -27,8 +28,8 @@ pub trait Item<'a>: Sized + Drop {
     ghost IsShort: { Seen → Type 0 };
 
     /// Reads it, where its first number must not be below `least`.
-    fn take(alloc: Global, cursor: &mut Cursor<'a>, least: u64) -> Result<Self, Stop>
-        ensures { GivesField seen result cursor.new (read_from least cursor.old) };
+    fn take(cursor: &mut Cursor<'a>, least: u64) -> Result<Self, WrongField>
+        ensures { Finds seen result cursor.new (read_from least cursor.old) };
 
     /// The least number of the item behind it.
     fn least_after(&self) -> u64
@@ -63,11 +64,31 @@ pub fn items<'a, T: Item<'a>>(
     let mut items = Vec::new(alloc);
     let mut least = 0;
     for _ in 0..count {
-        let item = T::take(alloc, cursor, least)?;
+        let item = T::take(cursor, least)?;
         least = item.least_after();
         items.push(item)?;
     }
     Ok(items)
+}
+
+/// Goes past so many items.
+fn pass_items<'a, T: Item<'a>>(cursor: &mut Cursor<'a>, count: u32) -> Result<(), WrongField>
+    ensures { GoesPast result cursor.new (several T.read_from T.next_least 0 count cursor.old) }
+{
+    let mut least = 0;
+    for _ in 0..count {
+        let item = T::take(cursor, least)?;
+        least = item.least_after();
+    }
+    Ok(())
+}
+
+/// Goes past a count of 4 bytes, and that many items.
+pub(crate) fn pass_counted<'a, T: Item<'a>>(cursor: &mut Cursor<'a>) -> Result<(), WrongField>
+    ensures { GoesPast result cursor.new (counted T.read_from T.next_least 0 cursor.old) }
+{
+    let count = cursor.u32()?;
+    pass_items::<T>(cursor, count)
 }
 
 /// A count of 4 bytes, and that many items.

@@ -7,13 +7,10 @@ ghost use Rattle.save_text.specs.ByteFields.Reader.{Finds, byte, bytes, that};
 ghost use Rattle.save_text.specs.StateText.StateText.{access_at, access_of_code, are_flags, is_page, mode_of_code, slot_at};
 ghost use Rattle.save_text.specs.StateText.Spelled.{flags_of, kind_of, slot_text};
 
-use crate::byte_fields::{
-    Cursor, Item, Stop, WrongField, put_blob16, put_blob32, put_u32, put_u64,
-};
+use crate::byte_fields::{Cursor, Item, WrongField, put_blob16, put_blob32, put_u32, put_u64};
 use crate::state_text::parts::{Descriptor, File, Page, Run};
 use ddc_base::{Bytes, OutOfMemory};
 use mem_files::{Access, Mode, Slot};
-use std::alloc::Global;
 
 impl<'a> Item<'a> for Run {
     ghost use Rattle.save_text.specs.declared.state_text.parts.Run.{Run};
@@ -33,7 +30,7 @@ impl<'a> Item<'a> for Run {
     ghost IsShort = { λ _. Unit {0} };
 
     #[tactic(auto, unfolding(crate::specs::StateText::StateText::run_at))]
-    fn take(_alloc: Global, cursor: &mut Cursor<'a>, least: u64) -> Result<Run, Stop> {
+    fn take(cursor: &mut Cursor<'a>, least: u64) -> Result<Run, WrongField> {
         let first = cursor.u32_from(least)?;
         let pages = cursor.u32_from(1)?;
         Ok(Run { first, pages })
@@ -68,7 +65,7 @@ impl<'a> Item<'a> for Page<'a> {
     ghost IsShort = { λ _. Unit {0} };
 
     #[tactic(auto, unfolding(crate::specs::StateText::StateText::page_at))]
-    fn take(_alloc: Global, cursor: &mut Cursor<'a>, least: u64) -> Result<Page<'a>, Stop> {
+    fn take(cursor: &mut Cursor<'a>, least: u64) -> Result<Page<'a>, WrongField> {
         let number = cursor.u32_from(least)?;
         let bytes = page_bytes(cursor)?;
         Ok(Page { number, bytes })
@@ -122,7 +119,7 @@ impl<'a> Item<'a> for File<'a> {
     ghost IsShort = { IsShortFile };
 
     #[tactic(auto, unfolding(crate::specs::StateText::StateText::file_at))]
-    fn take(_alloc: Global, cursor: &mut Cursor<'a>, least: u64) -> Result<File<'a>, Stop> {
+    fn take(cursor: &mut Cursor<'a>, least: u64) -> Result<File<'a>, WrongField> {
         let number = cursor.u32_from(least)?;
         let name = cursor.blob16()?;
         let content = cursor.blob32()?;
@@ -178,7 +175,7 @@ impl<'a> Item<'a> for Descriptor {
     ghost IsShort = { λ _. Unit {0} };
 
     #[tactic(auto, unfolding(crate::specs::StateText::StateText::descriptor_at))]
-    fn take(_alloc: Global, cursor: &mut Cursor<'a>, least: u64) -> Result<Descriptor, Stop> {
+    fn take(cursor: &mut Cursor<'a>, least: u64) -> Result<Descriptor, WrongField> {
         let fd = cursor.u32_from(least)?;
         let kind = kind_of(cursor)?;
         let slot = slot_of(cursor, kind)?;

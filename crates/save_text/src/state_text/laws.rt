@@ -1,10 +1,11 @@
-//! A state is read as it is spelled. Each law is the contract of a function that does nothing.
+//! A state is read as it is spelled, in each form. Each law is the contract of a function that does nothing.
 
-ghost use Rattle.save_text.specs.ByteFields.Law.{IsReadAsSpelled};
+ghost use Rattle.std.specs.Prelude.{◌≡◌};
+ghost use Rattle.save_text.specs.ByteFields.Law.{IsReadInForms};
 ghost use Rattle.save_text.specs.StateText.StateText.{state_at};
-ghost use Rattle.save_text.specs.StateText.Spelled.{IsStateText, text_of_state};
+ghost use Rattle.save_text.specs.StateText.Spelled.{HasPlaceIn, IsStateText, state_text_in};
 
 /// The text of a state, and with it its lists.
 pub fn states_are_read_as_spelled()
-    ensures { IsReadAsSpelled state_at text_of_state IsStateText }
+    ensures { IsReadInForms state_at state_text_in (λ form s. IsStateText s × HasPlaceIn form s.reservation) }
 {}

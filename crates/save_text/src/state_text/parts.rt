@@ -1,5 +1,15 @@
 use linux_calls::Heap;
 use mem_files::Slot;
+use paged_mem::Width;
+
+/// Bytes that are reserved.
+#[derive(Clone, Copy, Debug, PartialEq, Eq)]
+pub struct Reserved {
+    /// How many: 4 or 8.
+    pub width: Width,
+    /// The address of the first of them.
+    pub at: u64,
+}
 
 /// Mapped pages in a row, with pages before and behind it that are not mapped.
 #[derive(Clone, Copy, Debug, PartialEq, Eq)]
@@ -43,6 +53,8 @@ pub struct Parts<'a> {
     pub pc: u64,
     /// x1 to x31.
     pub registers: [u64; 31],
+    /// None in a text of the first form.
+    pub reservation: Option<Reserved>,
     pub heap: Heap,
     /// Ascending, and no two of them touch.
     pub runs: Vec<Run>,

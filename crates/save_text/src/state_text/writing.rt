@@ -1,12 +1,13 @@
-ghost use Rattle.std.specs.Prelude.{◌≡◌, ◌<◌, ◌^◌, ◌++◌, All, OnErr, OnOk, length, map};
+ghost use Rattle.std.specs.Prelude.{◌≡◌, ◌<◌, ◌^◌, ◌++◌, All, OnErr, OnOk, length, map, option_map};
 ghost use Rattle.std.specs.Io.{StartsWith};
 ghost use Rattle.std.specs.Int.{w64};
 ghost use Rattle.save_text.specs.ByteFields.Spelling.{list_text, number_text};
-ghost use Rattle.save_text.specs.StateText.Spelled.{IsShortFile, IsStateText, body_text, descriptor_text, file_text, heap_text, page_text, run_text, text_of_state, u64s};
-ghost use Rattle.save_text.specs.StateText.Seen.{file_view, state_view};
+ghost use Rattle.save_text.specs.declared.byte_fields.form.TextForm.TheVariants.{Second};
+ghost use Rattle.save_text.specs.StateText.Spelled.{IsShortFile, IsStateText, body_text, descriptor_text, file_text, heap_text, page_text, reservation_text, run_text, text_of_state, u64s};
+ghost use Rattle.save_text.specs.StateText.Seen.{file_view, reserved_view, state_view};
 
 use crate::byte_fields::{all_or_none, put_blob32, put_counted, put_u64};
-use crate::state_text::parts::{File, Parts};
+use crate::state_text::parts::{File, Parts, Reserved};
 use crate::state_text::reading::MAGIC;
 use ddc_base::{Bytes, OutOfMemory};
 use linux_calls::Heap;
@@ -20,6 +21,20 @@ fn put_registers(out: &mut Bytes, registers: &[u64]) -> Result<(), OutOfMemory>
         put_u64(out, *register)?;
     }
     Ok(())
+}
+
+#[tactic(auto, using(crate::proofs::ByteFieldsLemmas::Kept::kept))]
+fn put_reservation(out: &mut Bytes, reservation: Option<Reserved>) -> Result<(), OutOfMemory>
+    ensures ok { OnOk result (out.new ≡ out.old ++ reservation_text Second (option_map reserved_view reservation)) }
+    ensures err { OnErr result (StartsWith out.new out.old) }
+{
+    match reservation {
+        None => out.push(0),
+        Some(held) => {
+            out.push(held.width.count() as u8)?;
+            put_u64(out, held.at)
+        }
+    }
 }
 
 #[tactic(auto, using(crate::proofs::ByteFieldsLemmas::Kept::kept))]
@@ -41,16 +56,27 @@ fn put_files(out: &mut Bytes, files: &[File<'_>]) -> Result<(), OutOfMemory>
     put_counted(out, files)
 }
 
+/// The pc, the registers, and what is reserved.
+#[tactic(auto, using(crate::proofs::StateTextLemmas::Written::written, crate::proofs::ByteFieldsLemmas::Kept::kept))]
+fn put_hart(out: &mut Bytes, parts: &Parts<'_>) -> Result<(), OutOfMemory>
+    ensures ok { OnOk result (out.new ≡ out.old ++ (number_text w64 parts.now.pc ++ (u64s parts.now.registers
+        ++ reservation_text Second (option_map reserved_view parts.now.reservation)))) }
+    ensures err { OnErr result (StartsWith out.new out.old) }
+{
+    put_u64(out, parts.pc)?;
+    put_registers(out, &parts.registers)?;
+    put_reservation(out, parts.reservation)
+}
+
 /// The numbers behind the magic.
 #[tactic(auto, using(crate::proofs::StateTextLemmas::Written::written, crate::proofs::ByteFieldsLemmas::Kept::kept))]
 fn put_numbers(out: &mut Bytes, parts: &Parts<'_>) -> Result<(), OutOfMemory>
     ensures ok { OnOk result (out.new ≡ out.old ++ (number_text w64 parts.now.steps ++ (number_text w64 parts.now.pc
-        ++ (u64s parts.now.registers ++ heap_text parts.now.heap)))) }
+        ++ (u64s parts.now.registers ++ (reservation_text Second (option_map reserved_view parts.now.reservation) ++ heap_text parts.now.heap))))) }
     ensures err { OnErr result (StartsWith out.new out.old) }
 {
     put_u64(out, parts.steps)?;
-    put_u64(out, parts.pc)?;
-    put_registers(out, &parts.registers)?;
+    put_hart(out, parts)?;
     put_heap(out, parts.heap)
 }
 
@@ -72,7 +98,7 @@ fn put_lists(out: &mut Bytes, parts: &Parts<'_>) -> Result<(), OutOfMemory>
 #[tactic(auto, using(crate::proofs::StateTextLemmas::Written::written, crate::proofs::ByteFieldsLemmas::Kept::kept), unfolding(crate::specs::StateText::Spelled::body_text))]
 fn put_body(out: &mut Bytes, parts: &Parts<'_>) -> Result<(), OutOfMemory>
     requires { IsStateText (state_view parts.now) }
-    ensures ok { OnOk result (out.new ≡ out.old ++ body_text (state_view parts.now)) }
+    ensures ok { OnOk result (out.new ≡ out.old ++ body_text Second (state_view parts.now)) }
     ensures err { OnErr result (StartsWith out.new out.old) }
 {
     put_numbers(out, parts)?;

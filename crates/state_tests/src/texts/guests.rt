@@ -2,18 +2,20 @@ use crate::texts::pieces::Piece::*;
 use crate::texts::pieces::*;
 use crate::texts::states::STATE;
 use checkpoints::{StateRefusal, read_state, write_state};
+use ddc_base::Bytes;
 use guest_run::{Guest, RunRam};
+use paged_mem::Width;
 use std::alloc::{AllocError, Global};
 use std::process::Abort;
 use std::test::Fail;
 
-/// A guest's text behind x31, which is the 33rd of its pieces.
+/// A guest's text behind what is reserved, which is the 34th of its pieces.
 static BEHIND: &[Piece] = &[
-    // The heap, from 34 on: of its two pages one is mapped, of which one byte is below the break.
+    // The heap, from 35 on: of its two pages one is mapped, of which one byte is below the break.
     N8(0x20000),
     N8(0x20001),
     N8(0x2000),
-    // Three runs, from 37 on: a page, the heap, and the stack up to the end of memory.
+    // Three runs, from 38 on: a page, the heap, and the stack up to the end of memory.
     N4(3),
     N4(16),
     N4(1),
@@ -21,11 +23,11 @@ static BEHIND: &[Piece] = &[
     N4(1),
     N4(67_106_816),
     N4(2_048),
-    // A page, from 44 on.
+    // A page, from 45 on.
     N4(1),
     N4(16),
     Page(7),
-    // Two files, from 47 on; the second lost its name.
+    // Two files, from 48 on; the second lost its name.
     N4(2),
     N4(0),
     N2(2),
@@ -35,7 +37,7 @@ static BEHIND: &[Piece] = &[
     N4(1),
     N2(0),
     N4(0),
-    // Four descriptors, from 56 on.
+    // Four descriptors, from 57 on.
     N4(4),
     N4(0),
     N1(0),
@@ -48,7 +50,7 @@ static BEHIND: &[Piece] = &[
     N4(1),
     N8(0),
     N1(3),
-    // Two streams, from 68 on.
+    // Two streams, from 69 on.
     N4(3),
     Text(b"out"),
     N4(0),
@@ -78,62 +80,77 @@ static ROWS: &[Row] = &[
     (2, N8(0x10004), READ),
     (2, N8(0xffff_ffff_ffff_fffc), READ),
     (3, N8(0xffff_ffff_ffff_ffff), READ),
+    // Bytes are reserved at a multiple of how many they are, below 2^38, mapped or not.
+    (34, N1(1), FORM),
+    (34, Text(b"\x04\0\0\0\0\0\0\0\0"), READ),
+    (34, Text(b"\x04\x01\0\0\0\0\0\0\0"), RANGE),
+    (34, Text(b"\x04\x02\0\0\0\0\0\0\0"), RANGE),
+    (34, Text(b"\x04\x03\0\0\0\0\0\0\0"), RANGE),
+    (34, Text(b"\x04\x04\0\0\0\0\0\0\0"), READ),
+    (34, Text(b"\x08\x04\0\0\0\0\0\0\0"), RANGE),
+    (34, Text(b"\x08\x07\0\0\0\0\0\0\0"), RANGE),
+    (34, Text(b"\x08\x08\0\x01\0\0\0\0\0"), READ),
+    (34, Text(b"\x04\xfc\xff\xff\xff\x3f\0\0\0"), READ),
+    (34, Text(b"\x04\0\0\0\0\x40\0\0\0"), RANGE),
+    (34, Text(b"\x08\xf8\xff\xff\xff\x3f\0\0\0"), READ),
+    (34, Text(b"\x08\0\0\0\0\x40\0\0\0"), RANGE),
+    (34, Text(b"\x08\xf8\xff\xff\xff\xff\xff\xff\xff"), RANGE),
     // The heap: where it begins, its break, its limit, and the pages that are mapped.
-    (34, N8(0x20001), RANGE),
-    (34, N8(0x20004), RANGE),
-    (34, N8(0x1f000), RANGE),
-    (35, N8(0x1ffff), RANGE),
-    (35, N8(0x20000), RANGE),
-    (35, N8(0x21000), READ),
-    (35, N8(0x21001), RANGE),
-    (35, N8(0x22001), RANGE),
-    (36, N8(0), RANGE),
-    (36, N8(1), READ),
-    (36, N8(0x4000_0000), READ),
-    (36, N8(0x4000_0001), RANGE),
-    (36, N8(0xffff_ffff_ffff_ffff), RANGE),
-    (41, N4(2), RANGE),
+    (35, N8(0x20001), RANGE),
+    (35, N8(0x20004), RANGE),
+    (35, N8(0x1f000), RANGE),
+    (36, N8(0x1ffff), RANGE),
+    (36, N8(0x20000), RANGE),
+    (36, N8(0x21000), READ),
+    (36, N8(0x21001), RANGE),
+    (36, N8(0x22001), RANGE),
+    (37, N8(0), RANGE),
+    (37, N8(1), READ),
+    (37, N8(0x4000_0000), READ),
+    (37, N8(0x4000_0001), RANGE),
+    (37, N8(0xffff_ffff_ffff_ffff), RANGE),
+    (42, N4(2), RANGE),
     // Runs end in memory, and the stack is mapped.
-    (42, N4(67_106_817), RANGE),
-    (42, N4(67_106_815), RANGE),
-    (42, N4(0xffff_ffff), RANGE),
-    (43, N4(2_047), RANGE),
-    (43, N4(2_049), RANGE),
+    (43, N4(67_106_817), RANGE),
+    (43, N4(67_106_815), RANGE),
     (43, N4(0xffff_ffff), RANGE),
-    (39, N4(2), READ),
-    (40, N4(33), RANGE),
-    (39, N4(0xffff_ffff), FORM),
+    (44, N4(2_047), RANGE),
+    (44, N4(2_049), RANGE),
+    (44, N4(0xffff_ffff), RANGE),
+    (40, N4(2), READ),
+    (41, N4(33), RANGE),
+    (40, N4(0xffff_ffff), FORM),
     // Each listed page is mapped.
-    (38, N4(17), RANGE),
-    (45, N4(15), RANGE),
-    (45, N4(17), RANGE),
-    (45, N4(32), READ),
-    (45, N4(0xffff_ffff), RANGE),
+    (39, N4(17), RANGE),
+    (46, N4(15), RANGE),
+    (46, N4(17), RANGE),
+    (46, N4(32), READ),
+    (46, N4(0xffff_ffff), RANGE),
     // Names and numbers of files.
-    (50, Text(b".."), READ),
-    (50, Text(b"./"), RANGE),
-    (50, Text(b"i\0"), RANGE),
-    (50, Text(b"\0n"), RANGE),
-    (50, Text(b"/n"), READ),
+    (51, Text(b".."), READ),
+    (51, Text(b"./"), RANGE),
+    (51, Text(b"i\0"), RANGE),
+    (51, Text(b"\0n"), RANGE),
+    (51, Text(b"/n"), READ),
     // The second file gets a name: another, and that of the first.
-    (54, Text(b"\x02\0on"), READ),
-    (54, Text(b"\x02\0in"), RANGE),
-    (53, N4(5_119), FILE_REF),
-    (53, N4(5_120), RANGE),
+    (55, Text(b"\x02\0on"), READ),
+    (55, Text(b"\x02\0in"), RANGE),
+    (54, N4(5_119), FILE_REF),
+    (54, N4(5_120), RANGE),
     // Descriptors.
-    (58, N1(1), RANGE),
-    (58, N1(2), RANGE),
-    (60, N1(0), RANGE),
-    (60, N1(2), RANGE),
-    (62, N1(0), RANGE),
-    (62, N1(1), RANGE),
-    (63, N4(1_023), READ),
-    (63, N4(1_024), RANGE),
-    (66, N8(0x7fff_ffff_ffff_ffff), READ),
-    (66, N8(0x8000_0000_0000_0000), RANGE),
+    (59, N1(1), RANGE),
+    (59, N1(2), RANGE),
+    (61, N1(0), RANGE),
+    (61, N1(2), RANGE),
+    (63, N1(0), RANGE),
+    (63, N1(1), RANGE),
+    (64, N4(1_023), READ),
+    (64, N4(1_024), RANGE),
+    (67, N8(0x7fff_ffff_ffff_ffff), READ),
+    (67, N8(0x8000_0000_0000_0000), RANGE),
     // A descriptor's file is listed, and each file has a name or a descriptor.
-    (65, N4(2), FILE_REF),
-    (65, N4(0), FILE_REF),
+    (66, N4(2), FILE_REF),
+    (66, N4(0), FILE_REF),
 ];
 
 /// Several fields by their places, each with what is put there, and what is read then.
@@ -142,85 +159,87 @@ type Several = (&'static [(usize, Piece)], u8);
 /// Rules that it takes several fields to break, or to keep.
 static SEVERAL: &[Several] = &[
     // The break at its largest, and a byte above it; a heap of no bytes, and one of the most pages.
-    (&[(35, N8(0x22000)), (41, N4(2))], READ),
-    (&[(35, N8(0x22001)), (41, N4(3))], RANGE),
-    (&[(35, N8(0x20000)), (36, N8(0))], READ),
+    (&[(36, N8(0x22000)), (42, N4(2))], READ),
+    (&[(36, N8(0x22001)), (42, N4(3))], RANGE),
+    (&[(36, N8(0x20000)), (37, N8(0))], READ),
     (
         &[
-            (35, N8(0x4002_0000)),
-            (36, N8(0x4000_0000)),
-            (41, N4(262_144)),
+            (36, N8(0x4002_0000)),
+            (37, N8(0x4000_0000)),
+            (42, N4(262_144)),
         ],
         READ,
     ),
     // A page behind the largest end is mapped; a page that the largest end is in.
-    (&[(36, N8(0x1000)), (41, N4(2))], READ),
-    (&[(36, N8(0x1001)), (41, N4(2))], RANGE),
+    (&[(37, N8(0x1000)), (42, N4(2))], READ),
+    (&[(37, N8(0x1001)), (42, N4(2))], RANGE),
     // The heap ends where the stack begins, and a byte above it, where the page of the break is mapped.
     (
         &[
-            (34, N8(0x3f_ff7f_f000)),
-            (35, N8(0x3f_ff80_0000)),
-            (36, N8(0x1000)),
-            (42, N4(67_106_815)),
-            (43, N4(2_049)),
+            (35, N8(0x3f_ff7f_f000)),
+            (36, N8(0x3f_ff80_0000)),
+            (37, N8(0x1000)),
+            (43, N4(67_106_815)),
+            (44, N4(2_049)),
         ],
         READ,
     ),
     (
         &[
-            (34, N8(0x3f_ff7f_f000)),
-            (35, N8(0x3f_ff80_0001)),
-            (36, N8(0x1001)),
-            (42, N4(67_106_815)),
-            (43, N4(2_049)),
+            (35, N8(0x3f_ff7f_f000)),
+            (36, N8(0x3f_ff80_0001)),
+            (37, N8(0x1001)),
+            (43, N4(67_106_815)),
+            (44, N4(2_049)),
         ],
         RANGE,
     ),
     (
         &[
-            (34, N8(0xffff_ffff_ffff_f000)),
             (35, N8(0xffff_ffff_ffff_f000)),
+            (36, N8(0xffff_ffff_ffff_f000)),
         ],
         RANGE,
     ),
     // As many pages beside the heap as may be, and one more.
-    (&[(42, N4(67_041_281)), (43, N4(67_583))], READ),
-    (&[(42, N4(67_041_280)), (43, N4(67_584))], RANGE),
+    (&[(43, N4(67_041_281)), (44, N4(67_583))], READ),
+    (&[(43, N4(67_041_280)), (44, N4(67_584))], RANGE),
     // Names of no bytes, of 255 and of 256, and `./` before a name.
-    (&[(49, N2(0)), (50, Text(b""))], FILE_REF),
-    (&[(49, N2(1)), (50, Text(b"."))], READ),
-    (&[(49, N2(255)), (50, Text(&[b'n'; 255]))], READ),
-    (&[(49, N2(256)), (50, Text(&[b'n'; 256]))], RANGE),
-    (&[(49, N2(4)), (50, Text(b"./in"))], RANGE),
-    (&[(49, N2(4)), (50, Text(b"i./n"))], READ),
+    (&[(50, N2(0)), (51, Text(b""))], FILE_REF),
+    (&[(50, N2(1)), (51, Text(b"."))], READ),
+    (&[(50, N2(255)), (51, Text(&[b'n'; 255]))], READ),
+    (&[(50, N2(256)), (51, Text(&[b'n'; 256]))], RANGE),
+    (&[(50, N2(4)), (51, Text(b"./in"))], RANGE),
+    (&[(50, N2(4)), (51, Text(b"i./n"))], READ),
     // The largest number of a file.
-    (&[(53, N4(5_119)), (65, N4(5_119))], READ),
+    (&[(54, N4(5_119)), (66, N4(5_119))], READ),
     // Each file has a name, and the open one is not listed; then it is.
-    (&[(54, Text(b"\x02\0on")), (65, N4(2))], FILE_REF),
-    (&[(54, Text(b"\x02\0on")), (65, N4(0))], READ),
+    (&[(55, Text(b"\x02\0on")), (66, N4(2))], FILE_REF),
+    (&[(55, Text(b"\x02\0on")), (66, N4(0))], READ),
     // A stream at the number 3, with no file behind it; a range that is wrong is said before a reference.
     (
         &[
-            (54, Text(b"\x02\0on")),
-            (64, N1(2)),
-            (65, Text(b"")),
+            (55, Text(b"\x02\0on")),
+            (65, N1(2)),
             (66, Text(b"")),
             (67, Text(b"")),
+            (68, Text(b"")),
         ],
         RANGE,
     ),
-    (&[(2, N8(0x10002)), (65, N4(2))], RANGE),
-    (&[(35, N8(0x22001)), (65, N4(2))], RANGE),
-    (&[(65, N4(2)), (66, N8(0x8000_0000_0000_0000))], RANGE),
-    (&[(53, N4(5_120)), (65, N4(5_120))], RANGE),
+    (&[(2, N8(0x10002)), (66, N4(2))], RANGE),
+    (&[(36, N8(0x22001)), (66, N4(2))], RANGE),
+    (&[(66, N4(2)), (67, N8(0x8000_0000_0000_0000))], RANGE),
+    (&[(54, N4(5_120)), (66, N4(5_120))], RANGE),
+    // A reservation of no hart is said before a reference.
+    (&[(34, Text(b"\x04\x02\0\0\0\0\0\0\0")), (66, N4(2))], RANGE),
     // The form is said before both.
-    (&[(2, N8(0x10002)), (67, N1(0))], FORM),
+    (&[(2, N8(0x10002)), (68, N1(0))], FORM),
 ];
 
 fn pieces(alloc: Global) -> Result<Vec<Piece>, AllocError> {
     let mut list = Vec::new(alloc);
-    for piece in STATE.iter().take(34) {
+    for piece in STATE.iter().take(35) {
         list.push(*piece)?;
     }
     list.extend_from_slice(BEHIND)?;
@@ -278,7 +297,7 @@ fn each_rule_of_several_fields_has_its_refusal(rt: HostRuntime) -> Result<(), Fa
 
 /// The guest's text with so many named files in place of the two that it has.
 fn crowded(alloc: Global, whole: &[Piece], count: u32) -> Result<Vec<u8>, AllocError> {
-    let mut text = text_of(alloc, whole.get(..47).unwrap_or(&[]))?;
+    let mut text = text_of(alloc, whole.get(..48).unwrap_or(&[]))?;
     text.extend_from_slice(&count.to_le_bytes())?;
     for number in 0..count {
         text.extend_from_slice(&number.to_le_bytes())?;
@@ -287,7 +306,7 @@ fn crowded(alloc: Global, whole: &[Piece], count: u32) -> Result<Vec<u8>, AllocE
         text.extend_from_slice(&name)?;
         text.extend_from_slice(&[0; 4])?;
     }
-    text.extend_from_slice(&text_of(alloc, whole.get(56..).unwrap_or(&[]))?)?;
+    text.extend_from_slice(&text_of(alloc, whole.get(57..).unwrap_or(&[]))?)?;
     Ok(text)
 }
 
@@ -314,5 +333,39 @@ fn a_guest_is_written_as_it_was_read(rt: HostRuntime) -> Result<(), Fail> {
     assert_eq!(rt; byte, [7]);
     let again = write_state(rt.alloc(), &guest).ok().ok_or("written")?;
     assert_eq!(rt; again.as_slice(), text.as_slice());
+    Ok(())
+}
+
+/// What is written of the guest that a text says.
+fn again(alloc: Global, text: &[u8]) -> Result<Bytes, Fail> {
+    let read: Result<Guest<RunRam>, StateRefusal> = read_state(alloc, text);
+    let guest = read.ok().ok_or("read")?;
+    Ok(write_state(alloc, &guest)?)
+}
+
+#[test]
+fn a_reservation_is_held_and_written(rt: HostRuntime) -> Result<(), Fail> {
+    for (count, width) in [(4, Width::W4), (8, Width::W8)] {
+        let whole = pieces(rt.alloc())?;
+        let pieces = replaced(rt.alloc(), &whole, 34, &[N1(count), N8(0x10008)])?;
+        let text = text_of(rt.alloc(), &pieces)?;
+        let read: Result<Guest<RunRam>, StateRefusal> = read_state(rt.alloc(), &text);
+        let guest = read.ok().ok_or("read")?;
+        let held = guest.hart().reservation().ok_or("reservation")?;
+        assert_eq!(rt; held.wide, width);
+        assert_eq!(rt; held.at, 0x10008);
+        assert_eq!(rt; again(rt.alloc(), &text)?.as_slice(), text.as_slice());
+    }
+    Ok(())
+}
+
+#[test]
+fn an_old_text_is_a_guest_without_a_reservation(rt: HostRuntime) -> Result<(), Fail> {
+    let whole = pieces(rt.alloc())?;
+    let wanted = text_of(rt.alloc(), &whole)?;
+    let old = replaced(rt.alloc(), &whole, 34, &[])?;
+    let old = replaced(rt.alloc(), &old, 0, &[Text(b"ddcstat1")])?;
+    let text = text_of(rt.alloc(), &old)?;
+    assert_eq!(rt; again(rt.alloc(), &text)?.as_slice(), wanted.as_slice());
     Ok(())
 }

@@ -57,6 +57,21 @@ pub fn changed(alloc: Global, pieces: &[Piece], change: Change) -> Result<Vec<Pi
     Ok(list)
 }
 
+/// The pieces with others in place of one of them.
+pub fn replaced(
+    alloc: Global,
+    pieces: &[Piece],
+    index: usize,
+    others: &[Piece],
+) -> Result<Vec<Piece>, AllocError> {
+    let mut list = Vec::from_slice(alloc, pieces.get(..index).unwrap_or(&[]))?;
+    list.extend_from_slice(others)?;
+    for piece in pieces.iter().skip(index).skip(1) {
+        list.push(*piece)?;
+    }
+    Ok(list)
+}
+
 /// The text of these pieces.
 pub fn text_of(alloc: Global, pieces: &[Piece]) -> Result<Vec<u8>, AllocError> {
     let mut out = Vec::new(alloc);

@@ -11,13 +11,15 @@ use std::test::Fail;
 
 /// The program's text after one step, with the argument `x` and a heap of at most 4,096 bytes.
 static STEPPED: &[Piece] = &[
-    Text(b"ddcstat1"),
+    Text(b"ddcstat2"),
     N8(1),
     N8(0x1007c),
     // Of x1 to x31 all but the stack pointer are 0.
     N8(0),
     N8(0x3f_ffff_ffc0),
     Text(&[0; 232]),
+    // Nothing is reserved.
+    N1(0),
     // The heap.
     N8(0x11000),
     N8(0x11000),
@@ -65,7 +67,7 @@ static STEPPED: &[Piece] = &[
 
 /// exit.elf, as it stands in its page.
 fn program() -> &'static [u8] {
-    match STEPPED.get(16) {
+    match STEPPED.get(17) {
         Some(Text(bytes)) => bytes,
         _ => &[],
     }
@@ -98,6 +100,11 @@ fn refusal(alloc: Global, text: &[u8]) -> Option<StateRefusal> {
     read.err()
 }
 
+/// Whether a guest stands behind its first step, and exits with 0 in its third.
+fn ends_at_the_third(guest: &mut Guest<RunRam>) -> bool {
+    guest.steps() == 1 && guest.run(2) == RunEnd::Exited(0) && guest.steps() == 2
+}
+
 #[test]
 fn a_step_is_read_and_goes_on(rt: HostRuntime) -> Result<(), Fail> {
     let text = text_of(rt.alloc(), STEPPED)?;
@@ -105,9 +112,21 @@ fn a_step_is_read_and_goes_on(rt: HostRuntime) -> Result<(), Fail> {
     let mut guest = read.ok().ok_or("read")?;
     let again = write_state(rt.alloc(), &guest)?;
     assert_eq!(rt; again.as_slice(), text.as_slice());
-    assert_eq!(rt; guest.steps(), 1);
-    assert!(rt; guest.run(2) == RunEnd::Exited(0));
-    assert_eq!(rt; guest.steps(), 2);
+    assert!(rt; ends_at_the_third(&mut guest));
+    Ok(())
+}
+
+#[test]
+fn an_old_text_of_a_step_goes_on(rt: HostRuntime) -> Result<(), Fail> {
+    let old = replaced(rt.alloc(), STEPPED, 6, &[])?;
+    let old = replaced(rt.alloc(), &old, 0, &[Text(b"ddcstat1")])?;
+    let text = text_of(rt.alloc(), &old)?;
+    let read: Result<Guest<RunRam>, StateRefusal> = read_state(rt.alloc(), &text);
+    let mut guest = read.ok().ok_or("read")?;
+    let again = write_state(rt.alloc(), &guest)?;
+    let wanted = text_of(rt.alloc(), STEPPED)?;
+    assert_eq!(rt; again.as_slice(), wanted.as_slice());
+    assert!(rt; ends_at_the_third(&mut guest));
     Ok(())
 }
 
@@ -119,6 +138,12 @@ fn a_step_with_another_byte_is_refused(rt: HostRuntime) -> Result<(), Fail> {
         *byte = 0x7d;
     }
     assert_eq!(rt; refusal(rt.alloc(), &text), Some(StateRefusal::Range));
+    let mut text = text_of(rt.alloc(), STEPPED)?;
+    // What is reserved is said at the offset 272.
+    if let Some(byte) = text.get_mut(272) {
+        *byte = 1;
+    }
+    assert_eq!(rt; refusal(rt.alloc(), &text), Some(StateRefusal::Form(272)));
     let mut text = text_of(rt.alloc(), STEPPED)?;
     let last = text.len() as u64;
     text.pop();

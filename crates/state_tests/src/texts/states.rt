@@ -3,13 +3,13 @@ use crate::texts::pieces::*;
 use ddc_base::Bytes;
 use mem_files::{Access, Mode, Slot};
 use save_text::state_text::{TextRefusal, put_parts, read};
-use std::alloc::Global;
+use std::alloc::{AllocError, Global};
 use std::process::Abort;
 use std::test::Fail;
 
 /// A state's text by its fields.
 pub static STATE: &[Piece] = &[
-    Text(b"ddcstat1"),
+    Text(b"ddcstat2"),
     N8(5),
     N8(0x10000),
     // x1 to x31, 3 to 33 of the pieces.
@@ -44,23 +44,25 @@ pub static STATE: &[Piece] = &[
     N8(29),
     N8(30),
     N8(31),
-    // The heap, from 34 on.
+    // Nothing is reserved, 34 of the pieces.
+    N1(0),
+    // The heap, from 35 on.
     N8(0x20000),
     N8(0x20010),
     N8(0x1000),
-    // Two runs, from 37 on.
+    // Two runs, from 38 on.
     N4(2),
     N4(16),
     N4(1),
     N4(18),
     N4(3),
-    // Two pages, from 42 on.
+    // Two pages, from 43 on.
     N4(2),
     N4(16),
     Page(7),
     N4(18),
     Page(9),
-    // Two files, from 47 on; the second has neither name nor bytes.
+    // Two files, from 48 on; the second has neither name nor bytes.
     N4(2),
     N4(0),
     N2(2),
@@ -70,7 +72,7 @@ pub static STATE: &[Piece] = &[
     N4(3),
     N2(0),
     N4(0),
-    // Four descriptors, from 56 on.
+    // Four descriptors, from 57 on.
     N4(4),
     N4(0),
     N1(0),
@@ -83,7 +85,7 @@ pub static STATE: &[Piece] = &[
     N4(0),
     N8(1),
     N1(5),
-    // Two streams, from 68 on.
+    // Two streams, from 69 on.
     N4(3),
     Text(b"out"),
     N4(0),
@@ -91,63 +93,75 @@ pub static STATE: &[Piece] = &[
 
 /// Each rule of the form, broken and kept at its edge.
 static CHANGES: &[Change] = &[
-    (0, Text(b"ddcstat2"), Some(0)),
-    (0, Text(b"Ddcstat1"), Some(0)),
-    (0, Text(b"ddcsave1"), Some(0)),
+    (0, Text(b"ddcstat0"), Some(0)),
+    (0, Text(b"ddcstat3"), Some(0)),
+    (0, Text(b"Ddcstat2"), Some(0)),
+    (0, Text(b"ddcsave2"), Some(0)),
     (1, N8(0xffff_ffff_ffff_ffff), None),
     (2, N8(0xffff_ffff_ffff_ffff), None),
-    (36, N8(0xffff_ffff_ffff_ffff), None),
+    // Nothing is reserved, or 4 bytes or 8 from an address on.
+    (34, N1(1), Some(34)),
+    (34, N1(2), Some(34)),
+    (34, N1(3), Some(34)),
+    (34, N1(5), Some(34)),
+    (34, N1(7), Some(34)),
+    (34, N1(9), Some(34)),
+    (34, N1(16), Some(34)),
+    (34, N1(255), Some(34)),
+    (34, Text(b"\x04\x01\0\0\0\0\0\0\0"), None),
+    (34, Text(b"\x08\xff\xff\xff\xff\xff\xff\xff\xff"), None),
+    (37, N8(0xffff_ffff_ffff_ffff), None),
     // A third run would begin at the count of pages.
-    (37, N4(3), Some(42)),
-    (37, N4(0xffff_ffff), Some(42)),
-    (38, N4(0xffff_ffff), Some(40)),
+    (38, N4(3), Some(43)),
+    (38, N4(0xffff_ffff), Some(43)),
+    (39, N4(0xffff_ffff), Some(41)),
     // A run has a page.
-    (39, N4(0), Some(39)),
-    (41, N4(0), Some(41)),
-    (41, N4(0xffff_ffff), None),
-    // A page lies between two runs.
-    (39, N4(2), Some(40)),
     (40, N4(0), Some(40)),
-    (40, N4(16), Some(40)),
-    (40, N4(17), Some(40)),
-    (40, N4(19), None),
+    (42, N4(0), Some(42)),
+    (42, N4(0xffff_ffff), None),
+    // A page lies between two runs.
+    (40, N4(2), Some(41)),
+    (41, N4(0), Some(41)),
+    (41, N4(16), Some(41)),
+    (41, N4(17), Some(41)),
+    (41, N4(19), None),
     // Pages ascend, and none is all zeros.
-    (43, N4(17), None),
-    (43, N4(18), Some(45)),
-    (43, N4(0xffff_ffff), Some(45)),
-    (44, Page(0), Some(44)),
-    (45, N4(16), Some(45)),
-    (45, N4(17), None),
-    (46, Page(0), Some(46)),
+    (44, N4(17), None),
+    (44, N4(18), Some(46)),
+    (44, N4(0xffff_ffff), Some(46)),
+    (45, Page(0), Some(45)),
+    (46, N4(16), Some(46)),
+    (46, N4(17), None),
+    (47, Page(0), Some(47)),
     // Files ascend.
-    (48, N4(2), None),
-    (48, N4(3), Some(53)),
-    (53, N4(0), Some(53)),
-    (53, N4(0xffff_ffff), None),
-    (50, Text(b"\0/"), None),
+    (49, N4(2), None),
+    (49, N4(3), Some(54)),
+    (54, N4(0), Some(54)),
+    (54, N4(0xffff_ffff), None),
+    (51, Text(b"\0/"), None),
     // Descriptors ascend, and there are four kinds.
-    (58, N1(1), None),
-    (58, N1(2), None),
-    (58, N1(4), Some(58)),
-    (58, N1(255), Some(58)),
-    (59, N4(0), Some(59)),
-    (59, N4(2), Some(61)),
-    (63, N4(2), Some(63)),
-    (63, N4(0xffff_ffff), None),
-    (65, N4(0xffff_ffff), None),
-    (66, N8(0xffff_ffff_ffff_ffff), None),
+    (59, N1(1), None),
+    (59, N1(2), None),
+    (59, N1(4), Some(59)),
+    (59, N1(255), Some(59)),
+    (60, N4(0), Some(60)),
+    (60, N4(2), Some(62)),
+    (64, N4(2), Some(64)),
+    (64, N4(0xffff_ffff), None),
+    (66, N4(0xffff_ffff), None),
+    (67, N8(0xffff_ffff_ffff_ffff), None),
     // A file is read or written, or both.
-    (67, N1(0), Some(67)),
-    (67, N1(1), None),
-    (67, N1(2), None),
-    (67, N1(3), None),
-    (67, N1(4), Some(67)),
-    (67, N1(6), None),
-    (67, N1(7), None),
-    (67, N1(8), Some(67)),
-    (67, N1(9), Some(67)),
+    (68, N1(0), Some(68)),
+    (68, N1(1), None),
+    (68, N1(2), None),
+    (68, N1(3), None),
+    (68, N1(4), Some(68)),
+    (68, N1(6), None),
+    (68, N1(7), None),
+    (68, N1(8), Some(68)),
+    (68, N1(9), Some(68)),
     // A stream of one byte that is not there.
-    (70, N4(1), Some(71)),
+    (71, N4(1), Some(72)),
 ];
 
 /// Where the first wrong field begins; none where the text is right. Want of memory has a place that no field has.
@@ -170,13 +184,51 @@ fn a_changed_field_is_named(rt: HostRuntime) -> Result<(), Fail> {
     Ok(())
 }
 
+/// The same state with 8 bytes reserved, and without a reservation as the first form has it.
+fn with_reservation(alloc: Global) -> Result<Vec<Piece>, AllocError> {
+    replaced(alloc, STATE, 34, &[N1(8), N8(0x10008)])
+}
+
+fn old(alloc: Global) -> Result<Vec<Piece>, AllocError> {
+    let pieces = replaced(alloc, STATE, 34, &[])?;
+    replaced(alloc, &pieces, 0, &[Text(b"ddcstat1")])
+}
+
 #[test]
 fn a_cut_field_is_named(rt: HostRuntime) -> Result<(), Fail> {
-    let text = text_of(rt.alloc(), STATE)?;
-    for (byte, _) in text.iter().enumerate() {
-        let front = text.get(..byte).ok_or("cut")?;
-        assert_eq!(rt; wrong(rt.alloc(), front), Some(cut(STATE, byte)), "{byte}");
+    let state = Vec::from_slice(rt.alloc(), STATE)?;
+    for pieces in [state, with_reservation(rt.alloc())?, old(rt.alloc())?] {
+        let text = text_of(rt.alloc(), &pieces)?;
+        assert_eq!(rt; wrong(rt.alloc(), &text), None);
+        for (byte, _) in text.iter().enumerate() {
+            let front = text.get(..byte).ok_or("cut")?;
+            assert_eq!(rt;
+                wrong(rt.alloc(), front),
+                Some(cut(&pieces, byte)),
+                "{byte}"
+            );
+        }
     }
+    Ok(())
+}
+
+/// Behind an old magic the byte that says what is reserved is one of the heap's. So the count of runs has its last byte in front and reads as
+/// 512. Of these the first begins at the page 4,096, the second at 4,608, and the third at 512, which stands where the pages are counted.
+#[test]
+fn an_old_text_has_no_place_for_a_reservation(rt: HostRuntime) -> Result<(), Fail> {
+    let pieces = changed(rt.alloc(), STATE, (0, Text(b"ddcstat1"), None))?;
+    let text = text_of(rt.alloc(), &pieces)?;
+    assert_eq!(rt; wrong(rt.alloc(), &text), start(&pieces, 43).checked_sub(1));
+    Ok(())
+}
+
+/// Behind a new magic the first byte of an old text's heap has to say how many bytes are reserved.
+#[test]
+fn a_new_text_says_what_is_reserved(rt: HostRuntime) -> Result<(), Fail> {
+    let pieces = replaced(rt.alloc(), STATE, 34, &[N8(0x20001)])?;
+    let pieces = replaced(rt.alloc(), &pieces, 35, &[])?;
+    let text = text_of(rt.alloc(), &pieces)?;
+    assert_eq!(rt; wrong(rt.alloc(), &text), Some(start(&pieces, 34)));
     Ok(())
 }
 
@@ -200,6 +252,9 @@ fn numbers_are_read(rt: HostRuntime) -> Result<(), Fail> {
     assert_eq!(rt; (parts.steps, parts.pc, x8), (5, 0x10000, 8));
     // x8 stands at the offset 80.
     assert_eq!(rt; text.get(80).copied(), Some(8));
+    // What is reserved is said at the offset 272.
+    assert_eq!(rt; text.get(272).copied(), Some(0));
+    assert!(rt; parts.reservation.is_none());
     let heap = (parts.heap.first, parts.heap.now, parts.heap.limit);
     assert_eq!(rt; heap, (0x20000, 0x20010, 0x1000));
     Ok(())
@@ -250,12 +305,41 @@ fn descriptors_are_read(rt: HostRuntime) -> Result<(), Fail> {
     Ok(())
 }
 
+/// The text that is written for what a text says.
+fn again(alloc: Global, text: &[u8]) -> Result<Bytes, Fail> {
+    let parts = read(alloc, text).ok().ok_or("form")?;
+    let mut out = Bytes::new(alloc);
+    put_parts(&mut out, &parts)?;
+    Ok(out)
+}
+
 #[test]
 fn a_text_is_written_again(rt: HostRuntime) -> Result<(), Fail> {
     let text = text_of(rt.alloc(), STATE)?;
+    assert_eq!(rt; again(rt.alloc(), &text)?.as_slice(), text.as_slice());
+    Ok(())
+}
+
+#[test]
+fn a_reservation_is_written_again(rt: HostRuntime) -> Result<(), Fail> {
+    let text = text_of(rt.alloc(), &with_reservation(rt.alloc())?)?;
     let parts = read(rt.alloc(), &text).ok().ok_or("form")?;
-    let mut again = Bytes::new(rt.alloc());
-    put_parts(&mut again, &parts)?;
-    assert_eq!(rt; again.as_slice(), text.as_slice());
+    let held = parts.reservation.ok_or("reservation")?;
+    assert_eq!(rt; (held.width.count(), held.at), (8, 0x10008));
+    assert_eq!(rt; again(rt.alloc(), &text)?.as_slice(), text.as_slice());
+    let pieces = replaced(rt.alloc(), STATE, 34, &[N1(4), N8(0x1000c)])?;
+    let text = text_of(rt.alloc(), &pieces)?;
+    let parts = read(rt.alloc(), &text).ok().ok_or("form")?;
+    let held = parts.reservation.ok_or("reservation")?;
+    assert_eq!(rt; (held.width.count(), held.at), (4, 0x1000c));
+    assert_eq!(rt; again(rt.alloc(), &text)?.as_slice(), text.as_slice());
+    Ok(())
+}
+
+#[test]
+fn an_old_text_is_written_in_the_second_form(rt: HostRuntime) -> Result<(), Fail> {
+    let text = text_of(rt.alloc(), &old(rt.alloc())?)?;
+    let wanted = text_of(rt.alloc(), STATE)?;
+    assert_eq!(rt; again(rt.alloc(), &text)?.as_slice(), wanted.as_slice());
     Ok(())
 }

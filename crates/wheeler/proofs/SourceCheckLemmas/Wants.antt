@@ -5,8 +5,8 @@ use Rattle.hex_langs.specs.declared.items.item.Kind.{Kind}
 use Rattle.hex_langs.specs.declared.items.reader.HexRefusal.{HexRefusal}
 use Rattle.hex_langs.specs.declared.items.reader.HexRefusal.TheVariants as hex
 use Rattle.hex_langs.specs.declared.items.token.Dialect.{Dialect}
-use Rattle.hex_langs.specs.declared.items.token.Fault.{Fault}
-use Rattle.hex_langs.specs.declared.items.token.Fault.TheVariants as fault
+use Rattle.hex_langs.specs.declared.items.token.TokenFault.{TokenFault}
+use Rattle.hex_langs.specs.declared.items.token.TokenFault.TheVariants as fault
 use Rattle.hex_langs.specs.declared.items.token.Token.{Token}
 use Rattle.hex_langs.specs.declared.items.token.Token.TheVariants.{Byte, Field, Reference, Alone}
 use Rattle.hex_langs.specs.declared.items.words.Begun.{Begun}
@@ -88,11 +88,11 @@ halted-not items (halt.Dangling first) fine = tt
 halted-not items (halt.Second at) fine = tt
 halted-not items halt.TooLong fine = tt
 
-faulted-not : (items : List Item) (why : Fault) (at : ℕ) → NotHex (answer items (Faulted why at))
+faulted-not : (items : List Item) (why : TokenFault) (at : ℕ) → NotHex (answer items (Faulted why at))
 faulted-not items fault.OddDigits at = tt
 faulted-not items fault.BadField at = tt
 
-answer-not : (items : List Item) (end : Ending Fault) → NotEnding end → NotHex (answer items end)
+answer-not : (items : List Item) (end : Ending TokenFault) → NotEnding end → NotHex (answer items end)
 answer-not items Whole fine = tt
 answer-not items (Halted why) fine = halted-not items why fine
 answer-not items (Faulted why at) fine = faulted-not items why at

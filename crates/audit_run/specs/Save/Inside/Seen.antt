@@ -1,7 +1,8 @@
 -- How a position is stored, and digests that stand beside inputs.
 use Rattle.std.specs.Prelude.{◌≡◌, ℕ, List, [], ◌∷◌, refl}
 use Rattle.std.specs.Coded.{Coded, code_by, coded×, coded_list}
-use Rattle.guest_run.specs.State.{GuestState, guest_code}
+use Rattle.guest_run.specs.State.{GuestState}
+use Rattle.guest_run.specs.Inside.Codes.{guest_code}
 use Rattle.save_text.specs.declared.parts.InputPart.{InputPart}
 use Rattle.audit_run.specs.Save.Saves.{digest_of}
 use Rattle.wheeler.specs.contracts.answer.Finished as finished

@@ -23,6 +23,7 @@ returns-clause-seen g c =
     said c.args.guest.now _ c.steps-steps.ensures.value
     (c.pc.ensures.value ∙ ap (λ (h : HartState). h.pc) hart)
     (c.registers_of.ensures ∙ ap (λ (h : HartState). drop 1 h.registers) hart)
+    (c.reserved_of.ensures ∙ ap (λ (h : HartState). h.reservation) hart)
     c.heap.ensures
     (c.in_ok-runs.ensures ∙ ap runs_of one)
     (c.in_ok-pages.ensures ∙ ap pages_of two)

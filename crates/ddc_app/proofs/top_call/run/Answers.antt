@@ -1,30 +1,39 @@
 use Rattle.std.proofs.Common.{ℕ, List, sym, ap, ◌∙◌, subst}
-use Rattle.command_plan.specs.Plan.{outcome}
+use Rattle.command_plan.specs.Plan.{LoadsBytes, outcome}
 use Rattle.ddc_app.specs.Accepting.{is_compared}
 use Rattle.ddc_app.specs.Commands.{plan_of}
 use Rattle.ddc_app.specs.Verified.{Verified}
-use Rattle.ddc_app.proofs.Ending as ending
+use Rattle.ddc_app.proofs.Sessions as sessions
 use Rattle.ddc_app.proofs.Verifying.{compared_answers}
 use Rattle.ddc_app.proofs.top_call.run.Goals as goal
 
 pub returns : goal.returns
 returns g c =
-    let e = ending.ends _ _ _ _ _ _ _ c.perform-ending.ensures c.conclude.ensures in
+    let l = c.act.ensures in
     record {
-      status = ending.status_of _ _ _ _ _ _ e;
-      text = ending.text_of _ _ _ _ _ _ e;
-      calls = ending.calls_of _ _ _ _ _ _ e;
-      one_put = ending.put_of _ _ _ _ _ _ e;
-      shelf_fault = ending.shelf_fault_of _ _ _ _ _ _ e;
-      out_fault = ending.out_fault_of _ _ _ _ _ _ e;
-      silent = ending.silent_of _ _ _ _ _ _ e;
-      want = ending.want_of _ _ _ _ _ _ e;
-      shown = λ bytes settled recipe report words compared.
+      status = sessions.status _ _ _ _ _ _ _ _ _ l;
+      text = sessions.text _ _ _ _ _ _ _ _ _ l;
+      calls = sessions.calls _ _ _ _ _ _ _ _ _ l;
+      one_put = sessions.one_put _ _ _ _ _ _ _ _ _ l;
+      session = sessions.session _ _ _ _ _ _ _ _ _ l;
+      replies = sessions.replies _ _ _ _ _ _ _ _ _ l;
+      shelf_fault = sessions.shelf_fault _ _ _ _ _ _ _ _ _ l;
+      out_fault = sessions.out_fault _ _ _ _ _ _ _ _ _ l;
+      talk_fault = sessions.talk_fault _ _ _ _ _ _ _ _ _ l;
+      silent = sessions.silent _ _ _ _ _ _ _ _ _ l;
+      talk_want = sessions.talk_want _ _ _ _ _ _ _ _ _ l;
+      want = sessions.want _ _ _ _ _ _ _ _ _ l;
+      shown = λ settled recipe report words compared.
           let files = (g.S.Shelf.state c.args.shelf.now).files in
           let same = ap (λ (w : List (List ℕ)). outcome (plan_of w) files) words in
-          let status = ending.status_of _ _ _ _ _ _ e settled (compared_answers _ compared) in
+          let answers = compared_answers _ compared in
+          let status = sessions.status _ _ _ _ _ _ _ _ _ l settled answers in
+          let bytes = (sessions.calls _ _ _ _ _ _ _ _ _ l answers).bytes settled in
           subst (Verified g.M.Meaning.prescribes g.M.Meaning.compiles recipe report files) (sym same)
-          (c.verified.ensures recipe report files bytes (sym (ap is_compared (status ∙ ap (λ o. o.status) same)) ∙ compared));
-      shelf_tells = ending.shelf_tells_of _ _ _ _ _ _ e;
-      out_tells = ending.out_tells_of _ _ _ _ _ _ e;
+          (c.verified_as_loaded.ensures recipe report files (subst (λ (w : List (List ℕ)). LoadsBytes (plan_of w) files) words bytes)
+          (sym (ap is_compared (status ∙ ap (λ o. o.status) same)) ∙ compared));
+      prompt_stays = sessions.prompt_stays _ _ _ _ _ _ _ _ _ l;
+      shelf_tells = sessions.shelf_tells _ _ _ _ _ _ _ _ _ l;
+      out_tells = sessions.out_tells _ _ _ _ _ _ _ _ _ l;
+      prompt_tells = sessions.prompt_tells _ _ _ _ _ _ _ _ _ l;
     }

@@ -1,4 +1,4 @@
-use Rattle.std.proofs.Common.{◌≡◌, ◌-◌, ◌<◌, length, replicate, ap, ◌∙◌, sym, subst, arith}
+use Rattle.std.proofs.Common.{◌≡◌, ◌-◌, ◌<◌, None, length, replicate, ap, ◌∙◌, sym, subst, arith}
 use Rattle.std.specs.Prelude.{AllPairs, slice_set}
 use Rattle.std.proofs.lemmas.List.Elements.{All-from_get_or}
 use Rattle.paged_mem.specs.Memory.{IsFree}
@@ -50,6 +50,7 @@ invariant_of-result g c =
     let registers : c.set_reg.new.self.registers ≡ slice_set (replicate 32 0) 2 (stack_pointer c.args.setting.now.args c.args.setting.now.env) =
     ap (λ (h : HartState). h.registers) hart ∙ ap (λ v. slice_set (replicate 32 0) 2 v) at in
     let pc : c.set_reg.new.self.pc ≡ c.args.image.now.entry = ap (λ (h : HartState). h.pc) hart in
+    let none : c.set_reg.new.self.reservation ≡ None = ap (λ (h : HartState). h.reservation) hart in
     let world = c.in_ok-files.ensures ∙ ap start_world c.files.ensures in
     let same : ◌≡◌ {A = GuestState} (record {
       hart = c.set_reg.new.self;
@@ -58,7 +59,7 @@ invariant_of-result g c =
       steps = 0;
     }) (start_state c.args.program.now c.args.setting.now c.args.image.now) =
     λ i. record {
-      hart = record { registers = registers i; pc = pc i; memory = memory i };
+      hart = record { registers = registers i; pc = pc i; memory = memory i; reservation = none i };
       world = world i;
       heap = record { first = c.args.image.now.first_break; now = c.args.image.now.first_break; limit = c.heap.ensures.value i };
       steps = 0;
@@ -84,9 +85,10 @@ returns g c =
     let registers : c.set_reg.new.self.registers ≡ slice_set (replicate 32 0) 2 (stack_pointer c.args.setting.now.args c.args.setting.now.env) =
     ap (λ (h : HartState). h.registers) hart ∙ ap (λ v. slice_set (replicate 32 0) 2 v) at in
     let pc : c.set_reg.new.self.pc ≡ c.args.image.now.entry = ap (λ (h : HartState). h.pc) hart in
+    let none : c.set_reg.new.self.reservation ≡ None = ap (λ (h : HartState). h.reservation) hart in
     let world = c.in_ok-files.ensures ∙ ap start_world c.files.ensures in
     λ i. record {
-      hart = record { registers = registers i; pc = pc i; memory = memory i };
+      hart = record { registers = registers i; pc = pc i; memory = memory i; reservation = none i };
       world = world i;
       heap = record { first = c.args.image.now.first_break; now = c.args.image.now.first_break; limit = c.heap.ensures.value i };
       steps = 0;

@@ -1,5 +1,5 @@
 use Rattle.std.proofs.Common.{◌≡◌, ◌+◌, ◌*◌, ◌/◌, ◌%◌, ◌∙◌, ap, get_or, arith}
-use Rattle.paged_mem.specs.Entries.{flat}
+use Rattle.paged_mem.specs.Inside.Entries.{flat}
 use Rattle.paged_mem.specs.Inside.Flat.{number_at}
 use Rattle.paged_mem.proofs.Accessed.{number_at-flat}
 use Rattle.paged_mem.proofs.access.byte_at.Goals as goal

@@ -1,5 +1,5 @@
 use Rattle.std.proofs.Common.{refl, sym, ◌∙◌}
-use Rattle.paged_mem.specs.Entries.{flat}
+use Rattle.paged_mem.specs.Inside.Entries.{flat}
 use Rattle.paged_mem.specs.Inside.Flat.{memory_of}
 use Rattle.paged_mem.proofs.Accessed.{few}
 use Rattle.paged_mem.proofs.Seen.{maps_seen}

@@ -1,5 +1,5 @@
 use Rattle.std.proofs.Common.{◌≡◌, ◌+◌, ◌*◌, ◌/◌, ◌%◌, ◌∙◌, ap, arith}
-use Rattle.paged_mem.specs.Entries.{flat}
+use Rattle.paged_mem.specs.Inside.Entries.{flat}
 use Rattle.paged_mem.specs.Inside.Flat.{number_at}
 use Rattle.paged_mem.specs.Ram.{count_of}
 use Rattle.paged_mem.proofs.Accessed.{count_some, number_at-flat}

@@ -1,5 +1,5 @@
 use Rattle.std.proofs.Common.{Some, sym, ap, ◌∙◌, arith}
-use Rattle.paged_mem.specs.Entries.{page_content}
+use Rattle.paged_mem.specs.Inside.Entries.{page_content}
 use Rattle.paged_mem.proofs.Accessed.{few_entries, page_shown, placed}
 use Rattle.paged_mem.proofs.Maps.{bytes_at-none}
 use Rattle.paged_mem.proofs.Runs.{get_unplaced}

@@ -1,6 +1,6 @@
 use Rattle.std.proofs.Common.{None, Some, length, refl, sym, ap}
 use Rattle.std.specs.Prelude.{unwrap_or}
-use Rattle.paged_mem.specs.Entries.{flat}
+use Rattle.paged_mem.specs.Inside.Entries.{flat}
 use Rattle.paged_mem.specs.Inside.Flat.{memory_of}
 use Rattle.paged_mem.proofs.Accessed.{few, few_entries}
 use Rattle.paged_mem.proofs.Seen.{maps_seen, moved, no_bytes_seen}

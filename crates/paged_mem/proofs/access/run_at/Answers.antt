@@ -1,5 +1,5 @@
 use Rattle.std.proofs.Common.{arith}
-use Rattle.paged_mem.specs.Entries.{flat}
+use Rattle.paged_mem.specs.Inside.Entries.{flat}
 use Rattle.paged_mem.proofs.Runs.{no_run, run_of_row}
 use Rattle.paged_mem.proofs.access.run_at.Goals as goal
 

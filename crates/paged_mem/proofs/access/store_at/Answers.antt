@@ -1,5 +1,5 @@
 use Rattle.std.proofs.Common.{subst}
-use Rattle.paged_mem.specs.Entries.{flat}
+use Rattle.paged_mem.specs.Inside.Entries.{flat}
 use Rattle.paged_mem.specs.Inside.Flat.{memory_of}
 use Rattle.paged_mem.specs.Memory.{bytes_of}
 use Rattle.paged_mem.specs.Ram.{count_of, Writes}

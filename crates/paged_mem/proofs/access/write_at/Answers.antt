@@ -1,5 +1,5 @@
 use Rattle.std.proofs.Common.{None, Some, length, refl, sym, ap, ◌∙◌, arith}
-use Rattle.paged_mem.specs.Entries.{flat}
+use Rattle.paged_mem.specs.Inside.Entries.{flat}
 use Rattle.paged_mem.specs.Inside.Flat.{memory_of, overwritten}
 use Rattle.paged_mem.proofs.Accessed.{are_written, few, few_entries, memory_written, nothing_written, positive, touches_unheld}
 use Rattle.paged_mem.proofs.Seen.{maps_seen}

@@ -1,5 +1,5 @@
 use Rattle.std.proofs.Common.{length, ◌≡◌, ℕ, ◌+◌, ◌≤◌, List, drop}
-use Rattle.paged_mem.specs.Entries.{held_pages}
+use Rattle.paged_mem.specs.Inside.Entries.{held_pages}
 use Rattle.paged_mem.proofs.entries.count_held.Given as goal
 
 abbrev pub invariant-loop-entry : goal.invariant-loop-entry

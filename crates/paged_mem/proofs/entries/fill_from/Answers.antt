@@ -3,7 +3,7 @@ use Rattle.paged_mem.proofs.Flats.{get_or-all_zeros}
 use Rattle.std.proofs.lemmas.Grind.{same_number_lists}
 use Rattle.std.proofs.lemmas.List.{get_or-take, get_or-drop}
 use Rattle.paged_mem.specs.Memory.{zeros}
-use Rattle.paged_mem.specs.Entries.{page_content}
+use Rattle.paged_mem.specs.Inside.Entries.{page_content}
 use Rattle.paged_mem.proofs.Mapped.{length-zeros}
 use Rattle.paged_mem.proofs.entries.fill_from.Goals as goal
 

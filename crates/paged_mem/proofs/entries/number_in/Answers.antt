@@ -1,5 +1,5 @@
 use Rattle.std.proofs.Common.{sym, ap, ◌∙◌}
-use Rattle.paged_mem.specs.Entries.{page_content}
+use Rattle.paged_mem.specs.Inside.Entries.{page_content}
 use Rattle.paged_mem.specs.Inside.Flat.{number_at}
 use Rattle.paged_mem.specs.Ram.{count_of}
 use Rattle.paged_mem.proofs.Flats.{number_at-zeros}

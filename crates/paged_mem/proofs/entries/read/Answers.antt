@@ -2,7 +2,7 @@ use Rattle.std.proofs.Common.{◌+◌, ◌-◌, length, drop, arith, sym, ◌∙
 use Rattle.paged_mem.proofs.Flats.{read_more, length-flat}
 use Rattle.std.proofs.lemmas.Grind.{same_number_lists}
 use Rattle.std.proofs.lemmas.List.{get_or-take, get_or-drop}
-use Rattle.paged_mem.specs.Entries.{flat}
+use Rattle.paged_mem.specs.Inside.Entries.{flat}
 use Rattle.paged_mem.proofs.entries.read.Goals as goal
 
 pub loop-done-preserved : goal.loop-done-preserved

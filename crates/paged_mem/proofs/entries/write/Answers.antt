@@ -1,6 +1,6 @@
 use Rattle.std.proofs.Common.{◌+◌, ◌-◌, ◌/◌, arith, refl, sym, ◌∙◌, length-set}
 use Rattle.paged_mem.proofs.Flats.{AreFull-set, held_pages-same, is_some-set, length-flat, write_more}
-use Rattle.paged_mem.specs.Entries.{flat}
+use Rattle.paged_mem.specs.Inside.Entries.{flat}
 use Rattle.paged_mem.proofs.entries.write.Goals as goal
 
 pub loop-done-preserved : goal.loop-done-preserved

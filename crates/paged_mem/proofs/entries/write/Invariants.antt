@@ -1,5 +1,5 @@
 use Rattle.std.proofs.Common.{length, ◌-◌, ◌≡◌, ℕ, ◌≤◌, get_or, take, is_some, None}
-use Rattle.paged_mem.specs.Entries.{AreFull, flat}
+use Rattle.paged_mem.specs.Inside.Entries.{AreFull, flat}
 use Rattle.paged_mem.specs.Inside.Flat.{overwritten}
 use Rattle.paged_mem.proofs.entries.write.Given as goal
 

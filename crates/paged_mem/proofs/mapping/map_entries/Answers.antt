@@ -1,5 +1,5 @@
 use Rattle.std.proofs.Common.{sym, ap, subst, ◌≡◌, ◌∙◌}
-use Rattle.paged_mem.specs.Entries.{ArePages, flat, held_pages}
+use Rattle.paged_mem.specs.Inside.Entries.{ArePages, flat, held_pages}
 use Rattle.paged_mem.specs.Inside.Flat.{memory_of}
 use Rattle.paged_mem.proofs.Opened.{are_opened, closed_again, held_opened, memory_opened}
 use Rattle.paged_mem.proofs.mapping.map_entries.Goals as goal

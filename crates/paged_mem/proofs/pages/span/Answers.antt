@@ -1,5 +1,5 @@
 use Rattle.std.proofs.Common.{◌<◌, ◌-◌, ◌+◌, ◌/◌, ◌^◌, sym, arith}
-use Rattle.paged_mem.specs.Held.{place-some}
+use Rattle.paged_mem.specs.Inside.Wholeness.{place-some}
 use Rattle.paged_mem.proofs.Spans.{slot_past, span_found, span_ends}
 use Rattle.paged_mem.proofs.pages.span.Goals as goal
 use Rattle.paged_mem.proofs.pages.span.Goals.{else-more-pages-via-then-more-pages+else-pages-page, else-more-pages-via-else-more-pages}

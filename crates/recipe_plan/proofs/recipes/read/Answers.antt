@@ -1,5 +1,7 @@
-use Rattle.command_plan.proofs.Obtaining.{wants_at_once}
+use Rattle.std.proofs.Common.{subst}
+use Rattle.command_plan.specs.Steps.{Obtains}
+use Rattle.recipe_plan.specs.Recipes.{reads_recipe}
 use Rattle.recipe_plan.proofs.recipes.read.Goals as goal
 
-pub returns-in-Err-OutOfMemory : goal.returns-in-Err-OutOfMemory
-returns-in-Err-OutOfMemory c = λ shelf. wants_at_once _ shelf
+pub returns : goal.returns
+returns c = λ shelf. subst (λ text. Obtains (reads_recipe text) shelf shelf c.read_recipe.result) c.as_slice.ensures (c.read_recipe.ensures shelf)

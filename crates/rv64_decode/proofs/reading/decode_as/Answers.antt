@@ -1,4 +1,4 @@
-use Rattle.std.proofs.Common.{◌≡◌, rules, sym, ◌∙◌, w64, to_z, of_z, SFits}
+use Rattle.std.proofs.Common.{◌≡◌, rules, w64, to_z, of_z, SFits}
 use Rattle.std.proofs.lemmas.Int.{to_z-of_z}
 use Rattle.rv64_decode.proofs.Decoding.{decoded-fields}
 use Rattle.rv64_decode.proofs.RoundTrip.{decoded-encodable}

@@ -1,5 +1,4 @@
-use Rattle.std.proofs.Common.{ap, subst, ◌∙◌, arith}
-use Rattle.save_text.specs.SaveText.{parsed_save}
+use Rattle.std.proofs.Common.{subst, arith}
 use Rattle.save_text.specs.Seen.{ReadsSaveText}
 use Rattle.save_text.proofs.Texts.{formed_again, is_found}
 use Rattle.save_text.proofs.reading.read.Goals as goal
@@ -8,4 +7,4 @@ pub returns-clause-found : goal.returns-clause-found
 returns-clause-found c = is_found c.args.text.now c.all.result (λ i. omega (arith, c.type_inv.text i)) c.all.ensures
 
 pub returns-clause-only : goal.returns-clause-only
-returns-clause-only c = λ s fits e. subst (ReadsSaveText c.all.result) (ap parsed_save e ∙ formed_again s fits) c.all.ensures
+returns-clause-only c = λ save fits is. subst (ReadsSaveText c.all.result) (formed_again save c.args.text.now fits is) c.all.ensures

@@ -1,6 +1,6 @@
 use Rattle.std.proofs.Common.{◌≡◌, ℕ, List, Ok, subst}
 use Rattle.audit_run.specs.Save.Saves.{Resumes, save_of}
-use Rattle.save_text.specs.Spelled.{text_of_save}
+use Rattle.save_text.specs.Spelled.{IsTextOfSave}
 use Rattle.audit_run.specs.Saved.{standing_at}
 use Rattle.audit_run.proofs.audit.Audit.resume.Goals as goal
 
@@ -9,7 +9,7 @@ returns-clause-found c = (
   c.in_ok-place.place,
   λ i. standing_at c.args.recipe c.args.inputs (c.into_parts-done.ensures i),
   c.in_ok-place.ensures.place,
-  subst (λ (inputs : List (List ℕ)). c.args.text.now ≡ text_of_save (save_of c.args.recipe inputs c.in_ok-place.place)) c.as_slice.ensures c.in_ok-place.ensures.found,
+  subst (λ (inputs : List (List ℕ)). IsTextOfSave (save_of c.args.recipe inputs c.in_ok-place.place) c.args.text.now) c.as_slice.ensures c.in_ok-place.ensures.found,
 )
 
 pub returns-clause-exact : goal.returns-clause-exact

@@ -1,5 +1,5 @@
 use Rattle.std.proofs.Common.{ap}
-use Rattle.paged_mem.specs.Entries.{flat, held_pages}
+use Rattle.paged_mem.specs.Inside.Entries.{flat, held_pages}
 use Rattle.paged_mem.specs.Inside.Flat.{memory_of}
 use Rattle.paged_mem.proofs.Flats.{are_none}
 use Rattle.paged_mem.proofs.paged.PagedRamRam.empty.Goals as goal

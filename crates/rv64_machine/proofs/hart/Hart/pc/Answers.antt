@@ -4,5 +4,5 @@ use Rattle.rv64_machine.proofs.hart.Hart.pc.Goals as goal
 
 pub returns-clause-hart : goal.returns-clause-hart
 returns-clause-hart g c =
-    let (count, zero, aligned) = c.self.invariant in
-    subst IsHart c.self.view_is (record { count = count; zero = zero; aligned = aligned; whole = g.met.R.Ram.whole c.self.inside.ram })
+    let (count, zero, aligned, reserved) = c.self.invariant in
+    subst IsHart c.self.view_is (record { count = count; zero = zero; aligned = aligned; whole = g.met.R.Ram.whole c.self.inside.ram; reserved = reserved })

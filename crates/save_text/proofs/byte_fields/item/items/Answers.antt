@@ -1,13 +1,13 @@
 use Rattle.std.proofs.Common.{◌≡◌, ◌++◌, ◌∷◌, [], map, sym}
 use Rattle.std.proofs.lemmas.Result.{err_from_is_err_and}
 use Rattle.std.proofs.lemmas.List.{map_push}
-use Rattle.save_text.proofs.ByteFieldsLemmas.Loop.{goes_on, fails, is_done}
+use Rattle.save_text.proofs.ByteFieldsLemmas.Loop.{goes_on, is_done, stops}
 use Rattle.save_text.proofs.byte_fields.item.items.Goals as goal
 
 pub returns-in_err-item : goal.returns-in_err-item
 returns-in_err-item g c =
     let p = err_from_is_err_and c.from_residual.result c.from_residual.ensures.1 in
-    rw (p.1, p.2) (fails g.T.Item.read_from g.T.Item.next_least c.loop.least c.in_err-item.field-0.0 (map g.T.Item.seen c.loop.items.items) c.args.count c.loop.counter c.loop.cursor _ c.loop-test.true c.in_err-item.ensures c.loop.invariant)
+    rw (p.1, p.2) (stops g.T.Item.read_from g.T.Item.next_least c.loop.least c.in_err-item.field-0.0.left (map g.T.Item.seen c.loop.items.items) c.args.count c.loop.counter c.loop.cursor _ c.loop-test.true c.in_err-item.ensures c.loop.invariant)
 
 pub loop-preserved : goal.loop-preserved
 loop-preserved g c =

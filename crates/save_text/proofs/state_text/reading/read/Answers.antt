@@ -1,5 +1,4 @@
-use Rattle.std.proofs.Common.{ap, subst, ◌∙◌, arith}
-use Rattle.save_text.specs.StateText.StateText.{parsed_state}
+use Rattle.std.proofs.Common.{subst, arith}
 use Rattle.save_text.specs.StateText.Seen.{ReadsStateText}
 use Rattle.save_text.proofs.StateTextLemmas.Texts.{formed_again, is_found}
 use Rattle.save_text.proofs.state_text.reading.read.Goals as goal
@@ -8,4 +7,4 @@ pub returns-clause-found : goal.returns-clause-found
 returns-clause-found c = is_found c.args.text.now c.all.result (λ i. omega (arith, c.type_inv.text i)) c.all.ensures
 
 pub returns-clause-only : goal.returns-clause-only
-returns-clause-only c = λ s fits e. subst (ReadsStateText c.all.result) (ap parsed_state e ∙ formed_again s fits) c.all.ensures
+returns-clause-only c = λ s fits is. subst (ReadsStateText c.all.result) (formed_again s c.args.text.now fits is) c.all.ensures

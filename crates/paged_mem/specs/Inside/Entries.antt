@@ -1,5 +1,4 @@
--- How a `PagedRam` keeps its memory; but for `held_pages`, what it holds, no promise rests on its being read. Page numbers rise, each
--- page has an entry, and two rows of pages are found at once.
+-- How a `PagedRam` keeps its memory: page numbers rise, each page has an entry, and two rows of pages are found at once.
 use Rattle.std.specs.Prelude.{◌≡◌, ℕ, ◌+◌, ◌*◌, ◌/◌, ◌%◌, ◌^◌, ◌<◌, ◌≤◌, Option, None, Some, List, [], ◌∷◌, ◌++◌, length, slice_index, slice_index_or}
 use Rattle.std.specs.Global.{Box}
 use Rattle.paged_mem.specs.Memory.{zeros}

@@ -1,0 +1,56 @@
+-- Stages that are run in order, one by one.
+use Rattle.std.proofs.Common.{◌≡◌, ℕ, suc, ◌-◌, Result, Ok, Err, IfOk, List, [], ◌∷◌, ◌++◌, length, drop, take, refl, sym, ap, ◌∙◌, arith, subst}
+use Rattle.std.proofs.lemmas.List.{take-append-drop}
+use Rattle.ddc_base.specs.declared.byte_list.OutOfMemory.{OutOfMemory}
+use Rattle.guest_run.specs.State.{GuestState}
+use Rattle.guest_run.specs.Run.{first_end}
+use Rattle.recipe.specs.declared.contents.Said.{Said}
+use Rattle.recipe.specs.declared.parts.Stage.{Stage}
+use Rattle.recipe.specs.Kept as kept
+use Rattle.wheeler.specs.Bench.{after_stage, bench, bench_from}
+use Rattle.wheeler.specs.declared.answer.Fault.{Fault}
+use Rattle.wheeler.specs.declared.answer.Finished.{Finished}
+use Rattle.wheeler.specs.Positions.{at, enter, entered, todo}
+use Rattle.wheeler.specs.Stages.{by_end, by_start, contents, stage_result, start_stage}
+use Rattle.wheeler.specs.Valid.{AreDone, IsAt, IsInputs, IsStanding}
+use Rattle.wheeler.proofs.Places.{enter-standing}
+use Rattle.wheeler.proofs.Rules.{rules}
+use Rattle.audit_run.specs.Earlier.{done_in_order, goes_on_behind, unless_undone}
+use Rattle.audit_run.specs.Stage.Rules.{IsStageOf}
+use Rattle.audit_run.proofs.Present.{from-index, same-stage, stage-rules}
+
+pub next-rules : (recipe : Said) (done : List Finished) (stage : Stage) (stages : List Stage) → kept.IsRecipe recipe → todo recipe done ≡ stage ∷ stages → IsStageOf recipe stage
+next-rules recipe done stage stages is left = stage-rules recipe (length done) stage is (from-index recipe.stages (length done) stage stages left).0
+
+module _ (recipe : Said) (inputs : List (List ℕ)) (done : List Finished) (stage : Stage) (stages : List Stage) (guest : GuestState) where
+  -- a stage that has started
+  pub starts-at : kept.IsRecipe recipe → IsInputs recipe inputs → AreDone recipe done → todo recipe done ≡ stage ∷ stages
+      → start_stage recipe (contents inputs done) stage ≡ Ok guest → IsAt recipe (at done guest) stage stages
+  starts-at is given are left begins =
+      let standing : IsStanding recipe (enter recipe inputs done (stage ∷ stages)) = enter-standing recipe (rules recipe is) inputs given done (stage ∷ stages) are left in
+      same-stage recipe (at done guest) stage stages (subst (IsStanding recipe) (ap (entered done) begins) standing) left
+
+  -- what its run comes to
+  pub value-of : (result : Result (Result Finished Fault) OutOfMemory) → guest.steps ≡ 0 → start_stage recipe (contents inputs done) stage ≡ Ok guest
+      → IfOk result (λ run. run ≡ by_end recipe inputs done stage (first_end guest (stage.steps - guest.steps)))
+      → IfOk result (λ run. run ≡ stage_result recipe inputs done stage)
+  value-of (Ok run) none begins is =
+      let all : stage.steps - guest.steps ≡ stage.steps = omega (arith, none) in
+      is ∙ ap (λ n. by_end recipe inputs done stage (first_end guest n)) all ∙ sym (ap (by_start recipe inputs done stage) begins)
+  value-of (Err error) none begins is = tt
+
+-- the bench over stages in a row
+behind : (recipe : Said) (inputs : List (List ℕ)) (stages rest : List Stage) (done : List Finished)
+    → bench_from recipe inputs done (stages ++ rest) ≡ goes_on_behind recipe inputs rest (done_in_order recipe inputs done stages)
+behind recipe inputs [] rest done = refl
+behind recipe inputs (stage ∷ stages) rest done = by_result (λ d. behind recipe inputs stages rest d) (stage_result recipe inputs done stage) where
+  by_result : ((d : List Finished) → bench_from recipe inputs d (stages ++ rest) ≡ goes_on_behind recipe inputs rest (done_in_order recipe inputs d stages)) → (r : Result Finished Fault)
+      → after_stage (suc (length done)) r (λ f. bench_from recipe inputs (done ++ f ∷ []) (stages ++ rest))
+      ≡ goes_on_behind recipe inputs rest (unless_undone (suc (length done)) r (λ f. done_in_order recipe inputs (done ++ f ∷ []) stages))
+  by_result later (Ok f) = later (done ++ f ∷ [])
+  by_result later (Err fault) = refl
+
+pub bench-behind : (recipe : Said) (inputs : List (List ℕ)) (count : ℕ)
+    → bench recipe inputs ≡ goes_on_behind recipe inputs (drop count recipe.stages) (done_in_order recipe inputs [] (take count recipe.stages))
+bench-behind recipe inputs count =
+    ap (bench_from recipe inputs []) (sym (take-append-drop count recipe.stages)) ∙ behind recipe inputs (take count recipe.stages) (drop count recipe.stages) []

@@ -1,0 +1,96 @@
+//! The first stages of a recipe, run in order.
+
+ghost use Rattle.audit_run.specs.Earlier.{done_in_order};
+ghost use Rattle.audit_run.specs.Inside.Parts.{later};
+ghost use Rattle.guest_run.specs.Run.{first_end};
+ghost use Rattle.recipe.specs.Kept.{IsRecipe};
+ghost use Rattle.std.specs.Prelude.{◌≡◌, ◌++◌, ◌∷◌, [], ◌-◌, ◌≤◌, IfOk, length, take};
+ghost use Rattle.wheeler.specs.Positions.{at, todo};
+ghost use Rattle.wheeler.specs.Stages.{by_end, stage_result};
+ghost use Rattle.wheeler.specs.Valid.{AreDone, IsAt, IsInputs};
+
+use crate::place::Moved;
+use crate::stage::{Done, start_stage};
+use crate::stage_run::run_slice;
+use ddc_base::{Bytes, ListOf, OutOfMemory};
+use guest_run::{Guest, RunRam};
+use recipe::{Recipe, Stage};
+use std::alloc::Global;
+use wheeler::{Fault, RunCause};
+
+/// A stage that is not done.
+#[derive(Clone, Copy, Debug, PartialEq, Eq)]
+pub struct Undone {
+    /// The stage's number, from 1.
+    pub stage: u32,
+    /// Why it is not done.
+    pub fault: Fault,
+}
+
+/// Runs the first so many stages, in order: what they leave, or the first of them that is not done.
+pub fn run_earlier(
+    alloc: Global,
+    recipe: &Recipe,
+    inputs: &[Bytes],
+    count: usize,
+) -> Result<Result<ListOf<Done>, Undone>, OutOfMemory>
+    requires given { IsInputs recipe.now inputs.now }
+    requires count { count ≤ length recipe.now.stages }
+    ensures stages { IfOk result (λ run. run ≡ done_in_order recipe.now inputs.now [] (take count recipe.now.stages)) }
+    ensures done { IfOk result (λ run. IfOk run (AreDone recipe.now)) }
+{
+    let mut done = ListOf::new(alloc);
+    for stage in &recipe.stages().as_slice()[..count] {
+        match run_stage(alloc, recipe, stage, inputs, done.as_slice())? {
+            Ok(finished) => done.push(finished)?,
+            Err(fault) => {
+                let stage = done.len() as u32 + 1;
+                return Ok(Err(Undone { stage, fault }));
+            }
+        }
+    }
+    Ok(Ok(done))
+}
+
+/// Runs the stage that follows those that are done: what it leaves, or why it is not done.
+fn run_stage(
+    alloc: Global,
+    recipe: &Recipe,
+    stage: &Stage,
+    inputs: &[Bytes],
+    done: &[Done],
+) -> Result<Result<Done, Fault>, OutOfMemory>
+    requires kept { IsRecipe recipe.now }
+    requires given { IsInputs recipe.now inputs.now }
+    requires done { AreDone recipe.now done.now }
+    requires next { todo recipe.now done.now ≡ stage.now ∷ later recipe.now done.now }
+    ensures value { IfOk result (λ run. run ≡ stage_result recipe.now inputs.now done.now stage.now) }
+    ensures done { IfOk result (λ run. IfOk run (λ f. AreDone recipe.now (done.now ++ f ∷ []))) }
+{
+    match start_stage(alloc, recipe, stage, inputs, done)? {
+        Ok(guest) => run_out(alloc, recipe, stage, inputs, done, guest),
+        Err(cause) => Ok(Err(Fault::Runs(RunCause::Start(cause), 0))),
+    }
+}
+
+/// Takes all steps of a stage, up to the end of its run.
+fn run_out(
+    alloc: Global,
+    recipe: &Recipe,
+    stage: &Stage,
+    inputs: &[Bytes],
+    done: &[Done],
+    guest: Guest<RunRam>,
+) -> Result<Result<Done, Fault>, OutOfMemory>
+    requires kept { IsRecipe recipe.now }
+    requires given { IsInputs recipe.now inputs.now }
+    requires stands { IsAt recipe.now (at done.now guest) stage.now (later recipe.now done.now) }
+    ensures value { IfOk result (λ run. run ≡ by_end recipe.now inputs.now done.now stage.now (first_end guest (stage.now.steps - guest.steps))) }
+    ensures done { IfOk result (λ run. IfOk run (λ f. AreDone recipe.now (done.now ++ f ∷ []))) }
+{
+    let mut guest = guest;
+    match run_slice(alloc, recipe, stage, inputs, done, &mut guest, stage.steps)? {
+        (_, Moved::Ended(run)) => Ok(run),
+        (_, Moved::Goes) => unreachable!(),
+    }
+}

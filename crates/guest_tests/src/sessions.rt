@@ -1,0 +1,244 @@
+//! Sessions over a program of 26 instructions that copies the file `in` to `out`: each line of a session, and each way to be wrong.
+
+use ddc_base::{Bytes, MemSink, PutFail, read_hex};
+use guest_run::RunBox;
+use prompt::{MemPrompt, converse};
+use session::Session;
+use std::alloc::Global;
+use std::test::Fail;
+
+/// copy.elf, 232 bytes: header, one program header, 26 instructions from 0x10078 on, and the names `in` and `out`.
+const COPY: &str =
+    "7f454c460201010000000000000000000200f30001000000780001000000000040000000000000000000000000000000000000004000380001000000000000000100000007000000000000000000000000000100000000000000010000000000e800000000000000e80000000000000000100000000000001305c0f9b70501009385050e1306000093088003730000001305c0f9b70501009385350e130610247300000037140000b30481401305300093850400130604009308f00373000000630c0500130605001305400093080004730000006ff09ffd9308d00573000000696e006f75740000";
+
+/// A session's lines, its limit, and what is printed.
+type Row = (&'static str, u32, &'static str);
+
+/// The lines of one row each; a row with several has them in one session.
+const ROWS: [Row; 24] = [
+    ("where", 100, "at 0 0000000000010078 addi x10, x0, -100\n"),
+    ("step 1", 100, "at 1 000000000001007c lui x11, 00010\n"),
+    (
+        "step 13\nwhere\nmem 100e0 3\nback 13\ngo",
+        100_000,
+        "at 13 00000000000100ac addi x10, x0, 3\nat 13 00000000000100ac addi x10, x0, 3\n696e00\nat 0 0000000000010078 addi x10, x0, -100\nend exited 0 step 32\n",
+    ),
+    // At the end the state before it stands, and the end comes again.
+    (
+        "go\nwhere\nstep 1\ngo\nback 32\nback 31",
+        100,
+        "end exited 0 step 32\nat 31 00000000000100dc ecall\nend exited 0 step 32\nend exited 0 step 32\nno such step\nat 0 0000000000010078 addi x10, x0, -100\n",
+    ),
+    // Steps up to the end, and to one before it.
+    (
+        "step 31\nstep 1",
+        100,
+        "at 31 00000000000100dc ecall\nend exited 0 step 32\n",
+    ),
+    (
+        "step 32\nwhere",
+        100,
+        "end exited 0 step 32\nat 31 00000000000100dc ecall\n",
+    ),
+    ("step 281474976710656", 100, "end exited 0 step 32\n"),
+    // The limit wins over the end and over the break.
+    (
+        "go\nwhere\ngo",
+        31,
+        "end spent step 31\nat 31 00000000000100dc ecall\nend spent step 31\n",
+    ),
+    ("go", 32, "end exited 0 step 32\n"),
+    (
+        "break 100ac\ngo",
+        13,
+        "break 00000000000100ac\nend spent step 13\n",
+    ),
+    (
+        "break 100ac\ngo\nback 1\nstep 1",
+        14,
+        "break 00000000000100ac\nat 13 00000000000100ac addi x10, x0, 3\nat 12 00000000000100a8 sub x9, x2, x8\nat 13 00000000000100ac addi x10, x0, 3\n",
+    ),
+    (
+        "step 13\nback 1\ngo\nstep 1\nback 13",
+        13,
+        "end spent step 13\nat 12 00000000000100a8 sub x9, x2, x8\nend spent step 13\nend spent step 13\nat 0 0000000000010078 addi x10, x0, -100\n",
+    ),
+    // `go` at the break takes a step; the break is there until another is.
+    (
+        "break 00100ac\ngo\ngo\nback 24\ngo",
+        100,
+        "break 00000000000100ac\nat 13 00000000000100ac addi x10, x0, 3\nat 24 00000000000100ac addi x10, x0, 3\nat 0 0000000000010078 addi x10, x0, -100\nat 13 00000000000100ac addi x10, x0, 3\n",
+    ),
+    (
+        "break 1\nbreak 100dc\nbreak 10078\ngo",
+        100,
+        "break 0000000000000001\nbreak 00000000000100dc\nbreak 0000000000010078\nend exited 0 step 32\n",
+    ),
+    // A step does not look at the break.
+    (
+        "break 10080\nstep 3",
+        100,
+        "break 0000000000010080\nat 3 0000000000010084 addi x12, x0, 0\n",
+    ),
+    (
+        "break 0\nbreak ffffffffffffffff\nbreak 00000000000000001",
+        100,
+        "break 0000000000000000\nbreak ffffffffffffffff\nunknown\n",
+    ),
+    (
+        "break 100AC\nbreak\nbreak \nbreak g\nbreak 0x1\nbreak 1 ",
+        100,
+        "unknown\nunknown\nunknown\nunknown\nunknown\nunknown\n",
+    ),
+    // 64 bytes of memory at most, all of them mapped: the program's last page ends at 0x11000.
+    (
+        "mem 10ffe 2\nmem 10ffe 3\nmem ffffffffffffffff 1\nmem ffffffffffffffff 2\nmem 0 1",
+        100,
+        "0000\nunmapped\nunmapped\nunmapped\nunmapped\n",
+    ),
+    (
+        "mem 10078 4\nmem 10078 0\nmem 10078 65\nmem 10078 04\nmem 10078\nmem  10078 4\nmem 10078 4 ",
+        100,
+        "1305c0f9\nunknown\nunknown\nunknown\nunknown\nunknown\nunknown\n",
+    ),
+    (
+        "mem 100c0 64",
+        100,
+        "630c0500130605001305400093080004730000006ff09ffd9308d00573000000696e006f75740000000000000000000000000000000000000000000000000000\n",
+    ),
+    (
+        "step 0\nstep 01\nstep\nstep \nstep +1\nstep 281474976710657\nstep 1 1\nSTEP 1\n step 1",
+        100,
+        "unknown\nunknown\nunknown\nunknown\nunknown\nunknown\nunknown\nunknown\nunknown\n",
+    ),
+    (
+        "back 0\nback 1\nback 281474976710656\nback 281474976710657\nback x",
+        100,
+        "unknown\nno such step\nno such step\nunknown\nunknown\n",
+    ),
+    (
+        "\nwhere \nwheres\ngo 1\nregs 1\nquit 1\nwhere\r\n",
+        100,
+        "unknown\nunknown\nunknown\nunknown\nunknown\nunknown\nunknown\n",
+    ),
+    // Nothing is said of `quit`, nor of a line behind it.
+    (
+        "where\nquit\nwhere",
+        100,
+        "at 0 0000000000010078 addi x10, x0, -100\n",
+    ),
+];
+
+/// Holds a session over a prompt.
+fn hold(
+    alloc: Global,
+    prompt: &mut MemPrompt,
+    limit: u32,
+    out: &mut MemSink,
+) -> Result<Result<(), PutFail>, Fail> {
+    let Ok(copy) = read_hex(alloc, COPY.as_bytes()) else {
+        return Err("no program".into());
+    };
+    let mut setting = RunBox::new(alloc, 536_870_912);
+    setting.push_arg(b"copy")?;
+    if setting.place(b"in", b"abc").is_err() {
+        return Err("no file".into());
+    }
+    let Ok(mut session) = Session::new(alloc, copy.as_slice(), setting, u64::from(limit)) else {
+        return Err("no start".into());
+    };
+    Ok(converse(&mut session, 65_536, prompt, out))
+}
+
+#[test]
+fn lines_are_answered(rt: HostRuntime) -> Result<(), Fail> {
+    let alloc = rt.alloc();
+    for (lines, limit, want) in ROWS {
+        let mut prompt = MemPrompt::new(alloc, lines.as_bytes())?;
+        let mut out = MemSink::new(alloc);
+        assert!(rt; hold(alloc, &mut prompt, limit, &mut out)?.is_ok());
+        assert!(rt; out.written() == want.as_bytes());
+        // One piece a line.
+        let mut count: usize = 0;
+        for byte in want.as_bytes() {
+            if *byte == b'\n' {
+                count = count.saturating_add(1);
+            }
+        }
+        assert_eq!(rt; out.pieces().len(), count);
+    }
+    Ok(())
+}
+
+#[test]
+fn registers_are_shown(rt: HostRuntime) -> Result<(), Fail> {
+    let alloc = rt.alloc();
+    let mut prompt = MemPrompt::new(alloc, b"step 5\nregs\n")?;
+    let mut out = MemSink::new(alloc);
+    assert!(rt; hold(alloc, &mut prompt, 100, &mut out)?.is_ok());
+    // x2 is the stack, and openat(-100, 0x100e0, 0, ..), the call 56, is made next.
+    let want = "at 5 000000000001008c ecall\n000000000001008c \
+        0000000000000000 0000003fffffffc0 0000000000000000 0000000000000000 0000000000000000 0000000000000000 0000000000000000 \
+        0000000000000000 0000000000000000 ffffffffffffff9c 00000000000100e0 0000000000000000 0000000000000000 0000000000000000 \
+        0000000000000000 0000000000000000 0000000000000038 0000000000000000 0000000000000000 0000000000000000 0000000000000000 \
+        0000000000000000 0000000000000000 0000000000000000 0000000000000000 0000000000000000 0000000000000000 0000000000000000 \
+        0000000000000000 0000000000000000 0000000000000000\n";
+    assert!(rt; out.written() == want.as_bytes());
+    Ok(())
+}
+
+#[test]
+fn what_is_left_stays(rt: HostRuntime) -> Result<(), Fail> {
+    let alloc = rt.alloc();
+    let mut prompt = MemPrompt::new(alloc, b"where\nquit\nwhere\n")?;
+    let mut out = MemSink::new(alloc);
+    assert!(rt; hold(alloc, &mut prompt, 100, &mut out)?.is_ok());
+    assert!(rt; prompt.left() == "where\n".as_bytes());
+    Ok(())
+}
+
+#[test]
+fn faults_cut_a_session(rt: HostRuntime) -> Result<(), Fail> {
+    let alloc = rt.alloc();
+    let line = "at 0 0000000000010078 addi x10, x0, -100\n";
+    // The number of the line that fails, of the put that fails, and what is put whole.
+    for (line_fails, put_fails, pieces) in [(1, 0, 0), (2, 0, 1), (3, 0, 2), (0, 1, 0), (0, 2, 1)] {
+        let mut prompt = MemPrompt::new(alloc, b"where\nwhere\n")?;
+        let mut out = MemSink::new(alloc);
+        prompt.fail_line(line_fails)?;
+        out.fail_put(put_fails)?;
+        assert!(rt;
+            matches!(
+                hold(alloc, &mut prompt, 100, &mut out)?,
+                Err(PutFail::Failed)
+            )
+        );
+        assert_eq!(rt; out.pieces().len(), pieces);
+        let half = if put_fails == 0 { 0 } else { line.len() / 2 };
+        let whole = line.len().saturating_mul(pieces);
+        assert_eq!(rt; out.written().len(), whole.saturating_add(half));
+    }
+    // Behind `quit` and behind the end no line is asked for, so none fails.
+    for lines in [&b"where\nquit\n"[..], &b"where\n"[..]] {
+        let mut prompt = MemPrompt::new(alloc, lines)?;
+        let mut out = MemSink::new(alloc);
+        prompt.fail_line(3)?;
+        assert!(rt; hold(alloc, &mut prompt, 100, &mut out)?.is_ok());
+    }
+    Ok(())
+}
+
+#[test]
+fn lines_are_counted(rt: HostRuntime) -> Result<(), Fail> {
+    let alloc = rt.alloc();
+    let mut lines = Bytes::new(alloc);
+    for _ in 0..65_538 {
+        lines.push(b'\n')?;
+    }
+    let mut prompt = MemPrompt::new(alloc, lines.as_slice())?;
+    let mut out = MemSink::new(alloc);
+    assert!(rt; hold(alloc, &mut prompt, 100, &mut out)?.is_ok());
+    assert_eq!(rt; out.pieces().len(), 65_536);
+    assert_eq!(rt; prompt.left().len(), 2);
+    Ok(())
+}

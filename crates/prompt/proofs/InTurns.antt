@@ -1,0 +1,165 @@
+-- A conversation, from its turns.
+use Rattle.std.proofs.Common.{◌≡◌, ◌∙◌, ℕ, zero, suc, Bool, true, false, IsTrue, inl, inr, Ok, Err, List, [], ◌∷◌, ◌++◌, append_assoc, append-nil, ap, subst, sym, refl}
+use Rattle.std.specs.Bool.{OnTrue}
+use Rattle.ddc_base.specs.declared.outside.PutFail.{PutFail}
+use Rattle.ddc_base.specs.declared.outside.PutFail.TheVariants as putting
+use Rattle.ddc_base.specs.Outside.{SinkState, after_piece}
+use Rattle.prompt.specs.Prompts.{PromptState, after_line, asked_of, left_after}
+use Rattle.prompt.specs.Converses.{Converses, Exchanged, after_pieces, after_talk}
+use Rattle.prompt.specs.Talks.{Talk, hears, replies, heard, led_by, left_behind, pieces_of, talk}
+use Rattle.prompt.specs.Inside.Turns.{GoesOn, Turns}
+
+-- what is said of a prompt that tells
+both : {P Q R : Type 0} (tells : Bool) → OnTrue tells P → OnTrue tells Q → (IsTrue tells → P → Q → R) → OnTrue tells R
+both true p q f = f refl p q
+both false p q f = tt
+
+told_of : {P Q : Type 0} (tells : Bool) → OnTrue tells P → (IsTrue tells → P → Q) → OnTrue tells Q
+told_of true p f = f refl p
+told_of false p f = tt
+
+always : {P : Type 0} (tells : Bool) → P → OnTrue tells P
+always true p = p
+always false p = tt
+
+moved : (P : Type 0) (tells other : Bool) → tells ≡ other → OnTrue tells P → OnTrue other P
+moved P tells other is p = subst (λ b. OnTrue b P) is p
+
+-- ---- exchanges, one list behind the other
+
+put-more : (done more : Talk) (sink : SinkState) → after_pieces (pieces_of more) (after_pieces (pieces_of done) sink) ≡ after_pieces (pieces_of (done ++ more)) sink
+put-more [] more sink = refl
+put-more (hears left ∷ done) more sink = put-more done more sink
+put-more (replies piece ∷ done) more sink = put-more done more (after_piece piece sink)
+
+behind-more : (done more : Talk) (left : List ℕ) → left_behind more (left_behind done left) ≡ left_behind (done ++ more) left
+behind-more [] more left = refl
+behind-more (hears now ∷ done) more left = behind-more done more now
+behind-more (replies piece ∷ done) more left = behind-more done more left
+
+asked-more : (done more : Talk) (tells : Bool) (left : List ℕ) (faults : ℕ)
+    → after_talk more (after_talk done (record { tells = tells; left = left; faults = faults })) ≡ after_talk (done ++ more) (record { tells = tells; left = left; faults = faults })
+asked-more done more true left faults = ap (λ l. record { tells = true; left = l; faults = faults }) (behind-more done more left)
+asked-more done more false left faults = refl
+
+and_more : (done more : Talk) (before mid after : SinkState) (old at new : PromptState) → Exchanged done before mid old at → Exchanged more mid after at new → Exchanged (done ++ more) before after old new
+and_more done more before mid after old at new first second = record {
+  put = second.put ∙ ap (after_pieces (pieces_of more)) first.put ∙ put-more done more before;
+  asked = second.asked ∙ ap (after_talk more) first.asked ∙ asked-more done more old.tells old.left old.faults;
+}
+
+-- behind a line that was asked for
+left-told : (old new : PromptState) → IsTrue old.tells → new ≡ after_line old → new.left ≡ left_after old.left
+left-told old new told is = ap (λ p. p.left) is ∙ rw told refl
+
+starts : {S : Type 0} (answered : S → List ℕ → List ℕ × S) (state : S) (lines : ℕ) (left : List ℕ)
+    → talk answered state (suc lines) left ≡ hears (left_after left) ∷ led_by answered (λ next. talk answered next lines (left_after left)) state (heard (asked_of left))
+unfolding talk
+starts answered state lines left = refl
+
+module _ {S : Type 0} (answered : S → List ℕ → List ℕ × S) (state : S) (lines : ℕ) (before : SinkState) (old : PromptState) where
+  -- nothing was said yet
+  pub begins : (left : ℕ) → left ≡ lines → GoesOn answered state state lines left before before old old
+  begins left is = record {
+    done = [];
+    held = record { put = refl; asked = unasked old.tells old.left old.faults };
+    told = always old.tells (ap (λ n. talk answered state n old.left) (sym is));
+  } where
+    unasked : (tells : Bool) (left : List ℕ) (faults : ℕ) → record { tells = tells; left = left; faults = faults } ≡ after_talk [] (record { tells = tells; left = left; faults = faults })
+    unasked true left faults = refl
+    unasked false left faults = refl
+
+  module _ (now next : S) (here left : ℕ) (is : here ≡ suc left) (mid after : SinkState) (at new : PromptState) where
+    there : GoesOn answered state now lines here before mid old at → GoesOn answered state now lines (suc left) before mid old at
+    there g = subst (λ n. GoesOn answered state now lines n before mid old at) is g
+
+    tells-stay : (g : GoesOn answered state now lines (suc left) before mid old at) → at.tells ≡ old.tells
+    tells-stay g = ap (λ p. p.tells) g.held.asked
+
+    -- one more turn
+    turned : GoesOn answered state now lines here before mid old at → Turns answered now next mid after at new (Ok true) → GoesOn answered state next lines left before after old new
+    turned at_here t = (let g = there at_here in let turn : Talk = hears (left_after at.left) ∷ replies t.by_result.1 ∷ [] in record {
+      done = g.done ++ turn;
+      held = and_more g.done turn before mid after old at new g.held (record { put = t.by_result.2; asked = t.by_result.0 });
+      told = both old.tells g.told (moved _ at.tells old.tells (tells-stay g) t.by_result.3) (λ told whole one.
+          whole
+          ∙ ap (λ t. g.done ++ t) (one left)
+          ∙ sym (append_assoc g.done turn (talk answered next left (left_after at.left)))
+          ∙ ap (λ l. (g.done ++ turn) ++ talk answered next left l) (sym (left-told at new (tells-stay g ∙ told) t.by_result.0)));
+    })
+
+    -- the last turn
+    ended : GoesOn answered state now lines here before mid old at → Turns answered now next mid after at new (Ok false) → Converses (talk answered state lines) before after old new (Ok tt)
+    ended at_here t = (let g = there at_here in let turn : Talk = hears (left_after at.left) ∷ [] in record {
+      by_result = record {
+        done = g.done ++ turn;
+        held = and_more g.done turn before mid after old at new g.held (record { put = t.by_result.1; asked = t.by_result.0 });
+        told = both old.tells g.told (moved _ at.tells old.tells (tells-stay g) t.by_result.2) (λ told whole one. whole ∙ ap (λ t. g.done ++ t) (one left));
+      };
+    })
+
+    -- a turn that was cut
+    cut : (fail : PutFail) → GoesOn answered state now lines (suc left) before mid old at → Turns answered now next mid after at new (Err fail)
+        → Converses (talk answered state lines) before after old new (Err fail)
+    cut putting.OutOfMemory g t = (let turn : Talk = hears (left_after at.left) ∷ [] in let rest : Talk = led_by answered (λ s. talk answered s left (left_after at.left)) now (heard (asked_of at.left)) in record {
+      by_result = record {
+        done = g.done ++ turn;
+        held = and_more g.done turn before mid after old at new g.held (record { put = t.by_result.1; asked = t.by_result.0 });
+        told = told_of old.tells g.told (λ told whole. (
+          rest,
+          whole ∙ ap (λ t. g.done ++ t) (starts answered now left at.left) ∙ sym (append_assoc g.done turn rest),
+        ));
+      };
+    })
+    cut putting.Failed g t = elim t.by_result as (λ _. Converses (talk answered state lines) before after old new (Err putting.Failed)) [
+      | inl asked ↦ record {
+        by_result = inl (record {
+          done = g.done;
+          between = at;
+          held = record { put = asked.1 ∙ g.held.put; asked = g.held.asked };
+          line = asked.0;
+          told = told_of old.tells g.told (λ told whole. (
+            left_after at.left,
+            led_by answered (λ s. talk answered s left (left_after at.left)) now (heard (asked_of at.left)),
+            whole ∙ ap (λ t. g.done ++ t) (starts answered now left at.left),
+          ));
+        });
+      }
+      | inr put ↦ (let turn : Talk = hears (left_after at.left) ∷ [] in record {
+        by_result = inr (record {
+          done = g.done ++ turn;
+          between = mid;
+          held = and_more g.done turn before mid mid old at new g.held (record { put = refl; asked = put.0 });
+          piece = put.1;
+          put = put.2;
+          told = both old.tells g.told (moved _ at.tells old.tells (tells-stay g) put.3) (λ told whole one. (
+            (one left).0,
+            whole ∙ ap (λ t. g.done ++ t) (one left).1 ∙ sym (append_assoc g.done turn (replies put.1 ∷ (one left).0)),
+          ));
+        });
+      })
+    ]
+
+    pub cut_at : (fail : PutFail) → GoesOn answered state now lines here before mid old at → Turns answered now next mid after at new (Err fail)
+        → Converses (talk answered state lines) before after old new (Err fail)
+    cut_at fail g t = cut fail (there g) t
+
+    -- the same, where a test says which
+    pub turned_at : (goes : Bool) → goes ≡ true → GoesOn answered state now lines here before mid old at → Turns answered now next mid after at new (Ok goes)
+        → GoesOn answered state next lines left before after old new
+    turned_at goes is g t = turned g (subst (λ b. Turns answered now next mid after at new (Ok b)) is t)
+
+    pub ended_at : (goes : Bool) → goes ≡ false → GoesOn answered state now lines here before mid old at → Turns answered now next mid after at new (Ok goes)
+        → Converses (talk answered state lines) before after old new (Ok tt)
+    ended_at goes is g t = ended g (subst (λ b. Turns answered now next mid after at new (Ok b)) is t)
+
+  -- so many lines were answered
+  pub all : (now : S) (left : ℕ) → left ≡ zero → (after : SinkState) (new : PromptState) → GoesOn answered state now lines left before after old new → Converses (talk answered state lines) before after old new (Ok tt)
+  unfolding talk
+  all now left none after new at_left = (let g : GoesOn answered state now lines zero before after old new = subst (λ n. GoesOn answered state now lines n before after old new) none at_left in record {
+    by_result = record {
+      done = g.done;
+      held = g.held;
+      told = told_of old.tells g.told (λ told whole. whole ∙ append-nil g.done);
+    };
+  })

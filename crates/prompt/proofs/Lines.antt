@@ -1,0 +1,156 @@
+-- Lines that are read byte by byte.
+use Rattle.std.proofs.Common.{◌≡◌, ◌≢◌, ◌==◌, ◌+◌, ◌<◌, ◌≤◌, ℕ, suc, Bool, true, false, cond, not, Option, None, Some, List, [], ◌∷◌, ◌++◌, length, take, drop, min, append_assoc, append-nil, refl, sym, ap, subst, ◌∙◌, inl, inr, le_refl, arith}
+use Rattle.std.specs.List.{position}
+use Rattle.std.specs.Io.KnownBytes.{Consumes, IsAtEnd}
+use Rattle.std.proofs.lemmas.Bool.{lt-leb, ne_eqb}
+use Rattle.std.proofs.lemmas.List.Sums.{prefix_len-le-length}
+use Rattle.std.proofs.lemmas.Bool.Decides.{leb_tells}
+use Rattle.std.proofs.lemmas.List.{take_all, drop_all, take-append-le, length-append, nil_from_length}
+use Rattle.std.proofs.Math.Nat.{min-eq_left, min-eq_right}
+use Rattle.std.proofs.Math.Seq.{take-append_seam, drop-append_seam, drop-append-add}
+use Rattle.prompt.specs.declared.asking.Asked.TheVariants.{Line, TooLong, End}
+use Rattle.prompt.specs.Prompts.{asked_of, left_after, line_size}
+use Rattle.prompt.specs.Reading.{GivesLine}
+use Rattle.prompt.specs.Inside.Read.{HasRead, kept_with, whole_line}
+
+abbrev is_lf : ℕ → Bool
+is_lf byte = byte == 10
+
+-- the first LF of what follows bytes without one
+size-after : (front rest : List ℕ) → line_size front ≡ length front → line_size (front ++ rest) ≡ length front + line_size rest
+size-after [] rest plain = omega arith
+size-after (byte ∷ front) rest plain =
+    elim (byte == 10) as (λ b. cond (not b) (1 + line_size front) 0 ≡ suc (length front) → cond (not b) (1 + line_size (front ++ rest)) 0 ≡ suc (length front) + line_size rest) [
+      | true ↦ λ h. absurd (omega (arith, h))
+      | false ↦ λ h. let later = size-after front rest (omega (arith, h)) in omega (arith, later)
+    ] plain
+
+-- what is asked of bytes whose first line has this size
+asked-at : (left front : List ℕ) (line : List ℕ) → line_size left ≡ length front → take (length front) left ≡ front → length left ≢ 0 → line ≡ take 256 front
+    → whole_line line (length front) ≡ asked_of left
+asked-at left front line size is some kept =
+    rw (ne_eqb (length left) 0 some) (rw size (
+    elim (leb_tells (length front) 256) [
+      | inl fits ↦ rw (fits.0) (ap Line (kept ∙ take_all 256 front fits.1 ∙ sym is))
+      | inr long ↦ rw (long.0) refl
+    ]))
+
+-- what is taken in turn
+taken-twice : (old now new : Option (List ℕ)) (first second : List ℕ) → Consumes old now first → Consumes now new second → Consumes old new (first ++ second)
+taken-twice None now new first second a b = tt
+taken-twice (Some left) None new first second a b = absurd a
+taken-twice (Some left) (Some rest) None first second a b = absurd b
+taken-twice (Some left) (Some rest) (Some last) first second a b = a ∙ ap (λ l. first ++ l) b ∙ sym (append_assoc first second last)
+
+-- one more byte was taken
+more : (old now new : Option (List ℕ)) (line next : List ℕ) (count : ℕ) (byte : ℕ) (h : HasRead old now line count) → Consumes now new (byte ∷ []) → (byte == 10) ≡ false
+    → next ≡ take 256 (h.front ++ byte ∷ []) → HasRead old new next (count + 1)
+more old now new line next count byte h c plain is = record {
+  front = h.front ++ byte ∷ [];
+  taken = taken-twice old now new h.front (byte ∷ []) h.taken c;
+  size = length-append h.front (byte ∷ []) ∙ ap (λ n. n + 1) h.size;
+  plain =
+      size-after h.front (byte ∷ []) h.plain
+      ∙ ap (λ (n : ℕ). length h.front + n) (rw plain refl)
+      ∙ sym (length-append h.front (byte ∷ []));
+  kept = is;
+}
+
+-- and kept, or passed over
+pushed : (old now new : Option (List ℕ)) (line next : List ℕ) (count : ℕ) (byte : ℕ) → HasRead old now line count → Consumes now new (byte ∷ []) → (byte == 10) ≡ false
+    → count < 256 → next ≡ line ++ byte ∷ [] → HasRead old new next (count + 1)
+pushed old now new line next count byte h c plain few is =
+    let size : length h.front < 256 = subst (λ n. n < 256) (sym h.size) few in
+    let grown : length (h.front ++ byte ∷ []) ≤ 256 = (let sum = length-append h.front (byte ∷ []) in omega (arith, sum, size)) in
+    more old now new line next count byte h c plain
+    (is ∙ ap (λ l. l ++ byte ∷ []) (h.kept ∙ take_all 256 h.front (omega (arith, size))) ∙ sym (take_all 256 (h.front ++ byte ∷ []) grown))
+
+passed : (old now new : Option (List ℕ)) (line : List ℕ) (count : ℕ) (byte : ℕ) → HasRead old now line count → Consumes now new (byte ∷ []) → (byte == 10) ≡ false
+    → 256 ≤ count → HasRead old new line (count + 1)
+passed old now new line count byte h c plain many =
+    let size : 256 ≤ length h.front = subst (λ n. 256 ≤ n) (sym h.size) many in
+    more old now new line line count byte h c plain (h.kept ∙ sym (take-append-le 256 h.front (byte ∷ []) size))
+
+pub read-more : (old now new : Option (List ℕ)) (line next : List ℕ) (count : ℕ) (byte : ℕ) → HasRead old now line count → Consumes now new (byte ∷ []) → byte ≢ 10 → next ≡ kept_with line byte count
+    → HasRead old new next (count + 1)
+read-more old now new line next count byte h c plain is =
+    elim (leb_tells (suc count) 256) [
+      | inl few ↦ pushed old now new line next count byte h c (ne_eqb byte 10 plain) few.1 (is ∙ ap (λ (b : Bool). cond b (line ++ byte ∷ []) line) few.0)
+      | inr many ↦
+          subst (λ l. HasRead old new l (count + 1)) (sym (is ∙ ap (λ (b : Bool). cond b (line ++ byte ∷ []) line) many.0))
+          (passed old now new line count byte h c (ne_eqb byte 10 plain) (omega (arith, many.1)))
+    ]
+
+-- at most 256 bytes are kept
+pub kept-few : (old now : Option (List ℕ)) (line : List ℕ) (count : ℕ) → HasRead old now line count → count < 256 → length line < 256
+kept-few old now line count h few =
+    let size : length h.front < 256 = subst (λ n. n < 256) (sym h.size) few in
+    subst (λ l. length l < 256) (sym (h.kept ∙ take_all 256 h.front (omega (arith, size)))) size
+
+-- the line ends in an LF
+pub ends : (old now new : Option (List ℕ)) (line : List ℕ) (count : ℕ) → HasRead old now line count → Consumes now new (10 ∷ []) → count < 65_536 → GivesLine old new (whole_line line count)
+ends None now new line count h c few = tt
+ends (Some left) None new line count h c few = absurd h.taken
+ends (Some left) (Some rest) None line count h c few = absurd c
+ends (Some left) (Some rest) (Some last) line count h c few =
+    let all : left ≡ h.front ++ 10 ∷ last = h.taken ∙ ap (λ l. h.front ++ l) c in
+    let size : line_size left ≡ length h.front = ap line_size all ∙ size-after h.front (10 ∷ last) h.plain ∙ omega arith in
+    let some : length left ≢ 0 = λ none. (let sum = ap length all ∙ length-append h.front (10 ∷ last) in omega (arith, none, sum)) in
+    let is : take (length h.front) left ≡ h.front = ap (take (length h.front)) all ∙ take-append_seam h.front (10 ∷ last) in
+    let few : length h.front < 65_536 = subst (λ n. n < 65_536) (sym h.size) few in (
+      ap (whole_line line) (sym h.size) ∙ asked-at left h.front line size is some h.kept,
+      sym (
+          ap (λ n. drop (min (n + 1) 65_536) left) size
+          ∙ ap (λ n. drop n left) (min-eq_left {n = length h.front + 1} {m = 65_536} (omega (arith, few)))
+          ∙ ap (drop (length h.front + 1)) all ∙ drop-append-add h.front (10 ∷ last) 1),
+    )
+
+-- the input ends
+pub stops : (old now new : Option (List ℕ)) (line : List ℕ) (count : ℕ) → HasRead old now line count → Consumes now new [] → IsAtEnd new → count ≢ 0 → count < 65_536 → GivesLine old new (whole_line line count)
+stops None now new line count h c end some few = tt
+stops (Some left) None new line count h c end some few = absurd h.taken
+stops (Some left) (Some rest) None line count h c end some few = absurd c
+stops (Some left) (Some rest) (Some last) line count h c end some few =
+    let all : left ≡ h.front = h.taken ∙ ap (λ l. h.front ++ l) (c ∙ end) ∙ append-nil h.front in
+    let size : line_size left ≡ length h.front = ap line_size all ∙ h.plain in
+    let some : length left ≢ 0 = λ none. some (sym h.size ∙ ap length (sym all) ∙ none) in
+    let is : take (length h.front) left ≡ h.front = ap (take (length h.front)) all ∙ take_all (length h.front) h.front (le_refl (length h.front)) in
+    let few : length h.front < 65_536 = subst (λ n. n < 65_536) (sym h.size) few in (
+      ap (whole_line line) (sym h.size) ∙ asked-at left h.front line size is some h.kept,
+      end ∙ sym (
+          ap (λ n. drop (min (n + 1) 65_536) left) size
+          ∙ ap (λ n. drop n left) (min-eq_left {n = length h.front + 1} {m = 65_536} (omega (arith, few)))
+          ∙ ap (drop (length h.front + 1)) all ∙ drop_all (length h.front + 1) h.front (omega arith)),
+    )
+
+pub nothing : (old now new : Option (List ℕ)) (line : List ℕ) (count : ℕ) → HasRead old now line count → Consumes now new [] → IsAtEnd new → count ≡ 0 → GivesLine old new End
+nothing None now new line count h c end none = tt
+nothing (Some left) None new line count h c end none = absurd h.taken
+nothing (Some left) (Some rest) None line count h c end none = absurd c
+nothing (Some left) (Some rest) (Some last) line count h c end none =
+    let all : left ≡ h.front = h.taken ∙ ap (λ l. h.front ++ l) (c ∙ end) ∙ append-nil h.front in
+    let empty : left ≡ [] = all ∙ nil_from_length h.front (h.size ∙ none) in
+    (sym (ap asked_of empty), end ∙ sym (ap left_after empty))
+
+-- the line is cut
+pub cut : (old now : Option (List ℕ)) (line : List ℕ) (count : ℕ) → HasRead old now line count → count ≡ 65_536 → GivesLine old now TooLong
+cut None now line count h all = tt
+cut (Some left) None line count h all = absurd h.taken
+cut (Some left) (Some rest) line count h all =
+    let size : line_size left ≡ length h.front + line_size rest = ap line_size h.taken ∙ size-after h.front rest h.plain in
+    let many : length h.front ≡ 65_536 = h.size ∙ all in
+    let some : length left ≢ 0 = λ none. (let sum = ap length h.taken ∙ length-append h.front rest in omega (arith, none, sum, many)) in (
+      sym (rw (ne_eqb (length left) 0 some) (rw size (rw (lt-leb (length h.front + line_size rest) 256 (omega (arith, many))) refl))),
+      sym (
+          ap (λ n. drop (min (n + 1) 65_536) left) size
+          ∙ ap (λ n. drop n left) (min-eq_right {n = 65_536} {m = length h.front + line_size rest + 1} (omega (arith, many)) ∙ sym many)
+          ∙ ap (drop (length h.front)) h.taken ∙ drop-append_seam h.front rest),
+    )
+
+-- no LF is there
+pub no-lf : (left : List ℕ) → None ≡ position is_lf left → length left ≡ line_size left
+no-lf left none =
+    elim (leb_tells (suc (line_size left)) (length left)) [
+      | inl there ↦ absurd (let some : None ≡ Some (line_size left) = none ∙ ap (λ (b : Bool). cond b (Some (line_size left)) None) there.0 in cc)
+      | inr not_there ↦ (let fits = prefix_len-le-length (λ b. not (is_lf b)) left in omega (arith, not_there.1, fits))
+    ]

@@ -1,0 +1,3 @@
+pub mod Host
+pub mod Read
+pub mod Turns

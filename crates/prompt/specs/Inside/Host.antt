@@ -1,0 +1,6 @@
+-- What the host's input is seen as: it tells nothing but what has failed.
+use Rattle.std.specs.Prelude.{ℕ, false, []}
+use Rattle.prompt.specs.Prompts.{PromptState}
+
+abbrev pub untold_prompt : ℕ → PromptState
+untold_prompt faults = record { tells = false; left = []; faults = faults }

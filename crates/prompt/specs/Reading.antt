@@ -1,0 +1,16 @@
+-- What is read of a reader that tells what it has left (`remaining` of std's `Read`), line by line.
+use Rattle.std.specs.Prelude.{◌≡◌, ℕ, Option, None, Some, List, [], ◌∷◌}
+use Rattle.std.specs.Io.KnownBytes.{Consumes, IsAtEnd}
+use Rattle.prompt.specs.declared.asking.Asked.{Asked}
+use Rattle.prompt.specs.Prompts.{asked_of, left_after}
+
+-- the next byte was taken, or there is none
+abbrev pub TakesByte : Option (List ℕ) → Option (List ℕ) → Option ℕ → Type 0
+TakesByte old new (Some byte) = Consumes old new (byte ∷ [])
+TakesByte old new None = Consumes old new [] × IsAtEnd new
+
+-- what was given is the first line of what the reader had left, and that line was taken
+abbrev pub GivesLine : Option (List ℕ) → Option (List ℕ) → Asked → Type 0
+GivesLine None new asked = Unit {0}
+GivesLine (Some left) None asked = ⊥
+GivesLine (Some left) (Some rest) asked = (asked ≡ asked_of left) × (rest ≡ left_after left)

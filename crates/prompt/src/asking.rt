@@ -1,0 +1,88 @@
+ghost use Rattle.std.specs.Prelude.{◌≡◌, ◌≤◌, IfOk, length};
+ghost use Rattle.std.specs.Bool.{OnTrue};
+ghost use Rattle.prompt.specs.Prompts.{PromptState, LineLeaves, asked_of};
+
+use arrayvec::ArrayVec;
+use std::marker::Model;
+
+/// The prompt failed, and counts it.
+#[derive(Clone, Copy, Debug, PartialEq, Eq)]
+pub struct Failed;
+
+/// A line of at most 256 bytes, without its LF, in a buffer that takes no memory.
+#[derive(Debug, Drop)]
+pub struct Line {
+    bytes: ArrayVec<u8, 256>,
+}
+
+impl Model for Line {
+    ghost use Rattle.std.specs.Prelude.{ℕ, List, ◌≤◌, length};
+
+    ghost Value = { List ℕ };
+
+    ghost view = { λ line. line.bytes.items };
+
+    ghost invariant = { λ line. length line.bytes.items ≤ 256 };
+}
+
+impl Line {
+    ghost use Rattle.std.specs.Prelude.{◌++◌, ◌∷◌, ◌<◌, []};
+
+    /// A line of these bytes.
+    pub fn of(bytes: &[u8]) -> Line
+        requires { length bytes.now ≤ 256 }
+        ensures { result ≡ bytes.now }
+    {
+        let mut kept = ArrayVec::new();
+        kept.try_extend_from_slice(bytes).unwrap();
+        Line { bytes: kept }
+    }
+
+    /// The empty line.
+    pub(crate) fn empty() -> Line
+        ensures { result ≡ [] }
+    {
+        Line {
+            bytes: ArrayVec::new(),
+        }
+    }
+
+    /// Adds a byte at the end.
+    pub(crate) fn push(&mut self, byte: u8)
+        requires { length self.old < 256 }
+        ensures { self.new ≡ self.old ++ byte ∷ [] }
+    {
+        self.bytes.push(byte);
+    }
+
+    /// The bytes of the line.
+    pub fn as_slice(&self) -> &[u8]
+        ensures bytes { result.now ≡ self.now }
+        ensures short { length result.now ≤ 256 }
+    {
+        self.bytes.as_slice()
+    }
+}
+
+/// What a prompt gives.
+#[derive(Debug, Drop)]
+pub enum Asked {
+    /// A line of at most 256 bytes.
+    Line(Line),
+    /// A longer line, of which at most 65,536 bytes were taken.
+    TooLong,
+    /// Nothing is left.
+    End,
+}
+
+/// Lines that are asked for one by one, as a terminal gives them. docs/reference/outside.md has the rules.
+///
+/// Clauses on content hold where the prompt tells what it has left. Every prompt counts its failed calls in 64 bits.
+pub trait Prompt {
+    ghost state: { Self → PromptState };
+
+    /// The next line. It takes no memory.
+    fn line(&mut self) -> Result<Asked, Failed>
+        ensures told { OnTrue (state self.old).tells (IfOk result (λ asked. asked ≡ asked_of (state self.old).left)) }
+        ensures leaves { LineLeaves (state self.old) result (state self.new) };
+}

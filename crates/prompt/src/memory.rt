@@ -1,0 +1,140 @@
+ghost use Rattle.std.specs.Prelude.{◌≡◌, ◌++◌, ◌∷◌, ◌≤◌, ◌==◌, ◌<◌, [], IfOk, IfSome, OnErr, OnOk, drop, length};
+ghost use Rattle.std.specs.Bool.{OnTrue};
+ghost use Rattle.std.specs.List.{list_any, position};
+ghost use Rattle.prompt.specs.Memory.{AsksHeld, prompt_over, prompt_state};
+ghost use Rattle.prompt.specs.Prompts.{LineLeaves, asked_of, left_after, line_size, bytes_taken};
+
+use crate::asking::{Asked, Failed, Line, Prompt};
+use ddc_base::{Bytes, OutOfMemory};
+use std::alloc::Global;
+use std::marker::Model;
+
+/// A prompt in memory, which tells everything. Lines that are named by their number, from 1, fail after half of their bytes.
+#[derive(Debug, Drop)]
+pub struct MemPrompt {
+    bytes: Bytes,
+    at: usize,
+    lines: u64,
+    failing_lines: Vec<u64>,
+    faults: u64,
+}
+
+impl Model for MemPrompt {
+    ghost use Rattle.std.specs.Prelude.{◌≤◌, drop, length};
+    ghost use Rattle.prompt.specs.Memory.{MemoryPrompt};
+
+    ghost Value = { MemoryPrompt };
+
+    ghost view = { λ p. record { left = drop p.at p.bytes; lines = p.lines; failing_lines = p.failing_lines.items; faults = p.faults } };
+
+    ghost invariant = { λ p. p.at ≤ length p.bytes };
+}
+
+/// Where the first LF is.
+fn place_of_lf(left: &[u8]) -> Option<usize>
+    ensures value { result ≡ position (λ byte. byte == 10) left.now }
+    ensures within { IfSome result (λ at. at < length left.now) }
+{
+    left.iter().position(|byte| *byte == b'\n')
+}
+
+/// The bytes before the first LF, or all where there is none.
+fn line_size(left: &[u8]) -> usize
+    ensures size { result ≡ line_size left.now }
+    ensures within { result ≤ length left.now }
+{
+    match place_of_lf(left) {
+        Some(at) => at,
+        None => left.len(),
+    }
+}
+
+/// What a line call gives of these bytes.
+fn asked(left: &[u8]) -> Asked
+    ensures { result ≡ asked_of left.now }
+{
+    if left.len() == 0 {
+        return Asked::End;
+    }
+    let size = line_size(left);
+    if size <= 256 {
+        Asked::Line(Line::of(&left[..size]))
+    } else {
+        Asked::TooLong
+    }
+}
+
+/// How many bytes a line call takes of these.
+fn bytes_taken(left: &[u8]) -> usize
+    ensures value { result ≡ bytes_taken left.now }
+{
+    line_size(left).saturating_add(1).min(65_536)
+}
+
+/// Whether the call with this number is one of those that are to fail.
+fn is_due(number: u64, failing: &[u64]) -> bool
+    ensures { result ≡ list_any (λ k. k == number) failing.now }
+{
+    failing.contains(&number)
+}
+
+impl MemPrompt {
+    /// A prompt that has these bytes left, on which no call fails.
+    pub fn new(alloc: Global, bytes: &[u8]) -> Result<MemPrompt, OutOfMemory>
+        ensures { IfOk result (λ prompt. prompt ≡ prompt_over bytes.now) }
+    {
+        Ok(MemPrompt {
+            bytes: Bytes::from_slice(alloc, bytes)?,
+            at: 0,
+            lines: 0,
+            failing_lines: Vec::new(alloc),
+            faults: 0,
+        })
+    }
+
+    /// The bytes that are left.
+    pub fn left(&self) -> &[u8]
+        ensures { result.now ≡ self.now.left }
+    {
+        &self.bytes.as_slice()[self.at..]
+    }
+
+    /// Says that the `k`-th line, counted from 1, is to fail.
+    pub fn fail_line(&mut self, k: u64) -> Result<(), OutOfMemory>
+        ensures ok { OnOk result (self.new ≡ record self.old { failing_lines = self.old.failing_lines ++ k ∷ [] }) }
+        ensures err { OnErr result (self.new ≡ self.old) }
+    {
+        self.failing_lines.push(k)?;
+        Ok(())
+    }
+
+    /// Takes so many bytes, or all where fewer are left.
+    fn take(&mut self, count: usize)
+        ensures { self.new ≡ record self.old { left = drop count self.old.left } }
+    {
+        self.at += count.min(self.bytes.len() - self.at);
+    }
+}
+
+impl Prompt for MemPrompt {
+    ghost state = { prompt_state };
+
+    fn line(&mut self) -> Result<Asked, Failed>
+        ensures told { OnTrue (prompt_state self.old).tells (IfOk result (λ asked. asked ≡ asked_of (prompt_state self.old).left)) }
+        ensures leaves { LineLeaves (prompt_state self.old) result (prompt_state self.new) }
+        ensures exact { AsksHeld self.old result self.new }
+    {
+        let number = self.lines.saturating_add(1);
+        let size = bytes_taken(self.left());
+        if is_due(number, &self.failing_lines) {
+            self.take(size / 2);
+            self.lines = number;
+            self.faults = self.faults.saturating_add(1);
+            return Err(Failed);
+        }
+        let asked = asked(self.left());
+        self.take(size);
+        self.lines = number;
+        Ok(asked)
+    }
+}
