@@ -280,39 +280,6 @@ fn a_failed_put_leaves_the_report(rt: HostRuntime) -> Result<(), Fail> {
     Ok(())
 }
 
-/// The recipe is load 1, the inputs are loads 2 to 5, and the report is save 1.
-#[test]
-fn faults_of_the_shelf_are_said(rt: HostRuntime) -> Result<(), Fail> {
-    let alloc = rt.alloc();
-    let table: [(u64, &str); 5] = [
-        (1, "shelf fault a.toml\n"),
-        (2, "shelf fault copy.elf\n"),
-        (3, "shelf fault copy.hex0\n"),
-        (4, "shelf fault a.bin\n"),
-        (5, "shelf fault b.bin\n"),
-    ];
-    for (failing_load, text) in table {
-        let mut shelf = audit_shelf(alloc, "", "")?;
-        shelf.fail_load(failing_load)?;
-        let mut out = MemSink::new(alloc);
-        assert_eq!(rt;
-            run(alloc, &["audit", "a.toml", "r"], &mut shelf, &mut out)?,
-            Status::ShelfFault
-        );
-        assert_eq!(rt; out.written(), text.as_bytes());
-        assert!(rt; shelf.get("r").is_none());
-    }
-    let mut shelf = audit_shelf(alloc, "", "")?;
-    shelf.fail_save(1)?;
-    let mut out = MemSink::new(alloc);
-    assert_eq!(rt;
-        run(alloc, &["audit", "a.toml", "r"], &mut shelf, &mut out)?,
-        Status::ShelfFault
-    );
-    assert_eq!(rt; out.written(), "shelf fault r\n".as_bytes());
-    Ok(())
-}
-
 #[test]
 fn the_words_of_an_audit_are_judged(rt: HostRuntime) -> Result<(), Fail> {
     let alloc = rt.alloc();

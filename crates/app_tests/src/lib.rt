@@ -9,6 +9,8 @@ mod audits;
 mod causes;
 pub mod copying;
 #[cfg(test)]
+mod faults;
+#[cfg(test)]
 mod pauses;
 #[cfg(test)]
 mod sessions;

@@ -2,6 +2,7 @@
 
 use crate::exit_program::EXIT;
 use elf_load::*;
+use std::alloc::{AllocError, Global};
 use std::test::Fail;
 
 #[test]
@@ -37,6 +38,57 @@ fn refuses_altered_programs(rt: HostRuntime) -> Result<(), Fail> {
     assert!(rt; refusal_of(&EXIT[..63]) == Some(ElfRefusal::Short));
     for &(index, byte, refusal) in &ALTERED {
         assert!(rt; refusal_of(&altered(index, byte)) == Some(refusal));
+    }
+    Ok(())
+}
+
+/// exit.elf has a header of 64 bytes, one program header of 56 behind it, and a segment of all its 132 bytes.
+#[test]
+fn refuses_programs_that_are_cut(rt: HostRuntime) -> Result<(), Fail> {
+    for size in 0..EXIT.len() {
+        let refusal = match size {
+            0..64 => ElfRefusal::Short,
+            64..120 => ElfRefusal::HeaderRange,
+            _ => ElfRefusal::SegmentRange,
+        };
+        assert!(&rt; refusal_of(&EXIT[..size]) == Some(refusal));
+    }
+    Ok(())
+}
+
+/// exit.elf with its program header so many times, and the number of headers in its header.
+fn repeated(alloc: Global, count: u8) -> Result<Vec<u8>, AllocError> {
+    let mut file = Vec::new(alloc);
+    for byte in &EXIT[..120] {
+        file.push(*byte)?;
+    }
+    if let Some(place) = file.get_mut(56) {
+        *place = count;
+    }
+    for _ in 1..count {
+        for byte in &EXIT[64..120] {
+            file.push(*byte)?;
+        }
+    }
+    for byte in &EXIT[120..] {
+        file.push(*byte)?;
+    }
+    Ok(file)
+}
+
+/// At most 16 segments are loaded, and no two of them lie on one page; that they are too many comes first.
+#[test]
+fn refuses_repeated_headers(rt: HostRuntime) -> Result<(), Fail> {
+    let alloc = rt.alloc();
+    let table = [
+        (1, None),
+        (2, Some(ElfRefusal::Overlap)),
+        (16, Some(ElfRefusal::Overlap)),
+        (17, Some(ElfRefusal::TooMany)),
+    ];
+    for (count, refusal) in table {
+        let file = repeated(alloc, count)?;
+        assert!(&rt; refusal_of(file.as_slice()) == refusal);
     }
     Ok(())
 }

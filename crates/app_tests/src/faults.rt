@@ -1,0 +1,266 @@
+//! Files that are cut, and calls of the outside that fail, each with the same call again over what it left.
+//! What they come to was written down from docs/reference/command-line.md.
+
+use crate::audits::{REPORT, audit_shelf};
+use ddc_app::Status;
+use ddc_base::{Bytes, MemShelf, MemSink, OutOfMemory};
+use meaning::Assembly;
+use prompt::MemPrompt;
+use std::alloc::Global;
+use std::process::Abort;
+use std::test::Fail;
+
+/// What a session is asked: the first line's reply is the put that fails, and the second line is left for the same call again.
+const LINES: &[u8] = b"where\nwhere\n";
+
+/// A status and a text.
+type Answer = (Status, &'static str);
+
+/// Runs words, and compares their status and the text that was put, behind half of the text where its put was to fail.
+fn says(
+    rt: &impl Abort,
+    alloc: Global,
+    shelf: &mut MemShelf,
+    words: &[&str],
+    (status, text): Answer,
+) -> Result<(), OutOfMemory> {
+    let mut out = MemSink::new(alloc);
+    let mut prompt = MemPrompt::new(alloc, LINES)?;
+    assert_eq!(rt;
+        ddc_app::run::<Assembly, _, _, _>(alloc, words, shelf, &mut out, &mut prompt),
+        status
+    );
+    assert_eq!(rt; out.written(), text.as_bytes(), "{words:?}");
+    Ok(())
+}
+
+/// The worked report, and what the worked recipe's audit says.
+const EQUAL: Answer = (Status::Yes, "equal two bin 3\n");
+
+/// The worked files, with the report and, where steps are named, the save of a piece of the audit.
+fn shelf_with(rt: &impl Abort, alloc: Global, steps: &str) -> Result<MemShelf, OutOfMemory> {
+    let mut shelf = audit_shelf(alloc, "", "")?;
+    let words = ["part", "a.toml", "s", "r", steps];
+    says(rt, alloc, &mut shelf, &words, PAUSED)?;
+    shelf.set("r", REPORT.as_bytes())?;
+    Ok(shelf)
+}
+
+const PAUSED: Answer = (Status::Paused, "paused two 31\n");
+
+/// The text's first lines, so many of them.
+fn first_lines(alloc: Global, text: &str, count: usize) -> Result<Bytes, OutOfMemory> {
+    let mut cut = Bytes::new(alloc);
+    for line in text.lines().take(count) {
+        cut.extend(line.as_bytes())?;
+        cut.extend(b"\n")?;
+    }
+    Ok(cut)
+}
+
+/// The worked report has 22 lines. Of its first n - 1 lines, whole or with a part of the next, line n is the first that begins no report.
+static REFUSED: [&str; 22] = [
+    "report line 1\n",
+    "report line 2\n",
+    "report line 3\n",
+    "report line 4\n",
+    "report line 5\n",
+    "report line 6\n",
+    "report line 7\n",
+    "report line 8\n",
+    "report line 9\n",
+    "report line 10\n",
+    "report line 11\n",
+    "report line 12\n",
+    "report line 13\n",
+    "report line 14\n",
+    "report line 15\n",
+    "report line 16\n",
+    "report line 17\n",
+    "report line 18\n",
+    "report line 19\n",
+    "report line 20\n",
+    "report line 21\n",
+    "report line 22\n",
+];
+
+#[test]
+fn cut_reports_are_refused_at_their_line(rt: HostRuntime) -> Result<(), Fail> {
+    let alloc = rt.alloc();
+    assert_eq!(&rt; REPORT.lines().count(), REFUSED.len());
+    for (whole, text) in REFUSED.iter().enumerate() {
+        let mut cut = first_lines(alloc, REPORT, whole)?;
+        let refused = (Status::ReportRefused, *text);
+        for _ in 0..2 {
+            let mut shelf = audit_shelf(alloc, "", "")?;
+            shelf.set("r", cut.as_slice())?;
+            says(&rt, alloc, &mut shelf, &["show", "r"], refused)?;
+            says(&rt, alloc, &mut shelf, &["verify", "a.toml", "r"], refused)?;
+            // A part of the next line, without its end.
+            cut.extend(
+                REPORT
+                    .as_bytes()
+                    .get(cut.len()..cut.len() + 2)
+                    .unwrap_or(b""),
+            )?;
+        }
+    }
+    Ok(())
+}
+
+/// A save's first field has 8 bytes, and its second the recipe's digest of 32.
+#[test]
+fn saves_that_end_in_the_digest_are_refused(rt: HostRuntime) -> Result<(), Fail> {
+    let alloc = rt.alloc();
+    let whole = shelf_with(&rt, alloc, "63")?;
+    let save = whole.get("s").unwrap_or(b"");
+    for size in 0..40 {
+        let mut shelf = audit_shelf(alloc, "", "")?;
+        shelf.set("s", save.get(..size).unwrap_or(save))?;
+        let words = ["resume", "a.toml", "s", "r", "1"];
+        says(
+            &rt,
+            alloc,
+            &mut shelf,
+            &words,
+            (Status::SaveRefused, "save refused 1\n"),
+        )?;
+        assert!(&rt; shelf.get("r").is_none());
+    }
+    Ok(())
+}
+
+/// The recipe is load 1, and the inputs are loads 2 to 5.
+static LOADS: [(u64, &str); 5] = [
+    (1, "shelf fault a.toml\n"),
+    (2, "shelf fault copy.elf\n"),
+    (3, "shelf fault copy.hex0\n"),
+    (4, "shelf fault a.bin\n"),
+    (5, "shelf fault b.bin\n"),
+];
+
+/// Whether two shelves hold the same under each of these names.
+fn are_alike(one: &MemShelf, other: &MemShelf, names: &[&str]) -> bool {
+    names.iter().all(|name| one.get(name) == other.get(name))
+}
+
+static NAMES: [&str; 9] = [
+    "a.toml",
+    "copy.elf",
+    "copy.hex0",
+    "a.bin",
+    "b.bin",
+    "altered.hex0",
+    "exit.elf",
+    "r",
+    "s",
+];
+
+#[test]
+fn a_failed_load_of_an_audit_passes(rt: HostRuntime) -> Result<(), Fail> {
+    let alloc = rt.alloc();
+    for (load, text) in LOADS {
+        let fresh = audit_shelf(alloc, "", "")?;
+        let mut shelf = audit_shelf(alloc, "", "")?;
+        shelf.fail_load(load)?;
+        let words = ["audit", "a.toml", "r"];
+        says(&rt, alloc, &mut shelf, &words, (Status::ShelfFault, text))?;
+        assert!(&rt; are_alike(&shelf, &fresh, &NAMES));
+        says(&rt, alloc, &mut shelf, &words, EQUAL)?;
+        assert_eq!(&rt; shelf.get("r").unwrap_or(b""), REPORT.as_bytes());
+    }
+    Ok(())
+}
+
+#[test]
+fn a_failed_save_of_an_audit_passes(rt: HostRuntime) -> Result<(), Fail> {
+    let alloc = rt.alloc();
+    let fresh = audit_shelf(alloc, "", "")?;
+    let mut shelf = audit_shelf(alloc, "", "")?;
+    shelf.fail_save(1)?;
+    let words = ["audit", "a.toml", "r"];
+    says(
+        &rt,
+        alloc,
+        &mut shelf,
+        &words,
+        (Status::ShelfFault, "shelf fault r\n"),
+    )?;
+    assert!(&rt; are_alike(&shelf, &fresh, &NAMES[..7]));
+    assert!(&rt; shelf.get("s").is_none());
+    says(&rt, alloc, &mut shelf, &words, EQUAL)?;
+    assert_eq!(&rt; shelf.get("r").unwrap_or(b""), REPORT.as_bytes());
+    Ok(())
+}
+
+/// A call of each command, its status and its text.
+static GOOD: [(&[&str], Status, &str); 11] = [
+    (
+        &["hex0", "copy.hex0", "copy.elf"],
+        Status::Yes,
+        "equal 232\n",
+    ),
+    (
+        &["asm", "hex0", "0", "copy.hex0", "made"],
+        Status::Yes,
+        "made 232\n",
+    ),
+    (&["list", "a.bin"], Status::Yes, "00000000 rest 616263\n"),
+    (
+        &["run", "exit.elf", "10"],
+        Status::Yes,
+        "exited 0 step 3\n\
+         stream 1 0 e3b0c44298fc1c149afbf4c8996fb92427ae41e4649b934ca495991b7852b855\n\
+         stream 2 0 e3b0c44298fc1c149afbf4c8996fb92427ae41e4649b934ca495991b7852b855\n",
+    ),
+    (&["audit", "a.toml", "r"], Status::Yes, "equal two bin 3\n"),
+    (
+        &["part", "a.toml", "t", "r", "63"],
+        Status::Paused,
+        "paused two 31\n",
+    ),
+    (
+        &["resume", "a.toml", "s", "r", "1"],
+        Status::Yes,
+        "equal two bin 3\n",
+    ),
+    (
+        &["verify", "a.toml", "r"],
+        Status::Yes,
+        "yes\nequal two bin 3\n",
+    ),
+    (&["show", "r"], Status::Yes, REPORT),
+    (
+        &["step", "a.toml", "two"],
+        Status::Yes,
+        "at 0 0000000000010078 addi x10, x0, -100\n",
+    ),
+    (&["demo", "5"], Status::Yes, "demo 5 steps 64 equal yes\n"),
+];
+
+/// The first put fails behind half of its piece; the same call on the same shelf, output and input then has its good answer.
+#[test]
+fn a_failed_put_passes(rt: HostRuntime) -> Result<(), Fail> {
+    let alloc = rt.alloc();
+    for &(words, status, text) in &GOOD {
+        let mut shelf = shelf_with(&rt, alloc, "63")?;
+        let mut out = MemSink::new(alloc);
+        out.fail_put(1)?;
+        let mut prompt = MemPrompt::new(alloc, LINES)?;
+        assert_eq!(&rt;
+            ddc_app::run::<Assembly, _, _, _>(alloc, words, &mut shelf, &mut out, &mut prompt),
+            Status::OutFault
+        );
+        let half = text.as_bytes().get(..text.len() / 2).unwrap_or(b"");
+        assert_eq!(&rt; out.written(), half);
+        assert_eq!(&rt;
+            ddc_app::run::<Assembly, _, _, _>(alloc, words, &mut shelf, &mut out, &mut prompt),
+            status
+        );
+        assert_eq!(&rt;
+            out.written().get(half.len()..).unwrap_or(b""),
+            text.as_bytes()
+        );
+    }
+    Ok(())
+}
