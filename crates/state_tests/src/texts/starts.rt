@@ -153,3 +153,43 @@ fn a_step_with_another_byte_is_refused(rt: HostRuntime) -> Result<(), Fail> {
     );
     Ok(())
 }
+
+/// The lengths of the text's fields: rows of so many fields of one length.
+static FIELDS: [(u32, usize); 14] = [
+    (34, 8),
+    (1, 1),
+    (3, 8),
+    (7, 4),
+    (1, 4_096),
+    (1, 4),
+    (1, 4_096),
+    (3, 4),
+    (1, 1),
+    (1, 4),
+    (1, 1),
+    (1, 4),
+    (1, 1),
+    (2, 4),
+];
+
+/// Whether a text that ends inside a field is wrong where that begins.
+fn is_wrong_at(alloc: Global, text: &[u8], begin: usize, end: usize) -> bool {
+    let wanted = Some(StateRefusal::Form(begin as u64));
+    (begin..end).all(|size| refusal(alloc, text.get(..size).unwrap_or(text)) == wanted)
+}
+
+#[test]
+fn a_step_that_is_cut_is_wrong_at_its_field(rt: HostRuntime) -> Result<(), Fail> {
+    let alloc = rt.alloc();
+    let text = text_of(alloc, STEPPED)?;
+    let mut at = 0usize;
+    for (count, size) in FIELDS {
+        for _ in 0..count {
+            let end = at.saturating_add(size);
+            assert!(&rt; is_wrong_at(alloc, &text, at, end), "{at}");
+            at = end;
+        }
+    }
+    assert_eq!(&rt; at, text.len());
+    Ok(())
+}
