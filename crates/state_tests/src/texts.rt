@@ -11,6 +11,8 @@ mod pieces;
 #[cfg(test)]
 mod saves;
 #[cfg(test)]
+mod segments;
+#[cfg(test)]
 mod starts;
 #[cfg(test)]
 mod states;

@@ -10,7 +10,7 @@ use std::process::Abort;
 use std::test::Fail;
 
 /// The program's text after one step, with the argument `x` and a heap of at most 4,096 bytes.
-static STEPPED: &[Piece] = &[
+pub(crate) static STEPPED: &[Piece] = &[
     Text(b"ddcstat2"),
     N8(1),
     N8(0x1007c),
@@ -66,7 +66,7 @@ static STEPPED: &[Piece] = &[
 ];
 
 /// exit.elf, as it stands in its page.
-fn program() -> &'static [u8] {
+pub(crate) fn program() -> &'static [u8] {
     match STEPPED.get(17) {
         Some(Text(bytes)) => bytes,
         _ => &[],
@@ -74,7 +74,7 @@ fn program() -> &'static [u8] {
 }
 
 /// The text of the program after one step.
-fn stepped(alloc: Global) -> Result<Bytes, Fail> {
+pub(crate) fn stepped(alloc: Global) -> Result<Bytes, Fail> {
     let mut setting = RunBox::new(alloc, 4_096);
     setting.push_arg(b"x")?;
     match Guest::<RunRam>::start(alloc, program(), &setting) {

@@ -1,0 +1,79 @@
+-- What the run of one piece answers.
+use Rattle.std.proofs.Common.{◌≡◌, ℕ, ◌+◌, ◌-◌, ◌<◌, ◌≤◌, ◌^◌, Result, Ok, Option, None, Some, List, inl, refl, sym, ap, ◌∙◌, subst, arith}
+use Rattle.ddc_base.specs.Difference.{first_difference}
+use Rattle.save_text.specs.StateText.StateText.{StateText, parsed_state}
+use Rattle.save_text.specs.StateText.Spelled.{IsTextOfState}
+use Rattle.save_text.proofs.StateTextLemmas.Texts.{formed_again}
+use Rattle.checkpoints.specs.Checkpoint.{guest_of, state_of}
+use Rattle.checkpoints.proofs.States.{is_text, same_guest}
+use Rattle.guest_run.specs.Run.{after, first_end, End}
+use Rattle.guest_run.specs.State.{GuestState}
+use Rattle.guest_run.specs.Valid.{IsValid}
+use Rattle.guest_run.proofs.Endings.{end-counted}
+use Rattle.guest_run.proofs.RunLaws.{first_end-at}
+use Rattle.segments.specs.Segments.{AreTwoStates, DiffersAt, EndsBetween, IsLater, IsPieceOf, IsSegment, IsStateOf, second_text}
+use Rattle.segments.specs.Inside.Told.{Tells}
+
+-- two valid states with one text are one
+pub one_text : (a b : GuestState) → IsValid a → IsValid b → a.steps < 2 ^ 64 → b.steps < 2 ^ 64 → second_text a ≡ second_text b → a ≡ b
+one_text a b fit fits few less same =
+    let one : parsed_state (second_text a) ≡ Ok (state_of a) = formed_again (state_of a) (second_text a) (is_text a fit few) (inl refl) in
+    let other : parsed_state (second_text a) ≡ Ok (state_of b) = formed_again (state_of b) (second_text a) (is_text b fits less) (inl same) in
+    let both : ◌≡◌ {A = Result StateText ℕ} (Ok (state_of a)) (Ok (state_of b)) = sym one ∙ other in
+    let said : state_of a ≡ state_of b = cc in
+    sym (same_guest a fit) ∙ ap guest_of said ∙ same_guest b fits
+
+-- two texts, the latter later by so many steps
+pub record Apart (from to own : List ℕ) (first : GuestState) (steps count : ℕ) : Type 0 where
+  pub here : IsStateOf from first
+  pub there : Tells to steps own
+  pub later : first.steps < steps
+  pub near : count ≤ 2 ^ 48
+  pub count_is : count ≡ steps - first.steps
+
+pub states_of : (from to own : List ℕ) (first : GuestState) (steps : ℕ) → IsStateOf from first → Tells to steps own → AreTwoStates from to
+states_of from to own first steps here there = record { first = first; last = there.guest; from_is = here; to_is = there.is }
+
+later_of : (from to own : List ℕ) (first : GuestState) (steps count : ℕ) → Apart from to own first steps count → IsLater from to
+later_of from to own first steps count apart = record {
+  states = record { first = first; last = apart.there.guest; from_is = apart.here; to_is = apart.there.is };
+  later = omega (arith, apart.later, apart.there.counted);
+  near = omega (arith, apart.near, apart.count_is, apart.there.counted);
+}
+
+-- an end comes before the last of the steps is done
+pub ended_before : (first guest : GuestState) (count : ℕ) (end : End) → first_end first count ≡ Some (end, guest) → guest.steps + 1 ≤ first.steps + count
+ended_before first guest count end is =
+    let at = first_end-at first count (end, guest) is in
+    let counted = end-counted first guest at.0 end at.2 in
+    omega (arith, counted, at.1)
+
+pub ends_between : (from to own : List ℕ) (first guest : GuestState) (steps count : ℕ) (end : End) → Apart from to own first steps count
+    → first_end first count ≡ Some (end, guest) → EndsBetween from to (guest.steps + 1)
+unfolding later_of
+ends_between from to own first guest steps count end apart is =
+    let same : apart.there.guest.steps - first.steps ≡ count = omega (arith, apart.count_is, apart.there.counted) in
+    record { at = later_of from to own first steps count apart; end = end; guest = guest; ends = ap (first_end first) same ∙ is; step_is = refl }
+
+pub differs_at : (from to own : List ℕ) (first guest : GuestState) (steps count offset : ℕ) → Apart from to own first steps count
+    → after first count ≡ Some guest → Some offset ≡ first_difference (second_text guest) own → DiffersAt from to offset
+unfolding later_of
+differs_at from to own first guest steps count offset apart reached differs =
+    let same : apart.there.guest.steps - first.steps ≡ count = omega (arith, apart.count_is, apart.there.counted) in
+    record {
+      at = later_of from to own first steps count apart;
+      guest = guest;
+      reached = ap (after first) same ∙ reached;
+      differs = ap (first_difference (second_text guest)) (sym apart.there.written) ∙ sym differs;
+    }
+
+pub is_segment : (from to own : List ℕ) (first guest : GuestState) (steps count : ℕ) → Apart from to own first steps count
+    → after first count ≡ Some guest → own ≡ second_text guest → IsValid guest → guest.steps < 2 ^ 64 → IsSegment from to count
+is_segment from to own first guest steps count apart reached text valid small =
+    let same : apart.there.guest ≡ guest = one_text apart.there.guest guest apart.there.valid valid apart.there.small small (sym apart.there.written ∙ text) in
+    let counted : apart.there.guest.steps ≡ first.steps + count = omega (arith, apart.count_is, apart.there.counted, apart.later) in
+    record {
+      states = record { first = first; last = apart.there.guest; from_is = apart.here; to_is = apart.there.is };
+      piece = record { some = omega (arith, apart.count_is, apart.later); counted = counted; reached = reached ∙ ap Some (sym same) };
+      near = apart.near;
+    }

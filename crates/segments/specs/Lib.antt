@@ -1,0 +1,4 @@
+pub mod Ending
+pub mod Faults
+pub mod Inside
+pub mod Segments

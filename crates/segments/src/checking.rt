@@ -1,0 +1,120 @@
+//! Two texts, and the first one.
+
+ghost use Rattle.std.specs.Prelude.{◌≡◌, ◌<◌, ◌^◌, IfOk, None, Ok};
+ghost use Rattle.ddc_base.specs.Difference.{first_difference};
+ghost use Rattle.guest_run.specs.Start.{start_of};
+ghost use Rattle.guest_run.specs.Valid.{IsValid};
+ghost use Rattle.segments.specs.Inside.Told.{Tells};
+ghost use Rattle.segments.specs.Segments.{Checks, IsStateOf, StartChecks, second_text};
+
+use crate::answers::{SegmentAnswer, SegmentFault, StartAnswer, StartFault};
+use crate::reading::{Unread, guest_of, told_by};
+use checkpoints::write_state;
+use ddc_base::{OutOfMemory, first_difference};
+use guest_run::{Guest, RunBox, RunEnd, RunRam, StartRefusal};
+use std::alloc::Global;
+
+/// The most steps of a piece: 2^48.
+const MOST_STEPS: u64 = 281_474_976_710_656;
+
+/// Whether two texts are a piece of a run: the latter's state is reached from the former's by some steps, none of which ends the run.
+pub fn check(alloc: Global, from: &[u8], to: &[u8]) -> SegmentAnswer
+    ensures { Checks from.now to.now result }
+{
+    match guest_of(alloc, from) {
+        Ok(mut guest) => check_from(alloc, &mut guest, from, to),
+        Err(Unread::Fault(why)) => SegmentAnswer::No(SegmentFault::From(why)),
+        Err(Unread::OutOfMemory) => SegmentAnswer::OutOfMemory,
+    }
+}
+
+fn check_from(alloc: Global, guest: &mut Guest<RunRam>, from: &[u8], to: &[u8]) -> SegmentAnswer
+    requires { IsStateOf from.now guest.old }
+    ensures { Checks from.now to.now result }
+{
+    match told_by(alloc, to) {
+        Ok((steps, own)) => check_to(alloc, guest, steps, from, to, own.as_slice()),
+        Err(Unread::Fault(why)) => SegmentAnswer::No(SegmentFault::To(why)),
+        Err(Unread::OutOfMemory) => SegmentAnswer::OutOfMemory,
+    }
+}
+
+/// The former guest goes on to the steps of the latter, whose text of the second form is `own`.
+fn check_to(
+    alloc: Global,
+    guest: &mut Guest<RunRam>,
+    steps: u64,
+    from: &[u8],
+    to: &[u8],
+    own: &[u8],
+) -> SegmentAnswer
+    requires from { IsStateOf from.now guest.old }
+    requires to { Tells to.now steps own.now }
+    ensures { Checks from.now to.now result }
+{
+    let first = guest.steps();
+    if steps <= first {
+        return SegmentAnswer::No(SegmentFault::NotLater);
+    }
+    let count = steps - first;
+    if count > MOST_STEPS {
+        return SegmentAnswer::No(SegmentFault::TooFar);
+    }
+    match guest.run(count) {
+        RunEnd::Exited(_) => SegmentAnswer::No(SegmentFault::EndsAt(guest.steps() + 1)),
+        RunEnd::Trapped(_) => SegmentAnswer::No(SegmentFault::EndsAt(guest.steps() + 1)),
+        RunEnd::UnknownCall(_) => SegmentAnswer::No(SegmentFault::EndsAt(guest.steps() + 1)),
+        RunEnd::Spent => match difference(alloc, guest, own) {
+            Ok(None) => SegmentAnswer::Yes(count),
+            Ok(Some(offset)) => SegmentAnswer::No(SegmentFault::Differs(offset)),
+            Err(OutOfMemory) => SegmentAnswer::OutOfMemory,
+        },
+        RunEnd::OutOfMemory => SegmentAnswer::OutOfMemory,
+    }
+}
+
+/// The first offset at which the text of a guest's state differs from another.
+fn difference(alloc: Global, guest: &Guest<RunRam>, text: &[u8]) -> Result<Option<u64>, OutOfMemory>
+    ensures offset { IfOk result (λ offset. offset ≡ first_difference (second_text guest.now) text.now) }
+    ensures none { IfOk result (λ offset. offset ≡ None → text.now ≡ second_text guest.now) }
+    ensures valid { IsValid guest.now }
+    ensures small { guest.now.steps < 2 ^ 64 }
+{
+    guest.steps();
+    let found = write_state(alloc, guest)?;
+    Ok(first_difference(found.as_slice(), text))
+}
+
+/// Whether a text's state is that in which a program starts with this box.
+pub fn check_start(alloc: Global, program: &[u8], setting: &RunBox, first: &[u8]) -> StartAnswer
+    ensures { StartChecks program.now setting.now first.now result }
+{
+    match Guest::<RunRam>::start(alloc, program, setting) {
+        Ok(guest) => check_first(alloc, &guest, program, setting, first),
+        Err(StartRefusal::Elf(why)) => StartAnswer::Start(StartFault::Elf(why)),
+        Err(StartRefusal::ArgsTooLong) => StartAnswer::Start(StartFault::ArgsTooLong),
+        Err(StartRefusal::BoxTooLarge) => StartAnswer::Start(StartFault::BoxTooLarge),
+        Err(StartRefusal::OutOfMemory) => StartAnswer::OutOfMemory,
+    }
+}
+
+fn check_first(
+    alloc: Global,
+    guest: &Guest<RunRam>,
+    program: &[u8],
+    setting: &RunBox,
+    first: &[u8],
+) -> StartAnswer
+    requires { start_of program.now setting.now ≡ Ok guest.now }
+    ensures { StartChecks program.now setting.now first.now result }
+{
+    match told_by(alloc, first) {
+        Ok((_, own)) => match difference(alloc, guest, own.as_slice()) {
+            Ok(None) => StartAnswer::Yes,
+            Ok(Some(offset)) => StartAnswer::Differs(offset),
+            Err(OutOfMemory) => StartAnswer::OutOfMemory,
+        },
+        Err(Unread::Fault(why)) => StartAnswer::NotState(why),
+        Err(Unread::OutOfMemory) => StartAnswer::OutOfMemory,
+    }
+}

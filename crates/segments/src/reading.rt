@@ -1,0 +1,51 @@
+//! Texts of states.
+
+ghost use Rattle.std.specs.Prelude.{Ok};
+ghost use Rattle.segments.specs.Inside.Told.{ReadBy, ToldBy};
+
+use crate::answers::StateFault;
+use checkpoints::{StateRefusal, read_state, write_state};
+use ddc_base::{Bytes, OutOfMemory};
+use guest_run::{Guest, RunRam};
+use std::alloc::Global;
+
+/// Why a text was not read.
+#[derive(Clone, Copy, Debug, PartialEq, Eq)]
+pub(crate) enum Unread {
+    Fault(StateFault),
+    OutOfMemory,
+}
+
+/// The guest whose state the text says.
+pub(crate) fn guest_of(alloc: Global, text: &[u8]) -> Result<Guest<RunRam>, Unread>
+    ensures { ReadBy text.now result }
+{
+    match read_state::<RunRam>(alloc, text) {
+        Ok(guest) => Ok(guest),
+        Err(StateRefusal::Form(offset)) => Err(Unread::Fault(StateFault::Form(offset))),
+        Err(StateRefusal::Range) => Err(Unread::Fault(StateFault::Range)),
+        Err(StateRefusal::FileRef) => Err(Unread::Fault(StateFault::FileRef)),
+        Err(StateRefusal::OutOfMemory) => Err(Unread::OutOfMemory),
+    }
+}
+
+/// The steps of the state that a text says, and that state's text of the second form. Its guest is not kept.
+pub(crate) fn told_by(alloc: Global, text: &[u8]) -> Result<(u64, Bytes), Unread>
+    ensures { ToldBy text.now result }
+{
+    match guest_of(alloc, text) {
+        Ok(guest) => tell(alloc, &guest, text),
+        Err(why) => Err(why),
+    }
+}
+
+fn tell(alloc: Global, guest: &Guest<RunRam>, text: &[u8]) -> Result<(u64, Bytes), Unread>
+    requires { ReadBy text.now (Ok guest.now) }
+    ensures { ToldBy text.now result }
+{
+    let steps = guest.steps();
+    match write_state(alloc, guest) {
+        Ok(own) => Ok((steps, own)),
+        Err(OutOfMemory) => Err(Unread::OutOfMemory),
+    }
+}
