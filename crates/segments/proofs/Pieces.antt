@@ -1,8 +1,7 @@
 -- What the run of one piece answers.
-use Rattle.std.proofs.Common.{◌≡◌, ℕ, ◌+◌, ◌-◌, ◌<◌, ◌≤◌, ◌^◌, Result, Ok, Option, None, Some, List, inl, refl, sym, ap, ◌∙◌, subst, arith}
+use Rattle.std.proofs.Common.{◌≡◌, ℕ, ◌+◌, ◌-◌, ◌<◌, ◌≤◌, ◌^◌, Result, Ok, Some, List, inl, refl, sym, ap, ◌∙◌, subst, arith}
 use Rattle.ddc_base.specs.Difference.{first_difference}
 use Rattle.save_text.specs.StateText.StateText.{StateText, parsed_state}
-use Rattle.save_text.specs.StateText.Spelled.{IsTextOfState}
 use Rattle.save_text.proofs.StateTextLemmas.Texts.{formed_again}
 use Rattle.checkpoints.specs.Checkpoint.{guest_of, state_of}
 use Rattle.checkpoints.proofs.States.{is_text, same_guest}
@@ -11,7 +10,7 @@ use Rattle.guest_run.specs.State.{GuestState}
 use Rattle.guest_run.specs.Valid.{IsValid}
 use Rattle.guest_run.proofs.Endings.{end-counted}
 use Rattle.guest_run.proofs.RunLaws.{first_end-at}
-use Rattle.segments.specs.Segments.{AreTwoStates, DiffersAt, EndsBetween, IsLater, IsPieceOf, IsSegment, IsStateOf, second_text}
+use Rattle.segments.specs.Segments.{AreTwoStates, DiffersAt, EndsBetween, IsLater, IsSegment, IsStateOf, second_text}
 use Rattle.segments.specs.Inside.Told.{Tells}
 
 -- two valid states with one text are one
@@ -31,7 +30,7 @@ pub record Apart (from to own : List ℕ) (first : GuestState) (steps count : �
   pub near : count ≤ 2 ^ 48
   pub count_is : count ≡ steps - first.steps
 
-pub states_of : (from to own : List ℕ) (first : GuestState) (steps : ℕ) → IsStateOf from first → Tells to steps own → AreTwoStates from to
+abbrev pub states_of : (from to own : List ℕ) (first : GuestState) (steps : ℕ) → IsStateOf from first → Tells to steps own → AreTwoStates from to
 states_of from to own first steps here there = record { first = first; last = there.guest; from_is = here; to_is = there.is }
 
 later_of : (from to own : List ℕ) (first : GuestState) (steps count : ℕ) → Apart from to own first steps count → IsLater from to
@@ -77,3 +76,20 @@ is_segment from to own first guest steps count apart reached text valid small =
       piece = record { some = omega (arith, apart.count_is, apart.later); counted = counted; reached = reached ∙ ap Some (sym same) };
       near = apart.near;
     }
+
+-- where the run of a piece begins: the former guest has taken so many steps, and the latter more, but not too many
+pub apart_by : (from to own : List ℕ) (first : GuestState) (steps counted : ℕ) → IsStateOf from first → Tells to steps own → counted ≡ first.steps → counted < steps
+    → steps - counted ≤ 2 ^ 48 → Apart from to own first steps (steps - counted)
+apart_by from to own first steps counted here there is later near = record {
+  here = here;
+  there = there;
+  later = omega (arith, is, later);
+  near = near;
+  count_is = ap (λ n. steps - n) is;
+}
+
+-- the step after those that the last guest has taken, as the code counts it
+pub ends_here : (from to own : List ℕ) (first guest : GuestState) (steps count number : ℕ) (end : End) → Apart from to own first steps count → number ≡ guest.steps
+    → first_end first count ≡ Some (end, guest) → EndsBetween from to (number + 1)
+ends_here from to own first guest steps count number end apart is ends =
+    subst (λ n. EndsBetween from to (n + 1)) (sym is) (ends_between from to own first guest steps count end apart ends)

@@ -1,5 +1,5 @@
 -- All pieces together.
-use Rattle.std.proofs.Common.{◌≡◌, ℕ, zero, suc, ◌+◌, ◌-◌, ◌<◌, ◌≤◌, Bool, true, false, cond, Option, None, Some, Result, Ok, Err, List, [], ◌∷◌, refl, sym, ap, ◌∙◌, subst, arith}
+use Rattle.std.proofs.Common.{◌≡◌, ℕ, zero, suc, ◌+◌, ◌-◌, Bool, true, false, cond, Some, Result, Ok, Err, List, [], ◌∷◌, refl, sym, ap, ◌∙◌, subst, arith}
 use Rattle.std.specs.Prelude.{nat_lt}
 use Rattle.elf_load.specs.declared.Image.{Image}
 use Rattle.elf_load.specs.declared.refusal.ElfRefusal.{ElfRefusal}
@@ -7,7 +7,7 @@ use Rattle.elf_load.specs.Image.{image_of}
 use Rattle.mem_files.specs.Limits.{most_total}
 use Rattle.guest_run.specs.declared.run.RunEnd.{RunEnd}
 use Rattle.guest_run.specs.declared.run.RunEnd.TheVariants as run
-use Rattle.guest_run.specs.Run.{after, end_at, end_of, first_end, next, End, Ends, Exited, Trapped, UnknownCall, Runs}
+use Rattle.guest_run.specs.Run.{after, end_at, end_of, first_end, End, Exited, Trapped, UnknownCall, Runs}
 use Rattle.guest_run.specs.Setting.{Setting, files_size}
 use Rattle.guest_run.specs.Stack.{start_size}
 use Rattle.guest_run.specs.Start.{ArgsTooLong, BoxTooLarge, Refusal, start_of, start_state, started}
@@ -15,9 +15,7 @@ use Rattle.guest_run.specs.State.{GuestState}
 use Rattle.guest_run.proofs.Running.{after-counted, after-none, end_at-next}
 use Rattle.guest_run.proofs.RunLaws.{after-sum, ends_after, first_end-at, first_end-found, no_end_at-zero}
 use Rattle.checkpoints.specs.Checkpoint.{guest_of}
-use Rattle.save_text.specs.StateText.StateText.{StateText}
-use Rattle.segments.specs.declared.answers.StartAnswer.TheVariants as beginning
-use Rattle.segments.specs.Segments.{AreLinked, BeginsWith, EndsWith, IsRunsEnd, IsSegment, IsStateOf, IsWholeRun, last_text}
+use Rattle.segments.specs.Segments.{AreLinked, BeginsWith, EndsWith, IsRunsEnd, IsStateOf, IsWholeRun, last_text}
 
 -- a text is that of one state
 pub one_state : (text : List ℕ) (a b : GuestState) → IsStateOf text a → IsStateOf text b → a ≡ b

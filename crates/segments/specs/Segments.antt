@@ -77,15 +77,15 @@ pub record IsSegment (from to : List ℕ) (steps : ℕ) : Type 0 where
   pub near : steps ≤ 2 ^ 48
 
 -- what an answer on two texts says; the first that fits is given, since each says that those before it do not fit
-abbrev pub Checks : List ℕ → List ℕ → SegmentAnswer → Type 0
-Checks from to (segment.Yes steps) = IsSegment from to steps
-Checks from to (segment.No (fault.From why)) = IsNoState from why
-Checks from to (segment.No (fault.To why)) = ((first : GuestState) × IsStateOf from first) × IsNoState to why
-Checks from to (segment.No fault.NotLater) = (states : AreTwoStates from to) × (states.last.steps ≤ states.first.steps)
-Checks from to (segment.No fault.TooFar) = (states : AreTwoStates from to) × (states.first.steps + 2 ^ 48 < states.last.steps)
-Checks from to (segment.No (fault.EndsAt step)) = EndsBetween from to step
-Checks from to (segment.No (fault.Differs offset)) = DiffersAt from to offset
-Checks from to segment.OutOfMemory = Unit {0}
+abbrev pub ChecksPiece : List ℕ → List ℕ → SegmentAnswer → Type 0
+ChecksPiece from to (segment.Yes steps) = IsSegment from to steps
+ChecksPiece from to (segment.No (fault.From why)) = IsNoState from why
+ChecksPiece from to (segment.No (fault.To why)) = ((first : GuestState) × IsStateOf from first) × IsNoState to why
+ChecksPiece from to (segment.No fault.NotLater) = (states : AreTwoStates from to) × (states.last.steps ≤ states.first.steps)
+ChecksPiece from to (segment.No fault.TooFar) = (states : AreTwoStates from to) × (states.first.steps + 2 ^ 48 < states.last.steps)
+ChecksPiece from to (segment.No (fault.EndsAt step)) = EndsBetween from to step
+ChecksPiece from to (segment.No (fault.Differs offset)) = DiffersAt from to offset
+ChecksPiece from to segment.OutOfMemory = Unit {0}
 
 -- ---- the start
 
@@ -138,7 +138,7 @@ pub record GoesOnFrom (text : List ℕ) (limit : ℕ) : Type 0 where
 -- each text and the next one are a piece
 abbrev pub AreLinked : List ℕ → List (List ℕ) → Type 0
 AreLinked text [] = Unit {0}
-AreLinked text (next ∷ texts) = ((steps : ℕ) × Checks text next (segment.Yes steps)) × AreLinked next texts
+AreLinked text (next ∷ texts) = ((steps : ℕ) × ChecksPiece text next (segment.Yes steps)) × AreLinked next texts
 
 abbrev pub last_text : List ℕ → List (List ℕ) → List ℕ
 last_text text [] = text

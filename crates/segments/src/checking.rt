@@ -1,11 +1,11 @@
 //! Two texts, and the first one.
 
-ghost use Rattle.std.specs.Prelude.{◌≡◌, ◌<◌, ◌^◌, IfOk, None, Ok};
+ghost use Rattle.std.specs.Prelude.{◌≡◌, ℕ, ◌<◌, ◌^◌, IfOk, None, Ok};
 ghost use Rattle.ddc_base.specs.Difference.{first_difference};
 ghost use Rattle.guest_run.specs.Start.{start_of};
 ghost use Rattle.guest_run.specs.Valid.{IsValid};
 ghost use Rattle.segments.specs.Inside.Told.{Tells};
-ghost use Rattle.segments.specs.Segments.{Checks, IsStateOf, StartChecks, second_text};
+ghost use Rattle.segments.specs.Segments.{ChecksPiece, IsStateOf, StartChecks, second_text};
 
 use crate::answers::{SegmentAnswer, SegmentFault, StartAnswer, StartFault};
 use crate::reading::{Unread, guest_of, told_by};
@@ -19,7 +19,7 @@ const MOST_STEPS: u64 = 281_474_976_710_656;
 
 /// Whether two texts are a piece of a run: the latter's state is reached from the former's by some steps, none of which ends the run.
 pub fn check(alloc: Global, from: &[u8], to: &[u8]) -> SegmentAnswer
-    ensures { Checks from.now to.now result }
+    ensures { ChecksPiece from.now to.now result }
 {
     match guest_of(alloc, from) {
         Ok(mut guest) => check_from(alloc, &mut guest, from, to),
@@ -30,7 +30,7 @@ pub fn check(alloc: Global, from: &[u8], to: &[u8]) -> SegmentAnswer
 
 fn check_from(alloc: Global, guest: &mut Guest<RunRam>, from: &[u8], to: &[u8]) -> SegmentAnswer
     requires { IsStateOf from.now guest.old }
-    ensures { Checks from.now to.now result }
+    ensures { ChecksPiece from.now to.now result }
 {
     match told_by(alloc, to) {
         Ok((steps, own)) => check_to(alloc, guest, steps, from, to, own.as_slice()),
@@ -50,7 +50,7 @@ fn check_to(
 ) -> SegmentAnswer
     requires from { IsStateOf from.now guest.old }
     requires to { Tells to.now steps own.now }
-    ensures { Checks from.now to.now result }
+    ensures { ChecksPiece from.now to.now result }
 {
     let first = guest.steps();
     if steps <= first {
@@ -109,12 +109,28 @@ fn check_first(
     ensures { StartChecks program.now setting.now first.now result }
 {
     match told_by(alloc, first) {
-        Ok((_, own)) => match difference(alloc, guest, own.as_slice()) {
-            Ok(None) => StartAnswer::Yes,
-            Ok(Some(offset)) => StartAnswer::Differs(offset),
-            Err(OutOfMemory) => StartAnswer::OutOfMemory,
-        },
+        Ok((_, own)) => compare(alloc, guest, program, setting, first, own.as_slice()),
         Err(Unread::Fault(why)) => StartAnswer::NotState(why),
         Err(Unread::OutOfMemory) => StartAnswer::OutOfMemory,
+    }
+}
+
+/// The program's start beside the state of the first text, whose text of the second form is `own`.
+fn compare(
+    alloc: Global,
+    guest: &Guest<RunRam>,
+    program: &[u8],
+    setting: &RunBox,
+    first: &[u8],
+    own: &[u8],
+) -> StartAnswer
+    requires starts { start_of program.now setting.now ≡ Ok guest.now }
+    requires told { (steps : ℕ) × Tells first.now steps own.now }
+    ensures { StartChecks program.now setting.now first.now result }
+{
+    match difference(alloc, guest, own) {
+        Ok(None) => StartAnswer::Yes,
+        Ok(Some(offset)) => StartAnswer::Differs(offset),
+        Err(OutOfMemory) => StartAnswer::OutOfMemory,
     }
 }
