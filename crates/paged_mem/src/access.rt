@@ -103,9 +103,33 @@ pub fn load_near(
     None
 }
 
+/// The four bytes at a multiple of 4, where their page lies in one of the rows and holds bytes. That page is remembered in `code`, so that
+/// the next fetch from it looks for no entry.
+#[inline(always)]
+pub fn fetch_near(
+    _pages: &[u64],
+    entries: &[Entry],
+    rows: &Rows,
+    code: &mut Row,
+    at: u64,
+) -> Option<u64>
+    requires pages { ArePages _pages.now entries.now }
+    requires rows { AreRowsOf _pages.now rows.now }
+    requires code { IsHeldPage _pages.now entries.now code.old }
+    requires aligned { at % 4 ≡ 0 }
+    ensures code { IsHeldPage _pages.now entries.now code.new }
+    ensures value { IfSome result (λ value. reads (memory_of _pages.now (flat entries.now)) at 4 ≡ Some value) }
+    ensures fits { IfSome result (λ value. value < 2 ^ 32) }
+{
+    if at.wrapping_sub(code.base) >= code.size {
+        *code = held_page(_pages, entries, rows, at);
+    }
+    word_in(_pages, entries, *code, at)
+}
+
 /// The page of an address, where it lies in one of the rows and holds bytes; no page else.
 #[inline(always)]
-pub fn held_page(_pages: &[u64], entries: &[Entry], rows: &Rows, at: u64) -> Row
+fn held_page(_pages: &[u64], entries: &[Entry], rows: &Rows, at: u64) -> Row
     requires pages { ArePages _pages.now entries.now }
     requires rows { AreRowsOf _pages.now rows.now }
     ensures { IsHeldPage _pages.now entries.now result }
@@ -122,7 +146,7 @@ pub fn held_page(_pages: &[u64], entries: &[Entry], rows: &Rows, at: u64) -> Row
 
 /// The four bytes at a multiple of 4, where they lie on this page, which holds bytes.
 #[inline(always)]
-pub fn word_in(_pages: &[u64], entries: &[Entry], page: Row, at: u64) -> Option<u64>
+fn word_in(_pages: &[u64], entries: &[Entry], page: Row, at: u64) -> Option<u64>
     requires pages { ArePages _pages.now entries.now }
     requires page { IsHeldPage _pages.now entries.now page }
     requires aligned { at % 4 ≡ 0 }

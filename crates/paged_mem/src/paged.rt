@@ -7,7 +7,7 @@ ghost use Rattle.paged_mem.specs.Paged.{pages_touched, TouchesUnheld};
 ghost use Rattle.std.specs.FinMap as map;
 
 use crate::access::{
-    held_page, load_at, load_near, mapped_at, page_at, read_at, run_at, store_at, store_near, word_in,
+    fetch_near, load_at, load_near, mapped_at, page_at, read_at, run_at, store_at, store_near,
     write_at,
 };
 use crate::entries::{Entry, count_held};
@@ -94,8 +94,7 @@ impl Ram for PagedRam {
         ensures unmapped { result ≡ Err StoreRefusal.Unmapped → self.new.held ≡ self.old.held }
         ensures wants { result ≡ Err StoreRefusal.OutOfMemory → TouchesUnheld self.old.held at (count_of width) }
     {
-        self.code = Row::none();
-        store_at(
+        let stored = store_at(
             self.alloc,
             &self.pages,
             &mut self.entries,
@@ -103,7 +102,9 @@ impl Ram for PagedRam {
             at,
             width,
             value,
-        )
+        );
+        self.code = Row::none();
+        stored
     }
 
     #[inline(always)]
@@ -119,10 +120,13 @@ impl Ram for PagedRam {
         ensures value { IfSome result (λ value. reads self.old.bytes at 4 ≡ Some value) }
         ensures fits { IfSome result (λ value. value < 2 ^ 32) }
     {
-        if at.wrapping_sub(self.code.base) >= self.code.size {
-            self.code = held_page(&self.pages, &self.entries, &self.rows, at);
-        }
-        word_in(&self.pages, &self.entries, self.code, at)
+        fetch_near(
+            &self.pages,
+            &self.entries,
+            &self.rows,
+            &mut self.code,
+            at,
+        )
     }
 
     #[inline(always)]
@@ -149,8 +153,9 @@ impl Ram for PagedRam {
         ensures unmapped { result ≡ Err StoreRefusal.Unmapped → self.new.held ≡ self.old.held }
         ensures wants { result ≡ Err StoreRefusal.OutOfMemory → TouchesUnheld self.old.held at (length source.now) }
     {
+        let written = write_at(self.alloc, &self.pages, &mut self.entries, at, source);
         self.code = Row::none();
-        write_at(self.alloc, &self.pages, &mut self.entries, at, source)
+        written
     }
 
     fn map_zero(&mut self, first: u64, pages: u64) -> Result<(), OutOfMemory>
@@ -161,9 +166,9 @@ impl Ram for PagedRam {
         ensures err { OnErr result (self.new.bytes ≡ self.old.bytes) }
         ensures held { self.new.held ≡ self.old.held }
     {
-        self.code = Row::none();
         let mapped = map_entries(&mut self.pages, &mut self.entries, first, pages as usize);
         self.rows = Rows::of(&self.pages);
+        self.code = Row::none();
         mapped
     }
 
@@ -173,9 +178,9 @@ impl Ram for PagedRam {
         ensures unmapped { self.new.bytes ≡ without self.old.bytes first (4096 * pages) }
         ensures held { length self.new.held ≤ length self.old.held }
     {
-        self.code = Row::none();
         unmap_entries(&mut self.pages, &mut self.entries, first, pages as usize);
         self.rows = Rows::of(&self.pages);
+        self.code = Row::none();
     }
 
     fn run_from(&self, at: u64) -> Option<(u64, u64)> {

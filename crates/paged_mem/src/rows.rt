@@ -18,7 +18,8 @@ pub struct Row {
 impl Row {
     /// The row of no pages.
     pub fn none() -> Row
-        ensures { (pages : List ℕ) (entries : List Entry) → IsHeldPage pages entries result }
+        ensures held { (pages : List ℕ) (entries : List Entry) → IsHeldPage pages entries result }
+        ensures start { result.index ≡ 0 }
     {
         Row {
             base: 0,
@@ -46,7 +47,8 @@ pub fn find_in(row: Row, at: u64) -> Option<usize>
 pub fn first_row(pages: &[u64]) -> Row
     requires rising { Rises pages.now }
     requires low { AreLow pages.now }
-    ensures { IsRowOf pages.now result }
+    ensures row { IsRowOf pages.now result }
+    ensures start { result.index ≡ 0 }
 {
     if pages.is_empty() {
         return Row::none();
