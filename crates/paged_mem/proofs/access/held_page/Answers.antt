@@ -13,7 +13,7 @@ offset_bounds-entries-index c =
 pub returns-in-Some : goal.returns-in-Some
 returns-in-Some c =
     held_found c.args._pages.now c.args.entries.now c.requires.pages c.args.at c.in-Some.index c.index-entries-index.result
-    (c.in-Some.ensures c.args._pages.now c.requires.pages.sound.rising c.requires.rows) c.index-entries-index.is ?
+    (c.in-Some.ensures c.args._pages.now c.requires.pages.sound.rising c.requires.rows) c.index-entries-index.is (sym c.is_some.ensures ∙ c.if-is_some.true)
 
 pub returns-in_default : goal.returns-in_default
 returns-in_default c = c.none.ensures.held _ _
