@@ -253,13 +253,15 @@ module _ (stop : Option ℕ) (first : GuestState) (most : ℕ) (now : GuestState
       let counted = after-counted now last count leads.reached in
       let at : to.steps ≡ last.steps = ap (λ (g : GuestState). g.steps) is.2 in
       let all : left ≡ count + (left - count) = omega (arith, few) in
-      let rest : left - count ≡ most - steps_between first to = omega (arith, at, counted, few, s.all, s.rises) in
-      ((
-        omega (arith, at, counted, few, s.all, s.rises),
-        subst (λ (g : GuestState). IsTrue (step_goes_on (next g))) (sym is.2) is.0,
-        subst (λ (g : GuestState). StepTakesMemory g) (sym is.2) is.1,
-        s.same ∙ ap (travel stop now) all ∙ leads.same (left - count) ∙ ap (λ (g : GuestState). travel stop g (left - count)) (sym is.2) ∙ ap (travel stop to) rest,
-      ), is.2)
+      let rest : left - count ≡ most - steps_between first to = omega (arith, at, counted, few, s.all, s.rises) in (
+        (
+          omega (arith, at, counted, few, s.all, s.rises),
+          subst (λ (g : GuestState). IsTrue (step_goes_on (next g))) (sym is.2) is.0,
+          subst (λ (g : GuestState). StepTakesMemory g) (sym is.2) is.1,
+          s.same ∙ ap (travel stop now) all ∙ leads.same (left - count) ∙ ap (λ (g : GuestState). travel stop g (left - count)) (sym is.2) ∙ ap (travel stop to) rest,
+        ),
+        is.2,
+      )
 
   -- after a stretch that did not
   pub over : (to : GuestState) (why : RunEnd) → Stretches stop now left (Some why) to → Travels stop first most why to

@@ -120,13 +120,7 @@ impl Ram for PagedRam {
         ensures value { IfSome result (λ value. reads self.old.bytes at 4 ≡ Some value) }
         ensures fits { IfSome result (λ value. value < 2 ^ 32) }
     {
-        fetch_near(
-            &self.pages,
-            &self.entries,
-            &self.rows,
-            &mut self.code,
-            at,
-        )
+        fetch_near(&self.pages, &self.entries, &self.rows, &mut self.code, at)
     }
 
     #[inline(always)]

@@ -19,12 +19,16 @@ loop-left-preserved g c = (
 pub returns-then-pc-stop-clause-acts : goal.returns-then-pc-stop-clause-acts
 returns-then-pc-stop-clause-acts g c =
     let same : c.step.new.self.pc ≡ c.args.stop = sym c.pc.ensures.value ∙ c.if-pc-stop.true in
-    inr (record {
-      before = c.args.most - c.loop-left.left;
-      last = c.loop-left.self;
-      counted = omega (arith, c.loop-left.invariant.0, c.loop-left-test.true);
-      few = omega (arith, c.loop-left.invariant.0, c.loop-left-test.true);
-      passes = c.loop-left.invariant.1;
-      arrives = c.in-Done.ensures.act;
-      stands = is_equal c.step.new.self.pc c.args.stop same;
-    }, omega (arith, c.loop-left.invariant.0, c.loop-left-test.true), ap (λ n. n % 4) (sym same) ∙ c.pc.ensures.hart.aligned)
+    inr (
+      record {
+        before = c.args.most - c.loop-left.left;
+        last = c.loop-left.self;
+        counted = omega (arith, c.loop-left.invariant.0, c.loop-left-test.true);
+        few = omega (arith, c.loop-left.invariant.0, c.loop-left-test.true);
+        passes = c.loop-left.invariant.1;
+        arrives = c.in-Done.ensures.act;
+        stands = is_equal c.step.new.self.pc c.args.stop same;
+      },
+      omega (arith, c.loop-left.invariant.0, c.loop-left-test.true),
+      ap (λ n. n % 4) (sym same) ∙ c.pc.ensures.hart.aligned,
+    )
