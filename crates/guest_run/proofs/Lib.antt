@@ -10,7 +10,7 @@ pub mod Validity
 pub mod Programs
 pub mod StartLaw
 pub mod Boxes
-pub mod Stretching
+pub mod Going
 pub mod Endings
 pub mod Fits
 mod RunsByAct

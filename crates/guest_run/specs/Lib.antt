@@ -4,6 +4,7 @@ pub mod State
 pub mod Valid
 pub mod Run
 pub mod Setting
+pub mod Travels
 pub mod Start
 pub mod Program
 pub mod ByAct

@@ -4,6 +4,7 @@ ghost use Rattle.guest_run.specs.Setting.{files_size};
 ghost use Rattle.guest_run.specs.Stack.{start_size};
 ghost use Rattle.guest_run.specs.Start.{start_of, start_state, Starts};
 ghost use Rattle.guest_run.specs.State.{guest_state};
+ghost use Rattle.guest_run.specs.Travels.{Travels};
 ghost use Rattle.guest_run.specs.Valid.{Fits, IsValid};
 ghost use Rattle.mem_files.specs.Limits.{most_total};
 ghost use Rattle.paged_mem.specs.Memory.{bytes_at, maps};
@@ -92,6 +93,17 @@ impl<R: Ram> Guest<R> {
         ensures rises { self.old.steps ≤ self.new.steps }
         ensures few { self.new.steps ≤ self.old.steps + most }
     {
+        self.run_to(most, None)
+    }
+
+    /// The same up to an address, where one is given: the step that comes to it is the last one. At least one step is taken, unless `most`
+    /// is 0, so the address at which the guest stands is not asked.
+    ///
+    /// `Spent` says that no end came: all steps were taken, or the address was reached.
+    pub fn run_to(&mut self, most: u64, stop: Option<u64>) -> RunEnd
+        requires { self.old.steps + most < 2 ^ 64 }
+        ensures { Travels stop self.old most result self.new }
+    {
         run_parts(
             self.alloc,
             &mut self.hart,
@@ -99,6 +111,7 @@ impl<R: Ram> Guest<R> {
             &mut self.heap,
             &mut self.steps,
             most,
+            stop,
         )
     }
 

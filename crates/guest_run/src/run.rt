@@ -1,10 +1,11 @@
 //! The steps of a guest, over its parts.
 
-ghost use Rattle.guest_run.specs.Run.{Runs, Steps};
+ghost use Rattle.guest_run.specs.Run.{Steps};
 ghost use Rattle.guest_run.specs.State.{guest_state};
+ghost use Rattle.guest_run.specs.Travels.{Travels};
 ghost use Rattle.guest_run.specs.Inside.Stretch.{Stretches};
 ghost use Rattle.linux_calls.specs.HeapOf.{IsHeapOf};
-ghost use Rattle.rv64_machine.specs.Hart.{act};
+ghost use Rattle.rv64_machine.specs.Hart.{act, is_stop};
 ghost use Rattle.rv64_machine.specs.Hart as machine;
 ghost use Rattle.std.specs.Prelude.{◌≡◌, ◌+◌, ◌^◌, ◌<◌, [], ◌∷◌, slice_index};
 
@@ -29,7 +30,7 @@ pub enum RunEnd {
     OutOfMemory,
 }
 
-/// At most `most` steps: the first end within them, else that they are spent.
+/// At most `most` steps, up to the one that comes to the stop: the first end within them, else that they are spent.
 pub(crate) fn run_parts<R: Ram>(
     alloc: Global,
     hart: &mut Hart<R>,
@@ -37,22 +38,36 @@ pub(crate) fn run_parts<R: Ram>(
     heap: &mut Heap,
     steps: &mut u64,
     most: u64,
+    stop: Option<u64>,
 ) -> RunEnd
     requires heap_of { IsHeapOf hart.old.memory heap.old }
     requires counted { steps.old + most < 2 ^ 64 }
-    ensures { Runs (guest_state hart.old files.old heap.old steps.old) most result
+    ensures { Travels stop (guest_state hart.old files.old heap.old steps.old) most result
         (guest_state hart.new files.new heap.new steps.new) }
 {
     let end = *steps + most;
     while *steps < end {
-        if let Some(end) = stretch(alloc, hart, files, heap, steps, end - *steps) {
+        if let Some(end) = stretch(alloc, hart, files, heap, steps, end - *steps, stop) {
             return end;
+        }
+        if is_at(stop, hart.pc()) {
+            return RunEnd::Spent;
         }
     }
     RunEnd::Spent
 }
 
-/// At most `most` steps: instructions up to a call, and the call. None where the guest goes on, else why it does not.
+/// Whether a pc is the address to stop at.
+fn is_at(stop: Option<u64>, pc: u64) -> bool
+    ensures { result ≡ is_stop stop pc }
+{
+    match stop {
+        None => false,
+        Some(address) => pc == address,
+    }
+}
+
+/// At most `most` steps: instructions up to the stop or a call, and the call. None where the guest goes on, else why it does not.
 fn stretch<R: Ram>(
     alloc: Global,
     hart: &mut Hart<R>,
@@ -60,15 +75,16 @@ fn stretch<R: Ram>(
     heap: &mut Heap,
     steps: &mut u64,
     most: u64,
+    stop: Option<u64>,
 ) -> Option<RunEnd>
     requires some { 0 < most }
     requires heap_of { IsHeapOf hart.old.memory heap.old }
     requires counted { steps.old + most < 2 ^ 64 }
-    ensures steps { Stretches (guest_state hart.old files.old heap.old steps.old) most result
+    ensures steps { Stretches stop (guest_state hart.old files.old heap.old steps.old) most result
         (guest_state hart.new files.new heap.new steps.new) }
     ensures kept { IsHeapOf hart.new.memory heap.new }
 {
-    let (end, done) = hart.run(most);
+    let (end, done) = hart.run_to(most, stop);
     *steps += done;
     match end {
         StepEnd::Done => None,

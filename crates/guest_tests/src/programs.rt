@@ -68,6 +68,38 @@ fn runs_programs(rt: HostRuntime) -> Result<(), Fail> {
     Ok(())
 }
 
+/// The three instructions of `EXIT` stand at 0x10078; the third is the call.
+#[test]
+fn runs_up_to_an_address(rt: HostRuntime) -> Result<(), Fail> {
+    let alloc = rt.alloc();
+    let rows: [(u64, Option<u64>, RunEnd, u64); 8] = [
+        (9, Some(0x1007C), RunEnd::Spent, 1),
+        (9, Some(0x10080), RunEnd::Spent, 2),
+        (2, Some(0x10080), RunEnd::Spent, 2),
+        (1, Some(0x10080), RunEnd::Spent, 1),
+        (9, Some(0x10078), RunEnd::Exited(0), 2),
+        (9, Some(0x1007D), RunEnd::Exited(0), 2),
+        (9, None, RunEnd::Exited(0), 2),
+        (0, Some(0x1007C), RunEnd::Spent, 0),
+    ];
+    let setting = RunBox::new(alloc, 0);
+    for (most, stop, end, steps) in rows {
+        assert!(rt; goes_to(alloc, &setting, most, stop) == Some((end, steps)));
+    }
+    Ok(())
+}
+
+/// How `EXIT` ends within so many steps up to an address, and how many it took.
+fn goes_to(alloc: Global, setting: &RunBox, most: u64, stop: Option<u64>) -> Option<(RunEnd, u64)> {
+    match Guest::<RunRam>::start(alloc, &EXIT, setting) {
+        Err(_) => None,
+        Ok(mut guest) => {
+            let end = guest.run_to(most, stop);
+            Some((end, guest.steps()))
+        }
+    }
+}
+
 #[test]
 fn starts_with_an_argument_and_a_file(rt: HostRuntime) -> Result<(), Fail> {
     let alloc = rt.alloc();

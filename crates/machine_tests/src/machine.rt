@@ -298,3 +298,30 @@ fn runs_of_steps(rt: HostRuntime) {
     assert_eq!(rt; hart.run(9), (StepEnd::Trap(Cause::Illegal(0)), 1));
     assert_eq!(rt; hart.pc(), 0x10008);
 }
+
+/// How many steps a hart does up to an address, and where it stands then, in a loop of three instructions: two that do nothing, and
+/// JAL x0, -8.
+#[test]
+fn runs_up_to_an_address(rt: HostRuntime) {
+    let rows: [(u64, Option<u64>, u64, u64); 8] = [
+        (9, Some(0x10004), 1, 0x10004),
+        (9, Some(0x10008), 2, 0x10008),
+        // The address at which it stands is reached when the loop comes back.
+        (9, Some(0x10000), 3, 0x10000),
+        (3, Some(0x10000), 3, 0x10000),
+        (2, Some(0x10000), 2, 0x10008),
+        (4, Some(0x10001), 4, 0x10004),
+        (4, None, 4, 0x10004),
+        (0, Some(0x10004), 0, 0x10000),
+    ];
+    for (most, stop, done, pc) in rows {
+        let mut hart: Hart<PagedRam> = fresh(&rt, rt.alloc());
+        let mut at = 0x10000u64;
+        for word in [0x0000_0013, 0x0000_0013, 0xff9f_f06f] {
+            assert!(rt; hart.ram_mut().store(at, Width::W4, word).is_ok());
+            at = at.wrapping_add(4);
+        }
+        assert_eq!(rt; hart.run_to(most, stop), (StepEnd::Done, done), "{most}");
+        assert_eq!(rt; hart.pc(), pc, "{most}");
+    }
+}

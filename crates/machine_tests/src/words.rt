@@ -1,6 +1,6 @@
 //! Rows of words as the GNU assembler makes them.
 
-use rv64_table::{Op, laws, row_of, rows};
+use rv64_table::{Op, laws, row_at_once, row_of, rows};
 
 /// Words as the GNU assembler makes them, with their operations.
 static ASSEMBLED: [(u32, Op); 10] = [
@@ -22,6 +22,12 @@ fn rows_of_assembled_words(rt: HostRuntime) {
     laws::a_fitting_row_is_the_row();
     for &(word, want) in &ASSEMBLED {
         assert_eq!(rt; row_of(word), Some(want), "at {word:08x}");
+        // The 22 atomic rows, whose opcode is 0x2F, are not looked for.
+        assert_eq!(rt;
+            row_at_once(word).is_some(),
+            word & 0x7F != 0x2F,
+            "at {word:08x}"
+        );
         let row = want.row();
         assert_eq!(rt; word & row.mask, row.want, "at {word:08x}");
         assert_eq!(rt; rows()[want as usize], row);

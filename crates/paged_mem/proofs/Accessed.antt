@@ -1,17 +1,20 @@
 -- What pages and entries answer at an address, and what they are after a write.
-use Rattle.std.proofs.Common.{◌≡◌, ◌≢◌, ℕ, zero, suc, ◌+◌, ◌-◌, ◌*◌, ◌/◌, ◌%◌, ◌^◌, ◌<◌, ◌≤◌, Option, None, Some, is_some, IsSome, Bool, true, false, List, [], ◌∷◌, length, get_or, take, drop, refl, sym, ap, ◌∙◌, arith, ◌⊎◌, inl, inr, length-drop, length-set, length-take, ◌==◌}
+use Rattle.std.proofs.Common.{◌≡◌, ◌≢◌, ℕ, zero, suc, ◌+◌, ◌-◌, ◌*◌, ◌/◌, ◌%◌, ◌^◌, ◌<◌, ◌≤◌, Option, None, Some, is_some, IsSome, Bool, true, false, List, [], ◌∷◌, ◌++◌, length, get_or, take, drop, refl, sym, ap, ◌∙◌, arith, ◌⊎◌, inl, inr, length-drop, length-set, length-take, ◌==◌}
 use Rattle.std.specs.Option.{option_map}
 use Rattle.std.specs.Int.{to_le_bytes, w64}
 use Rattle.std.proofs.lemmas.Grind.{same_number_lists}
 use Rattle.std.proofs.Math.ListN.{set}
+use Rattle.std.proofs.Math.Seq.{take-append_seam}
 use Rattle.std.proofs.lemmas.Bool.{cases_lt, eqb-true, false≢true}
 use Rattle.std.proofs.lemmas.Option.{none-some, same_Some}
 use Rattle.std.proofs.lemmas.List.{get_or_default, get_or-drop, get_or-take}
 use Rattle.paged_mem.specs.Memory.{Memory, maps, bytes_at, bytes_of, reads, with_bytes}
 use Rattle.paged_mem.specs.Inside.Flat.{memory_of, place, slot, Spans, overwritten, number_at}
 use Rattle.paged_mem.specs.Inside.Wholeness.{place-some}
-use Rattle.paged_mem.specs.Inside.Entries.{Entry, ArePages, AreFull, page_content, flat, held_pages}
+use Rattle.paged_mem.specs.Inside.Entries.{Entry, ArePages, AreFull, IsHeldPage, page_content, flat, held_pages}
 use Rattle.paged_mem.specs.Paged.{TouchesUnheld}
+use Rattle.paged_mem.specs.declared.rows.Row.{Row}
+use Rattle.paged_mem.proofs.InRows.{place-in_row}
 use Rattle.paged_mem.specs.Ram.{count_of}
 use Rattle.paged_mem.specs.declared.ram.Width.{Width}
 use Rattle.paged_mem.specs.declared.ram.Width.TheVariants.{W1, W2, W4, W8}
@@ -104,6 +107,39 @@ module _ (pages : List ℕ) (entries : List Entry) (are : ArePages pages entries
   held_near number index entry default found was is =
       held_pages-same pages (set entries index entry) entries (length-set entries index entry)
       (is_some-set entries index entry (is ∙ sym (ap is_some (get_or_default entries index None default (placed number index found)) ∙ was)))
+
+-- entries that were changed through a slice
+pub refilled : (count : ℕ) (new old : List Entry) → length new ≡ count → take count (new ++ drop (length new) old) ≡ new
+refilled count new old same = ap (λ k. take k (new ++ drop (length new) old)) (sym same) ∙ take-append_seam new (drop (length new) old)
+
+-- ---- a page that is remembered
+
+pub held_found : (pages : List ℕ) (entries : List Entry) → ArePages pages entries → (at index : ℕ) (entry : Entry) → place pages (at / 4096) ≡ Some index
+    → entry ≡ get_or entries index entry → IsSome entry → IsHeldPage pages entries (record { base = at - at % 4096; size = 4096; index = index })
+held_found pages entries are at index entry found here is =
+    let there = place-some pages (at / 4096) index found in
+    let low = are.sound.low index there.0 in
+    record {
+      in_row = record {
+        aligned = omega arith;
+        low = omega (arith, low, there.1);
+        within = omega (arith, there.0);
+        numbers = λ k below. ap (λ n. get_or pages n 0) (omega (arith, below)) ∙ there.1 ∙ omega (arith, below);
+      };
+      one = omega arith;
+      held = λ some. ap is_some (get_or_default entries index None entry (placed pages entries are (at / 4096) index found) ∙ sym here) ∙ is;
+    }
+
+pub held_read : (pages : List ℕ) (entries : List Entry) → ArePages pages entries → (page : Row) → IsHeldPage pages entries page
+    → (at ahead value : ℕ) (entry : Entry) → at < 2 ^ 64 → at % 4 ≡ 0 → ahead ≡ (at + (2 ^ 64 - page.base)) % 2 ^ 64 → ahead < page.size
+    → entry ≡ get_or entries page.index entry → value ≡ number_at (page_content entry) ahead 4 → reads (memory_of pages (flat entries)) at 4 ≡ Some value
+held_read pages entries are page is at ahead value entry fits aligned is_ahead below here value_is =
+    let from : at ≡ page.base + ahead = omega (arith, is.in_row.low) in
+    let low : ahead ≡ at % 4096 = omega (arith, from, is.in_row.aligned, is.one) in
+    let index : page.index + ahead / 4096 ≡ page.index = omega (arith, is.one) in
+    sym (read_near pages entries are at page.index 4 value entry (omega arith) (omega (arith, low, is.one, aligned))
+    (place-in_row pages are.sound.rising page is.in_row at ahead fits is_ahead below ∙ ap Some index) here
+    (value_is ∙ ap (λ l. number_at (page_content entry) l 4) low))
 
 -- the address of a span at a place
 in_slot : (pages : List ℕ) (at s : ℕ) → slot pages at ≡ Some s → (get_or pages (s / 4096) 0 ≡ at / 4096) × (s % 4096 ≡ at % 4096)

@@ -3,14 +3,14 @@
 ghost use Rattle.std.specs.Prelude.{◌≡◌, ℕ, ◌+◌, ◌-◌, ◌*◌, ◌%◌, ◌^◌, ◌<◌, ◌≤◌, length, IfSome, slice_index, unwrap_or, Err, Some};
 ghost use Rattle.paged_mem.specs.Memory.{bytes_at, maps, reads};
 ghost use Rattle.paged_mem.specs.Ram.{count_of, RunsFrom, shown_bytes, Stores, StoresNear, Writes};
-ghost use Rattle.paged_mem.specs.Inside.Entries.{AreFull, ArePages, AreRowsOf, flat, held_pages};
+ghost use Rattle.paged_mem.specs.Inside.Entries.{AreFull, ArePages, AreRowsOf, IsHeldPage, flat, held_pages};
 ghost use Rattle.paged_mem.specs.Inside.Flat.{memory_of, number_at, Rises};
 ghost use Rattle.paged_mem.specs.Paged.{pages_touched, TouchesUnheld};
 
-use crate::entries::{Entry, number_in, put_into, read, take_memory, write};
+use crate::entries::{Entry, number_held, number_in, put_into, read, take_memory, write};
 use crate::pages::{find, row_from, span};
 use crate::ram::{PageView, StoreRefusal, Width};
-use crate::rows::Rows;
+use crate::rows::{Row, Rows};
 use crate::{PAGE, PAGE_LEN};
 use std::alloc::Global;
 
@@ -103,6 +103,63 @@ pub fn load_near(
     None
 }
 
+/// The four bytes at a multiple of 4, where their page lies in one of the rows and holds bytes. That page is remembered in `code`, so that
+/// the next fetch from it looks for no entry.
+#[inline(always)]
+pub fn fetch_near(
+    _pages: &[u64],
+    entries: &[Entry],
+    rows: &Rows,
+    code: &mut Row,
+    at: u64,
+) -> Option<u64>
+    requires pages { ArePages _pages.now entries.now }
+    requires rows { AreRowsOf _pages.now rows.now }
+    requires code { IsHeldPage _pages.now entries.now code.old }
+    requires aligned { at % 4 ≡ 0 }
+    ensures code { IsHeldPage _pages.now entries.now code.new }
+    ensures value { IfSome result (λ value. reads (memory_of _pages.now (flat entries.now)) at 4 ≡ Some value) }
+    ensures fits { IfSome result (λ value. value < 2 ^ 32) }
+{
+    if at.wrapping_sub(code.base) >= code.size {
+        *code = held_page(_pages, entries, rows, at);
+    }
+    word_in(_pages, entries, *code, at)
+}
+
+/// The page of an address, where it lies in one of the rows and holds bytes; no page else.
+#[inline(always)]
+fn held_page(_pages: &[u64], entries: &[Entry], rows: &Rows, at: u64) -> Row
+    requires pages { ArePages _pages.now entries.now }
+    requires rows { AreRowsOf _pages.now rows.now }
+    ensures { IsHeldPage _pages.now entries.now result }
+{
+    match rows.find(at) {
+        Some(index) if entries[index].is_some() => Row {
+            base: at - at % PAGE,
+            size: PAGE,
+            index,
+        },
+        _ => Row::none(),
+    }
+}
+
+/// The four bytes at a multiple of 4, where they lie on this page, which holds bytes.
+#[inline(always)]
+fn word_in(_pages: &[u64], entries: &[Entry], page: Row, at: u64) -> Option<u64>
+    requires pages { ArePages _pages.now entries.now }
+    requires page { IsHeldPage _pages.now entries.now page }
+    requires aligned { at % 4 ≡ 0 }
+    ensures value { IfSome result (λ value. reads (memory_of _pages.now (flat entries.now)) at 4 ≡ Some value) }
+    ensures fits { IfSome result (λ value. value < 2 ^ 32) }
+{
+    let ahead = at.wrapping_sub(page.base);
+    if ahead < page.size {
+        return Some(number_held(&entries[page.index], ahead as usize, Width::W4));
+    }
+    None
+}
+
 /// The number at an address; none where a byte of it is unmapped.
 #[inline(always)]
 pub fn load_at(pages: &[u64], entries: &[Entry], rows: &Rows, at: u64, width: Width) -> Option<u64>
@@ -183,6 +240,7 @@ pub fn store_near(
     ensures stores { StoresNear (memory_of _pages.now (flat entries.old)) at (count_of width) value result
         (memory_of _pages.now (flat entries.new)) }
     ensures held { held_pages _pages.now entries.new ≡ held_pages _pages.now entries.old }
+    ensures code { (page : Row) → IsHeldPage _pages.now entries.old page → IsHeldPage _pages.now entries.new page }
 {
     let low = (at % PAGE) as usize;
     let count = width.count() as usize;

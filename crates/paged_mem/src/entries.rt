@@ -27,6 +27,20 @@ pub fn number_in(entry: &Entry, low: usize, width: Width) -> u64
     }
 }
 
+/// The same, of a page that holds its bytes.
+#[inline(always)]
+pub fn number_held(entry: &Entry, low: usize, width: Width) -> u64
+    requires held { IsSome entry.now }
+    requires within { low + count_of width ≤ 4096 }
+    ensures value { result ≡ number_at (page_content entry.now) low (count_of width) }
+    ensures fits { result < 2 ^ (8 * count_of width) }
+{
+    match entry {
+        None => unreachable!(),
+        Some(page) => number(&page[..], low, width),
+    }
+}
+
 /// Fills `out` with zeros.
 fn clear(out: &mut [u8])
     ensures len { length out.new ≡ length out.old }

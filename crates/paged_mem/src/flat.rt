@@ -72,6 +72,10 @@ impl Ram for FlatRam {
         None
     }
 
+    fn fetch_near(&mut self, _at: u64) -> Option<u64> {
+        None
+    }
+
     fn store_near(&mut self, _at: u64, _width: Width, _value: u64) -> bool {
         false
     }

@@ -1,18 +1,19 @@
-ghost use Rattle.std.specs.Prelude.{◌≡◌, ℕ, ◌+◌, ◌*◌, ◌%◌, ◌^◌, ◌≤◌, [], Err, IsTrue, OnOk, OnErr, length};
-ghost use Rattle.paged_mem.specs.Memory.{IsFree, maps, with_bytes, without, zeros};
+ghost use Rattle.std.specs.Prelude.{◌≡◌, ℕ, ◌+◌, ◌*◌, ◌%◌, ◌^◌, ◌<◌, ◌≤◌, [], Err, IfSome, Some, IsTrue, OnOk, OnErr, length};
+ghost use Rattle.paged_mem.specs.Memory.{IsFree, maps, reads, with_bytes, without, zeros};
 ghost use Rattle.paged_mem.specs.Ram.{count_of, Stores, StoresNear, Writes};
-ghost use Rattle.paged_mem.specs.Inside.Entries.{ArePages, AreRowsOf};
-ghost use Rattle.paged_mem.specs.Inside.Wholeness.{ArePages-prop, AreRowsOf-prop};
+ghost use Rattle.paged_mem.specs.Inside.Entries.{ArePages, AreRowsOf, IsHeldPage};
+ghost use Rattle.paged_mem.specs.Inside.Wholeness.{ArePages-prop, AreRowsOf-prop, IsHeldPage-prop};
 ghost use Rattle.paged_mem.specs.Paged.{pages_touched, TouchesUnheld};
 ghost use Rattle.std.specs.FinMap as map;
 
 use crate::access::{
-    load_at, load_near, mapped_at, page_at, read_at, run_at, store_at, store_near, write_at,
+    fetch_near, load_at, load_near, mapped_at, page_at, read_at, run_at, store_at, store_near,
+    write_at,
 };
 use crate::entries::{Entry, count_held};
 use crate::mapping::{map_entries, unmap_entries};
 use crate::ram::{PageView, Ram, StoreRefusal, Width};
-use crate::rows::Rows;
+use crate::rows::{Row, Rows};
 use ddc_base::OutOfMemory;
 use std::alloc::Global;
 use std::marker::Model;
@@ -20,16 +21,19 @@ use std::marker::Model;
 /// A guest's memory that costs what is written: each mapped page has an entry, which holds the page's 4,096 bytes, or nothing as long as
 /// all of them are zero since the page was mapped.
 ///
-/// An address in the row of pages from the first one on, or in the one up to the last one, is found at once, any other by a search.
+/// An address in the row of pages from the first one on, or in the one up to the last one, is found at once, any other by a search. The page
+/// of the last fetch is remembered, where it holds bytes.
 /// Contracts see the map, and the numbers of the pages that are held.
 #[derive(Debug, Drop)]
 pub struct PagedRam {
     pages: Vec<u64>,
     entries: Vec<Entry>,
     rows: Rows,
+    code: Row,
     alloc: Global,
     ghost are: { ArePages pages.items entries.items } by { ArePages-prop pages.items entries.items },
     ghost rows_are: { AreRowsOf pages.items rows } by { AreRowsOf-prop pages.items rows },
+    ghost code_is: { IsHeldPage pages.items entries.items code } by { IsHeldPage-prop pages.items entries.items code },
 }
 
 impl Model for PagedRam {
@@ -70,6 +74,7 @@ impl Ram for PagedRam {
             pages: Vec::new(alloc),
             entries: Vec::new(alloc),
             rows: Rows::none(),
+            code: Row::none(),
             alloc,
         }
     }
@@ -89,7 +94,7 @@ impl Ram for PagedRam {
         ensures unmapped { result ≡ Err StoreRefusal.Unmapped → self.new.held ≡ self.old.held }
         ensures wants { result ≡ Err StoreRefusal.OutOfMemory → TouchesUnheld self.old.held at (count_of width) }
     {
-        store_at(
+        let stored = store_at(
             self.alloc,
             &self.pages,
             &mut self.entries,
@@ -97,12 +102,25 @@ impl Ram for PagedRam {
             at,
             width,
             value,
-        )
+        );
+        self.code = Row::none();
+        stored
     }
 
     #[inline(always)]
     fn load_near(&self, at: u64, width: Width) -> Option<u64> {
         load_near(&self.pages, &self.entries, &self.rows, at, width)
+    }
+
+    /// Remembers the page, where it lies in one of the rows and holds bytes, so that the next fetch from it looks for no entry.
+    #[inline(always)]
+    fn fetch_near(&mut self, at: u64) -> Option<u64>
+        requires { at % 4 ≡ 0 }
+        ensures same { self.new ≡ self.old }
+        ensures value { IfSome result (λ value. reads self.old.bytes at 4 ≡ Some value) }
+        ensures fits { IfSome result (λ value. value < 2 ^ 32) }
+    {
+        fetch_near(&self.pages, &self.entries, &self.rows, &mut self.code, at)
     }
 
     #[inline(always)]
@@ -129,7 +147,9 @@ impl Ram for PagedRam {
         ensures unmapped { result ≡ Err StoreRefusal.Unmapped → self.new.held ≡ self.old.held }
         ensures wants { result ≡ Err StoreRefusal.OutOfMemory → TouchesUnheld self.old.held at (length source.now) }
     {
-        write_at(self.alloc, &self.pages, &mut self.entries, at, source)
+        let written = write_at(self.alloc, &self.pages, &mut self.entries, at, source);
+        self.code = Row::none();
+        written
     }
 
     fn map_zero(&mut self, first: u64, pages: u64) -> Result<(), OutOfMemory>
@@ -142,6 +162,7 @@ impl Ram for PagedRam {
     {
         let mapped = map_entries(&mut self.pages, &mut self.entries, first, pages as usize);
         self.rows = Rows::of(&self.pages);
+        self.code = Row::none();
         mapped
     }
 
@@ -153,6 +174,7 @@ impl Ram for PagedRam {
     {
         unmap_entries(&mut self.pages, &mut self.entries, first, pages as usize);
         self.rows = Rows::of(&self.pages);
+        self.code = Row::none();
     }
 
     fn run_from(&self, at: u64) -> Option<(u64, u64)> {

@@ -71,6 +71,13 @@ pub trait Ram: Sized + Drop {
         ensures value { IfSome result (λ value. reads (bytes self.now) at (count_of width) ≡ Some value) }
         ensures fits { IfSome result (λ value. value < 2 ^ (8 * count_of width)) };
 
+    /// The four bytes at a multiple of 4, as `load_near` finds them; the memory may remember where it found them.
+    fn fetch_near(&mut self, at: u64) -> Option<u64>
+        requires { at % 4 ≡ 0 }
+        ensures same { bytes self.new ≡ bytes self.old }
+        ensures value { IfSome result (λ value. reads (bytes self.old) at 4 ≡ Some value) }
+        ensures fits { IfSome result (λ value. value < 2 ^ 32) };
+
     /// Stores as `store` does, and answers `true`, where that takes neither a search nor memory of the host; else nothing is stored.
     fn store_near(&mut self, at: u64, width: Width, value: u64) -> bool
         ensures { StoresNear (bytes self.old) at (count_of width) value result (bytes self.new) };

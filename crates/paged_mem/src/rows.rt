@@ -1,7 +1,7 @@
 //! Rows of pages, in which an address is found without a search.
 
 ghost use Rattle.std.specs.Prelude.{◌≡◌, ℕ, ◌+◌, ◌/◌, ◌^◌, ◌<◌, IfSome, List, Some};
-ghost use Rattle.paged_mem.specs.Inside.Entries.{AreRowsOf, IsRowOf};
+ghost use Rattle.paged_mem.specs.Inside.Entries.{AreRowsOf, Entry, IsHeldPage, IsRowOf};
 ghost use Rattle.paged_mem.specs.Inside.Flat.{AreLow, Rises, place};
 
 use crate::PAGE;
@@ -18,7 +18,8 @@ pub struct Row {
 impl Row {
     /// The row of no pages.
     pub fn none() -> Row
-        ensures { (pages : List ℕ) → IsRowOf pages result }
+        ensures held { (pages : List ℕ) (entries : List Entry) → IsHeldPage pages entries result }
+        ensures start { result.index ≡ 0 }
     {
         Row {
             base: 0,
@@ -46,7 +47,8 @@ pub fn find_in(row: Row, at: u64) -> Option<usize>
 pub fn first_row(pages: &[u64]) -> Row
     requires rising { Rises pages.now }
     requires low { AreLow pages.now }
-    ensures { IsRowOf pages.now result }
+    ensures row { IsRowOf pages.now result }
+    ensures start { result.index ≡ 0 }
 {
     if pages.is_empty() {
         return Row::none();
@@ -133,7 +135,12 @@ impl Rows {
         requires last { self.now.last.index + self.now.last.size < 2 ^ 64 }
         ensures { (pages : List ℕ) → Rises pages → AreRowsOf pages self.now → IfSome result (λ index. place pages (at / 4096) ≡ Some index) }
     {
-        match find_in(self.first, at) {
+        // The compiler knows this index, and adds none.
+        let first = Row {
+            index: 0,
+            ..self.first
+        };
+        match find_in(first, at) {
             Some(index) => Some(index),
             None => find_in(self.last, at),
         }

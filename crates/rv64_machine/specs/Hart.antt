@@ -1,5 +1,5 @@
 -- A hart and one act of it (docs/reference/machine.md).
-use Rattle.std.specs.Prelude.{◌≡◌, ℕ, zero, suc, ◌*◌, ◌%◌, ◌^◌, ◌<◌, ◌==◌, ◌&&◌, ◌⊎◌, Bool, true, false, if◌then◌else◌, IsTrue, length, All, List, slice_index, slice_set, Option, None, Some, option_map, option_and_then, refl}
+use Rattle.std.specs.Prelude.{◌≡◌, ℕ, zero, suc, ◌+◌, ◌*◌, ◌%◌, ◌^◌, ◌<◌, ◌==◌, ◌&&◌, ◌⊎◌, Bool, true, false, if◌then◌else◌, IsTrue, length, All, List, slice_index, slice_set, Option, None, Some, option_map, option_and_then, refl}
 use Rattle.std.specs.Coded.{Coded, code_by, coded×, coded_ℕ, coded_list, coded_option}
 use Rattle.std.specs.FinMap as map
 use Rattle.paged_mem.specs.Memory.{IsWhole, Memory, maps, reads, writes}
@@ -212,3 +212,38 @@ ActsInARow old most done end.Done new = (done ≡ most) × (acted old done ≡ S
 ActsInARow old most done end.Call new = (done < most) × (acted old done ≡ Some new) × Acts new end.Call new
 ActsInARow old most done (end.Trap cause) new = (done < most) × (acted old done ≡ Some new) × Acts new (end.Trap cause) new
 ActsInARow old most done end.OutOfMemory new = (done < most) × (acted old done ≡ Some new) × Acts new end.OutOfMemory new
+
+-- ---- up to an address
+
+-- whether a pc is the address to stop at, where there is one
+abbrev pub is_stop : Option ℕ → ℕ → Bool
+is_stop None pc = false
+is_stop (Some address) pc = pc == address
+
+-- the state in which an act went on, if it is not at the stop
+abbrev pub went_past : Option ℕ → Act → Option HartState
+went_past stop (GoesOn next) = if is_stop stop next.pc then None else Some next
+went_past stop _ = None
+
+-- the state after so many acts that went on, none of which came to the stop. Where the first one began is not asked
+unfoldable pub passed : Option ℕ → HartState → ℕ → Option HartState
+passed stop hart zero = Some hart
+passed stop hart (suc count) = option_and_then (λ last. went_past stop (act last)) (passed stop hart count)
+
+-- so many steps, at most `most`, of which the last one and no earlier one came to the stop
+pub record ComesTo (stop : Option ℕ) (old : HartState) (most done : ℕ) (new : HartState) : Type 0 where
+  pub before : ℕ
+  pub last : HartState
+  pub counted : done ≡ before + 1
+  pub few : before < most
+  pub passes : passed stop old before ≡ Some last
+  pub arrives : act last ≡ GoesOn new
+  pub stands : IsTrue (is_stop stop new.pc)
+
+-- how at most so many steps up to a stop ended, after so many that went on, and the state that they left: all of them went on and none
+-- came to the stop, or the last one did, or none did and the next one did not go on, and left the state
+abbrev pub ActsTo : Option ℕ → HartState → ℕ → ℕ → StepEnd → HartState → Type 0
+ActsTo stop old most done end.Done new = ((done ≡ most) × (passed stop old done ≡ Some new)) ⊎ ComesTo stop old most done new
+ActsTo stop old most done end.Call new = (done < most) × (passed stop old done ≡ Some new) × Acts new end.Call new
+ActsTo stop old most done (end.Trap cause) new = (done < most) × (passed stop old done ≡ Some new) × Acts new (end.Trap cause) new
+ActsTo stop old most done end.OutOfMemory new = (done < most) × (passed stop old done ≡ Some new) × Acts new end.OutOfMemory new

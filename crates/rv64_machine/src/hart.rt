@@ -4,8 +4,9 @@ ghost use Rattle.rv64_table.specs.Table.{row_for};
 ghost use Rattle.paged_mem.specs.Memory.{reads};
 ghost use Rattle.paged_mem.specs.Ram.{count_of, Stores};
 ghost use Rattle.rv64_machine.specs.Arithmetic.{sign_extended};
+ghost use Rattle.rv64_machine.specs.Inside.Down.{ActsDown};
 ghost use Rattle.rv64_machine.specs.Inside.FlatEnds.{step_end};
-ghost use Rattle.rv64_machine.specs.Hart.{IsReservation, IsReservable, ReservesReservable, reads_aligned, is_reserved, reserved_bytes, carried, effect_of, EndsStep, following, HartState, HasNumbers, IsHart, runs, ActsInARow, Acts, with_register};
+ghost use Rattle.rv64_machine.specs.Hart.{IsReservation, IsReservable, ReservesReservable, reads_aligned, is_reserved, reserved_bytes, carried, effect_of, EndsStep, following, HartState, HasNumbers, IsHart, runs, ActsInARow, ActsTo, Acts, with_register};
 ghost use Rattle.std.specs.FinMap.{contains_key};
 ghost use Rattle.std.specs.Borrow.{Lends, sem};
 ghost use Rattle.rv64_machine.specs.contracts.hart.Hart.{the_row};
@@ -16,7 +17,7 @@ use crate::atomics::amo_result;
 use crate::effect::{AmoOperation, Effect, effect_of};
 use paged_mem::{Ram, StoreRefusal, Width};
 use rv64_decode::decode_as;
-use rv64_table::{Op, row_of, row_without_atomics};
+use rv64_table::{Op, row_at_once, row_of};
 use std::marker::Model;
 
 macro_rules! by_operation {
@@ -27,6 +28,9 @@ macro_rules! by_operation {
         }
     };
 }
+
+/// An address that no pc is, since it is odd.
+const NO_PC: u64 = 1;
 
 /// A hart of RV64IMA with its memory.
 ///
@@ -164,17 +168,26 @@ impl<R: Ram> Hart<R> {
         ensures mapping { (address : ℕ)
             → contains_key self.new.memory address ≡ contains_key self.old.memory address }
     {
-        let (end, left) = self.run_down(most);
+        self.run_to(most, None)
+    }
+
+    /// The same up to an address, where one is given: the step that comes to it is the last one. Where the hart stands at the start is not
+    /// asked, so at least one step is taken, unless `most` is 0.
+    pub fn run_to(&mut self, most: u64, stop: Option<u64>) -> (StepEnd, u64)
+        ensures acts { ActsTo stop self.old most result.1 result.0 self.new }
+        ensures mapping { (address : ℕ)
+            → contains_key self.new.memory address ≡ contains_key self.old.memory address }
+    {
+        let (end, left) = self.run_down(most, stop.unwrap_or(NO_PC));
         (end, most - left)
     }
 
-    /// Acts until one does not go on, at most `most` of them: how the last one ended, and how many of them were left before it.
+    /// Acts until one does not go on or comes to the address, at most `most` of them: how the last one ended, and how many were left then.
     ///
     /// A function of its own that counts down, so that its loop needs one register for the count.
     #[inline(never)]
-    fn run_down(&mut self, most: u64) -> (StepEnd, u64)
-        ensures left { result.1 ≤ most }
-        ensures acts { ActsInARow self.old most (most - result.1) result.0 self.new }
+    fn run_down(&mut self, most: u64, stop: u64) -> (StepEnd, u64)
+        ensures acts { ActsDown stop self.old most result.1 result.0 self.new }
         ensures mapping { (address : ℕ)
             → contains_key self.new.memory address ≡ contains_key self.old.memory address }
     {
@@ -187,8 +200,11 @@ impl<R: Ram> Hart<R> {
                 StepEnd::OutOfMemory => return (StepEnd::OutOfMemory, left),
             }
             left -= 1;
+            if self.pc() == stop {
+                break;
+            }
         }
-        (StepEnd::Done, 0)
+        (StepEnd::Done, left)
     }
 
     /// A step as its act says it.
@@ -197,7 +213,7 @@ impl<R: Ram> Hart<R> {
     fn advance(&mut self) -> StepEnd
         ensures { Acts self.old result self.new }
     {
-        let word = match self.ram.load_near(self.aligned_pc(), Width::W4) {
+        let word = match self.fetch_near() {
             Some(word) => word,
             None => match self.load_anywhere(self.pc, Width::W4) {
                 Some(word) => word,
@@ -207,12 +223,14 @@ impl<R: Ram> Hart<R> {
         self.obey(word as u32)
     }
 
-    /// The pc, in a form from which the compiler knows that the four bytes lie on one page.
+    /// The word at the pc, where it is found without a search.
     #[inline(always)]
-    fn aligned_pc(&self) -> u64
-        ensures { result ≡ self.now.pc }
+    fn fetch_near(&mut self) -> Option<u64>
+        ensures same { self.new ≡ self.old }
+        ensures value { IfSome result (λ value. reads self.old.memory self.old.pc 4 ≡ Some value) }
+        ensures fits { IfSome result (λ value. value < 2 ^ 32) }
     {
-        4 * (self.pc / 4)
+        self.ram.fetch_near(self.pc)
     }
 
     /// What the memory answers to a load, kept out of the loop for addresses that are not found at once.
@@ -240,7 +258,7 @@ impl<R: Ram> Hart<R> {
     fn obey(&mut self, word: u32) -> StepEnd
         ensures { EndsStep (runs self.old word (decoded word)) (option_map (effect_of self.old) (decoded word)) self.old result self.new }
     {
-        match row_without_atomics(word) {
+        match row_at_once(word) {
             None => self.obey_seldom(word),
             Some(op) => self.dispatch(op, word),
         }

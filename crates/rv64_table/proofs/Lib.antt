@@ -3,4 +3,3 @@ pub mod OpRows
 pub mod Apart
 pub mod Places
 pub mod RowsByField
-pub mod PlainRows

@@ -1,5 +1,5 @@
 -- The row of a word, by its opcode and then by its fields.
-use Rattle.std.proofs.Common.{◌≡◌, ℕ, ◌/◌, ◌%◌, ◌^◌, ◌<◌, Bool, true, false, ◌&&◌, cond, List, [], ◌∷◌, refl, sym, ap, ◌∙◌, arith, Some}
+use Rattle.std.proofs.Common.{◌≡◌, ℕ, ◌+◌, ◌*◌, ◌/◌, ◌%◌, ◌^◌, ◌<◌, Bool, true, false, ◌&&◌, ◌||◌, cond, List, [], ◌∷◌, refl, sym, ap, ◌∙◌, subst, arith, Option, None, Some, IfSome}
 use Rattle.std.specs.Prelude.{◌==◌, bit_and, find, option_map}
 use Rattle.std.specs.List.{list_all}
 use Rattle.std.proofs.lemmas.Nat.{and_mask, shr_below}
@@ -7,6 +7,7 @@ use Rattle.std.proofs.lemmas.Bool.{and_parts, eqb-true}
 use Rattle.std.proofs.lemmas.Bool.Decides.{nat_tests}
 use Rattle.rv64_table.specs.declared.Row.{Row}
 use Rattle.rv64_table.specs.declared.Form.{Form}
+use Rattle.rv64_table.specs.declared.Op.{Op}
 use Rattle.rv64_table.specs.declared.Form.TheVariants.{R, I, H, K, S, B, U, J, E, L, A}
 use Rattle.rv64_table.specs.Table.{mask_of, matches, row_for, table}
 use Rattle.rv64_table.specs.Inside.Lookup.{rows_of, has_fields, fits_fields, pick}
@@ -89,3 +90,59 @@ by_fields w opcode b e plain =
     let same : opcode ≡ w % 2 ^ 7 = sym e ∙ and_mask w 7 in
     let fields = find-fields w (rows_of (w % 2 ^ 7) table) b (rw (← same) plain) in
     rw (row-rows_of w opcode e, and_mask (w / 2 ^ 12) 3, and_mask (w / 2 ^ 15) 10, same) (sym fields)
+
+-- ---- opcode and funct3 as one number
+
+-- an operation that is what was picked
+pub told : (found x : Option Op) → found ≡ x → IfSome found (λ op. x ≡ Some op)
+told None x is = tt
+told (Some op) x is = sym is
+
+pub word-opcode : (w key : ℕ) → w % 4 ≡ 3 → 8 * (w / 4 % 32) + w / 4096 % 8 ≡ key → bit_and w 127 ≡ 4 * (key / 8) + 3
+word-opcode w key low is = and_mask w 7 ∙ omega (arith, low, is)
+
+pub picked : (key literal funct7 registers : ℕ) (found : Option Op) → key ≡ literal → found ≡ pick (rows_of (4 * (literal / 8) + 3) table) (literal % 8) funct7 registers
+    → IfSome found (λ op. pick (rows_of (4 * (key / 8) + 3) table) (key % 8) funct7 registers ≡ Some op)
+picked key literal funct7 registers found is there =
+    subst (λ k. IfSome found (λ op. pick (rows_of (4 * (k / 8) + 3) table) (k % 8) funct7 registers ≡ Some op)) (sym is)
+    (told found (pick (rows_of (4 * (literal / 8) + 3) table) (literal % 8) funct7 registers) there)
+
+-- a row that has no fields is one of that opcode
+abbrev has_fields_but : Row → Bool
+has_fields_but r = (r.want % 2 ^ 7 == 115) || (has_fields r.form && (r.mask == mask_of r.form))
+
+or-other : (a b : Bool) → (a || b) ≡ true → a ≡ false → b ≡ true
+or-other a b either no_a = let both : (false || b) ≡ true = ap (λ t. t || b) (sym no_a) ∙ either in both
+
+-- so those of other opcodes have fields
+all_plain : (opcode : ℕ) (rows : List Row) → (opcode == 115) ≡ false → list_all has_fields_but rows ≡ true → list_all (is_plain opcode) (rows_of opcode rows) ≡ true
+all_plain opcode [] other all = refl
+all_plain opcode (r ∷ rows) other all =
+    let parts = and_parts (has_fields_but r) (list_all has_fields_but rows) all in
+    by_opcode (r.want % 2 ^ 7 == opcode) refl parts.0 (all_plain opcode rows other parts.1)
+  where
+    by_opcode : (k : Bool) → (r.want % 2 ^ 7 == opcode) ≡ k → has_fields_but r ≡ true → list_all (is_plain opcode) (rows_of opcode rows) ≡ true
+        → list_all (is_plain opcode) (cond k (r ∷ rows_of opcode rows) (rows_of opcode rows)) ≡ true
+    by_opcode true same has rest =
+        let is : r.want % 2 ^ 7 ≡ opcode = eqb-true _ _ same in
+        let plain = or-other (r.want % 2 ^ 7 == 115) _ has (ap (λ n. n == 115) is ∙ other) in
+        rw (plain_row plain is) rest
+      where
+        plain_row : (has_fields r.form && (r.mask == mask_of r.form)) ≡ true → r.want % 2 ^ 7 ≡ opcode → is_plain opcode r ≡ true
+        plain_row has is = grind (arith, nat_tests)
+    by_opcode false same has rest = rest
+
+-- the operation that is picked by this number is the word's, where the rows of its opcode have fields
+pub by_key : (w key : ℕ) (found : Option Op) → w < 2 ^ 32 → w % 4 ≡ 3 → 8 * (w / 4 % 32) + w / 4096 % 8 ≡ key
+    → ((registers : ℕ) → IfSome found (λ op. pick (rows_of (4 * (key / 8) + 3) table) (key % 8) (w / 2 ^ 25) registers ≡ Some op))
+    → IfSome found (λ op. (key / 8 == 28) ≡ false)
+    → IfSome found (λ op. option_map (λ r. r.op) (row_for w) ≡ Some op)
+unfolding table
+by_key w key None fits low is there fields = tt
+by_key w key (Some op) fits low is there fields =
+    let other : (4 * (key / 8) + 3 == 115) ≡ false = (grind (arith, nat_tests)) in
+    let opcode = word-opcode w key low is in
+    let funct3 : bit_and (w / 2 ^ 12) 7 ≡ key % 8 = and_mask (w / 2 ^ 12) 3 ∙ omega (arith, is) in
+    sym (by_fields w (4 * (key / 8) + 3) fits opcode (all_plain (4 * (key / 8) + 3) table other refl))
+    ∙ ap (λ f. pick (rows_of (4 * (key / 8) + 3) table) f (w / 2 ^ 25) (bit_and (w / 2 ^ 15) 1023)) funct3
+    ∙ there (bit_and (w / 2 ^ 15) 1023)

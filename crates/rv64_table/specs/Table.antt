@@ -230,10 +230,6 @@ op_number Amomaxud = 86
 abbrev pub is_atomic : Op → Bool
 is_atomic op = nat_le 65 (op_number op)
 
--- the operation where it is none of these
-abbrev pub unless_atomic : Op → Option Op
-unless_atomic op = if is_atomic op then None else Some op
-
 -- the row of an operation
 abbrev pub row_with : Op → Option Row
 row_with op = find (λ r. op_number r.op == op_number op) table

@@ -10,7 +10,7 @@ ghost use Rattle.rv64_table.specs.Table.{table};
 pub mod laws;
 mod lookup;
 
-pub use lookup::{row_of, row_without_atomics};
+pub use lookup::{row_at_once, row_of};
 
 /// The shape of an instruction word: which of its bits are fixed, and which fields the others hold.
 #[derive(Clone, Copy, PartialEq, Eq, Debug)]

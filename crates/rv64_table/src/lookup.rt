@@ -1,7 +1,7 @@
 //! The row of a word, by its opcode and its fields funct3, funct7 and, of a load-reserved, rs2.
 
-ghost use Rattle.std.specs.Prelude.{◌≡◌, option_and_then, option_map, find};
-ghost use Rattle.rv64_table.specs.Table.{matches, row_for, table, unless_atomic};
+ghost use Rattle.std.specs.Prelude.{◌≡◌, ◌==◌, ℕ, ◌+◌, ◌*◌, ◌/◌, ◌%◌, false, IfSome, Some, option_map, find};
+ghost use Rattle.rv64_table.specs.Table.{matches, row_for, table};
 ghost use Rattle.rv64_table.specs.Inside.Lookup.{pick, rows_of};
 
 use crate::Op;
@@ -39,17 +39,6 @@ const OPCODE_AMO: u32 = 0x2F;
 pub fn row_of(word: u32) -> Option<Op>
     ensures { result ≡ option_map (λ r. r.op) (row_for word) }
 {
-    if word & 0x7F == OPCODE_AMO {
-        return atomic((word >> 12) & 0x7, word >> 25, (word >> 15) & 0x3FF);
-    }
-    row_without_atomics(word)
-}
-
-/// The same, but none where the row is an atomic one: a loop asks this first, since those are rare.
-#[inline(always)]
-pub fn row_without_atomics(word: u32) -> Option<Op>
-    ensures { result ≡ option_and_then unless_atomic (option_map (λ r. r.op) (row_for word)) }
-{
     let funct3 = (word >> 12) & 0x7;
     let funct7 = word >> 25;
     match word & 0x7F {
@@ -66,8 +55,63 @@ pub fn row_without_atomics(word: u32) -> Option<Op>
         OPCODE_SYSTEM => system(word),
         OPCODE_OP_IMM_32 => op_imm_32(funct3, funct7),
         OPCODE_OP_32 => op_32(funct3, funct7),
-        OPCODE_AMO => None,
+        OPCODE_AMO => atomic(funct3, funct7, (word >> 15) & 0x3FF),
         _ => None,
+    }
+}
+
+macro_rules! by_key {
+    ($key:expr; $($literal:literal $row:expr;)*) => {
+        match $key {
+            $($literal => $row,)*
+            _ => None,
+        }
+    };
+}
+
+/// The operation of a row by its opcode and funct3, which are one number: in octal, two digits for bits 6 to 2 of the word, and one for
+/// funct3. `None` says nothing: atomic rows and those of `SYSTEM` are not looked for.
+#[inline(always)]
+#[tactic(auto, unfolding(crate::specs::Table::table))]
+fn at_key(key: u32, funct7: u32) -> Option<Op>
+    ensures row { (registers : ℕ) → IfSome result (λ op. pick (rows_of (4 * (key / 8) + 3) table) (key % 8) funct7 registers ≡ Some op) }
+    ensures fields { IfSome result (λ op. key / 8 == 28 ≡ false) }
+{
+    by_key! { key;
+        0o00_0 Some(Op::Lb); 0o00_1 Some(Op::Lh); 0o00_2 Some(Op::Lw); 0o00_3 Some(Op::Ld);
+        0o00_4 Some(Op::Lbu); 0o00_5 Some(Op::Lhu); 0o00_6 Some(Op::Lwu);
+        0o03_0 Some(Op::Fence);
+        0o04_0 Some(Op::Addi); 0o04_1 op_imm(1, funct7); 0o04_2 Some(Op::Slti); 0o04_3 Some(Op::Sltiu);
+        0o04_4 Some(Op::Xori); 0o04_5 op_imm(5, funct7); 0o04_6 Some(Op::Ori); 0o04_7 Some(Op::Andi);
+        0o05_0 Some(Op::Auipc); 0o05_1 Some(Op::Auipc); 0o05_2 Some(Op::Auipc); 0o05_3 Some(Op::Auipc);
+        0o05_4 Some(Op::Auipc); 0o05_5 Some(Op::Auipc); 0o05_6 Some(Op::Auipc); 0o05_7 Some(Op::Auipc);
+        0o06_0 Some(Op::Addiw); 0o06_1 op_imm_32(1, funct7); 0o06_5 op_imm_32(5, funct7);
+        0o10_0 Some(Op::Sb); 0o10_1 Some(Op::Sh); 0o10_2 Some(Op::Sw); 0o10_3 Some(Op::Sd);
+        0o14_0 op(0, funct7); 0o14_1 op(1, funct7); 0o14_2 op(2, funct7); 0o14_3 op(3, funct7);
+        0o14_4 op(4, funct7); 0o14_5 op(5, funct7); 0o14_6 op(6, funct7); 0o14_7 op(7, funct7);
+        0o15_0 Some(Op::Lui); 0o15_1 Some(Op::Lui); 0o15_2 Some(Op::Lui); 0o15_3 Some(Op::Lui);
+        0o15_4 Some(Op::Lui); 0o15_5 Some(Op::Lui); 0o15_6 Some(Op::Lui); 0o15_7 Some(Op::Lui);
+        0o16_0 op_32(0, funct7); 0o16_1 op_32(1, funct7); 0o16_4 op_32(4, funct7);
+        0o16_5 op_32(5, funct7); 0o16_6 op_32(6, funct7); 0o16_7 op_32(7, funct7);
+        0o30_0 Some(Op::Beq); 0o30_1 Some(Op::Bne); 0o30_4 Some(Op::Blt);
+        0o30_5 Some(Op::Bge); 0o30_6 Some(Op::Bltu); 0o30_7 Some(Op::Bgeu);
+        0o31_0 Some(Op::Jalr);
+        0o33_0 Some(Op::Jal); 0o33_1 Some(Op::Jal); 0o33_2 Some(Op::Jal); 0o33_3 Some(Op::Jal);
+        0o33_4 Some(Op::Jal); 0o33_5 Some(Op::Jal); 0o33_6 Some(Op::Jal); 0o33_7 Some(Op::Jal);
+    }
+}
+
+/// The operation of a word's row, found by one jump; `None` says nothing: `row_of` answers then. A loop over many words asks this first.
+#[inline(always)]
+pub fn row_at_once(word: u32) -> Option<Op>
+    ensures { IfSome result (λ op. option_map (λ r. r.op) (row_for word) ≡ Some op) }
+{
+    if word % 4 != 3 {
+        return None;
+    }
+    match 8 * (word / 4 % 32) + word / 0x1000 % 8 {
+        0o34_0 => system(word),
+        key => at_key(key, word >> 25),
     }
 }
 
@@ -126,6 +170,7 @@ fn store(funct3: u32) -> Option<Op>
 }
 
 #[tactic(auto, unfolding(crate::specs::Table::table))]
+#[inline(always)]
 fn op_imm(funct3: u32, funct7: u32) -> Option<Op>
     ensures { result ≡ pick (rows_of OPCODE_OP_IMM table) funct3 funct7 0 }
 {
@@ -144,6 +189,7 @@ fn op_imm(funct3: u32, funct7: u32) -> Option<Op>
 }
 
 #[tactic(auto, unfolding(crate::specs::Table::table))]
+#[inline(always)]
 fn op(funct3: u32, funct7: u32) -> Option<Op>
     ensures { result ≡ pick (rows_of OPCODE_OP table) funct3 funct7 0 }
 {
@@ -181,6 +227,7 @@ fn misc_mem(funct3: u32) -> Option<Op>
 }
 
 #[tactic(auto, unfolding(crate::specs::Table::table))]
+#[inline(always)]
 fn op_imm_32(funct3: u32, funct7: u32) -> Option<Op>
     ensures { result ≡ pick (rows_of OPCODE_OP_IMM_32 table) funct3 funct7 0 }
 {
@@ -194,6 +241,7 @@ fn op_imm_32(funct3: u32, funct7: u32) -> Option<Op>
 }
 
 #[tactic(auto, unfolding(crate::specs::Table::table))]
+#[inline(always)]
 fn op_32(funct3: u32, funct7: u32) -> Option<Op>
     ensures { result ≡ pick (rows_of OPCODE_OP_32 table) funct3 funct7 0 }
 {
@@ -245,6 +293,7 @@ fn atomic(funct3: u32, funct7: u32, registers: u32) -> Option<Op>
 }
 
 #[tactic(auto, unfolding(crate::specs::Table::table), using(std::proofs::lemmas::Nat::and_mask))]
+#[inline(always)]
 fn system(word: u32) -> Option<Op>
     ensures { result ≡ option_map (λ r. r.op) (find (λ r. matches r word) (rows_of OPCODE_SYSTEM table)) }
 {

@@ -1,4 +1,3 @@
 pub mod Digits
 pub mod Written
-pub mod Going
 pub mod Standing

@@ -1,5 +1,4 @@
 pub mod Lines
-pub mod Travels
 pub mod Replies
 pub mod Sessions
 pub mod Inside

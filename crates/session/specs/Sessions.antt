@@ -11,7 +11,7 @@ use Rattle.session.specs.declared.command.Command.{Command}
 use Rattle.session.specs.declared.command.Command.TheVariants.{Where, Step, Go, Back, Break, Regs, Mem, Quit, Unknown}
 use Rattle.session.specs.Lines.{command_of}
 use Rattle.session.specs.Replies.{where_line, end_line, end_text, regs_line, mem_line, break_line, no_step_line, unknown_line}
-use Rattle.session.specs.Travels.{travel}
+use Rattle.guest_run.specs.Travels.{travel}
 
 -- a program with its box, the most steps that its run may take, the state in which it stands, and the break, if one was set
 pub record SessionState : Type 0 where

@@ -11,7 +11,6 @@ ghost use Rattle.session.specs.Inside.Saying.{Tells};
 use crate::command::Command;
 use crate::lines::read_command;
 use crate::replies;
-use crate::travel::travel;
 use ddc_base::{Bytes, OutOfMemory};
 use guest_run::{Guest, RunBox, RunEnd, RunRam, StartRefusal};
 use prompt::Respond;
@@ -94,7 +93,7 @@ impl<'a> Session<'a> {
         ensures err { OnErr result (IsFurther self.old self.new) }
     {
         let most = most.min(self.limit - self.guest.steps());
-        let end = travel(&mut self.guest, stop, most);
+        let end = self.guest.run_to(most, stop);
         self.tell(end)
     }
 
@@ -165,7 +164,7 @@ fn repeated(mut guest: Guest<RunRam>, count: u64) -> Result<Guest<RunRam>, OutOf
     requires goes { (last : GuestState) × (after guest count ≡ Some last) }
     ensures { IfOk result (λ new. after guest count ≡ Some new) }
 {
-    match travel(&mut guest, None, count) {
+    match guest.run_to(count, None) {
         RunEnd::Spent => Ok(guest),
         RunEnd::OutOfMemory => Err(OutOfMemory),
         RunEnd::Exited(_) => unreachable!(),

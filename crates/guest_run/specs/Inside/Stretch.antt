@@ -1,10 +1,19 @@
 -- A stretch of steps, which is how the code takes them; no promise rests on its being read.
-use Rattle.std.specs.Prelude.{◌≡◌, ℕ, ◌<◌, ◌≤◌, Option, None, Some}
+use Rattle.std.specs.Prelude.{◌≡◌, ℕ, ◌+◌, ◌<◌, Option, Some}
 use Rattle.guest_run.specs.declared.run.RunEnd.{RunEnd}
 use Rattle.guest_run.specs.Run.{after, Steps}
 use Rattle.guest_run.specs.State.{GuestState}
+use Rattle.guest_run.specs.Travels.{travel}
 
--- some of at most so many steps went on, or after fewer of them the next one ended the run
-abbrev pub Stretches : GuestState → ℕ → Option RunEnd → GuestState → Type 0
-Stretches old most None new = (count : ℕ) × (0 < count) × (count ≤ most) × (after old count ≡ Some new)
-Stretches old most (Some end) new = (count : ℕ) × (last : GuestState) × (count < most) × (after old count ≡ Some last) × Steps last (Some end) new
+-- so many steps lead from one state to another and come to no stop: going on from either comes to the same
+pub record Leads (stop : Option ℕ) (old last : GuestState) (count : ℕ) : Type 0 where
+  pub reached : after old count ≡ Some last
+  pub same : (left : ℕ) → travel stop old (count + left) ≡ travel stop last left
+
+-- fewer steps than so many, which come to no stop, and then one that answers this
+pub record Stretches (stop : Option ℕ) (old : GuestState) (most : ℕ) (end : Option RunEnd) (new : GuestState) : Type 0 where
+  pub count : ℕ
+  pub last : GuestState
+  pub few : count < most
+  pub leads : Leads stop old last count
+  pub step : Steps last end new

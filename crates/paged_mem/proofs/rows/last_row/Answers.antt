@@ -1,6 +1,9 @@
-use Rattle.std.proofs.Common.{◌≡◌, ◌+◌, ◌-◌, length, refl, sym, ap, ◌∙◌, get_or, arith}
+use Rattle.std.proofs.Common.{[], ◌≡◌, ◌+◌, ◌-◌, length, refl, sym, ap, ◌∙◌, get_or, arith}
 use Rattle.paged_mem.proofs.InRows.{row_between}
 use Rattle.paged_mem.proofs.rows.last_row.Goals as goal
+
+pub returns-then-is_empty : goal.returns-then-is_empty
+returns-then-is_empty c = (c.none.ensures.held c.args.pages.now []).in_row
 
 pub returns : goal.returns
 returns c =

@@ -1,0 +1,11 @@
+use Rattle.std.proofs.Common.{rules, sym, subst, ◌∙◌}
+use Rattle.paged_mem.specs.Inside.Entries.{ArePages}
+use Rattle.paged_mem.proofs.Accessed.{refilled}
+use Rattle.paged_mem.proofs.paged.PagedRamRam.write_from.Goals as goal
+
+pub invariant_of-self-inside : goal.invariant_of-self-inside
+invariant_of-self-inside c = (
+  subst (ArePages c.self.inside.pages.items) (sym (refilled c.self.inside.entries.len c.write_at-written.new.entries c.self.inside.entries.items (c.write_at-written.auto.entries ∙ c.deref_mut.ensures.len)))
+      (search rules),
+  (search rules, (c.none-self-inside.ensures.held _ _, tt)),
+)

@@ -1,0 +1,15 @@
+-- Steps up to an address as the code's loop takes them, which counts down. No promise rests on its being read.
+use Rattle.std.specs.Prelude.{◌≡◌, ℕ, ◌-◌, ◌%◌, ◌<◌, ◌≤◌, ◌⊎◌, Some}
+use Rattle.rv64_machine.specs.declared.answer.StepEnd.{StepEnd}
+use Rattle.rv64_machine.specs.declared.answer.StepEnd.TheVariants as end
+use Rattle.rv64_machine.specs.Hart.{HartState, Acts, ComesTo, passed}
+
+-- how they ended, and how many were left; a stop that was reached is a multiple of 4, as each pc is
+abbrev pub ActsDown : ℕ → HartState → ℕ → ℕ → StepEnd → HartState → Type 0
+ActsDown stop old most left end.Done new =
+    ((left ≡ 0) × (passed (Some stop) old most ≡ Some new)) ⊎ (ComesTo (Some stop) old most (most - left) new × (left < most) × (stop % 4 ≡ 0))
+ActsDown stop old most left end.Call new = (0 < left) × (left ≤ most) × (passed (Some stop) old (most - left) ≡ Some new) × Acts new end.Call new
+ActsDown stop old most left (end.Trap cause) new =
+    (0 < left) × (left ≤ most) × (passed (Some stop) old (most - left) ≡ Some new) × Acts new (end.Trap cause) new
+ActsDown stop old most left end.OutOfMemory new =
+    (0 < left) × (left ≤ most) × (passed (Some stop) old (most - left) ≡ Some new) × Acts new end.OutOfMemory new
