@@ -1,6 +1,6 @@
 //! The row of a word, by its opcode and its fields funct3, funct7 and, of a load-reserved, rs2.
 
-ghost use Rattle.std.specs.Prelude.{◌≡◌, ◌==◌, ℕ, ◌+◌, ◌*◌, ◌/◌, ◌%◌, false, IfSome, Some, option_map, find};
+ghost use Rattle.std.specs.Prelude.{◌≡◌, ◌==◌, ℕ, ◌+◌, ◌*◌, ◌/◌, ◌%◌, ◌^◌, false, IfSome, Some, option_map, find};
 ghost use Rattle.rv64_table.specs.Table.{matches, row_for, table};
 ghost use Rattle.rv64_table.specs.Inside.Lookup.{pick, rows_of};
 
@@ -69,30 +69,30 @@ macro_rules! by_key {
     };
 }
 
-/// The operation of a row by its opcode and funct3, which are one number: in octal, two digits for bits 6 to 2 of the word, and one for
-/// funct3. `None` says nothing: atomic rows and those of `SYSTEM` are not looked for.
+/// The operation of a word's row by its opcode and funct3, which are one number: in octal, two digits for bits 6 to 2 of the word, and one
+/// for funct3. Only the arms that need funct7 take it. `None` says nothing: atomic rows and those of `SYSTEM` are not looked for.
 #[inline(always)]
 #[tactic(auto, unfolding(crate::specs::Table::table))]
-fn at_key(key: u32, funct7: u32) -> Option<Op>
-    ensures row { (registers : ℕ) → IfSome result (λ op. pick (rows_of (4 * (key / 8) + 3) table) (key % 8) funct7 registers ≡ Some op) }
+fn at_key(key: u32, word: u32) -> Option<Op>
+    ensures row { (registers : ℕ) → IfSome result (λ op. pick (rows_of (4 * (key / 8) + 3) table) (key % 8) (word / 2 ^ 25) registers ≡ Some op) }
     ensures fields { IfSome result (λ op. key / 8 == 28 ≡ false) }
 {
     by_key! { key;
         0o00_0 Some(Op::Lb); 0o00_1 Some(Op::Lh); 0o00_2 Some(Op::Lw); 0o00_3 Some(Op::Ld);
         0o00_4 Some(Op::Lbu); 0o00_5 Some(Op::Lhu); 0o00_6 Some(Op::Lwu);
         0o03_0 Some(Op::Fence);
-        0o04_0 Some(Op::Addi); 0o04_1 op_imm(1, funct7); 0o04_2 Some(Op::Slti); 0o04_3 Some(Op::Sltiu);
-        0o04_4 Some(Op::Xori); 0o04_5 op_imm(5, funct7); 0o04_6 Some(Op::Ori); 0o04_7 Some(Op::Andi);
+        0o04_0 Some(Op::Addi); 0o04_1 op_imm(1, word >> 25); 0o04_2 Some(Op::Slti); 0o04_3 Some(Op::Sltiu);
+        0o04_4 Some(Op::Xori); 0o04_5 op_imm(5, word >> 25); 0o04_6 Some(Op::Ori); 0o04_7 Some(Op::Andi);
         0o05_0 Some(Op::Auipc); 0o05_1 Some(Op::Auipc); 0o05_2 Some(Op::Auipc); 0o05_3 Some(Op::Auipc);
         0o05_4 Some(Op::Auipc); 0o05_5 Some(Op::Auipc); 0o05_6 Some(Op::Auipc); 0o05_7 Some(Op::Auipc);
-        0o06_0 Some(Op::Addiw); 0o06_1 op_imm_32(1, funct7); 0o06_5 op_imm_32(5, funct7);
+        0o06_0 Some(Op::Addiw); 0o06_1 op_imm_32(1, word >> 25); 0o06_5 op_imm_32(5, word >> 25);
         0o10_0 Some(Op::Sb); 0o10_1 Some(Op::Sh); 0o10_2 Some(Op::Sw); 0o10_3 Some(Op::Sd);
-        0o14_0 op(0, funct7); 0o14_1 op(1, funct7); 0o14_2 op(2, funct7); 0o14_3 op(3, funct7);
-        0o14_4 op(4, funct7); 0o14_5 op(5, funct7); 0o14_6 op(6, funct7); 0o14_7 op(7, funct7);
+        0o14_0 op(0, word >> 25); 0o14_1 op(1, word >> 25); 0o14_2 op(2, word >> 25); 0o14_3 op(3, word >> 25);
+        0o14_4 op(4, word >> 25); 0o14_5 op(5, word >> 25); 0o14_6 op(6, word >> 25); 0o14_7 op(7, word >> 25);
         0o15_0 Some(Op::Lui); 0o15_1 Some(Op::Lui); 0o15_2 Some(Op::Lui); 0o15_3 Some(Op::Lui);
         0o15_4 Some(Op::Lui); 0o15_5 Some(Op::Lui); 0o15_6 Some(Op::Lui); 0o15_7 Some(Op::Lui);
-        0o16_0 op_32(0, funct7); 0o16_1 op_32(1, funct7); 0o16_4 op_32(4, funct7);
-        0o16_5 op_32(5, funct7); 0o16_6 op_32(6, funct7); 0o16_7 op_32(7, funct7);
+        0o16_0 op_32(0, word >> 25); 0o16_1 op_32(1, word >> 25); 0o16_4 op_32(4, word >> 25);
+        0o16_5 op_32(5, word >> 25); 0o16_6 op_32(6, word >> 25); 0o16_7 op_32(7, word >> 25);
         0o30_0 Some(Op::Beq); 0o30_1 Some(Op::Bne); 0o30_4 Some(Op::Blt);
         0o30_5 Some(Op::Bge); 0o30_6 Some(Op::Bltu); 0o30_7 Some(Op::Bgeu);
         0o31_0 Some(Op::Jalr);
@@ -111,7 +111,7 @@ pub fn row_at_once(word: u32) -> Option<Op>
     }
     match 8 * (word / 4 % 32) + word / 0x1000 % 8 {
         0o34_0 => system(word),
-        key => at_key(key, word >> 25),
+        key => at_key(key, word),
     }
 }
 
