@@ -4,6 +4,7 @@ pub mod Assembly
 pub mod Inside
 pub mod AllContents
 pub mod Assumptions
+pub mod Routes
 pub mod Follows
 pub mod Checked
 pub mod Differing
