@@ -5,9 +5,10 @@ use Rattle.std.specs.List.{list_any}
 use Rattle.recipe.specs.declared.contents.Said.{Said}
 use Rattle.recipe.specs.declared.parts.Stage.{Stage}
 use Rattle.meaning.specs.declared.assumption.Assumption.{Assumption}
+use Rattle.meaning.specs.declared.assumption.Assumption.TheVariants.{Implements, Compiles}
 use Rattle.meaning.specs.AllContents.{all_contents, stage_named}
 use Rattle.meaning.specs.Assumptions.{Holds, trust_lines}
-use Rattle.meaning.specs.Meaning.{Compiles, Prescribes}
+use Rattle.meaning.specs.Meaning as relation
 
 -- behind a checked stage nothing has to be believed
 abbrev pub behind : Option (List ℕ) → List (List ℕ) → List (List ℕ)
@@ -40,6 +41,11 @@ route_named recipe name = route_by recipe (stage_named recipe.stages name)
 abbrev pub is_on : List (List ℕ) → List ℕ → Bool
 is_on names name = list_any (λ other. bytes_eq other name) names
 
+-- whose program a line speaks of
+abbrev pub about : Assumption → List ℕ
+about (Implements made source) = made
+about (Compiles source stage becomes) = stage
+
 -- what is assumed for one stage: the lines of the members of its route, in the order of the whole list
 abbrev pub assumed_for : Said → ℕ → List Assumption
 assumed_for recipe number = trust_lines (is_on (route recipe number)) recipe
@@ -48,5 +54,5 @@ abbrev pub assumed_named : Said → List ℕ → List Assumption
 assumed_named recipe name = trust_lines (is_on (route_named recipe name)) recipe
 
 -- each of them holds
-abbrev pub RouteHolds : Prescribes → Compiles → Said → List (List ℕ) → List ℕ → Type 0
+abbrev pub RouteHolds : relation.Prescribes → relation.Compiles → Said → List (List ℕ) → List ℕ → Type 0
 RouteHolds prescribes compiles recipe inputs name = All (Holds prescribes compiles recipe (all_contents recipe inputs)) (assumed_named recipe name)
