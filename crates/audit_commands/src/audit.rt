@@ -12,7 +12,7 @@ ghost use Rattle.command_plan.specs.Performs.{Performs};
 ghost use Rattle.command_plan.specs.Plan.{answers};
 ghost use Rattle.command_plan.specs.Steps.{Says};
 ghost use Rattle.recipe_plan.specs.Reports.{compared_status};
-ghost use Rattle.recipe_plan.specs.Texts.{compared_line};
+ghost use Rattle.recipe_plan.specs.Texts.{compared_lines};
 ghost use Rattle.audit_commands.specs.Audit.{audited, audit_files, audit_plan, completed, undone};
 ghost use Rattle.audit_commands.specs.Inside.Finishing.{Comes};
 ghost use Rattle.audit_commands.specs.Texts.{stage_name, run_failed_line, check_failed_line};
@@ -24,10 +24,10 @@ use command_plan::{Answer, Status, Stop, keep, usage};
 use ddc_base::{OutOfMemory, Shelf};
 use recipe::Recipe;
 use recipe_plan::{apart, fetch_inputs, fetch_recipe};
-use report::{CompareLine, Compared, Report};
+use report::{CompareLine, Report};
 use std::alloc::Global;
 use wheeler::source_check::CheckCause;
-use wheeler::{Fault, RunCause};
+use wheeler::{Fault, RunCause, all_equal};
 
 /// Performs the command on the words after its name.
 #[tactic(auto, using(command_plan::proofs::Performing::performing))]
@@ -136,7 +136,7 @@ fn finish(audit: &mut Audit) -> Progress
     audit.advance(u64::MAX)
 }
 
-/// Saves a report, and says how its comparison ended.
+/// Saves a report, and says how its comparisons ended.
 #[tactic(auto, using(command_plan::proofs::Performing::saving), unfolding(crate::specs::Audit::completed))]
 fn keep_report<S: Shelf>(
     alloc: Global,
@@ -149,24 +149,27 @@ fn keep_report<S: Shelf>(
     ensures { Performs (completed report.now made.now) (S.state shelf.old) (S.state shelf.new) result }
 {
     let text = report::write(alloc, made)?;
-    let answer = compared(alloc, &made.compare)?;
+    let answer = compared(alloc, made.compare.as_slice())?;
     keep(alloc, shelf, report, text.as_slice(), answer)
 }
 
-/// The answer to a comparison.
-pub fn compared(alloc: Global, compare: &CompareLine) -> Result<Answer, OutOfMemory>
-    ensures status { IfOk result (λ answer. answer.status ≡ compared_status compare.now.result) }
-    ensures text { IfOk result (λ answer. answer.text ≡ compared_line compare.now) }
+/// The answer to comparisons.
+pub fn compared(alloc: Global, lines: &[CompareLine]) -> Result<Answer, OutOfMemory>
+    ensures status { IfOk result (λ answer. answer.status ≡ compared_status lines.now) }
+    ensures text { IfOk result (λ answer. answer.text ≡ compared_lines lines.now) }
 {
-    let text = recipe_plan::texts::compared(alloc, compare)?;
-    match compare.result {
-        Compared::Equal(_) => Ok(Answer {
-            status: Status::Yes,
-            text,
-        }),
-        Compared::Differs(_, _, _) => Ok(Answer {
-            status: Status::Differs,
-            text,
-        }),
+    let text = recipe_plan::texts::compared(alloc, lines)?;
+    let status = compared_status(lines);
+    Ok(Answer { status, text })
+}
+
+/// The status of comparisons.
+fn compared_status(lines: &[CompareLine]) -> Status
+    ensures { result ≡ compared_status lines.now }
+{
+    if all_equal(lines) {
+        Status::Yes
+    } else {
+        Status::Differs
     }
 }
