@@ -25,7 +25,7 @@ use Rattle.report.specs.declared.state.Opened.{Opened}
 use Rattle.report.specs.declared.state.State.{State}
 use Rattle.report.specs.declared.state.State.TheVariants.{Start, Titled, Inputs, Named, Heard, Leaving, Closing, Stages, Compared, Ended}
 use Rattle.report.specs.Inside.States.{step, follows, is_after, closed, with_stage}
-use Rattle.report.specs.Reports.{stage_block, report_lines, ascend, most_compared, IsCount, IsForm, IsDigest, IsMark, IsInputLine, IsLeft, IsStageLine, IsCompare, IsReport}
+use Rattle.report.specs.Reports.{stage_block, report_lines, ascend, most_comparisons, IsCount, IsForm, IsDigest, IsMark, IsInputLine, IsLeft, IsStageLine, IsCompare, IsReport}
 use Rattle.report.proofs.Cuts.{if_some, same_some}
 use Rattle.report.proofs.LineTexts.{IsLine}
 use Rattle.report.proofs.Takes.{so_far, step_takes}
@@ -99,7 +99,7 @@ with_room front stage has is = (
 )
 
 -- there is room for one comparison in every form
-some_compared : (form : ℕ) → 1 ≤ most_compared form
+some_compared : (form : ℕ) → 1 ≤ most_comparisons form
 some_compared form = by_test (form == 1)
   where
     by_test : (t : Bool) → 1 ≤ cond t 1 16
@@ -169,7 +169,7 @@ step_keeps (Stages front) (Compare compare) t good is e =
     })
 step_keeps (Compared report) (Compare compare) t good is e =
     let next : Report = record report { compare = report.compare ++ compare ∷ [] } in
-    let p = if_some (ltb (length report.compare) (most_compared report.form)) (Some (Compared next)) t e in
+    let p = if_some (ltb (length report.compare) (most_comparisons report.form)) (Some (Compared next)) t e in
     subst Good (same_some (Compared next) t p.1)
     (record {
       form = good.form;

@@ -19,7 +19,7 @@ use Rattle.report.specs.declared.types.Compared.{Compared}
 use Rattle.report.specs.declared.types.Compared.TheVariants.{Equal, Differs}
 use Rattle.report.specs.declared.types.Report.{Report}
 use Rattle.report.specs.Lines.{line_words, mark_words, compared_words, lines_text}
-use Rattle.report.specs.Reports.{stage_block, report_lines, report_text, most_compared, IsMark, IsStageLine, IsCompared, IsReport}
+use Rattle.report.specs.Reports.{stage_block, report_lines, report_text, most_comparisons, IsMark, IsStageLine, IsCompared, IsReport}
 use Rattle.report.proofs.LineTexts.{IsLine}
 use Rattle.report.proofs.Keeps.{lines_are}
 
@@ -96,7 +96,7 @@ blocks_few [] each = omega arith
 blocks_few (stage ∷ stages) each =
     omega (arith, length-append (stage_block stage) (flat_map stage_block stages), block_few stage (All-head IsStageLine stage stages each), blocks_few stages (All-tail IsStageLine stage stages each))
 
-few_compared : (form : ℕ) → most_compared form ≤ 16
+few_compared : (form : ℕ) → most_comparisons form ≤ 16
 few_compared form = by_test (form == 1)
   where
     by_test : (t : Bool) → cond t 1 16 ≤ 16

@@ -22,7 +22,7 @@ use Rattle.report.specs.declared.state.State.{State}
 use Rattle.report.specs.declared.state.State.TheVariants.{Start, Inputs, Named, Leaving, Stages, Compared, Ended}
 use Rattle.report.specs.Inside.Cuts.{◌>>=◌}
 use Rattle.report.specs.Inside.States.{step, follows, is_after, with_stage}
-use Rattle.report.specs.Reports.{stage_block, report_lines, ascend, most_compared, IsCount, IsStageLine, IsReport}
+use Rattle.report.specs.Reports.{stage_block, report_lines, ascend, most_comparisons, IsCount, IsStageLine, IsReport}
 
 -- the state after the lines
 abbrev pub run : State → List Line → Option State
@@ -106,17 +106,17 @@ run_blocks form recipe inputs (stage ∷ more) some one few each =
     ∙ run_stages (with_stage front stage) more (omega arith) (All-tail IsStageLine stage more each)
 
 -- the comparisons after the first one
-run_compares : (report : Report) (more : List CompareLine) → length report.compare + length more ≤ most_compared report.form
+run_compares : (report : Report) (more : List CompareLine) → length report.compare + length more ≤ most_comparisons report.form
     → run (Compared report) (map Compare more) ≡ Some (Compared (record report { compare = report.compare ++ more }))
 unfolding step
 run_compares report [] few = ap (λ (compares : List CompareLine). Some (Compared (record report { compare = compares }))) (sym (append-nil report.compare))
 run_compares report (compare ∷ more) few =
-    rw (below (length report.compare) (most_compared report.form) (omega (arith, few)))
+    rw (below (length report.compare) (most_comparisons report.form) (omega (arith, few)))
     (run_compares (record report { compare = report.compare ++ compare ∷ [] }) more (omega (arith, few, length-append report.compare (compare ∷ [])))
     ∙ ap (λ (compares : List CompareLine). Some (Compared (record report { compare = compares }))) (append_assoc report.compare (compare ∷ []) more))
 
 -- all of them
-run_compared : (report : Report) (compares : List CompareLine) → IsCount 1 (most_compared report.form) (length compares)
+run_compared : (report : Report) (compares : List CompareLine) → IsCount 1 (most_comparisons report.form) (length compares)
     → run (Stages (record { form = report.form; recipe = report.recipe; inputs = report.inputs; stages = report.stages })) (map Compare compares)
     ≡ Some (Compared (record report { compare = compares }))
 unfolding step

@@ -12,7 +12,7 @@ use Rattle.report.specs.declared.state.Opened.{Opened}
 use Rattle.report.specs.declared.state.State.{State}
 use Rattle.report.specs.declared.state.State.TheVariants.{Start, Titled, Inputs, Named, Heard, Leaving, Closing, Stages, Compared, Ended}
 use Rattle.report.specs.Inside.States.{step, follows, closed, with_stage}
-use Rattle.report.specs.Reports.{stage_block, front_lines, report_lines, most_compared}
+use Rattle.report.specs.Reports.{stage_block, front_lines, report_lines, most_comparisons}
 use Rattle.report.proofs.Cuts.{if_some, same_some}
 
 abbrev pub front_of : Front → List Line
@@ -84,7 +84,7 @@ step_takes (Stages front) (Compare compare) t e =
 step_takes (Compared report) (Compare compare) t e =
     let next = Compared (record report { compare = report.compare ++ compare ∷ [] }) in
     let front = front_lines report.form report.recipe report.inputs report.stages in
-    let p = if_some (ltb (length report.compare) (most_compared report.form)) (Some next) t e in
+    let p = if_some (ltb (length report.compare) (most_comparisons report.form)) (Some next) t e in
     grows t next (Compare compare) p.1 (front ++ map Compare report.compare)
     (ap (λ (ls : List Line). front ++ ls) (map_push Compare report.compare compare) ∙ sym (append_assoc front (map Compare report.compare) (Compare compare ∷ [])))
 step_takes (Compared report) End t e = grows t (Ended report) End e (front_lines report.form report.recipe report.inputs report.stages ++ map Compare report.compare) refl

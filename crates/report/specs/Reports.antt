@@ -100,8 +100,8 @@ abbrev pub IsForm : ℕ → Type 0
 IsForm form = (form ≡ 1) ⊎ (form ≡ 2)
 
 -- the most comparisons of a report of a form
-abbrev pub most_compared : ℕ → ℕ
-most_compared form = if form == 1 then 1 else 16
+abbrev pub most_comparisons : ℕ → ℕ
+most_comparisons form = if form == 1 then 1 else 16
 
 pub record IsReport (report : Report) : Type 0 where
   pub form : IsForm report.form
@@ -110,7 +110,7 @@ pub record IsReport (report : Report) : Type 0 where
   pub each_input : All IsInputLine report.inputs
   pub stages : IsCount 1 256 (length report.stages)
   pub each_stage : All IsStageLine report.stages
-  pub compares : IsCount 1 (most_compared report.form) (length report.compare)
+  pub compares : IsCount 1 (most_comparisons report.form) (length report.compare)
   pub each_compare : All IsCompare report.compare
 
 -- ---- reading

@@ -4,7 +4,7 @@ ghost use Rattle.std.specs.Prelude.{◌≡◌, IfOk};
 ghost use Rattle.std.specs.Ordering.{nat_cmp, is_lt};
 ghost use Rattle.std.specs.Cmp.Lexicographic.{slice_cmp};
 ghost use Rattle.report.specs.Inside.States.{Takes, follows};
-ghost use Rattle.report.specs.Reports.{most_compared};
+ghost use Rattle.report.specs.Reports.{most_comparisons};
 ghost use Rattle.report.specs.declared.line.Line.TheVariants as line;
 
 use crate::line::Line;
@@ -268,7 +268,7 @@ impl State {
                 Ok(true)
             }
             State::Compared(mut report) => {
-                if report.compare.len() < most_compared(report.form) {
+                if report.compare.len() < most_comparisons(report.form) {
                     report.compare.push(compare)?;
                     *self = State::Compared(report);
                     Ok(true)
@@ -295,8 +295,8 @@ impl State {
 }
 
 /// The most comparisons of a report of a form.
-fn most_compared(form: u32) -> usize
-    ensures { result ≡ most_compared form }
+fn most_comparisons(form: u32) -> usize
+    ensures { result ≡ most_comparisons form }
 {
     if form == 1 { 1 } else { MANY_COMPARED }
 }

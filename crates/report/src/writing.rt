@@ -14,9 +14,9 @@ use ddc_base::languages::Language;
 use ddc_base::{Bytes, Name, OutOfMemory, put_decimal, put_hex};
 use std::alloc::Global;
 
-/// Room for the lines around the inputs and stages, for an input's line, for a stage's block without left files, and for a left file's line
-/// without its name. Lengths and steps have at most 20 digits.
-const FRONT_ROOM: usize = 256;
+/// Room for the lines around the inputs, stages and comparisons, for an input's line, for a stage's block without left files, for a left
+/// file's line without its name, and for a comparison's line. Lengths and steps have at most 20 digits.
+const FRONT_ROOM: usize = 128;
 
 const INPUT_ROOM: usize = 128;
 

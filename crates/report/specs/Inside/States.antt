@@ -9,7 +9,7 @@ use Rattle.report.specs.declared.types.Mark.{Mark}
 use Rattle.report.specs.declared.types.LeftLine.{LeftLine}
 use Rattle.report.specs.declared.types.StageLine.{StageLine}
 use Rattle.report.specs.declared.state.Front.{Front}
-use Rattle.report.specs.Reports.{most_compared}
+use Rattle.report.specs.Reports.{most_comparisons}
 use Rattle.report.specs.declared.state.Opened.{Opened}
 use Rattle.report.specs.declared.state.State.{State}
 use Rattle.report.specs.declared.state.State.TheVariants.{Start, Titled, Inputs, Named, Heard, Leaving, Closing, Stages, Compared, Ended}
@@ -59,7 +59,7 @@ step (Stages front) (Stage name steps) = if nat_lt (length front.stages) 256 the
 step (Stages front) (Compare compare) =
     Some (Compared (record { form = front.form; recipe = front.recipe; inputs = front.inputs; stages = front.stages; compare = compare ∷ [] }))
 step (Compared report) (Compare compare) =
-    if nat_lt (length report.compare) (most_compared report.form)
+    if nat_lt (length report.compare) (most_comparisons report.form)
     then Some (Compared (record report { compare = report.compare ++ compare ∷ [] }))
     else None
 step (Compared report) End = Some (Ended report)
