@@ -11,6 +11,8 @@ pub mod copying;
 #[cfg(test)]
 mod pauses;
 #[cfg(test)]
+mod routes;
+#[cfg(test)]
 mod sessions;
 #[cfg(test)]
 mod tests;

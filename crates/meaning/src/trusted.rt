@@ -1,6 +1,7 @@
 use ddc_base::Name;
 
 /// Of which programs lines are asked.
+#[derive(Drop)]
 pub(crate) enum Trusted<'p> {
     /// Of those of all unchecked stages.
     OfAll,

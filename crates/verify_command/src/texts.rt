@@ -9,7 +9,7 @@ ghost use Rattle.meaning.specs.Routes.{assumed_named};
 use ddc_base::{Bytes, Name, OutOfMemory};
 use meaning::{Assumption, Assumptions, assumptions, assumptions_for};
 use recipe::Recipe;
-use recipe_plan::texts::compared_lines;
+use recipe_plan::texts::compared;
 use report::CompareLine;
 use std::alloc::Global;
 use verifier::Part;
@@ -42,11 +42,11 @@ pub fn accepted(
 fn verdict(alloc: Global, lines: &[CompareLine]) -> Result<Bytes, OutOfMemory>
     ensures { IfOk result (λ text. text ≡ headline lines.now ++ compared_lines lines.now) }
 {
-    let compared = compared_lines(alloc, lines)?;
+    let text = compared(alloc, lines)?;
     if all_equal(lines) {
-        yes(alloc, &compared)
+        yes(alloc, &text)
     } else {
-        Ok(compared)
+        Ok(text)
     }
 }
 

@@ -20,6 +20,7 @@ use recipe_plan::{apart, fetch_inputs, fetch_recipe, fetch_report};
 use report::{CompareLine, Report};
 use std::alloc::Global;
 use verifier::{Part, Verdict};
+use wheeler::all_equal;
 
 /// Performs the command on the words after its name. It does the same whatever sources mean.
 #[tactic(auto, using(command_plan::proofs::Performing::performing))]
@@ -80,8 +81,17 @@ fn accepted(alloc: Global, recipe: &Recipe, lines: &[CompareLine]) -> Result<Ans
     ensures { Says (judged_report recipe.now lines.now None) result }
 {
     let text = texts::accepted(alloc, recipe, lines)?;
-    let status = compared_status(lines);
-    Ok(Answer { status, text })
+    if all_equal(lines) {
+        Ok(Answer {
+            status: Status::Yes,
+            text,
+        })
+    } else {
+        Ok(Answer {
+            status: Status::Differs,
+            text,
+        })
+    }
 }
 
 /// The answer to a report of which this part is not true.
