@@ -1,15 +1,20 @@
 -- A route is a stage's program and then the route of the stage that makes it.
-use Rattle.std.proofs.Common.{◌≡◌, ℕ, zero, suc, ◌-◌, ◌<◌, ◌≤◌, ◌⊎◌, Bool, true, false, cond, Option, None, Some, List, [], ◌∷◌, length, take, drop, refl, sym, ap, ◌∙◌, subst, arith, inl, inr, All}
-use Rattle.std.specs.Prelude.{bytes_eq, find, slice_get}
+use Rattle.std.proofs.Common.{◌≡◌, ℕ, zero, suc, ◌+◌, ◌-◌, ◌++◌, ◌<◌, ◌≤◌, ◌⊎◌, Bool, true, false, cond, Option, None, Some, List, [], ◌∷◌, length, take, drop, refl, sym, ap, ap₂, ◌∙◌, subst, arith, inl, inr, All}
+use Rattle.std.specs.Prelude.{bytes_eq, filter_map, find, option_map, slice_get}
+use Rattle.std.specs.List.{position}
 use Rattle.std.proofs.lemmas.Bool.{cases_Bool, cases_lt}
+use Rattle.std.proofs.lemmas.Option.{same_Some}
 use Rattle.std.proofs.lemmas.Slice.Eq.{bytes_eq-Decides}
 use Rattle.recipe.specs.declared.contents.Said.{Said}
 use Rattle.recipe.specs.declared.parts.Content.{Content}
 use Rattle.recipe.specs.declared.parts.Content.TheVariants as content
+use Rattle.recipe.specs.declared.parts.Input.{Input}
 use Rattle.recipe.specs.declared.parts.Stage.{Stage}
 use Rattle.recipe.specs.Kept.{IsRecipe}
+use Rattle.recipe.specs.Lookups.{stage_at}
 use Rattle.meaning.specs.AllContents.{stage_named}
-use Rattle.meaning.specs.Routes.{behind, made_at, route, route_by, route_from, route_named}
+use Rattle.meaning.specs.Assumptions.{input_assumption, stage_assumption, trust_lines}
+use Rattle.meaning.specs.Routes.{assumed_for, assumed_named, behind, is_on, made_at, route, route_by, route_from, route_named}
 use Rattle.meaning.proofs.Directions.{found}
 use Rattle.meaning.proofs.Naming.{stage-placed}
 use Rattle.meaning.proofs.RouteClosed.{IsBelow, lower, meant, more-below, own-stage, program-below, split-at, within}
@@ -118,3 +123,64 @@ pub of-number : (recipe : Said) (number : ℕ) (stage : Stage) → IsRecipe reci
     → route recipe number ≡ route_named recipe stage.name
 unfolding route route_named
 of-number recipe number stage ok at = ap (route_by recipe) at ∙ sym (ap (route_by recipe) (own-found recipe ok (number - 1) stage at))
+
+-- ---- by the place of a name
+
+module _ {A : Type 0} (test : A → Bool) where
+  at-place : (xs : List A) (index : ℕ) → position test xs ≡ Some index → find test xs ≡ slice_get xs index
+  at-place [] index at = absurd cc
+  at-place (x ∷ xs) index at = by_test (test x) index at (λ k. at-place xs k)
+    where
+      by_rest : (o : Option ℕ) (index : ℕ) → position test xs ≡ o → option_map suc o ≡ Some index → ((k : ℕ) → position test xs ≡ Some k → find test xs ≡ slice_get xs k)
+          → find test xs ≡ slice_get (x ∷ xs) index
+      by_rest None index is at later = absurd cc
+      by_rest (Some k) index is at later =
+          let next : suc k ≡ index = same_Some (suc k) index at in
+          later k is ∙ ap (slice_get (x ∷ xs)) next
+
+      by_test : (t : Bool) (index : ℕ) → cond t (Some 0) (option_map suc (position test xs)) ≡ Some index → ((k : ℕ) → position test xs ≡ Some k → find test xs ≡ slice_get xs k)
+          → cond t (Some x) (find test xs) ≡ slice_get (x ∷ xs) index
+      by_test true index at later =
+          let zero_is : 0 ≡ index = same_Some 0 index at in
+          ap (slice_get (x ∷ xs)) zero_is
+      by_test false index at later = by_rest (position test xs) index refl at later
+
+  no-place-found : (xs : List A) → position test xs ≡ None → find test xs ≡ None
+  no-place-found [] at = refl
+  no-place-found (x ∷ xs) at = by_test (test x) at (no-place-found xs)
+    where
+      by_rest : (o : Option ℕ) → position test xs ≡ o → option_map suc o ≡ None → (position test xs ≡ None → find test xs ≡ None) → find test xs ≡ None
+      by_rest None is at later = later is
+      by_rest (Some k) is at later = absurd cc
+
+      by_test : (t : Bool) → cond t (Some 0) (option_map suc (position test xs)) ≡ None → (position test xs ≡ None → find test xs ≡ None)
+          → cond t (Some x) (find test xs) ≡ None
+      by_test true at later = absurd cc
+      by_test false at later = by_rest (position test xs) refl at later
+
+-- the lines of the stage of a name are those of its number
+pub assumed-at : (recipe : Said) (name : List ℕ) (index : ℕ) → stage_at recipe.stages name ≡ Some index → assumed_named recipe name ≡ assumed_for recipe (index + 1)
+unfolding route route_named
+assumed-at recipe name index at =
+    let place : index ≡ (index + 1) - 1 = omega arith in
+    ap (λ o. trust_lines (is_on (route_by recipe o)) recipe)
+    (at-place (λ (s : Stage). bytes_eq s.name name) recipe.stages index at ∙ ap (slice_get recipe.stages) place)
+
+-- a name that is no stage's has none
+none-trusted : (recipe : Said) → trust_lines (is_on []) recipe ≡ []
+unfolding trust_lines input_assumption stage_assumption
+none-trusted recipe = ap₂ (λ a b. a ++ b) (inputs recipe.inputs) (stages recipe.stages)
+  where
+    inputs : (xs : List Input) → filter_map (input_assumption (is_on []) recipe) xs ≡ []
+    inputs [] = refl
+    inputs (x ∷ xs) = inputs xs
+
+    stages : (xs : List Stage) → filter_map (stage_assumption (is_on []) recipe) xs ≡ []
+    stages [] = refl
+    stages (x ∷ xs) = stages xs
+
+pub assumed-nowhere : (recipe : Said) (name : List ℕ) → stage_at recipe.stages name ≡ None → assumed_named recipe name ≡ []
+unfolding route_named
+assumed-nowhere recipe name at =
+    ap (λ o. trust_lines (is_on (route_by recipe o)) recipe) (no-place-found (λ (s : Stage). bytes_eq s.name name) recipe.stages at)
+    ∙ none-trusted recipe
