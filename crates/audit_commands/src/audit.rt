@@ -23,11 +23,12 @@ use command_plan::words::are_two_files;
 use command_plan::{Answer, Status, Stop, keep, usage};
 use ddc_base::{OutOfMemory, Shelf};
 use recipe::Recipe;
-use recipe_plan::{apart, fetch_inputs, fetch_recipe};
+use recipe_plan::texts::compared_lines;
+use recipe_plan::{apart, compared_status, fetch_inputs, fetch_recipe};
 use report::{CompareLine, Report};
 use std::alloc::Global;
 use wheeler::source_check::CheckCause;
-use wheeler::{Fault, RunCause, all_equal};
+use wheeler::{Fault, RunCause};
 
 /// Performs the command on the words after its name.
 #[tactic(auto, using(command_plan::proofs::Performing::performing))]
@@ -158,18 +159,8 @@ pub fn compared(alloc: Global, lines: &[CompareLine]) -> Result<Answer, OutOfMem
     ensures status { IfOk result (λ answer. answer.status ≡ compared_status lines.now) }
     ensures text { IfOk result (λ answer. answer.text ≡ compared_lines lines.now) }
 {
-    let text = recipe_plan::texts::compared(alloc, lines)?;
-    let status = compared_status(lines);
-    Ok(Answer { status, text })
-}
-
-/// The status of comparisons.
-fn compared_status(lines: &[CompareLine]) -> Status
-    ensures { result ≡ compared_status lines.now }
-{
-    if all_equal(lines) {
-        Status::Yes
-    } else {
-        Status::Differs
-    }
+    Ok(Answer {
+        status: compared_status(lines),
+        text: compared_lines(alloc, lines)?,
+    })
 }

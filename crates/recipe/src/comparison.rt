@@ -5,8 +5,8 @@ ghost use Rattle.recipe.specs.Tables as spec;
 ghost use Rattle.recipe.specs.Tables.{compare_table, compared_stages, is_among, next_stage_name, some_stage_names};
 
 use crate::parts::Compare;
-use ddc_base::{ListOf, Name};
 use crate::text::{Key, Place, RecipeRefusal, array, name, no_other_key, required, required_name};
+use ddc_base::{ListOf, Name};
 use std::alloc::Global;
 use toml::{Table, Value};
 
@@ -25,7 +25,11 @@ pub(crate) fn stages_key(format: u32) -> Key
 
 /// What is compared at the end.
 #[tactic(auto, unfolding(crate::specs::Tables::compare_table))]
-pub(crate) fn compare_of(alloc: Global, format: u32, table: &Table) -> Result<Compare, RecipeRefusal>
+pub(crate) fn compare_of(
+    alloc: Global,
+    format: u32,
+    table: &Table,
+) -> Result<Compare, RecipeRefusal>
     ensures { Gives (λ x. x) result (compare_table format (table_view table.now)) }
 {
     let stages = compared_stages(alloc, format, table)?;

@@ -62,7 +62,7 @@ fn refused_key(alloc: Global, number: u8, place: Place, key: Key) -> Result<Byte
 
 /// A line for each comparison, in order.
 #[tactic(auto, unfolding(crate::specs::Texts::compared_lines))]
-pub fn compared(alloc: Global, lines: &[CompareLine]) -> Result<Bytes, OutOfMemory>
+pub fn compared_lines(alloc: Global, lines: &[CompareLine]) -> Result<Bytes, OutOfMemory>
     ensures { IfOk result (λ text. text ≡ compared_lines lines.now) }
 {
     let mut text = Bytes::new(alloc);

@@ -38,10 +38,7 @@ static COMPARED: [(&str, &str); 30] = [
     ("stages = [\"Two\"]", "4 compare 0 stages"),
     ("stages = [\"two\", \"o-ne\"]", "4 compare 0 stages"),
     ("stages = [\"two\", \"two\"]", "5 compare 0 stages"),
-    (
-        "stages = [\"one\", \"two\", \"one\"]",
-        "5 compare 0 stages",
-    ),
+    ("stages = [\"one\", \"two\", \"one\"]", "5 compare 0 stages"),
     ("stages = [\"gone\", \"gone\"]", "5 compare 0 stages"),
     ("stages = [\"gone\"]", "6 compare 0 stages"),
     ("stages = [\"two\", \"gone\"]", "6 compare 0 stages"),
@@ -50,33 +47,18 @@ static COMPARED: [(&str, &str); 30] = [
     ("stages = [\"two\"]", "accepted"),
     ("stages = [\"one\"]", "accepted"),
     ("stages = [\"one\", \"two\"]", "accepted"),
-    (
-        "stages = [\"two\"]\nstage = \"two\"",
-        "3 compare 0",
-    ),
-    (
-        "stage = \"gone\"\nstages = [\"two\"]",
-        "3 compare 0",
-    ),
+    ("stages = [\"two\"]\nstage = \"two\"", "3 compare 0"),
+    ("stage = \"gone\"\nstages = [\"two\"]", "3 compare 0"),
     // Two faults: which one is answered.
     ("stages = [\"Two\", 1]", "4 compare 0 stages"),
     ("stages = [1, \"Two\"]", "2 compare 0 stages"),
-    (
-        "stages = [\"two\", \"two\", \"Two\"]",
-        "5 compare 0 stages",
-    ),
-    (
-        "stages = [\"two\", \"Two\", \"two\"]",
-        "4 compare 0 stages",
-    ),
+    ("stages = [\"two\", \"two\", \"Two\"]", "5 compare 0 stages"),
+    ("stages = [\"two\", \"Two\", \"two\"]", "4 compare 0 stages"),
     (
         "stages = [\"gone\", \"one\", \"one\"]",
         "5 compare 0 stages",
     ),
-    (
-        "stages = [\"gone\"]\nmore = 1",
-        "3 compare 0",
-    ),
+    ("stages = [\"gone\"]\nmore = 1", "3 compare 0"),
 ];
 
 /// What stands in place of the compared stages and of the binary, and the answer.
@@ -148,7 +130,12 @@ fn with_stages(alloc: Global, more: u32) -> Result<String, OutOfMemory> {
     }
     tables.push_str("[compare]\n")?;
     names.push_str("]")?;
-    let text = with(alloc, example(alloc)?.as_str(), "[compare]\n", tables.as_str())?;
+    let text = with(
+        alloc,
+        example(alloc)?.as_str(),
+        "[compare]\n",
+        tables.as_str(),
+    )?;
     with(alloc, text.as_str(), STAGES, names.as_str())
 }
 
@@ -207,7 +194,12 @@ fn said(rt: &impl Abort, alloc: Global, new: &str, stages: &[&str]) -> Result<()
 #[test]
 fn the_stages_keep_their_order(rt: HostRuntime) -> Result<(), Fail> {
     said(&rt, rt.alloc(), STAGES, &["two", "one"])?;
-    said(&rt, rt.alloc(), "stages = [\"one\", \"two\"]", &["one", "two"])?;
+    said(
+        &rt,
+        rt.alloc(),
+        "stages = [\"one\", \"two\"]",
+        &["one", "two"],
+    )?;
     said(&rt, rt.alloc(), "stages = [\"one\"]", &["one"])?;
     Ok(())
 }

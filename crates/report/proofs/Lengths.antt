@@ -108,8 +108,19 @@ lines_few report is =
     let inputs = map Input report.inputs in
     let stages = flat_map stage_block report.stages in
     let compares = map Compare report.compare in
-    omega (arith, length-append ((inputs ++ stages) ++ compares) (End ∷ []), length-append (inputs ++ stages) compares, length-append inputs stages, mapped Input report.inputs,
-    mapped Compare report.compare, blocks_few report.stages is.each_stage, is.inputs.1, is.stages.1, is.compares.1, few_compared report.form)
+    omega (
+      arith,
+      length-append ((inputs ++ stages) ++ compares) (End ∷ []),
+      length-append (inputs ++ stages) compares,
+      length-append inputs stages,
+      mapped Input report.inputs,
+      mapped Compare report.compare,
+      blocks_few report.stages is.each_stage,
+      is.inputs.1,
+      is.stages.1,
+      is.compares.1,
+      few_compared report.form,
+    )
 
 pub short : (report : Report) → IsReport report → length (report_text report) < 1073741824
 short report is = omega (arith, lines_short (report_lines report) (lines_are report is), lines_few report is)

@@ -9,7 +9,8 @@ ghost use Rattle.report.specs.declared.line.Line.TheVariants as line;
 
 use crate::line::Line;
 use crate::types::{
-    CompareLine, CompareLines, InputLine, InputLines, LeftLine, LeftLines, Mark, Report, StageLine, StageLines,
+    CompareLine, CompareLines, InputLine, InputLines, LeftLine, LeftLines, Mark, Report, StageLine,
+    StageLines,
 };
 use ddc_base::digests::Digest;
 use ddc_base::languages::Language;

@@ -445,12 +445,12 @@ static FORMS: [(&str, &str, u64); 14] = [
         "compare two bin equal 3\nstage one 32\n",
         22,
     ),
+    ("ddc-report 2\n", "compare two bin equal 3\nunchecked\n", 22),
     (
-        "ddc-report 2\n",
-        "compare two bin equal 3\nunchecked\n",
-        22,
+        "ddc-report 2\nddc-report 2\n",
+        "compare two bin equal 3\n",
+        2,
     ),
-    ("ddc-report 2\nddc-report 2\n", "compare two bin equal 3\n", 2),
     ("ddc-report 3\n", "compare two bin equal 3\n", 1),
 ];
 

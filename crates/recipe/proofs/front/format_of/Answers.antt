@@ -7,6 +7,6 @@ use Rattle.recipe.proofs.front.format_of.Goals as goal
 
 pub overflow_cast-result : goal.overflow_cast-result
 overflow_cast-result c =
-    let at = required_ok (a_number 1 2) top_place key.Format _ c.in_ok-format.format c.in_ok-format.ensures in
+    let at = required_ok (a_number 1 2) top_place key.Format _ c.in_ok-format.format c.in_ok-format.ensures.value in
     let range = number_ok 1 2 top_place key.Format at.0 c.in_ok-format.format at.1 in
     record { fits = omega (arith, range.1) }
