@@ -1,9 +1,10 @@
 -- A route is a stage's program and then the route of the stage that makes it.
 use Rattle.std.proofs.Common.{◌≡◌, ℕ, zero, suc, ◌+◌, ◌-◌, ◌++◌, ◌<◌, ◌≤◌, ◌⊎◌, Bool, true, false, cond, Option, None, Some, List, [], ◌∷◌, length, take, drop, refl, sym, ap, ap₂, ◌∙◌, subst, arith, inl, inr, All}
-use Rattle.std.specs.Prelude.{bytes_eq, filter_map, find, option_map, slice_get}
-use Rattle.std.specs.List.{position}
-use Rattle.std.proofs.lemmas.Bool.{cases_Bool, cases_lt}
-use Rattle.std.proofs.lemmas.Option.{same_Some}
+use Rattle.std.specs.Prelude.{bytes_eq, filter_map, find, nat_lt, slice_get}
+use Rattle.std.specs.List.{position, position_or_len}
+use Rattle.std.proofs.lemmas.Bool.{cases_Bool, cases_lt, ltb-false}
+use Rattle.std.proofs.lemmas.List.Folds.{find_at}
+use Rattle.std.proofs.lemmas.Option.{same_Some, slice_get_past}
 use Rattle.std.proofs.lemmas.Slice.Eq.{bytes_eq-Decides}
 use Rattle.recipe.specs.declared.contents.Said.{Said}
 use Rattle.recipe.specs.declared.parts.Content.{Content}
@@ -126,37 +127,20 @@ of-number recipe number stage ok at = ap (route_by recipe) at ∙ sym (ap (route
 
 -- ---- by the place of a name
 
-module _ {A : Type 0} (test : A → Bool) where
-  at-place : (xs : List A) (index : ℕ) → position test xs ≡ Some index → find test xs ≡ slice_get xs index
-  at-place [] index at = absurd cc
-  at-place (x ∷ xs) index at = by_test (test x) index at (λ k. at-place xs k)
+module _ {A : Type 0} (test : A → Bool) (xs : List A) where
+  at-place : (index : ℕ) → position test xs ≡ Some index → find test xs ≡ slice_get xs index
+  at-place index at = by (nat_lt (position_or_len test xs) (length xs)) at
     where
-      by_rest : (o : Option ℕ) (index : ℕ) → position test xs ≡ o → option_map suc o ≡ Some index → ((k : ℕ) → position test xs ≡ Some k → find test xs ≡ slice_get xs k)
-          → find test xs ≡ slice_get (x ∷ xs) index
-      by_rest None index is at later = absurd cc
-      by_rest (Some k) index is at later =
-          let next : suc k ≡ index = same_Some (suc k) index at in
-          later k is ∙ ap (slice_get (x ∷ xs)) next
+      by : (b : Bool) → cond b (Some (position_or_len test xs)) None ≡ Some index → find test xs ≡ slice_get xs index
+      by true is = find_at test xs ∙ ap (slice_get xs) (same_Some (position_or_len test xs) index is)
+      by false is = absurd cc
 
-      by_test : (t : Bool) (index : ℕ) → cond t (Some 0) (option_map suc (position test xs)) ≡ Some index → ((k : ℕ) → position test xs ≡ Some k → find test xs ≡ slice_get xs k)
-          → cond t (Some x) (find test xs) ≡ slice_get (x ∷ xs) index
-      by_test true index at later =
-          let zero_is : 0 ≡ index = same_Some 0 index at in
-          ap (slice_get (x ∷ xs)) zero_is
-      by_test false index at later = by_rest (position test xs) index refl at later
-
-  no-place-found : (xs : List A) → position test xs ≡ None → find test xs ≡ None
-  no-place-found [] at = refl
-  no-place-found (x ∷ xs) at = by_test (test x) at (no-place-found xs)
+  no-place-found : position test xs ≡ None → find test xs ≡ None
+  no-place-found at = by (nat_lt (position_or_len test xs) (length xs)) refl at
     where
-      by_rest : (o : Option ℕ) → position test xs ≡ o → option_map suc o ≡ None → (position test xs ≡ None → find test xs ≡ None) → find test xs ≡ None
-      by_rest None is at later = later is
-      by_rest (Some k) is at later = absurd cc
-
-      by_test : (t : Bool) → cond t (Some 0) (option_map suc (position test xs)) ≡ None → (position test xs ≡ None → find test xs ≡ None)
-          → cond t (Some x) (find test xs) ≡ None
-      by_test true at later = absurd cc
-      by_test false at later = by_rest (position test xs) refl at later
+      by : (b : Bool) → nat_lt (position_or_len test xs) (length xs) ≡ b → cond b (Some (position_or_len test xs)) None ≡ None → find test xs ≡ None
+      by true less is = absurd cc
+      by false past is = find_at test xs ∙ slice_get_past xs (position_or_len test xs) (ltb-false (position_or_len test xs) (length xs) past)
 
 -- the lines of the stage of a name are those of its number
 pub assumed-at : (recipe : Said) (name : List ℕ) (index : ℕ) → stage_at recipe.stages name ≡ Some index → assumed_named recipe name ≡ assumed_for recipe (index + 1)

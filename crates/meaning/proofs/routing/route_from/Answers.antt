@@ -11,7 +11,7 @@ returns-in-Some c =
     let stage = c.index-stages-before.result in
     let name = c.loop-before.program.now in
     let at = read-at stages (c.loop-before.before - 1) c.index-stages-before.result c.index-stages-before.result
-    (omega (arith, c.loop-before-test.true, c.loop-before.invariant.0, c.requires)) c.index-stages-before.is in
+    (omega (arith, c.loop-before-test.true, c.loop-before.invariant.0)) c.index-stages-before.is in
     let here = route-made stages c.loop-before.before stage name (omega (arith, c.loop-before-test.true)) at (sym c.eq.ensures ∙ c.if-eq.true) in
     let checked = ap (λ o. name ∷ behind o (route_from stages (c.loop-before.before - 1) stage.program)) c.in-Some.is in
     c.in_ok-push.ensures.ok ∙ ap (λ n. c.loop-before.names ++ n ∷ []) c.copy.ensures
@@ -24,7 +24,7 @@ loop-before-preserved-in-None c =
     let name = c.loop-before.program.now in
     let rest = route_from stages (c.loop-before.before - 1) stage.program in
     let at = read-at stages (c.loop-before.before - 1) c.index-stages-before.result c.index-stages-before.result
-    (omega (arith, c.loop-before-test.true, c.loop-before.invariant.0, c.requires)) c.index-stages-before.is in
+    (omega (arith, c.loop-before-test.true, c.loop-before.invariant.0)) c.index-stages-before.is in
     let here = route-made stages c.loop-before.before stage name (omega (arith, c.loop-before-test.true)) at (sym c.eq.ensures ∙ c.if-eq.true) in
     let unchecked = ap (λ o. name ∷ behind o rest) c.in-None.is in (
       omega (arith, c.loop-before.invariant.0),
@@ -38,7 +38,7 @@ loop-before-preserved c =
     let stages = c.args.stages.now in
     let name = c.loop-before.program.now in
     let at = read-at stages (c.loop-before.before - 1) c.index-stages-before.result c.index-stages-before.result
-    (omega (arith, c.loop-before-test.true, c.loop-before.invariant.0, c.requires)) c.index-stages-before.is in
+    (omega (arith, c.loop-before-test.true, c.loop-before.invariant.0)) c.index-stages-before.is in
     let here = route-other stages c.loop-before.before c.index-stages-before.result name (omega (arith, c.loop-before-test.true)) at
         (sym c.eq.ensures ∙ c.if-eq.false) in (
       omega (arith, c.loop-before.invariant.0),
