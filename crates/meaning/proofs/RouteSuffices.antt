@@ -52,7 +52,7 @@ suffices prescribes compiles laws recipe inputs report ok r index stage at lines
     let mine : Known stage = subst Known (element recipe.stages index stage stage at) (both index stage less) in
     let needed : stage.check ≡ None → trusted stage.program ≡ true =
     λ unchecked. ap (λ o. is_on (behind o (route_from recipe.stages (length recipe.stages) stage.program)) stage.program) unchecked
-        ∙ first-on recipe ok (length recipe.stages) stage.program in
+    ∙ first-on recipe ok (length recipe.stages) stage.program in
     follows-stage prescribes compiles laws trusted recipe all stage mine.0 needed mine.1
 
 -- what a search finds stands at an index

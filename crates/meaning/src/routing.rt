@@ -10,11 +10,7 @@ use std::alloc::Global;
 /// The programs on which the conclusion on a stage rests, by the stage's number from 1: its own, that program's own where an unchecked
 /// stage makes it, and so on. None where the stage is checked.
 #[tactic(auto, unfolding(crate::specs::Routes::route))]
-pub(crate) fn route(
-    alloc: Global,
-    recipe: &Recipe,
-    stage: u32,
-) -> Result<ListOf<Name>, OutOfMemory>
+pub(crate) fn route(alloc: Global, recipe: &Recipe, stage: u32) -> Result<ListOf<Name>, OutOfMemory>
     requires some { 1 ≤ stage }
     requires there { stage ≤ length recipe.now.stages }
     ensures { IfOk result (λ names. names ≡ route recipe.now stage) }
@@ -24,11 +20,7 @@ pub(crate) fn route(
 }
 
 /// The same of one of these stages.
-fn route_of(
-    alloc: Global,
-    stages: &[Stage],
-    stage: &Stage,
-) -> Result<ListOf<Name>, OutOfMemory>
+fn route_of(alloc: Global, stages: &[Stage], stage: &Stage) -> Result<ListOf<Name>, OutOfMemory>
     ensures { IfOk result (λ names. names ≡ behind stage.now.check (route_from stages.now (length stages.now) stage.now.program)) }
 {
     match stage.check {
@@ -38,11 +30,7 @@ fn route_of(
 }
 
 /// A program, and those behind it.
-fn route_from(
-    alloc: Global,
-    stages: &[Stage],
-    program: &Name,
-) -> Result<ListOf<Name>, OutOfMemory>
+fn route_from(alloc: Global, stages: &[Stage], program: &Name) -> Result<ListOf<Name>, OutOfMemory>
     ensures { IfOk result (λ names. names ≡ route_from stages.now (length stages.now) program.now) }
 {
     let mut names = ListOf::new(alloc);

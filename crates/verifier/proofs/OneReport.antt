@@ -7,8 +7,7 @@ use Rattle.std.proofs.lemmas.Slice.Eq.{bytes_eq-Decides}
 use Rattle.recipe.specs.declared.contents.Said.{Said}
 use Rattle.recipe.specs.declared.parts.Input.{Input}
 use Rattle.recipe.specs.declared.parts.Stage.{Stage}
-use Rattle.recipe.specs.Kept.{IsRecipe}
-use Rattle.recipe.specs.Tables.{most_compared}
+use Rattle.recipe.specs.Kept.{IsRecipe, most_compared}
 use Rattle.report.specs.declared.types.CompareLine.{CompareLine}
 use Rattle.report.specs.declared.types.InputLine.{InputLine}
 use Rattle.report.specs.declared.types.Report.{Report}
@@ -82,7 +81,7 @@ lines-are recipe all number (stage ∷ stages) (line ∷ lines) named none =
           let own = (bytes_eq-Decides stage line.stage).0 here.0 in
           let audited = (bytes_eq-Decides recipe.compare.binary line.binary).0 here.1 in
           let result = ap₂ (λ a b. compared (content recipe all a) (content recipe all b)) own audited
-              ∙ (compared-Decides line.result (content recipe all line.stage) (content recipe all line.binary)).0 is in
+          ∙ (compared-Decides line.result (content recipe all line.stage) (content recipe all line.binary)).0 is in
           λ i. record { stage = own i; binary = audited i; result = result i } ∷ later none i
       by_test false is none later = absurd cc
 
@@ -301,8 +300,12 @@ few-compared format = by (format == 1) where
 
 pub few-lines : (recipe : Said) (report : Report) → IsRecipe recipe → is_header recipe report ≡ true → length report.compare ≤ 16
 few-lines recipe report ok header =
-    omega (arith, ok.few_compared, few-compared recipe.format,
-    counted-lines recipe.compare.binary recipe.compare.stages report.compare (header-is recipe report header).compared)
+    omega (
+      arith,
+      ok.few_compared,
+      few-compared recipe.format,
+      counted-lines recipe.compare.binary recipe.compare.stages report.compare (header-is recipe report header).compared,
+    )
 
 abbrev at_first : List (List ℕ) → Contents
 at_first inputs = record { inputs = inputs; artefacts = [] }

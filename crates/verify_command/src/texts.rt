@@ -26,11 +26,7 @@ pub fn refuted(alloc: Global, part: Part, place: u32) -> Result<Bytes, OutOfMemo
 
 /// A report is true: how the artefacts and the binary compare, after a yes where all are the same, and what is assumed of the recipe's
 /// programs.
-pub fn accepted(
-    alloc: Global,
-    recipe: &Recipe,
-    lines: &[CompareLine],
-) -> Result<Bytes, OutOfMemory>
+pub fn accepted(alloc: Global, recipe: &Recipe, lines: &[CompareLine]) -> Result<Bytes, OutOfMemory>
     ensures { IfOk result (λ text. text ≡ true_text recipe.now lines.now) }
 {
     let mut text = verdict(alloc, lines)?;
@@ -101,11 +97,7 @@ fn route(alloc: Global, recipe: &Recipe, stage: &Name) -> Result<Bytes, OutOfMem
 }
 
 /// What is assumed for the stage of a name.
-fn assumptions_of(
-    alloc: Global,
-    recipe: &Recipe,
-    name: &Name,
-) -> Result<Assumptions, OutOfMemory>
+fn assumptions_of(alloc: Global, recipe: &Recipe, name: &Name) -> Result<Assumptions, OutOfMemory>
     ensures { IfOk result (λ lines. lines ≡ assumed_named recipe.now name.now) }
 {
     let stages = recipe.stages().as_slice();

@@ -134,8 +134,10 @@ report-is recipe is inputs given done are all left =
       stages = (omega (arith, blocks.0, is.some_stages), omega (arith, blocks.0, is.few_stages));
       each_stage = blocks.1;
       form = is.format;
-      compares = (omega (arith, is.some_compared, length-map recipe.compare.stages (compare_line recipe all_of)),
-      omega (arith, is.few_compared, length-map recipe.compare.stages (compare_line recipe all_of)));
+      compares = (
+        omega (arith, is.some_compared, length-map recipe.compare.stages (compare_line recipe all_of)),
+        omega (arith, is.few_compared, length-map recipe.compare.stages (compare_line recipe all_of)),
+      );
       each_compare = All-map IsCompare (compare_line recipe all_of) recipe.compare.stages (All-weaker IsName (λ stage. IsCompare (compare_line recipe all_of stage))
           (λ stage name. record {
             stage = name;

@@ -40,7 +40,7 @@ loop-before-preserved c =
     let at = read-at stages (c.loop-before.before - 1) c.index-stages-before.result c.index-stages-before.result
     (omega (arith, c.loop-before-test.true, c.loop-before.invariant.0)) c.index-stages-before.is in
     let here = route-other stages c.loop-before.before c.index-stages-before.result name (omega (arith, c.loop-before-test.true)) at
-        (sym c.eq.ensures ∙ c.if-eq.false) in (
+    (sym c.eq.ensures ∙ c.if-eq.false) in (
       omega (arith, c.loop-before.invariant.0),
       ap (λ r. c.loop-before.names ++ r) (sym here) ∙ c.loop-before.invariant.1,
     )
