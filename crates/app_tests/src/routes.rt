@@ -245,59 +245,31 @@ fn forms_are_compared(rt: HostRuntime) -> Result<(), Fail> {
     let alloc = rt.alloc();
     let mut shelf = audit_shelf(alloc, "", "")?;
     shelf.set("r", REPORT.as_bytes())?;
-    comes_to(
-        &rt,
-        alloc,
-        &mut shelf,
-        "verify",
-        Status::Yes,
-        "yes\nequal two bin 3\n",
-    )?;
+    let yes = "yes\nequal two bin 3\n";
+    comes_to(&rt, alloc, &mut shelf, "verify", Status::Yes, yes)?;
     alter(alloc, &mut shelf, "ddc-report 1", "ddc-report 2")?;
-    comes_to(
-        &rt,
-        alloc,
-        &mut shelf,
-        "verify",
-        Status::Refuted,
-        "refuted header 0\n",
-    )?;
+    let header = "refuted header 0\n";
+    comes_to(&rt, alloc, &mut shelf, "verify", Status::Refuted, header)?;
+    Ok(())
+}
+
+/// A recipe of format 2 that compares one stage: its comparison has the place 1, and under form 1 the report is another's.
+#[test]
+fn one_comparison_has_a_place(rt: HostRuntime) -> Result<(), Fail> {
+    let alloc = rt.alloc();
     let mut shelf = shelf_of(
         alloc,
         "stages = [\"two\", \"three\"]",
         "stages = [\"three\"]",
     )?;
-    comes_to(
-        &rt,
-        alloc,
-        &mut shelf,
-        "audit",
-        Status::Yes,
-        "equal three bin 3\n",
-    )?;
-    alter(
-        alloc,
-        &mut shelf,
-        "compare three bin equal 3",
-        "compare three bin equal 4",
-    )?;
-    comes_to(
-        &rt,
-        alloc,
-        &mut shelf,
-        "verify",
-        Status::Refuted,
-        "refuted compare 1\n",
-    )?;
+    let equal = "equal three bin 3\n";
+    comes_to(&rt, alloc, &mut shelf, "audit", Status::Yes, equal)?;
+    alter(alloc, &mut shelf, "bin equal 3", "bin equal 4")?;
+    let compare = "refuted compare 1\n";
+    comes_to(&rt, alloc, &mut shelf, "verify", Status::Refuted, compare)?;
     alter(alloc, &mut shelf, "ddc-report 2", "ddc-report 1")?;
-    comes_to(
-        &rt,
-        alloc,
-        &mut shelf,
-        "verify",
-        Status::Refuted,
-        "refuted header 0\n",
-    )?;
+    let header = "refuted header 0\n";
+    comes_to(&rt, alloc, &mut shelf, "verify", Status::Refuted, header)?;
     Ok(())
 }
 

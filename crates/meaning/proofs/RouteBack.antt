@@ -15,7 +15,7 @@ use Rattle.recipe.specs.Kept.{IsRecipe}
 use Rattle.recipe.specs.Lookups.{stage_at}
 use Rattle.meaning.specs.AllContents.{stage_named}
 use Rattle.meaning.specs.Assumptions.{input_assumption, stage_assumption, trust_lines}
-use Rattle.meaning.specs.Routes.{assumed_for, assumed_named, behind, is_on, made_at, route, route_by, route_from, route_named}
+use Rattle.meaning.specs.Routes.{assumed_for, assumed_named, unless_checked, is_on, made_at, route, route_by, route_from, route_named}
 use Rattle.meaning.proofs.Directions.{found}
 use Rattle.meaning.proofs.Naming.{stage-placed}
 use Rattle.meaning.proofs.RouteClosed.{IsBelow, lower, meant, more-below, own-stage, program-below, split-at, within}
@@ -38,7 +38,7 @@ module _ (recipe : Said) (ok : IsRecipe recipe) where
       → made_at name (slice_get recipe.stages n) earlier more ≡ earlier
   skipped low n name earlier more fits below = by_get (slice_get recipe.stages n) refl
     where
-      by_test : (x : Stage) (t : Bool) → slice_get recipe.stages n ≡ Some x → bytes_eq x.name name ≡ t → cond t (name ∷ behind x.check (more x.program)) earlier ≡ earlier
+      by_test : (x : Stage) (t : Bool) → slice_get recipe.stages n ≡ Some x → bytes_eq x.name name ≡ t → cond t (name ∷ unless_checked x.check (more x.program)) earlier ≡ earlier
       by_test x true at named =
           let under : n < low = subst (IsBelow low) (meant-by n x name at named) below in
           absurd (omega (arith, under, fits))
@@ -87,13 +87,13 @@ module _ (recipe : Said) (ok : IsRecipe recipe) where
       Before = IsBelow n (meant recipe ok name) → route_from recipe.stages n name ≡ name ∷ route_named recipe name
 
       by_test : Before → (x : Stage) (t : Bool) → slice_get recipe.stages n ≡ Some x → bytes_eq x.name name ≡ t
-          → cond t (name ∷ behind x.check (route_from recipe.stages n x.program)) (route_from recipe.stages n name) ≡ name ∷ route_named recipe name
+          → cond t (name ∷ unless_checked x.check (route_from recipe.stages n x.program)) (route_from recipe.stages n name) ≡ name ∷ route_named recipe name
       by_test before x true at named =
           let same : x.name ≡ name = (bytes_eq-Decides x.name name).0 named in
           let here : stage_named recipe.stages name ≡ Some x = ap (stage_named recipe.stages) (sym same) ∙ own-found n x at in
           let under : n < length recipe.stages = within recipe.stages n x at in
           let more = route-more n (length recipe.stages) x.program (omega (arith, under)) (program-below recipe ok n x at) in
-          ap (λ r. name ∷ behind x.check r) (sym more) ∙ ap (λ o. name ∷ route_by recipe o) (sym here)
+          ap (λ r. name ∷ unless_checked x.check r) (sym more) ∙ ap (λ o. name ∷ route_by recipe o) (sym here)
       by_test before x false at named =
           before (lower recipe ok n name (meant recipe ok name) refl below (λ y y_at y_named. (let one : Some x ≡ Some y = sym at ∙ y_at in
           let other : bytes_eq x.name name ≡ true = ap (λ (o : Option Stage). named_in o) one ∙ y_named in absurd cc)))
@@ -108,13 +108,13 @@ module _ (recipe : Said) (ok : IsRecipe recipe) where
       by_get before (Some x) at = by_test before x (bytes_eq x.name name) at refl
 
 pub goes-back : (recipe : Said) (name : List ℕ) (stage : Stage) → IsRecipe recipe → stage_named recipe.stages name ≡ Some stage
-    → route_named recipe name ≡ behind stage.check (stage.program ∷ route_named recipe stage.program)
+    → route_named recipe name ≡ unless_checked stage.check (stage.program ∷ route_named recipe stage.program)
 unfolding route_named
 goes-back recipe name stage ok at =
     let place = found-at (λ (s : Stage). bytes_eq s.name name) recipe.stages stage at in
     let under : place.0 < length recipe.stages = within recipe.stages place.0 stage place.1 in
     let below = more-below place.0 (length recipe.stages) (meant recipe ok stage.program) (omega (arith, under)) (program-below recipe ok place.0 stage place.1) in
-    ap (route_by recipe) at ∙ ap (behind stage.check) (whole recipe ok (length recipe.stages) stage.program below)
+    ap (route_by recipe) at ∙ ap (unless_checked stage.check) (whole recipe ok (length recipe.stages) stage.program below)
 
 pub no-stage : (recipe : Said) (name : List ℕ) → stage_named recipe.stages name ≡ None → route_named recipe name ≡ []
 unfolding route_named

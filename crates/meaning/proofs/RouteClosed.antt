@@ -16,7 +16,7 @@ use Rattle.recipe.specs.Kept.{IsRecipe}
 use Rattle.recipe.specs.Lookups.{content_named, input_at, stage_at}
 use Rattle.recipe.proofs.MoreStages.{content_more}
 use Rattle.meaning.proofs.Naming.{place-low, stage-placed}
-use Rattle.meaning.specs.Routes.{behind, made_at, route_from, is_on}
+use Rattle.meaning.specs.Routes.{unless_checked, made_at, route_from, is_on}
 
 -- ---- elements by their index
 
@@ -55,15 +55,15 @@ unfolding route_from
 route-first stages name = refl
 
 pub route-made : (stages : List Stage) (n : ℕ) (x : Stage) (name : List ℕ) → 0 < n → slice_get stages (n - 1) ≡ Some x → bytes_eq x.name name ≡ true
-    → route_from stages n name ≡ name ∷ behind x.check (route_from stages (n - 1) x.program)
+    → route_from stages n name ≡ name ∷ unless_checked x.check (route_from stages (n - 1) x.program)
 unfolding route_from
 route-made stages zero x name some at named = absurd (omega (arith, some))
 route-made stages (suc n) x name some at named =
     let less : suc n - 1 ≡ n = omega arith in
     let here : slice_get stages n ≡ Some x = ap (slice_get stages) (sym less) ∙ at in
     ap (λ o. made_at name o (route_from stages n name) (λ program. route_from stages n program)) here
-    ∙ ap (λ b. cond b (name ∷ behind x.check (route_from stages n x.program)) (route_from stages n name)) named
-    ∙ ap (λ m. name ∷ behind x.check (route_from stages m x.program)) (sym less)
+    ∙ ap (λ b. cond b (name ∷ unless_checked x.check (route_from stages n x.program)) (route_from stages n name)) named
+    ∙ ap (λ m. name ∷ unless_checked x.check (route_from stages m x.program)) (sym less)
 
 pub route-other : (stages : List Stage) (n : ℕ) (x : Stage) (name : List ℕ) → 0 < n → slice_get stages (n - 1) ≡ Some x → bytes_eq x.name name ≡ false
     → route_from stages n name ≡ route_from stages (n - 1) name
@@ -73,7 +73,7 @@ route-other stages (suc n) x name some at named =
     let less : suc n - 1 ≡ n = omega arith in
     let here : slice_get stages n ≡ Some x = ap (slice_get stages) (sym less) ∙ at in
     ap (λ o. made_at name o (route_from stages n name) (λ program. route_from stages n program)) here
-    ∙ ap (λ b. cond b (name ∷ behind x.check (route_from stages n x.program)) (route_from stages n name)) named
+    ∙ ap (λ b. cond b (name ∷ unless_checked x.check (route_from stages n x.program)) (route_from stages n name)) named
     ∙ ap (λ m. route_from stages m name) (sym less)
 
 -- an element that the code reads by its index is there
@@ -189,8 +189,8 @@ module _ (recipe : Said) (ok : IsRecipe recipe) where
   first-on zero name = ap (λ b. b || false) (own name)
   first-on (suc n) name = by_get (first-on n name) (slice_get recipe.stages n)
     where
-      by_test : is_on (from n name) name ≡ true → (x : Stage) (t : Bool) → is_on (cond t (name ∷ behind x.check (from n x.program)) (from n name)) name ≡ true
-      by_test before x true = ap (λ b. b || is_on (behind x.check (from n x.program)) name) (own name)
+      by_test : is_on (from n name) name ≡ true → (x : Stage) (t : Bool) → is_on (cond t (name ∷ unless_checked x.check (from n x.program)) (from n name)) name ≡ true
+      by_test before x true = ap (λ b. b || is_on (unless_checked x.check (from n x.program)) name) (own name)
       by_test before x false = before
 
       by_get : is_on (from n name) name ≡ true → (o : Option Stage) → is_on (made_at name o (from n name) (λ program. from n program)) name ≡ true
@@ -226,7 +226,7 @@ module _ (recipe : Said) (ok : IsRecipe recipe) where
           same_element x s (sym found ∙ ap (slice_get recipe.stages) index ∙ at)
 
       by_check : Before → (x : Stage) (o : Option (List ℕ)) → slice_get recipe.stages n ≡ Some x → bytes_eq x.name name ≡ true → x.check ≡ o
-          → Closes (name ∷ behind o (from n x.program))
+          → Closes (name ∷ unless_checked o (from n x.program))
       by_check before x (Some check) found named was here = elim (cases_Bool (bytes_eq name s.name)) [
         | inl equal ↦
             let one = the_stage x found named equal in
@@ -244,7 +244,7 @@ module _ (recipe : Said) (ok : IsRecipe recipe) where
       ]
 
       by_test : Before → (x : Stage) (t : Bool) → slice_get recipe.stages n ≡ Some x → bytes_eq x.name name ≡ t
-          → Closes (cond t (name ∷ behind x.check (from n x.program)) (from n name))
+          → Closes (cond t (name ∷ unless_checked x.check (from n x.program)) (from n name))
       by_test before x true found named here = by_check before x x.check found named refl here
       by_test before x false found named here =
           before name

@@ -17,12 +17,12 @@ use Rattle.meaning.specs.Meaning.{Compiles, Prescribes}
 use Rattle.meaning.proofs.Argument.{IsClosed, sound-law, follows-stage}
 use Rattle.meaning.proofs.Gathering.{Reached}
 use Rattle.meaning.proofs.Sound.{Laws, Facts, Sound}
-use Rattle.meaning.specs.Routes.{behind, made_at, route_from, route_by, route, route_named, is_on}
+use Rattle.meaning.specs.Routes.{unless_checked, made_at, route_from, route_by, route, route_named, is_on}
 use Rattle.meaning.proofs.RouteClosed.{IsBelow, meant, more-below, there, within, element, program-below, first-on, closed-from}
 
 -- the programs of a stage that is there
 abbrev pub routed : Said → Stage → List (List ℕ)
-routed recipe stage = behind stage.check (route_from recipe.stages (length recipe.stages) stage.program)
+routed recipe stage = unless_checked stage.check (route_from recipe.stages (length recipe.stages) stage.program)
 
 -- a stage's program is made by one of the stages
 made-there : (recipe : Said) (ok : IsRecipe recipe) (index : ℕ) (stage : Stage) → slice_get recipe.stages index ≡ Some stage
@@ -32,7 +32,7 @@ made-there recipe ok index stage at =
 
 -- trust goes on along a route
 closed : (recipe : Said) → IsRecipe recipe → (index : ℕ) (stage : Stage) → slice_get recipe.stages index ≡ Some stage → (o : Option (List ℕ)) → stage.check ≡ o
-    → IsClosed (is_on (behind o (route_from recipe.stages (length recipe.stages) stage.program))) recipe
+    → IsClosed (is_on (unless_checked o (route_from recipe.stages (length recipe.stages) stage.program))) recipe
 closed recipe ok index stage at (Some check) was = λ k d less unchecked on. absurd cc
 closed recipe ok index stage at None was =
     λ k d less unchecked on.
@@ -51,7 +51,7 @@ suffices prescribes compiles laws recipe inputs report ok r index stage at lines
     let Known : Stage → Type 0 = λ s. Facts prescribes compiles trusted recipe all s × Sound prescribes trusted recipe all s.program in
     let mine : Known stage = subst Known (element recipe.stages index stage stage at) (both index stage less) in
     let needed : stage.check ≡ None → trusted stage.program ≡ true =
-    λ unchecked. ap (λ o. is_on (behind o (route_from recipe.stages (length recipe.stages) stage.program)) stage.program) unchecked
+    λ unchecked. ap (λ o. is_on (unless_checked o (route_from recipe.stages (length recipe.stages) stage.program)) stage.program) unchecked
     ∙ first-on recipe ok (length recipe.stages) stage.program in
     follows-stage prescribes compiles laws trusted recipe all stage mine.0 needed mine.1
 
@@ -90,13 +90,13 @@ module _ (recipe : Said) where
     | inl equal ↦ subst (λ x. is_trusted recipe x ≡ true) ((bytes_eq-Decides program name).0 equal) is
     | inr other ↦ absurd (let none : false ≡ true = sym (ap (λ b. b || false) other) ∙ on in cc)
   ]
-  on-from (suc n) program is name on = by_get (λ behind is here. on-from n behind is name here) (slice_get recipe.stages n) refl on
+  on-from (suc n) program is name on = by_get (λ later is here. on-from n later is name here) (slice_get recipe.stages n) refl on
     where
       Goal : List (List ℕ) → Type 0
       Goal names = is_on names name ≡ true → is_trusted recipe name ≡ true
 
       Before : Type 0
-      Before = (behind : List ℕ) → is_trusted recipe behind ≡ true → Goal (route_from recipe.stages n behind)
+      Before = (later : List ℕ) → is_trusted recipe later ≡ true → Goal (route_from recipe.stages n later)
 
       by_head : (rest : List (List ℕ)) → Goal rest → Goal (program ∷ rest)
       by_head rest later here = elim (cases_Bool (bytes_eq program name)) [
@@ -104,13 +104,13 @@ module _ (recipe : Said) where
         | inr other ↦ later (sym (ap (λ b. b || is_on rest name) other) ∙ here)
       ]
 
-      by_check : Before → (x : Stage) (o : Option (List ℕ)) → slice_get recipe.stages n ≡ Some x → x.check ≡ o → Goal (behind o (route_from recipe.stages n x.program))
+      by_check : Before → (x : Stage) (o : Option (List ℕ)) → slice_get recipe.stages n ≡ Some x → x.check ≡ o → Goal (unless_checked o (route_from recipe.stages n x.program))
       by_check before x (Some check) at was here = absurd cc
       by_check before x None at was here = before x.program (trusts n x at was) here
 
       by_test : Before → (x : Stage) (t : Bool) → slice_get recipe.stages n ≡ Some x
-          → Goal (cond t (program ∷ behind x.check (route_from recipe.stages n x.program)) (route_from recipe.stages n program))
-      by_test before x true at here = by_head (behind x.check (route_from recipe.stages n x.program)) (by_check before x x.check at refl) here
+          → Goal (cond t (program ∷ unless_checked x.check (route_from recipe.stages n x.program)) (route_from recipe.stages n program))
+      by_test before x true at here = by_head (unless_checked x.check (route_from recipe.stages n x.program)) (by_check before x x.check at refl) here
       by_test before x false at here = before program is here
 
       by_get : Before → (o : Option Stage) → slice_get recipe.stages n ≡ o → Goal (made_at program o (route_from recipe.stages n program) (λ p. route_from recipe.stages n p))
@@ -122,7 +122,7 @@ on-by : (recipe : Said) (o : Option Stage) (name : List ℕ) → ((x : Stage) �
 on-by recipe None name at on = absurd cc
 on-by recipe (Some x) name at on = by_check x.check refl on
   where
-    by_check : (o : Option (List ℕ)) → x.check ≡ o → is_on (behind o (route_from recipe.stages (length recipe.stages) x.program)) name ≡ true → is_trusted recipe name ≡ true
+    by_check : (o : Option (List ℕ)) → x.check ≡ o → is_on (unless_checked o (route_from recipe.stages (length recipe.stages) x.program)) name ≡ true → is_trusted recipe name ≡ true
     by_check (Some check) was here = absurd cc
     by_check None was here =
         let place = at x refl in

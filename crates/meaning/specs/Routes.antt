@@ -11,14 +11,14 @@ use Rattle.meaning.specs.Assumptions.{Holds, trust_lines}
 use Rattle.meaning.specs.Meaning as relation
 
 -- behind a checked stage nothing has to be believed
-abbrev pub behind : Option (List ℕ) → List (List ℕ) → List (List ℕ)
-behind None programs = programs
-behind (Some check) programs = []
+abbrev pub unless_checked : Option (List ℕ) → List (List ℕ) → List (List ℕ)
+unless_checked None programs = programs
+unless_checked (Some check) programs = []
 
 -- a program of this name, and the programs behind it where this stage makes it; else those that the earlier stages give
 abbrev pub made_at : List ℕ → Option Stage → List (List ℕ) → (List ℕ → List (List ℕ)) → List (List ℕ)
 made_at name None earlier more = earlier
-made_at name (Some stage) earlier more = if bytes_eq stage.name name then name ∷ behind stage.check (more stage.program) else earlier
+made_at name (Some stage) earlier more = if bytes_eq stage.name name then name ∷ unless_checked stage.check (more stage.program) else earlier
 
 -- the program of a name, which is an input or is made by one of the first stages, so many, and the programs behind it
 unfoldable pub route_from : List Stage → ℕ → List ℕ → List (List ℕ)
@@ -29,7 +29,7 @@ route_from stages (suc n) name = made_at name (slice_get stages n) (route_from s
 -- checked stage makes; empty where the stage itself is checked
 abbrev pub route_by : Said → Option Stage → List (List ℕ)
 route_by recipe None = []
-route_by recipe (Some stage) = behind stage.check (route_from recipe.stages (length recipe.stages) stage.program)
+route_by recipe (Some stage) = unless_checked stage.check (route_from recipe.stages (length recipe.stages) stage.program)
 
 -- by the stage's number, from 1, and by its name
 unfoldable pub route : Said → ℕ → List (List ℕ)

@@ -4,7 +4,7 @@ ghost use Rattle.meaning.specs.AllContents.{stage_named};
 ghost use Rattle.meaning.specs.Assumptions.{assumed, is_trusted};
 ghost use Rattle.meaning.specs.Concludes.{Concludes};
 ghost use Rattle.meaning.specs.Follows.{HasCompared};
-ghost use Rattle.meaning.specs.Routes.{about, assumed_for, behind, is_on, route, route_named};
+ghost use Rattle.meaning.specs.Routes.{about, assumed_for, unless_checked, is_on, route, route_named};
 ghost use Rattle.recipe.specs.Kept.{IsRecipe};
 ghost use Rattle.recipe.specs.declared.contents.Said.{Said};
 ghost use Rattle.recipe.specs.declared.parts.Stage.{Stage};
@@ -32,7 +32,7 @@ pub fn the_bench_concludes<M: Meaning>()
 /// that program, if one does. Of a stage's number it is that of its name.
 pub fn a_route_goes_back()
     ensures back { (recipe : Said) (name : List ℕ) (stage : Stage) → IsRecipe recipe → stage_named recipe.stages name ≡ Some stage
-        → route_named recipe name ≡ behind stage.check (stage.program ∷ route_named recipe stage.program) }
+        → route_named recipe name ≡ unless_checked stage.check (stage.program ∷ route_named recipe stage.program) }
     ensures ends { (recipe : Said) (name : List ℕ) → stage_named recipe.stages name ≡ None → route_named recipe name ≡ [] }
     ensures number { (recipe : Said) (number : ℕ) (stage : Stage) → IsRecipe recipe → slice_get recipe.stages (number - 1) ≡ Some stage
         → route recipe number ≡ route_named recipe stage.name }

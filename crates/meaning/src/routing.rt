@@ -1,6 +1,6 @@
 //! The route of a stage.
 
-ghost use Rattle.meaning.specs.Routes.{behind, route, route_from};
+ghost use Rattle.meaning.specs.Routes.{unless_checked, route, route_from};
 ghost use Rattle.std.specs.Prelude.{◌≡◌, ◌≤◌, IfOk, length};
 
 use ddc_base::{ListOf, Name, OutOfMemory};
@@ -21,7 +21,7 @@ pub(crate) fn route(alloc: Global, recipe: &Recipe, stage: u32) -> Result<ListOf
 
 /// The same of one of these stages.
 fn route_of(alloc: Global, stages: &[Stage], stage: &Stage) -> Result<ListOf<Name>, OutOfMemory>
-    ensures { IfOk result (λ names. names ≡ behind stage.now.check (route_from stages.now (length stages.now) stage.now.program)) }
+    ensures { IfOk result (λ names. names ≡ unless_checked stage.now.check (route_from stages.now (length stages.now) stage.now.program)) }
 {
     match stage.check {
         Some(_) => Ok(ListOf::new(alloc)),

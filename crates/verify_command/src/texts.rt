@@ -9,7 +9,7 @@ ghost use Rattle.meaning.specs.Routes.{assumed_named};
 use ddc_base::{Bytes, Name, OutOfMemory};
 use meaning::{Assumption, Assumptions, assumptions, assumptions_for};
 use recipe::Recipe;
-use recipe_plan::texts::compared;
+use recipe_plan::texts::compared_lines;
 use report::CompareLine;
 use std::alloc::Global;
 use verifier::Part;
@@ -38,7 +38,7 @@ pub fn accepted(alloc: Global, recipe: &Recipe, lines: &[CompareLine]) -> Result
 fn verdict(alloc: Global, lines: &[CompareLine]) -> Result<Bytes, OutOfMemory>
     ensures { IfOk result (λ text. text ≡ headline lines.now ++ compared_lines lines.now) }
 {
-    let text = compared(alloc, lines)?;
+    let text = compared_lines(alloc, lines)?;
     if all_equal(lines) {
         yes(alloc, &text)
     } else {

@@ -16,11 +16,10 @@ use command_plan::{Answer, Status, Stop, usage};
 use ddc_base::Shelf;
 use meaning::Meaning;
 use recipe::{Inputs, Recipe};
-use recipe_plan::{apart, fetch_inputs, fetch_recipe, fetch_report};
+use recipe_plan::{apart, compared_status, fetch_inputs, fetch_recipe, fetch_report};
 use report::{CompareLine, Report};
 use std::alloc::Global;
 use verifier::{Part, Verdict};
-use wheeler::all_equal;
 
 /// Performs the command on the words after its name. It does the same whatever sources mean.
 #[tactic(auto, using(command_plan::proofs::Performing::performing))]
@@ -80,18 +79,10 @@ fn answer<M: Meaning>(
 fn accepted(alloc: Global, recipe: &Recipe, lines: &[CompareLine]) -> Result<Answer, Stop>
     ensures { Says (judged_report recipe.now lines.now None) result }
 {
-    let text = texts::accepted(alloc, recipe, lines)?;
-    if all_equal(lines) {
-        Ok(Answer {
-            status: Status::Yes,
-            text,
-        })
-    } else {
-        Ok(Answer {
-            status: Status::Differs,
-            text,
-        })
-    }
+    Ok(Answer {
+        status: compared_status(lines),
+        text: texts::accepted(alloc, recipe, lines)?,
+    })
 }
 
 /// The answer to a report of which this part is not true.

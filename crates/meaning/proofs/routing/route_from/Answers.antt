@@ -1,6 +1,6 @@
 use Rattle.std.proofs.Common.{◌≡◌, ◌∙◌, ◌-◌, ◌++◌, ◌∷◌, [], sym, ap, refl, arith, append_assoc, nat_eq}
 use Rattle.std.proofs.lemmas.List.{append-nil}
-use Rattle.meaning.specs.Routes.{behind, route_from}
+use Rattle.meaning.specs.Routes.{unless_checked, route_from}
 use Rattle.meaning.proofs.RouteClosed.{route-first, route-made, route-other, read-at}
 use Rattle.meaning.proofs.routing.route_from.Goals as goal
 
@@ -13,7 +13,7 @@ returns-in-Some c =
     let at = read-at stages (c.loop-before.before - 1) c.index-stages-before.result c.index-stages-before.result
     (omega (arith, c.loop-before-test.true, c.loop-before.invariant.0)) c.index-stages-before.is in
     let here = route-made stages c.loop-before.before stage name (omega (arith, c.loop-before-test.true)) at (sym c.eq.ensures ∙ c.if-eq.true) in
-    let checked = ap (λ o. name ∷ behind o (route_from stages (c.loop-before.before - 1) stage.program)) c.in-Some.is in
+    let checked = ap (λ o. name ∷ unless_checked o (route_from stages (c.loop-before.before - 1) stage.program)) c.in-Some.is in
     c.in_ok-push.ensures.ok ∙ ap (λ n. c.loop-before.names ++ n ∷ []) c.copy.ensures
     ∙ ap (λ r. c.loop-before.names ++ r) (sym (here ∙ checked)) ∙ c.loop-before.invariant.1
 
@@ -26,7 +26,7 @@ loop-before-preserved-in-None c =
     let at = read-at stages (c.loop-before.before - 1) c.index-stages-before.result c.index-stages-before.result
     (omega (arith, c.loop-before-test.true, c.loop-before.invariant.0)) c.index-stages-before.is in
     let here = route-made stages c.loop-before.before stage name (omega (arith, c.loop-before-test.true)) at (sym c.eq.ensures ∙ c.if-eq.true) in
-    let unchecked = ap (λ o. name ∷ behind o rest) c.in-None.is in (
+    let unchecked = ap (λ o. name ∷ unless_checked o rest) c.in-None.is in (
       omega (arith, c.loop-before.invariant.0),
       ap (λ l. l ++ rest) (c.in_ok-push.ensures.ok ∙ ap (λ n. c.loop-before.names ++ n ∷ []) c.copy.ensures)
           ∙ append_assoc c.loop-before.names (name ∷ []) rest
