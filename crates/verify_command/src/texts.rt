@@ -2,9 +2,10 @@
 
 ghost use Rattle.recipe_plan.specs.Texts.{compared_lines};
 ghost use Rattle.ddc_base.specs.Lines.{line};
-ghost use Rattle.std.specs.Prelude.{◌≡◌, ◌++◌, [], ◌∷◌, IfOk, OnOk, codes, flat_map};
+ghost use Rattle.std.specs.Prelude.{◌≡◌, ◌++◌, [], ◌∷◌, IfOk, IfSome, OnOk, codes, flat_map, length, ◌<◌, ◌≤◌};
 ghost use Rattle.verify_command.specs.Texts.{assumed_text, assumption_line, headline, refuted_line, route_text, true_text, yes_line};
 ghost use Rattle.meaning.specs.Routes.{assumed_named};
+ghost use Rattle.recipe.specs.Lookups.{stage_at};
 
 use ddc_base::{Bytes, Name, OutOfMemory};
 use meaning::{Assumption, Assumptions, assumptions, assumptions_for};
@@ -100,11 +101,23 @@ fn route(alloc: Global, recipe: &Recipe, stage: &Name) -> Result<Bytes, OutOfMem
 fn assumptions_of(alloc: Global, recipe: &Recipe, name: &Name) -> Result<Assumptions, OutOfMemory>
     ensures { IfOk result (λ lines. lines ≡ assumed_named recipe.now name.now) }
 {
-    let stages = recipe.stages().as_slice();
-    match stages.iter().position(|stage| stage.name == *name) {
+    match place_of(recipe, name) {
         Some(index) => assumptions_for(alloc, recipe, index as u32 + 1),
         None => Ok(Assumptions::new(alloc)),
     }
+}
+
+/// The index of the stage of a name.
+fn place_of(recipe: &Recipe, name: &Name) -> Option<usize>
+    ensures place { result ≡ stage_at recipe.now.stages name.now }
+    ensures bound { IfSome result (λ index. index < length recipe.now.stages) }
+    ensures few { length recipe.now.stages ≤ 256 }
+{
+    recipe
+        .stages()
+        .as_slice()
+        .iter()
+        .position(|stage| stage.name == *name)
 }
 
 /// Adds a line for each assumption.
