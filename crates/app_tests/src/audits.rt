@@ -8,7 +8,7 @@ use std::alloc::Global;
 use std::test::Fail;
 
 /// The recipe: `one` copies the copier, and what it made is checked and copies three bytes.
-const RECIPE: &str = r#"format = 1
+pub(crate) const RECIPE: &str = r#"format = 1
 [[input]]
 name = "prog"
 path = "copy.elf"

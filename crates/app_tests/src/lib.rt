@@ -13,6 +13,8 @@ mod faults;
 #[cfg(test)]
 mod pauses;
 #[cfg(test)]
+mod routes;
+#[cfg(test)]
 mod sessions;
 #[cfg(test)]
 mod tests;

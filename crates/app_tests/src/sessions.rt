@@ -320,7 +320,7 @@ static REFUSALS: [Refusal; 13] = [
     // the recipe comes before the stage, and the stage before the inputs
     (
         "format = 1",
-        "format = 2",
+        "format = 3",
         "three",
         Status::RecipeRefused,
         "recipe refused 8 top 0 format\n",

@@ -14,13 +14,13 @@ use Rattle.command_plan.specs.Words.{are_two_files, usage}
 use Rattle.command_plan.specs.Plan.{Plan, answers, sets}
 use Rattle.recipe_plan.specs.Recipes.{needs_apart, needs_inputs, needs_recipe}
 use Rattle.recipe_plan.specs.Reports.{compared_status}
-use Rattle.recipe_plan.specs.Texts.{compared_line}
+use Rattle.recipe_plan.specs.Texts.{compared_lines}
 use Rattle.audit_commands.specs.Texts.{stage_name, run_failed_line, check_failed_line}
 
--- a report is saved, and its comparison is said
+-- a report is saved, and its comparisons are said
 unfoldable pub completed : List ℕ → Report → Plan
 completed out report =
-    sets out (report_text report) (answers (compared_status report.compare.result) (compared_line report.compare))
+    sets out (report_text report) (answers (compared_status report.compare) (compared_lines report.compare))
 
 -- a stage that is not done is said by its name, and nothing is saved
 abbrev pub undone : Said → ℕ → Fault → Plan

@@ -12,7 +12,7 @@ ghost use Rattle.command_plan.specs.Performs.{Performs};
 ghost use Rattle.command_plan.specs.Plan.{answers};
 ghost use Rattle.command_plan.specs.Steps.{Says};
 ghost use Rattle.recipe_plan.specs.Reports.{compared_status};
-ghost use Rattle.recipe_plan.specs.Texts.{compared_line};
+ghost use Rattle.recipe_plan.specs.Texts.{compared_lines};
 ghost use Rattle.audit_commands.specs.Audit.{audited, audit_files, audit_plan, completed, undone};
 ghost use Rattle.audit_commands.specs.Inside.Finishing.{Comes};
 ghost use Rattle.audit_commands.specs.Texts.{stage_name, run_failed_line, check_failed_line};
@@ -23,8 +23,9 @@ use command_plan::words::are_two_files;
 use command_plan::{Answer, Status, Stop, keep, usage};
 use ddc_base::{OutOfMemory, Shelf};
 use recipe::Recipe;
-use recipe_plan::{apart, fetch_inputs, fetch_recipe};
-use report::{CompareLine, Compared, Report};
+use recipe_plan::texts::compared_lines;
+use recipe_plan::{apart, compared_status, fetch_inputs, fetch_recipe};
+use report::{CompareLine, Report};
 use std::alloc::Global;
 use wheeler::source_check::CheckCause;
 use wheeler::{Fault, RunCause};
@@ -136,7 +137,7 @@ fn finish(audit: &mut Audit) -> Progress
     audit.advance(u64::MAX)
 }
 
-/// Saves a report, and says how its comparison ended.
+/// Saves a report, and says how its comparisons ended.
 #[tactic(auto, using(command_plan::proofs::Performing::saving), unfolding(crate::specs::Audit::completed))]
 fn keep_report<S: Shelf>(
     alloc: Global,
@@ -149,24 +150,17 @@ fn keep_report<S: Shelf>(
     ensures { Performs (completed report.now made.now) (S.state shelf.old) (S.state shelf.new) result }
 {
     let text = report::write(alloc, made)?;
-    let answer = compared(alloc, &made.compare)?;
+    let answer = compared(alloc, made.compare.as_slice())?;
     keep(alloc, shelf, report, text.as_slice(), answer)
 }
 
-/// The answer to a comparison.
-pub fn compared(alloc: Global, compare: &CompareLine) -> Result<Answer, OutOfMemory>
-    ensures status { IfOk result (λ answer. answer.status ≡ compared_status compare.now.result) }
-    ensures text { IfOk result (λ answer. answer.text ≡ compared_line compare.now) }
+/// The answer to comparisons.
+pub fn compared(alloc: Global, lines: &[CompareLine]) -> Result<Answer, OutOfMemory>
+    ensures status { IfOk result (λ answer. answer.status ≡ compared_status lines.now) }
+    ensures text { IfOk result (λ answer. answer.text ≡ compared_lines lines.now) }
 {
-    let text = recipe_plan::texts::compared(alloc, compare)?;
-    match compare.result {
-        Compared::Equal(_) => Ok(Answer {
-            status: Status::Yes,
-            text,
-        }),
-        Compared::Differs(_, _, _) => Ok(Answer {
-            status: Status::Differs,
-            text,
-        }),
-    }
+    Ok(Answer {
+        status: compared_status(lines),
+        text: compared_lines(alloc, lines)?,
+    })
 }

@@ -1,26 +1,25 @@
 -- What an advance does. docs/reference/audit.md says the same for people.
-use Rattle.std.specs.Prelude.{◌≡◌, ◌<◌, ℕ, Option, None, Some, List, ◌∷◌}
+use Rattle.std.specs.Prelude.{◌≡◌, ◌<◌, ℕ, Option, None, Some, List, ◌∷◌, if◌then◌else◌}
 use Rattle.guest_run.specs.Run.{Next, Goes, Ends, Exited, Trapped, UnknownCall, StepTakesMemory, next}
 use Rattle.recipe.specs.declared.contents.Said.{Said}
 use Rattle.recipe.specs.declared.parts.Stage.{Stage}
-use Rattle.report.specs.declared.types.Compared.{Compared}
-use Rattle.report.specs.declared.types.Compared.TheVariants.{Equal, Differs}
+use Rattle.report.specs.declared.types.CompareLine.{CompareLine}
 use Rattle.wheeler.specs.declared.answer.Answer.{Answer}
 use Rattle.wheeler.specs.declared.answer.Answer.TheVariants.{Completes, Fails}
 use Rattle.wheeler.specs.declared.answer.Fault.TheVariants.{Runs, Checks}
+use Rattle.wheeler.specs.Bench.{all_equal}
 use Rattle.wheeler.specs.Positions.{Position, Standing, On, Over, forward_from, todo}
 use Rattle.audit_run.specs.Stage.Makes.{Makes}
 use Rattle.audit_run.specs.declared.place.Progress.{Progress}
 use Rattle.audit_run.specs.declared.place.Progress.TheVariants as said
 use Rattle.audit_run.specs.Seen.{AuditState, standing}
 
--- what is said of a comparison, of an answer, and of where an audit stands
-abbrev pub said_of_result : Compared → Progress
-said_of_result (Equal length) = said.Equal
-said_of_result (Differs offset ours theirs) = said.Differs
+-- what is said of the comparisons, of an answer, and of where an audit stands
+abbrev pub said_of_comparisons : List CompareLine → Progress
+said_of_comparisons lines = if all_equal lines then said.Equal else said.Differs
 
 abbrev pub said_of_answer : Answer → Progress
-said_of_answer (Completes report) = said_of_result report.compare.result
+said_of_answer (Completes report) = said_of_comparisons report.compare
 said_of_answer (Fails stage (Runs cause step)) = said.RunFailed stage cause step
 said_of_answer (Fails stage (Checks cause)) = said.CheckFailed stage cause
 

@@ -1,6 +1,6 @@
 //! An advance, over the parts of an audit.
 
-ghost use Rattle.audit_run.specs.Advances.{Advances, said_of_answer, said_of_result};
+ghost use Rattle.audit_run.specs.Advances.{Advances, said_of_answer, said_of_comparisons};
 ghost use Rattle.audit_run.specs.Inside.Parts.{IsAtRest, IsPlace, IsStarted, SaysOf, seen, stands};
 ghost use Rattle.std.specs.Prelude.{◌≡◌, ◌≤◌, None, OnErr, OnOk};
 ghost use Rattle.wheeler.specs.Valid.{IsInputs};
@@ -11,9 +11,9 @@ use crate::stage::Done;
 use crate::stretch::advance_started;
 use ddc_base::{Bytes, OutOfMemory};
 use recipe::Recipe;
-use report::Compared;
+use report::CompareLine;
 use std::alloc::Global;
-use wheeler::{Answer, Fault};
+use wheeler::{Answer, Fault, all_equal};
 
 /// At most `most` steps.
 pub(crate) fn advance_parts(
@@ -89,7 +89,7 @@ fn said_of_answer(answer: &Answer) -> Progress
     ensures { result ≡ said_of_answer answer.now }
 {
     match answer {
-        Answer::Completes(report) => said_of_result(&report.compare.result),
+        Answer::Completes(report) => said_of_comparisons(report.compare.as_slice()),
         Answer::Fails(stage, Fault::Runs(cause, step)) => Progress::RunFailed {
             stage: *stage,
             cause: *cause,
@@ -102,12 +102,13 @@ fn said_of_answer(answer: &Answer) -> Progress
     }
 }
 
-/// What is said of a comparison.
-fn said_of_result(found: &Compared) -> Progress
-    ensures { result ≡ said_of_result found.now }
+/// What is said of the comparisons.
+fn said_of_comparisons(lines: &[CompareLine]) -> Progress
+    ensures { result ≡ said_of_comparisons lines.now }
 {
-    match found {
-        Compared::Equal(_) => Progress::Equal,
-        Compared::Differs(_, _, _) => Progress::Differs,
+    if all_equal(lines) {
+        Progress::Equal
+    } else {
+        Progress::Differs
     }
 }

@@ -37,9 +37,9 @@ pub(crate) enum Moved {
 /// What an advance answers.
 #[derive(Clone, Copy, Debug, PartialEq, Eq)]
 pub enum Progress {
-    /// The audit is over: the compared artefact is the audited binary.
+    /// The audit is over: each compared artefact is the audited binary.
     Equal,
-    /// The audit is over: they differ.
+    /// The audit is over: one of them differs from it.
     Differs,
     /// The audit is over: a stage's run made no artefact.
     RunFailed {

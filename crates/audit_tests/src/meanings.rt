@@ -9,6 +9,8 @@ use std::alloc::Global;
 mod lines;
 #[cfg(test)]
 mod recipes;
+#[cfg(test)]
+mod routes;
 
 /// A recipe with these stages behind its other tables.
 pub fn with_stages(alloc: Global, front: &str, stages: &str) -> Result<String, OutOfMemory>

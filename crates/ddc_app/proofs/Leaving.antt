@@ -6,7 +6,7 @@ use Rattle.ddc_base.specs.Outside.{NamedFiles}
 use Rattle.ddc_base.proofs.StoredFiles.{others-insert}
 use Rattle.recipe.specs.declared.contents.Said.{Said}
 use Rattle.report.specs.Reports.{report_text}
-use Rattle.report.specs.declared.types.Compared.{Compared}
+use Rattle.report.specs.declared.types.CompareLine.{CompareLine}
 use Rattle.save_text.specs.Spelled.{text_of_save}
 use Rattle.audit_run.specs.Save.Saves.{save_of}
 use Rattle.wheeler.specs.Positions.{Position, Standing, On, Over, forward, position}
@@ -126,8 +126,8 @@ pieces_stay recipe save report steps counts files =
 
 -- ---- the one that is not written
 
-no_pause : (line : Compared) → compared_status line ≢ Paused
-no_pause line = λ is. let both : false ≡ true = sym (never_paused line) ∙ ap is_paused is in absurd cc
+no_pause : (lines : List CompareLine) → compared_status lines ≢ Paused
+no_pause lines = λ is. let both : false ≡ true = sym (never_paused lines) ∙ ap is_paused is in absurd cc
 
 module _ (recipe save report : List ℕ) (files : NamedFiles) where
   unwritten : (status : Status) (text : List ℕ) → LeavesUnwritten save report files (told files status text)
@@ -145,7 +145,7 @@ module _ (recipe save report : List ℕ) (files : NamedFiles) where
   comes three said inputs (Over (Completes made)) =
       let apart = not_equal save report (three_apart recipe save report three).save_report in
       record {
-        report_stays = λ is. absurd (no_pause made.compare.result is);
+        report_stays = λ is. absurd (no_pause made.compare is);
         save_stays = λ _. (others-insert files report (report_text made)).others save apart;
       }
   comes three said inputs (Over (Fails number (Runs cause step))) = record { report_stays = λ _. refl; save_stays = λ _. refl }

@@ -1,14 +1,13 @@
 -- What a piece of an audit comes to, over any files that hold the recipe and its inputs.
-use Rattle.std.proofs.Common.{◌≡◌, ℕ, false, ◌⊎◌, inl, inr, Some, List, refl, sym, ap, ◌∙◌, subst}
+use Rattle.std.proofs.Common.{◌≡◌, ℕ, Bool, true, false, cond, ◌⊎◌, inl, inr, Some, List, refl, sym, ap, ◌∙◌, subst}
 use Rattle.std.specs.FinMap as finite
 use Rattle.ddc_base.specs.Outside.{NamedFiles}
 use Rattle.ddc_base.proofs.StoredFiles.{others-insert}
 use Rattle.report.specs.Reports.{report_text}
-use Rattle.report.specs.declared.types.Compared.{Compared}
-use Rattle.report.specs.declared.types.Compared.TheVariants.{Equal, Differs}
+use Rattle.report.specs.declared.types.CompareLine.{CompareLine}
 use Rattle.save_text.specs.Spelled.{text_of_save}
 use Rattle.audit_run.specs.Save.Saves.{save_of}
-use Rattle.wheeler.specs.Bench.{bench}
+use Rattle.wheeler.specs.Bench.{all_equal, bench}
 use Rattle.wheeler.specs.Positions.{Position, Standing, On, Over, finish, position}
 use Rattle.wheeler.specs.declared.answer.Answer.{Answer}
 use Rattle.wheeler.specs.declared.answer.Answer.TheVariants.{Completes, Fails}
@@ -16,7 +15,7 @@ use Rattle.wheeler.specs.declared.answer.Fault.TheVariants.{Runs, Checks}
 use Rattle.wheeler.proofs.Closing.{may-step}
 use Rattle.wheeler.proofs.Continues.{position-bench}
 use Rattle.wheeler.proofs.Rules.{rules}
-use Rattle.command_plan.specs.declared.status.Status.TheVariants.{Paused}
+use Rattle.command_plan.specs.declared.status.Status.TheVariants.{Paused, Yes, Differs}
 use Rattle.command_plan.specs.Plan.{Outcome, outcome}
 use Rattle.command_plan.specs.Words.{is_one_file}
 use Rattle.recipe_plan.specs.Reports.{compared_status}
@@ -47,9 +46,11 @@ abbrev pub Settles : (recipe save report : List ℕ) → Case recipe save report
 Settles recipe save report c first total piece =
     Pauses recipe save report c first total piece ⊎ Ends recipe save report c first (bench c.said c.inputs) piece
 
-pub never_paused : (result : Compared) → is_paused (compared_status result) ≡ false
-never_paused (Equal size) = refl
-never_paused (Differs offset made given) = refl
+pub never_paused : (lines : List CompareLine) → is_paused (compared_status lines) ≡ false
+never_paused lines = by (all_equal lines) where
+  by : (b : Bool) → is_paused (cond b Yes Differs) ≡ false
+  by true = refl
+  by false = refl
 
 other_stays : (files : NamedFiles) (save report content : List ℕ) → is_one_file save report ≡ false → finite.get (finite.insert files save content) report ≡ finite.get files report
 other_stays files save report content apart =
@@ -62,7 +63,7 @@ module _ (recipe save report : List ℕ) (c : Case recipe save report) (first no
   ends (Completes made) =
       let text : List ℕ = report_text made in
       record {
-        not_paused = never_paused made.compare.result;
+        not_paused = never_paused made.compare;
         holds = holds_again recipe c.said c.inputs now h report text c.words.recipe_report c.no_report;
         same = record { status = refl; text = refl; held = set_held now report text ∙ sym (set_held first report text) };
       }

@@ -8,12 +8,13 @@ use Rattle.recipe.specs.declared.text.refusal.RecipeRefusal.{RecipeRefusal}
 use Rattle.recipe.specs.Kept.{IsRecipe}
 use Rattle.recipe.specs.Reading.{recipe_of}
 use Rattle.recipe.specs.declared.contents.Said.{Said}
-use Rattle.report.specs.declared.types.Compared.{Compared}
-use Rattle.report.specs.declared.types.Compared.TheVariants.{Equal, Differs}
+use Rattle.report.specs.declared.types.CompareLine.{CompareLine}
 use Rattle.report.specs.declared.types.Report.{Report}
 use Rattle.report.specs.Reading.{report_of}
+use Rattle.wheeler.specs.Bench.{all_equal}
 use Rattle.wheeler.specs.Valid.{IsInputs}
 use Rattle.verifier.specs.declared.part.Part.{Part}
+use Rattle.verifier.specs.declared.part.Verdict.TheVariants as verdict
 use Rattle.verifier.specs.Faults.{first_fault}
 use Rattle.verifier.specs.Verdicts.{true_verdict}
 use Rattle.meaning.specs.Meaning.{Compiles, Prescribes}
@@ -125,20 +126,23 @@ all-held room files (name ∷ names) (content ∷ contents) held =
     ((within _ (finite.get files name) content held.0).0, all-held (room - length content) files names contents held.1)
 
 module _ (prescribes : Prescribes) (compiles : Compiles) where
-  by-status : (said : Said) (inputs : List (List ℕ)) (line : Compared) → Shows prescribes compiles said inputs (true_verdict line)
-      → ShownBy prescribes compiles said inputs (compared_status line)
-  by-status said inputs (Equal size) shown = shown
-  by-status said inputs (Differs offset made given) shown = shown
+  by-status : (said : Said) (inputs : List (List ℕ)) (lines : List CompareLine) → Shows prescribes compiles said inputs lines (true_verdict lines)
+      → ShownBy prescribes compiles said inputs lines (compared_status lines)
+  by-status said inputs lines = by (all_equal lines) where
+    by : (b : Bool) → Shows prescribes compiles said inputs lines (cond b verdict.Yes verdict.TrueButDiffers)
+        → ShownBy prescribes compiles said inputs lines (cond b status.Yes status.Differs)
+    by true shown = shown
+    by false shown = shown
 
   abbrev pub Shown : Type 0
   Shown = (said : Said) (inputs : List (List ℕ)) (made : Report) → IsRecipe said → IsInputs said inputs → first_fault said inputs made ≡ None
-      → Shows prescribes compiles said inputs (true_verdict made.compare.result)
+      → Shows prescribes compiles said inputs made.compare (true_verdict made.compare)
 
   shows_all : Shown → (recipe report : List ℕ) (files : NamedFiles) → IsTrue (is_compared (verify recipe report files).status)
       → ((r : Replayed recipe report files (verify recipe report files)) → IsInputs r.said r.inputs) → Verified prescribes compiles recipe report files (verify recipe report files)
   shows_all shows recipe report files compared are =
       let r = replayed recipe report files (are_two_files recipe report) compared in
-      let answers : (verify recipe report files).status ≡ compared_status r.made.compare.result = ap (λ (a : Outcome). a.status) r.leads in
+      let answers : (verify recipe report files).status ≡ compared_status r.made.compare = ap (λ (a : Outcome). a.status) r.leads in
       let rules = is_recipe recipe r.said r.inputs files r.holds in
       let given = are r in
       record {
@@ -158,8 +162,8 @@ module _ (prescribes : Prescribes) (compiles : Compiles) where
         true_report = r.none;
         status = answers;
         text = ap (λ (a : Outcome). a.text) r.leads;
-        shown = subst (ShownBy prescribes compiles r.said r.inputs) (sym answers)
-            (by-status r.said r.inputs r.made.compare.result (shows r.said r.inputs r.made rules given r.none));
+        shown = subst (ShownBy prescribes compiles r.said r.inputs r.made.compare) (sym answers)
+            (by-status r.said r.inputs r.made.compare (shows r.said r.inputs r.made rules given r.none));
       }
 
   pub verifies : Shown → (recipe report : List ℕ) (files : NamedFiles) → HoldBytes files → IsTrue (is_compared (verify recipe report files).status)

@@ -4,18 +4,16 @@ use Rattle.ddc_base.specs.Decimals.{as_decimal}
 use Rattle.ddc_base.specs.Lines.{line}
 use Rattle.recipe.specs.declared.contents.Said.{Said}
 use Rattle.recipe.specs.declared.parts.Input.{Input}
-use Rattle.report.specs.declared.types.Compared.{Compared}
-use Rattle.report.specs.declared.types.Compared.TheVariants.{Equal, Differs}
 use Rattle.report.specs.declared.types.Report.{Report}
 use Rattle.report.specs.declared.types.StageLine.{StageLine}
-use Rattle.wheeler.specs.Bench.{bench}
+use Rattle.wheeler.specs.Bench.{all_equal, bench}
 use Rattle.wheeler.specs.declared.answer.Answer.{Answer}
 use Rattle.wheeler.specs.declared.answer.Answer.TheVariants.{Completes, Fails}
 use Rattle.command_plan.specs.declared.status.Status.TheVariants as status
 use Rattle.command_plan.specs.Words.{or_usage, usage}
 use Rattle.command_plan.specs.Plan.{Plan, answers, needs}
 use Rattle.recipe_plan.specs.Recipes.{reads_recipe}
-use Rattle.recipe_plan.specs.Texts.{compared_line}
+use Rattle.recipe_plan.specs.Texts.{compared_lines}
 use Rattle.audit_commands.specs.Audit.{undone}
 
 -- N: a number from 1 to 16,777,216
@@ -55,12 +53,13 @@ abbrev pub steps_of_all : Report → ℕ
 steps_of_all report = sum_by (λ (stage : StageLine). stage.steps) report.stages
 
 -- what the audit comes to; where the artefact differs or a stage is not done, that is said as `audit` does
-abbrev pub demo_compared : ℕ → Report → Compared → Plan
-demo_compared size report (Equal length) = answers status.Yes (demo_line size (steps_of_all report))
-demo_compared size report (Differs offset made given) = answers status.Differs (compared_line report.compare)
+abbrev pub demo_compared : ℕ → Report → Plan
+demo_compared size report =
+    if all_equal report.compare then answers status.Yes (demo_line size (steps_of_all report))
+    else answers status.Differs (compared_lines report.compare)
 
 abbrev pub demonstrated : ℕ → Said → Answer → Plan
-demonstrated size recipe (Completes report) = demo_compared size report report.compare.result
+demonstrated size recipe (Completes report) = demo_compared size report
 demonstrated size recipe (Fails number fault) = undone recipe number fault
 
 -- the two files, the recipe, and then the audit

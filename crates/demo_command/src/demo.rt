@@ -169,7 +169,7 @@ fn run<M: Meaning>(
     }
 }
 
-/// Verifies a report, which is known to be true, and says how its comparison ended.
+/// Verifies a report, which is known to be true, and says how its comparisons ended.
 fn verify<M: Meaning>(
     alloc: Global,
     recipe: &Recipe,
@@ -179,17 +179,17 @@ fn verify<M: Meaning>(
 ) -> Result<Answer, Stop>
     requires given { IsInputs recipe.now inputs.now }
     requires true_report { first_fault recipe.now inputs.now report.now ≡ None }
-    ensures { Says (demo_compared size report.now report.now.compare.result) result }
+    ensures { Says (demo_compared size report.now) result }
 {
     match verifier::conclusion::verify::<M>(alloc, recipe, inputs, report) {
         Verdict::Yes => equal(alloc, report, size),
-        Verdict::TrueButDiffers => Ok(compared(alloc, &report.compare)?),
+        Verdict::TrueButDiffers => Ok(compared(alloc, report.compare.as_slice())?),
         Verdict::Refuted { .. } => unreachable!(),
         Verdict::OutOfMemory { .. } => Err(Stop::OutOfMemory),
     }
 }
 
-/// The answer to a comparison that found no difference.
+/// The answer where no comparison found a difference.
 fn equal(alloc: Global, report: &Report, size: u64) -> Result<Answer, Stop>
     ensures { Says (answers Yes (demo_line size (steps_of_all report.now))) result }
 {

@@ -1,11 +1,12 @@
--- The compared stage of a recipe that keeps its rules, and its parent source.
-use Rattle.std.proofs.Common.{◌≡◌, Bool, true, false, cond, ◌||◌, None, Some, List, [], ◌∷◌, refl, sym, ◌∙◌, All}
+-- The compared stages of a recipe that keeps its rules, and their parent sources.
+use Rattle.std.proofs.Common.{◌≡◌, Bool, true, false, cond, ◌||◌, ℕ, None, Some, List, [], ◌∷◌, get_or, refl, sym, ◌∙◌, All}
 use Rattle.std.specs.Prelude.{IsSome, bytes_eq, find}
 use Rattle.std.specs.List.{list_any, position}
+use Rattle.std.proofs.lemmas.Option.{slice_get-get_or}
 use Rattle.recipe.specs.declared.contents.Said.{Said}
 use Rattle.recipe.specs.declared.parts.Stage.{Stage}
 use Rattle.recipe.specs.Kept.{IsRecipe}
-use Rattle.recipe.specs.Lookups.{source_of}
+use Rattle.recipe.specs.Lookups.{source_of, stage_at}
 use Rattle.meaning.specs.Follows.{HasCompared}
 use Rattle.meaning.proofs.Argument.{by-stages}
 use Rattle.meaning.proofs.Directions.{found}
@@ -30,12 +31,12 @@ module _ {X : Type 0} (test : X → Bool) where
         let both : None ≡ Some place.0 = sym (no-place test xs is) ∙ place.1 in
         absurd cc
 
-pub has-compared : (recipe : Said) → IsRecipe recipe → HasCompared recipe
-has-compared recipe ok =
-    let test : Stage → Bool = λ s. bytes_eq s.name recipe.compare.stage in
+has-stage : (recipe : Said) → IsRecipe recipe → (name : List ℕ) → IsSome (stage_at recipe.stages name) → HasCompared recipe name
+has-stage recipe ok name there =
+    let test : Stage → Bool = λ s. bytes_eq s.name name in
     let Argued : Stage → Type 0 = λ s. s.check ≡ None → IsSome (source_of recipe s.program) in
     let argued : All Argued recipe.stages = by-stages recipe Argued [] recipe.stages refl (λ earlier stage rest split. (stage-placed recipe earlier stage rest ok split).kept.argued) in
-    let one = place-found test recipe.stages ok.compared in
+    let one = place-found test recipe.stages there in
     record {
       stage = one.0;
       compared = one.1;
@@ -43,3 +44,8 @@ has-compared recipe ok =
           let source = some_of (source_of recipe one.0.program) ((found test Argued recipe.stages one.0 argued one.1).0 unchecked) in
           (source.0, record { compared = one.1; unchecked = unchecked; parent = source.1 });
     }
+
+pub has-compared : (recipe : Said) → IsRecipe recipe → All (HasCompared recipe) recipe.compare.stages
+has-compared recipe ok k d less =
+    let name = get_or recipe.compare.stages k d in
+    has-stage recipe ok name (ok.compared k name (slice_get-get_or recipe.compare.stages k d less))

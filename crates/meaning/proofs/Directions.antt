@@ -1,6 +1,7 @@
 -- Both directions of Wheeler's argument, from the end of a bench.
-use Rattle.std.proofs.Common.{◌≡◌, ◌≢◌, ℕ, Bool, true, false, cond, Option, None, Some, List, [], ◌∷◌, refl, sym, ap, ◌∙◌, subst, All}
+use Rattle.std.proofs.Common.{◌≡◌, ◌≢◌, ℕ, Bool, true, false, cond, Option, None, Some, List, [], ◌∷◌, map, refl, sym, ap, ◌∙◌, subst, All}
 use Rattle.std.specs.Prelude.{bytes_eq, find, if◌then◌else◌, option_and_then}
+use Rattle.std.specs.List.{AllZip}
 use Rattle.std.proofs.lemmas.List.Elements.{All-head, All-tail}
 use Rattle.std.proofs.lemmas.Option.{same_Some}
 use Rattle.std.proofs.lemmas.Slice.Eq.{bytes_eq-Decides}
@@ -15,26 +16,30 @@ use Rattle.recipe.specs.declared.parts.SourceLanguage.TheVariants.{Defined, Othe
 use Rattle.recipe.specs.declared.parts.Stage.{Stage}
 use Rattle.recipe.specs.Kept.{IsRecipe}
 use Rattle.recipe.specs.Lookups.{hex_check, is_hex, source_named}
+use Rattle.report.specs.declared.types.CompareLine.{CompareLine}
 use Rattle.report.specs.declared.types.Report.{Report}
 use Rattle.wheeler.specs.declared.answer.Answer.TheVariants.{Completes}
-use Rattle.wheeler.specs.Bench.{bench, compared_at}
+use Rattle.wheeler.specs.Bench.{bench, compare_line, compared_at}
 use Rattle.wheeler.specs.Contents.{Contents, box_of, check_language, content, defined, program_of}
 use Rattle.wheeler.specs.Stages.{output_of}
 use Rattle.wheeler.specs.Valid.{IsInputs}
 use Rattle.wheeler.proofs.GivenBoxes.{box-is}
 use Rattle.wheeler.proofs.Rules as rules
 use Rattle.meaning.specs.AllContents.{all_contents, text_named}
-use Rattle.meaning.specs.Assumptions.{LinesHold}
+use Rattle.meaning.specs.Assumptions.{Holds, trust_lines}
 use Rattle.meaning.specs.Checked.{HasCheckItems, HasItemsOf, IsCheckValue, IsCheckedIn}
-use Rattle.meaning.specs.Concludes.{Concludes, ConcludesDifferent, ConcludesEqual}
+use Rattle.meaning.specs.Concludes.{Concludes, ConcludesBy, ConcludesDifferent, ConcludesEqual}
 use Rattle.meaning.specs.Differing.{IsExcluded, IsExcludedByOwn, IsNoValue}
-use Rattle.meaning.specs.Follows.{Follows, FollowsBy, HasParent, IsComparedStage, IsOnlyContent, PrescribesOnly, audited_binary}
+use Rattle.meaning.specs.Follows.{FollowsBy, HasParent, IsComparedStage, IsOnlyContent, PrescribesOnly, audited_binary}
 use Rattle.meaning.specs.Meaning.{Compiles, Implements, Prescribes}
+use Rattle.meaning.specs.Routes.{RouteHolds, is_on, route_by, route_named}
 use Rattle.meaning.specs.Values.{binary_of}
 use Rattle.meaning.proofs.Argument.{follows-law}
 use Rattle.meaning.proofs.Items.{checked-items}
 use Rattle.meaning.proofs.Gathering.{Reached, reached}
 use Rattle.meaning.proofs.Ran.{Ran}
+use Rattle.meaning.proofs.RouteLines.{routes-hold}
+use Rattle.meaning.proofs.RouteSuffices.{found-at, suffices}
 use Rattle.meaning.proofs.Sound.{Laws}
 use Rattle.meaning.proofs.Values.{checked-value, no-difference, some-difference}
 
@@ -65,49 +70,54 @@ hex-checked recipe stage language source checked other = rw checked.named (by (s
   by (Some s) is = spoken s.lang is
 
 module _ (prescribes : Prescribes) (compiles : Compiles) (laws : Laws prescribes compiles) (recipe : Said) (inputs : List (List ℕ)) (report : Report) (ok : IsRecipe recipe)
-    (r : Reached recipe inputs report) where
+    (r : Reached recipe inputs report) (name : List ℕ) where
   abbrev all : Contents
   all = all_contents recipe inputs
 
-  follows : LinesHold prescribes compiles recipe inputs → Follows prescribes recipe inputs
-  follows lines = follows-law prescribes compiles laws recipe all ok r.are r.ran lines
+  -- the stage of the name follows from the lines of its route
+  follows : RouteHolds prescribes compiles recipe inputs name → (stage : Stage) → IsComparedStage recipe name stage → FollowsBy prescribes recipe all stage stage.check
+  unfolding route_named
+  follows lines stage at =
+      let place = found-at (λ (s : Stage). bytes_eq s.name name) recipe.stages stage at in
+      suffices prescribes compiles laws recipe inputs report ok r place.0 stage place.1
+      (subst (λ names. All (Holds prescribes compiles recipe all) (trust_lines (is_on names) recipe)) (ap (route_by recipe) at) lines)
 
-  -- the compared stage: what holds of all stages holds of it
-  of-compared : (P : Stage → Type 0) (stage : Stage) → All P recipe.stages → IsComparedStage recipe stage → P stage
-  of-compared P stage each at = (found (λ (s : Stage). bytes_eq s.name recipe.compare.stage) P recipe.stages stage each at).0
+  -- the stage of the name: what holds of all stages holds of it
+  of-compared : (P : Stage → Type 0) (stage : Stage) → All P recipe.stages → IsComparedStage recipe name stage → P stage
+  of-compared P stage each at = (found (λ (s : Stage). bytes_eq s.name name) P recipe.stages stage each at).0
 
-  own-name : (stage : Stage) → IsComparedStage recipe stage → stage.name ≡ recipe.compare.stage
+  own-name : (stage : Stage) → IsComparedStage recipe name stage → stage.name ≡ name
   own-name stage at =
-      (bytes_eq-Decides stage.name recipe.compare.stage).0
-      (found (λ (s : Stage). bytes_eq s.name recipe.compare.stage) (λ _. Unit {0}) recipe.stages stage (λ _ _ _. tt) at).1
+      (bytes_eq-Decides stage.name name).0
+      (found (λ (s : Stage). bytes_eq s.name name) (λ _. Unit {0}) recipe.stages stage (λ _ _ _. tt) at).1
 
-  ran : (stage : Stage) → IsComparedStage recipe stage → Ran recipe all stage (content recipe all stage.name)
+  ran : (stage : Stage) → IsComparedStage recipe name stage → Ran recipe all stage (content recipe all stage.name)
   ran stage at = of-compared (λ (s : Stage). Ran recipe all s (content recipe all s.name)) stage r.ran at
 
-  valid : (stage : Stage) → IsComparedStage recipe stage → IsBox (box_of recipe all stage)
+  valid : (stage : Stage) → IsComparedStage recipe name stage → IsBox (box_of recipe all stage)
   valid stage at = box-is recipe all stage r.are (of-compared rules.IsStage stage (rules.rules recipe ok).stages at)
 
   -- the parent source is the one that follows
-  prescribed : (stage : Stage) (source : List ℕ) → HasParent recipe stage source → Follows prescribes recipe inputs
+  prescribed : (stage : Stage) (source : List ℕ) → HasParent recipe name stage source → FollowsBy prescribes recipe all stage stage.check
       → Implements prescribes (program_of recipe all stage) (text_named recipe all source) × PrescribesOnly prescribes recipe all stage source (content recipe all stage.name)
   prescribed stage source parent each =
-      let here = subst (FollowsBy prescribes recipe all stage) parent.unchecked (of-compared (λ (s : Stage). FollowsBy prescribes recipe all s s.check) stage each parent.compared) in
+      let here = subst (FollowsBy prescribes recipe all stage) parent.unchecked each in
       let same = same_Some here.source source (sym here.parent ∙ parent.parent) in
       subst (λ s. Implements prescribes (program_of recipe all stage) (text_named recipe all s) × PrescribesOnly prescribes recipe all stage s (content recipe all stage.name)) same
       (here.implements, here.prescribed)
 
-  equalling : content recipe all recipe.compare.stage ≡ audited_binary recipe inputs → (stage : Stage) → IsComparedStage recipe stage → content recipe all stage.name ≡ audited_binary recipe inputs
+  equalling : content recipe all name ≡ audited_binary recipe inputs → (stage : Stage) → IsComparedStage recipe name stage → content recipe all stage.name ≡ audited_binary recipe inputs
   equalling same stage at = ap (content recipe all) (own-name stage at) ∙ same
 
-  only : content recipe all recipe.compare.stage ≡ audited_binary recipe inputs → LinesHold prescribes compiles recipe inputs → IsOnlyContent prescribes recipe inputs
+  only : content recipe all name ≡ audited_binary recipe inputs → RouteHolds prescribes compiles recipe inputs name → IsOnlyContent prescribes recipe inputs name
   only same lines stage source parent =
       subst (PrescribesOnly prescribes recipe all stage source) (equalling same stage parent.compared)
-      (prescribed stage source parent (follows lines)).1
+      (prescribed stage source parent (follows lines stage parent.compared)).1
 
-  differing : content recipe all recipe.compare.stage ≢ audited_binary recipe inputs → (stage : Stage) → IsComparedStage recipe stage → content recipe all stage.name ≢ audited_binary recipe inputs
+  differing : content recipe all name ≢ audited_binary recipe inputs → (stage : Stage) → IsComparedStage recipe name stage → content recipe all stage.name ≢ audited_binary recipe inputs
   differing differs stage at same = differs (sym (ap (content recipe all) (own-name stage at)) ∙ same)
 
-  excluded_by_own : content recipe all recipe.compare.stage ≢ audited_binary recipe inputs → IsExcludedByOwn prescribes recipe inputs
+  excluded_by_own : content recipe all name ≢ audited_binary recipe inputs → IsExcludedByOwn prescribes recipe inputs name
   excluded_by_own differs stage source parent own program leaves implements =
       let text = text_named recipe all source in
       let box = box_of recipe all stage in
@@ -117,10 +127,10 @@ module _ (prescribes : Prescribes) (compiles : Compiles) (laws : Laws prescribes
       let bad = implements box leaves.step leaves.world (output_of stage.output) (audited_binary recipe inputs) ok_box leaves.runs leaves.there in
       differing differs stage parent.compared (laws.fixed text box (output_of stage.output) (content recipe all stage.name) (audited_binary recipe inputs) good bad)
 
-  excluded : content recipe all recipe.compare.stage ≢ audited_binary recipe inputs → LinesHold prescribes compiles recipe inputs → IsExcluded prescribes recipe inputs
-  excluded differs lines stage source parent = excluded_by_own differs stage source parent (prescribed stage source parent (follows lines)).0
+  excluded : content recipe all name ≢ audited_binary recipe inputs → RouteHolds prescribes compiles recipe inputs name → IsExcluded prescribes recipe inputs name
+  excluded differs lines stage source parent = excluded_by_own differs stage source parent (prescribed stage source parent (follows lines stage parent.compared)).0
 
-  own-value : (stage : Stage) (source : List ℕ) → IsComparedStage recipe stage → option_and_then (hex_check recipe.sources) stage.check ≡ Some source
+  own-value : (stage : Stage) (source : List ℕ) → IsComparedStage recipe name stage → option_and_then (hex_check recipe.sources) stage.check ≡ Some source
       → binary_of (text_named recipe all source) ≡ Some (content recipe all stage.name)
   own-value stage source at is = by_check stage.check refl is where
     by_check : (o : Option (List ℕ)) → stage.check ≡ o → option_and_then (hex_check recipe.sources) o ≡ Some source
@@ -128,35 +138,48 @@ module _ (prescribes : Prescribes) (compiles : Compiles) (laws : Laws prescribes
     by_check None was is = absurd cc
     by_check (Some check) was is = checked-value recipe all stage check source (content recipe all stage.name) was is (ran stage at).right
 
-  value : content recipe all recipe.compare.stage ≡ audited_binary recipe inputs → IsCheckValue recipe inputs
+  value : content recipe all name ≡ audited_binary recipe inputs → IsCheckValue recipe inputs name
   value same stage language source at checked other = own-value stage source at (hex-checked recipe stage language source checked other) ∙ ap Some (equalling same stage at)
 
-  items : content recipe all recipe.compare.stage ≡ audited_binary recipe inputs → HasCheckItems recipe inputs
+  items : content recipe all name ≡ audited_binary recipe inputs → HasCheckItems recipe inputs name
   items same stage source at checked =
       subst (HasItemsOf (text_named recipe all source)) (equalling same stage at)
       (checked-items recipe all stage source (content recipe all stage.name) checked.named checked.defined (ran stage at).right)
 
-  no_value : content recipe all recipe.compare.stage ≢ audited_binary recipe inputs → IsNoValue recipe inputs
+  no_value : content recipe all name ≢ audited_binary recipe inputs → IsNoValue recipe inputs name
   no_value differs stage language source at checked other value =
       let own = own-value stage source at (hex-checked recipe stage language source checked other) in
       differing differs stage at (same_Some (content recipe all stage.name) (audited_binary recipe inputs) (sym own ∙ value))
 
-  equal : content recipe all recipe.compare.stage ≡ audited_binary recipe inputs → ConcludesEqual prescribes compiles recipe inputs
-  equal same = record { follows = follows; only = only same; value = value same; items = items same }
+  equal : content recipe all name ≡ audited_binary recipe inputs → ConcludesEqual prescribes compiles recipe inputs name
+  equal same = record { only = only same; value = value same; items = items same }
 
-  different : content recipe all recipe.compare.stage ≢ audited_binary recipe inputs → ConcludesDifferent prescribes compiles recipe inputs
-  different differs = record { follows = follows; excluded = excluded differs; excluded_by_own = excluded_by_own differs; no_value = no_value differs }
+  different : content recipe all name ≢ audited_binary recipe inputs → ConcludesDifferent prescribes compiles recipe inputs name
+  different differs = record { excluded = excluded differs; excluded_by_own = excluded_by_own differs; no_value = no_value differs }
 
-  by-line : (o : Option ℕ) → first_difference (content recipe all recipe.compare.stage) (audited_binary recipe inputs) ≡ o
-      → Concludes prescribes compiles recipe inputs (compared_at o (content recipe all recipe.compare.stage) (audited_binary recipe inputs))
+  by-line : (o : Option ℕ) → first_difference (content recipe all name) (audited_binary recipe inputs) ≡ o
+      → ConcludesBy prescribes compiles recipe inputs name (compared_at o (content recipe all name) (audited_binary recipe inputs))
   by-line None none = equal (no-difference _ _ none)
   by-line (Some offset) some = different (some-difference _ _ offset some)
 
-  pub concluded : Concludes prescribes compiles recipe inputs report.compare.result
-  concluded =
-      subst (Concludes prescribes compiles recipe inputs) r.line (by-line (first_difference (content recipe all recipe.compare.stage) (audited_binary recipe inputs)) refl)
+  pub concluded : ConcludesBy prescribes compiles recipe inputs name (compare_line recipe (all_contents recipe inputs) name).result
+  concluded = by-line (first_difference (content recipe all name) (audited_binary recipe inputs)) refl
+
+-- a line for each element
+each-line : {A B : Type 0} (R : A → B → Type 0) (f : A → B) (xs : List A) → ((x : A) → R x (f x)) → AllZip R xs (map f xs)
+each-line R f [] holds = tt
+each-line R f (x ∷ xs) holds = (holds x, each-line R f xs holds)
 
 pub concludes-law : (prescribes : Prescribes) (compiles : Compiles) → Laws prescribes compiles → (recipe : Said) (inputs : List (List ℕ)) (report : Report) → IsRecipe recipe
-    → IsInputs recipe inputs → bench recipe inputs ≡ Completes report → Concludes prescribes compiles recipe inputs report.compare.result
+    → IsInputs recipe inputs → bench recipe inputs ≡ Completes report → Concludes prescribes compiles recipe inputs report.compare
 concludes-law prescribes compiles laws recipe inputs report ok given is =
-    concluded prescribes compiles laws recipe inputs report ok (reached recipe inputs report ok given is)
+    let r = reached recipe inputs report ok given is in
+    let By : List ℕ → CompareLine → Type 0 = λ name line. ConcludesBy prescribes compiles recipe inputs name line.result in
+    record {
+      all = record {
+        follows = λ lines. follows-law prescribes compiles laws recipe (all_contents recipe inputs) ok r.are r.ran lines;
+        routes = λ lines name. routes-hold prescribes compiles recipe inputs name lines;
+      };
+      each = subst (AllZip By recipe.compare.stages) r.lines
+          (each-line By (compare_line recipe (all_contents recipe inputs)) recipe.compare.stages (λ name. concluded prescribes compiles laws recipe inputs report ok r name));
+    }

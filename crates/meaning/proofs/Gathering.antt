@@ -14,14 +14,13 @@ use Rattle.wheeler.specs.declared.answer.Answer.{Answer}
 use Rattle.wheeler.specs.declared.answer.Answer.TheVariants.{Completes, Fails}
 use Rattle.wheeler.specs.declared.answer.Fault.{Fault}
 use Rattle.wheeler.specs.declared.answer.Finished.{Finished}
-use Rattle.wheeler.specs.Bench.{after_stage, bench, bench_from, compared, bench_report}
+use Rattle.wheeler.specs.Bench.{after_stage, bench, bench_from, bench_report, compare_lines}
 use Rattle.wheeler.specs.Contents.{Contents, box_of, bytes_named, content, program_of}
 use Rattle.wheeler.specs.Stages.{contents, stage_result}
 use Rattle.wheeler.specs.Valid.{IsInputs}
 use Rattle.wheeler.proofs.GivenBoxes.{AreContents}
 use Rattle.wheeler.proofs.Rules as rules
 use Rattle.meaning.specs.AllContents.{all_contents, done_from, with_result}
-use Rattle.meaning.specs.Follows.{audited_binary}
 use Rattle.meaning.proofs.Finding.{IsSplit, same-box, same-check, same-content}
 use Rattle.meaning.proofs.Naming.{IsPlaced, stage-placed}
 use Rattle.meaning.proofs.Ran.{Ran, ran-content, result-ran}
@@ -124,7 +123,7 @@ gather recipe ok inputs earlier done (stage ∷ rest) report split each are is =
 pub record Reached (recipe : Said) (inputs : List (List ℕ)) (report : Report) : Type 0 where
   pub are : AreContents (all_contents recipe inputs)
   pub ran : All (λ (stage : Stage). Ran recipe (all_contents recipe inputs) stage (content recipe (all_contents recipe inputs) stage.name)) recipe.stages
-  pub line : compared (content recipe (all_contents recipe inputs) recipe.compare.stage) (audited_binary recipe inputs) ≡ report.compare.result
+  pub lines : compare_lines recipe (all_contents recipe inputs) ≡ report.compare
 
 pub reached : (recipe : Said) (inputs : List (List ℕ)) (report : Report) → IsRecipe recipe → IsInputs recipe inputs → bench recipe inputs ≡ Completes report
     → Reached recipe inputs report
@@ -136,6 +135,5 @@ reached recipe inputs report ok given is =
     record {
       are = subst AreContents same g.are;
       ran = subst (λ all. AllRan recipe all recipe.stages) same g.ran;
-      line = ap (λ all. compared (content recipe all recipe.compare.stage) (content recipe all recipe.compare.binary)) (sym same)
-          ∙ sym (ap (λ (r : Report). r.compare.result) g.report_is);
+      lines = ap (compare_lines recipe) (sym same) ∙ sym (ap (λ (r : Report). r.compare) g.report_is);
     }

@@ -6,5 +6,9 @@ pub mod Values
 pub mod Items
 pub mod Sound
 pub mod Argument
+pub mod RouteClosed
+pub mod RouteSuffices
+pub mod RouteLines
 pub mod Directions
 pub mod ComparedStages
+pub mod RouteBack

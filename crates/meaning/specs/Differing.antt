@@ -1,4 +1,4 @@
--- What follows where the audited binary differs from the compared stage. docs/reference/argument.md says the same for people.
+-- What follows where the audited binary differs from a compared stage. docs/reference/argument.md says the same for people.
 use Rattle.std.specs.Prelude.{◌≡◌, ◌≢◌, ℕ, Some, List}
 use Rattle.ddc_base.specs.declared.languages.Language.{Language}
 use Rattle.ddc_base.specs.declared.languages.Language.TheVariants.{M1}
@@ -28,19 +28,19 @@ IsNoProgram prescribes recipe inputs stage source =
     (program : List ℕ) → Leaves recipe (all_contents recipe inputs) stage program (audited_binary recipe inputs)
     → ¬ (Implements prescribes program (text_named recipe (all_contents recipe inputs) source))
 
-abbrev pub IsExcluded : Prescribes → Said → List (List ℕ) → Type 0
-IsExcluded prescribes recipe inputs =
-    (stage : Stage) (source : List ℕ) → HasParent recipe stage source → IsNoProgram prescribes recipe inputs stage source
+abbrev pub IsExcluded : Prescribes → Said → List (List ℕ) → List ℕ → Type 0
+IsExcluded prescribes recipe inputs name =
+    (stage : Stage) (source : List ℕ) → HasParent recipe name stage source → IsNoProgram prescribes recipe inputs stage source
 
 -- none does if the stage's own program does
-abbrev pub IsExcludedByOwn : Prescribes → Said → List (List ℕ) → Type 0
-IsExcludedByOwn prescribes recipe inputs =
-    (stage : Stage) (source : List ℕ) → HasParent recipe stage source
+abbrev pub IsExcludedByOwn : Prescribes → Said → List (List ℕ) → List ℕ → Type 0
+IsExcludedByOwn prescribes recipe inputs name =
+    (stage : Stage) (source : List ℕ) → HasParent recipe name stage source
     → Implements prescribes (program_of recipe (all_contents recipe inputs) stage) (text_named recipe (all_contents recipe inputs) source)
     → IsNoProgram prescribes recipe inputs stage source
 
--- where the compared stage is checked in hex0, hex1 or hex2, the audited binary is not the value of the check's source
-abbrev pub IsNoValue : Said → List (List ℕ) → Type 0
-IsNoValue recipe inputs =
-    (stage : Stage) (language : Language) (source : List ℕ) → IsComparedStage recipe stage → IsCheckedIn recipe stage language source → language ≢ M1
+-- where the stage of a name is checked in hex0, hex1 or hex2, the audited binary is not the value of the check's source
+abbrev pub IsNoValue : Said → List (List ℕ) → List ℕ → Type 0
+IsNoValue recipe inputs name =
+    (stage : Stage) (language : Language) (source : List ℕ) → IsComparedStage recipe name stage → IsCheckedIn recipe stage language source → language ≢ M1
     → binary_of (text_named recipe (all_contents recipe inputs) source) ≢ Some (audited_binary recipe inputs)

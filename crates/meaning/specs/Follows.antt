@@ -36,29 +36,29 @@ abbrev pub Follows : Prescribes → Said → List (List ℕ) → Type 0
 Follows prescribes recipe inputs =
     All (λ (stage : Stage). FollowsBy prescribes recipe (all_contents recipe inputs) stage stage.check) recipe.stages
 
--- ---- the compared stage and the audited binary
+-- ---- the compared stages and the audited binary
 
 abbrev pub audited_binary : Said → List (List ℕ) → List ℕ
 audited_binary recipe inputs = content recipe (all_contents recipe inputs) recipe.compare.binary
 
--- the compared stage is this one
-abbrev pub IsComparedStage : Said → Stage → Type 0
-IsComparedStage recipe stage = stage_named recipe.stages recipe.compare.stage ≡ Some stage
+-- the stage of a name is this one
+abbrev pub IsComparedStage : Said → List ℕ → Stage → Type 0
+IsComparedStage recipe name stage = stage_named recipe.stages name ≡ Some stage
 
 -- it is this one, which is unchecked, and its program has this source: the parent source
-pub record HasParent (recipe : Said) (stage : Stage) (source : List ℕ) : Type 0 where
-  pub compared : IsComparedStage recipe stage
+pub record HasParent (recipe : Said) (name : List ℕ) (stage : Stage) (source : List ℕ) : Type 0 where
+  pub compared : IsComparedStage recipe name stage
   pub unchecked : stage.check ≡ None
   pub parent : source_of recipe stage.program ≡ Some source
 
--- the compared stage is there, and where it is unchecked it has a parent source
-pub record HasCompared (recipe : Said) : Type 0 where
+-- the stage of a name is there, and where it is unchecked it has a parent source
+pub record HasCompared (recipe : Said) (name : List ℕ) : Type 0 where
   pub stage : Stage
-  pub compared : IsComparedStage recipe stage
-  pub parent : stage.check ≡ None → (source : List ℕ) × HasParent recipe stage source
+  pub compared : IsComparedStage recipe name stage
+  pub parent : stage.check ≡ None → (source : List ℕ) × HasParent recipe name stage source
 
--- the parent source prescribes the audited binary for the compared stage, and nothing else
-abbrev pub IsOnlyContent : Prescribes → Said → List (List ℕ) → Type 0
-IsOnlyContent prescribes recipe inputs =
-    (stage : Stage) (source : List ℕ) → HasParent recipe stage source
+-- the parent source prescribes the audited binary for the stage of a name, and nothing else
+abbrev pub IsOnlyContent : Prescribes → Said → List (List ℕ) → List ℕ → Type 0
+IsOnlyContent prescribes recipe inputs name =
+    (stage : Stage) (source : List ℕ) → HasParent recipe name stage source
     → PrescribesOnly prescribes recipe (all_contents recipe inputs) stage source (audited_binary recipe inputs)

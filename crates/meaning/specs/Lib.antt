@@ -1,9 +1,10 @@
 pub mod Meaning
 pub mod Values
 pub mod Assembly
-pub mod Inside
 pub mod AllContents
 pub mod Assumptions
+pub mod Routes
+pub mod Inside
 pub mod Follows
 pub mod Checked
 pub mod Differing

@@ -1,25 +1,46 @@
 //! Laws of every meaning. Each law is the contract of a function that does nothing.
 
+ghost use Rattle.meaning.specs.AllContents.{stage_named};
+ghost use Rattle.meaning.specs.Assumptions.{assumed, is_trusted};
 ghost use Rattle.meaning.specs.Concludes.{Concludes};
 ghost use Rattle.meaning.specs.Follows.{HasCompared};
+ghost use Rattle.meaning.specs.Routes.{about, assumed_for, unless_checked, is_on, route, route_named};
 ghost use Rattle.recipe.specs.Kept.{IsRecipe};
 ghost use Rattle.recipe.specs.declared.contents.Said.{Said};
+ghost use Rattle.recipe.specs.declared.parts.Stage.{Stage};
 ghost use Rattle.report.specs.declared.types.Report.{Report};
-ghost use Rattle.std.specs.Prelude.{◌≡◌, ℕ, List};
+ghost use Rattle.std.specs.Prelude.{◌≡◌, ◌≤◌, ◌-◌, ◌∷◌, [], ℕ, All, List, None, Some, filter, slice_get, true};
 ghost use Rattle.wheeler.specs.Bench.{bench};
 ghost use Rattle.wheeler.specs.Valid.{IsInputs};
 ghost use Rattle.wheeler.specs.declared.answer.Answer.TheVariants.{Completes};
 
 use crate::meaning::Meaning;
 
-/// The compared stage of a recipe that keeps its rules is there, and where it is unchecked it has a parent source.
-pub fn a_compared_stage_is_there()
-    ensures { (recipe : Said) → IsRecipe recipe → HasCompared recipe }
+/// Each compared stage of a recipe that keeps its rules is there, and where it is unchecked it has a parent source.
+pub fn compared_stages_are_there()
+    ensures { (recipe : Said) → IsRecipe recipe → All (HasCompared recipe) recipe.compare.stages }
 {}
 
 /// Wheeler's argument, in both directions: of a recipe that keeps its rules and inputs within their limits, where the bench reaches its
-/// end, the conclusion that belongs to its comparison holds.
+/// end, the conclusion that belongs to each comparison holds, from the lines of that stage's route alone.
 pub fn the_bench_concludes<M: Meaning>()
     ensures { (recipe : Said) (inputs : List (List ℕ)) (report : Report) → IsRecipe recipe → IsInputs recipe inputs
-        → bench recipe inputs ≡ Completes report → Concludes M.prescribes M.compiles recipe inputs report.compare.result }
+        → bench recipe inputs ≡ Completes report → Concludes M.prescribes M.compiles recipe inputs report.compare }
+{}
+
+/// A route in its own words: it is empty where the stage is checked, and else the stage's program and then the route of the stage that makes
+/// that program, if one does. Of a stage's number it is that of its name.
+pub fn a_route_goes_back()
+    ensures back { (recipe : Said) (name : List ℕ) (stage : Stage) → IsRecipe recipe → stage_named recipe.stages name ≡ Some stage
+        → route_named recipe name ≡ unless_checked stage.check (stage.program ∷ route_named recipe stage.program) }
+    ensures ends { (recipe : Said) (name : List ℕ) → stage_named recipe.stages name ≡ None → route_named recipe name ≡ [] }
+    ensures number { (recipe : Said) (number : ℕ) (stage : Stage) → IsRecipe recipe → slice_get recipe.stages (number - 1) ≡ Some stage
+        → route recipe number ≡ route_named recipe stage.name }
+{}
+
+/// What stands on a route is the program of an unchecked stage, and the lines of a route are those lines of the whole audit that are about
+/// its members, in the same order.
+pub fn routes_are_trusted()
+    ensures programs { (recipe : Said) (number : ℕ) (name : List ℕ) → is_on (route recipe number) name ≡ true → is_trusted recipe name ≡ true }
+    ensures lines { (recipe : Said) (number : ℕ) → assumed_for recipe number ≡ filter (λ line. is_on (route recipe number) (about line)) (assumed recipe) }
 {}

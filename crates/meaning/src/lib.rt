@@ -9,8 +9,10 @@ mod assumption;
 pub mod laws;
 mod listing;
 mod meaning;
+mod routing;
+mod trusted;
 
 pub use assembly::Assembly;
 pub use assumption::{Assumption, Assumptions};
-pub use listing::assumptions;
+pub use listing::{assumptions, assumptions_for};
 pub use meaning::Meaning;

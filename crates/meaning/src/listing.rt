@@ -1,11 +1,15 @@
 //! The assumptions of an audit.
 
-ghost use Rattle.meaning.specs.Assumptions.{assumed, checked_line, compiles_line, implements_line, input_assumption, is_trusted, line_by_check, stage_assumption};
+ghost use Rattle.meaning.specs.Assumptions.{assumed, checked_line, compiles_line, implements_line, input_assumption, is_trusted, line_by_check, stage_assumption, trust_lines};
+ghost use Rattle.meaning.specs.Inside.Trusting.{trusts};
+ghost use Rattle.meaning.specs.Routes.{assumed_for, is_on};
 ghost use Rattle.recipe.specs.Lookups.{hex_check};
 ghost use Rattle.std.specs.List.{cons_option};
-ghost use Rattle.std.specs.Prelude.{◌≡◌, ◌++◌, [], IfOk, OnOk, option_map};
+ghost use Rattle.std.specs.Prelude.{◌≡◌, ◌≤◌, ◌++◌, [], IfOk, OnOk, length, option_map};
 
 use crate::assumption::{Assumption, Assumptions};
+use crate::routing::route;
+use crate::trusted::Trusted;
 use ddc_base::languages::Language;
 use ddc_base::{ListOf, Name, OutOfMemory};
 use recipe::{Input, Recipe, SourceLanguage, Stage};
@@ -15,16 +19,42 @@ use std::alloc::Global;
 /// then stages, each in the recipe's order.
 ///
 /// A stage that is checked in hex0, hex1 or hex2 as a program of the check's own source has no line.
-#[tactic(auto, unfolding(crate::specs::Assumptions::trust_lines))]
 pub fn assumptions(alloc: Global, recipe: &Recipe) -> Result<Assumptions, OutOfMemory>
     ensures { IfOk result (λ lines. lines ≡ assumed recipe.now) }
 {
+    trust_lines(alloc, recipe, &Trusted::OfAll)
+}
+
+/// What has to be believed for one stage alone, by its number from 1: those lines of `assumptions` that are about the programs of its
+/// route, which are its own program, that program's own where an unchecked stage makes it, and so on. None where the stage is checked.
+pub fn assumptions_for(
+    alloc: Global,
+    recipe: &Recipe,
+    stage: u32,
+) -> Result<Assumptions, OutOfMemory>
+    requires some { 1 ≤ stage }
+    requires there { stage ≤ length recipe.now.stages }
+    ensures { IfOk result (λ lines. lines ≡ assumed_for recipe.now stage) }
+{
+    let programs = route(alloc, recipe, stage)?;
+    trust_lines(alloc, recipe, &Trusted::These(programs.as_slice()))
+}
+
+/// The lines of what is trusted: inputs first and then stages, each in the recipe's order.
+#[tactic(auto, unfolding(crate::specs::Assumptions::trust_lines))]
+fn trust_lines(
+    alloc: Global,
+    recipe: &Recipe,
+    trusted: &Trusted<'_>,
+) -> Result<Assumptions, OutOfMemory>
+    ensures { IfOk result (λ lines. lines ≡ trust_lines (trusts recipe.now trusted.now) recipe.now) }
+{
     let mut lines = ListOf::new(alloc);
     for input in recipe.inputs().as_slice() {
-        push_line(&mut lines, input_line(recipe, input))?;
+        push_line(&mut lines, input_line(recipe, trusted, input))?;
     }
     for stage in recipe.stages().as_slice() {
-        push_line(&mut lines, stage_line(recipe, stage))?;
+        push_line(&mut lines, stage_line(recipe, trusted, stage))?;
     }
     Ok(lines)
 }
@@ -39,24 +69,24 @@ fn push_line(lines: &mut Assumptions, line: Option<Assumption>) -> Result<(), Ou
     }
 }
 
-/// The line of an input, where an unchecked stage runs it.
+/// The line of an input, where it is trusted.
 #[tactic(auto, unfolding(crate::specs::Assumptions::input_assumption))]
-fn input_line(recipe: &Recipe, input: &Input) -> Option<Assumption>
-    ensures { result ≡ input_assumption (is_trusted recipe.now) recipe.now input.now }
+fn input_line(recipe: &Recipe, trusted: &Trusted<'_>, input: &Input) -> Option<Assumption>
+    ensures { result ≡ input_assumption (trusts recipe.now trusted.now) recipe.now input.now }
 {
-    if is_trusted(recipe, &input.name) {
+    if trusts(recipe, trusted, &input.name) {
         implements_line(&input.name, recipe.source_of(&input.name))
     } else {
         None
     }
 }
 
-/// The line of a stage, where an unchecked stage runs what it makes.
+/// The line of a stage, where what it makes is trusted.
 #[tactic(auto, unfolding(crate::specs::Assumptions::stage_assumption))]
-fn stage_line(recipe: &Recipe, stage: &Stage) -> Option<Assumption>
-    ensures { result ≡ stage_assumption (is_trusted recipe.now) recipe.now stage.now }
+fn stage_line(recipe: &Recipe, trusted: &Trusted<'_>, stage: &Stage) -> Option<Assumption>
+    ensures { result ≡ stage_assumption (trusts recipe.now trusted.now) recipe.now stage.now }
 {
-    if !is_trusted(recipe, &stage.name) {
+    if !trusts(recipe, trusted, &stage.name) {
         return None;
     }
     let source = recipe.source_of(&stage.name);
@@ -122,6 +152,23 @@ fn hex_check<'a>(recipe: &Recipe, check: &'a Name) -> Option<&'a Name>
         SourceLanguage::Defined(Language::M1) => None,
         SourceLanguage::Other => None,
     }
+}
+
+/// Whether the program of a name is trusted.
+fn trusts(recipe: &Recipe, trusted: &Trusted<'_>, name: &Name) -> bool
+    ensures { result ≡ trusts recipe.now trusted.now name.now }
+{
+    match trusted {
+        Trusted::OfAll => is_trusted(recipe, name),
+        Trusted::These(programs) => is_on(programs, name),
+    }
+}
+
+/// Whether a name is one of these.
+fn is_on(programs: &[Name], name: &Name) -> bool
+    ensures { result ≡ is_on programs.now name.now }
+{
+    programs.iter().any(|program| *program == *name)
 }
 
 /// Whether a name is that of the program of some unchecked stage.

@@ -1,13 +1,15 @@
 -- What both walks accept is a recipe.
-use Rattle.std.proofs.Common.{◌≡◌, ℕ, ◌+◌, ◌≤◌, List, [], ◌∷◌, length, take, Option, Some, None, Result, Ok, Err, refl, ap, ◌∙◌, subst, arith}
-use Rattle.std.specs.Prelude.{IfSome, bytes_eq, slice_get, unwrap_or}
+use Rattle.std.proofs.Common.{◌≡◌, ℕ, ◌+◌, ◌≤◌, Bool, true, false, cond, inl, inr, List, [], ◌∷◌, ◌++◌, length, take, Option, Some, None, Ok, refl, subst, arith, Result, Err, ap, ◌∙◌}
+use Rattle.std.specs.Prelude.{not, ◌==◌, IfSome, bytes_eq, slice_get, unwrap_or}
 use Rattle.std.specs.List.{IsDistinct}
 use Rattle.sha2.specs.Sha256.{sha256}
-use Rattle.toml.specs.Data.{Members}
+use Rattle.toml.specs.Data.{Data, Members}
+use Rattle.std.proofs.lemmas.Bool.{cases_lt}
+use Rattle.recipe.specs.declared.text.refusal.RecipeRefusal.TheVariants.{DoubleName}
+use Rattle.recipe.specs.declared.parts.Compare.{Compare}
 use Rattle.recipe.specs.declared.text.keys.Key.TheVariants as key
-use Rattle.recipe.specs.declared.text.refusal.RecipeRefusal.{RecipeRefusal}
-use Rattle.recipe.specs.Text.Reading.{◌>>◌, a_list, a_number, a_table, no_other_key, document_of, gathered, optional, required}
-use Rattle.recipe.proofs.TextLemmas.Accepted.{bound, ok_same, required_ok, optional_ok, list_ok, gathered_each, gathered_keeps, gathered_length, passes_at, unless_ok, Few, Read}
+use Rattle.recipe.specs.Text.Reading.{a_list, a_name, an_array, a_number, a_table, no_other_key, document_of, gathered, optional, required, ◌>>◌}
+use Rattle.recipe.proofs.TextLemmas.Accepted.{bind_unless, number_ok, array_ok, bound, ok_same, required_ok, optional_ok, list_ok, gathered_each, gathered_keeps, gathered_length, passes_at, unless_ok, Few, Read}
 use Rattle.recipe.specs.declared.contents.Said.{Said}
 use Rattle.recipe.specs.declared.parts.Input.{Input}
 use Rattle.recipe.specs.declared.parts.Source.{Source}
@@ -15,14 +17,16 @@ use Rattle.recipe.specs.declared.parts.Stage.{Stage}
 use Rattle.recipe.specs.Kept.{IsRecipe, IsStage}
 use Rattle.recipe.specs.Reading.{first_walk, recipe_of}
 use Rattle.recipe.specs.SecondWalk.{second_walk}
-use Rattle.recipe.specs.Tables.{top_place, input_place, source_place, stage_place, Top, top_table, next_input, next_source, next_stage, compare_table}
-use Rattle.recipe.proofs.DistinctNames.{names_of, input_added, source_added, stage_added}
+use Rattle.recipe.specs.Tables.{top_place, input_place, source_place, stage_place, Top, top_table, next_input, next_source, next_stage, compare_place, stages_key, is_among, next_stage_name, some_stage_names, one_stage, compared_stages, compare_table, IsFormat}
+use Rattle.recipe.proofs.DistinctNames.{not_false, distinct_push, names_of, input_added, source_added, stage_added}
 use Rattle.recipe.proofs.FirstWalk.{InputSaid, input_said, SourceSaid, source_said, StageSaid, stage_said}
 use Rattle.recipe.proofs.SecondWalk.{all_at, source_there, stage_refers_at, argued_at, walked}
+use Rattle.recipe.specs.declared.text.refusal.RecipeRefusal.{RecipeRefusal}
 
 -- ---- the top
 
 record TopSaid (top : Top) : Type 0 where
+  format : IsFormat top.format
   inputs : Few 1 256 (length top.inputs)
   sources : length top.sources ≤ 256
   stages : Few 1 256 (length top.stages)
@@ -31,27 +35,83 @@ few_sources : (sources : Option (List Members)) → IfSome sources (Read (a_list
 few_sources None read = omega arith
 few_sources (Some sources) read = (list_ok a_table 0 256 top_place key.Source read.0 sources read.1).0.few
 
+one_or_two : (n : ℕ) → 1 ≤ n → n ≤ 2 → IsFormat n
+one_or_two n least most = elim (cases_lt n 2) [
+  | inl less ↦ inl (omega arith)
+  | inr more ↦ inr (omega arith)
+]
+
 top_said : (table : Members) (top : Top) → top_table table ≡ Ok top → TopSaid top
 unfolding top_table
 top_said table top e =
-    bound _ (required (a_number 1 1) top_place key.Format table) _ top e (λ format format_is rest1.
+    bound _ (required (a_number 1 2) top_place key.Format table) _ top e (λ format format_is rest1.
     bound _ (required (a_list a_table 1 256) top_place key.Input table) _ top rest1 (λ inputs inputs_is rest2.
     bound _ (optional (a_list a_table 0 256) top_place key.Source table) _ top rest2 (λ sources sources_is rest3.
     bound _ (required (a_list a_table 1 256) top_place key.Stage table) _ top rest3 (λ stages stages_is rest4.
     bound _ (required a_table top_place key.Compare table) _ top rest4 (λ compare compare_is rest5.
     bound _ (no_other_key top_place (key.Format ∷ key.Input ∷ key.Source ∷ key.Stage ∷ key.Compare ∷ []) table) _ top rest5 (λ other closed_is rest6.
+    let format_at = required_ok (a_number 1 2) top_place key.Format table format format_is in
+    let range = number_ok 1 2 top_place key.Format format_at.0 format format_at.1 in
     let inputs_at = required_ok (a_list a_table 1 256) top_place key.Input table inputs inputs_is in
     let stages_at = required_ok (a_list a_table 1 256) top_place key.Stage table stages stages_is in
-    subst TopSaid (ok_same (record { inputs = inputs; sources = unwrap_or sources []; stages = stages; compare = compare }) top rest6)
+    subst TopSaid (ok_same (record { format = format; inputs = inputs; sources = unwrap_or sources []; stages = stages; compare = compare }) top rest6)
     (record {
+      format = one_or_two format range.0 range.1;
       inputs = (list_ok a_table 1 256 top_place key.Input inputs_at.0 inputs inputs_at.1).0;
       sources = few_sources sources (optional_ok (a_list a_table 0 256) top_place key.Source table sources sources_is);
       stages = (list_ok a_table 1 256 top_place key.Stage stages_at.0 stages stages_at.1).0;
     })))))))
 
+-- ---- compare
+
+-- of format 1 or of format 2
+record StagesSaid (one : Bool) (stages : List (List ℕ)) : Type 0 where
+  some : 1 ≤ length stages
+  few : length stages ≤ cond one 1 16
+  once : IsDistinct bytes_eq stages
+
+name_added : (before : List (List ℕ)) (value : Data) (name : List ℕ) → IsDistinct bytes_eq before → next_stage_name compare_place key.Stages before value ≡ Ok name
+    → IsDistinct bytes_eq (before ++ name ∷ [])
+unfolding next_stage_name
+name_added before value name distinct e =
+    let read = bind_unless (a_name compare_place key.Stages value) (DoubleName compare_place key.Stages) (λ name. not (is_among before name)) name e in
+    distinct_push before name distinct (not_false (is_among before name) read.1)
+
+names_said : (value : Data) (names : List (List ℕ)) → some_stage_names compare_place key.Stages value ≡ Ok names → StagesSaid false names
+unfolding some_stage_names IsDistinct
+names_said value names e =
+    bound _ (an_array 1 16 compare_place key.Stages value) _ names e (λ values values_is rest.
+    let count = array_ok 1 16 compare_place key.Stages value values values_is in
+    let long = gathered_length (next_stage_name compare_place key.Stages) [] values names rest in
+    record {
+      some = omega (arith, count.some, long);
+      few = omega (arith, count.few, long);
+      once = gathered_keeps (λ names. IsDistinct bytes_eq names) (next_stage_name compare_place key.Stages) [] values names name_added tt rest;
+    })
+
+stages_said : (one : Bool) (table : Members) (stages : List (List ℕ)) → cond one (one_stage table) (required some_stage_names compare_place key.Stages table) ≡ Ok stages
+    → StagesSaid one stages
+unfolding IsDistinct
+stages_said true table stages e =
+    bound _ (required a_name compare_place key.Stage table) _ stages e (λ stage stage_is rest.
+    subst (StagesSaid true) (ok_same (stage ∷ []) stages rest) (record { some = omega arith; few = omega arith; once = (tt, tt) }))
+stages_said false table stages e =
+    let at = required_ok some_stage_names compare_place key.Stages table stages e in
+    names_said at.0 stages at.1
+
+compare_said : (format : ℕ) (table : Members) (compare : Compare) → compare_table format table ≡ Ok compare → StagesSaid (format == 1) compare.stages
+unfolding compare_table compared_stages
+compare_said format table compare e =
+    bound _ (compared_stages format table) _ compare e (λ stages stages_is rest1.
+    bound _ (required a_name compare_place key.Binary table) _ compare rest1 (λ binary binary_is rest2.
+    bound _ (no_other_key compare_place (stages_key format ∷ key.Binary ∷ []) table) _ compare rest2 (λ other closed_is rest3.
+    subst (λ c. StagesSaid (format == 1) c.stages) (ok_same (record { stages = stages; binary = binary }) compare rest3) (stages_said (format == 1) table stages stages_is))))
+
 -- ---- the first walk
 
 record FirstSaid (said : Said) : Type 0 where
+  format : IsFormat said.format
+  compare : StagesSaid (said.format == 1) said.compare.stages
   digest : (bytes : List ℕ) × (said.digest.0 ≡ sha256 bytes)
   few_inputs : Few 1 256 (length said.inputs)
   few_sources : length said.sources ≤ 256
@@ -79,7 +139,7 @@ walked_first bytes said e =
     bound _ (gathered next_input [] top.inputs) _ said rest2 (λ inputs inputs_is rest3.
     bound _ (gathered (next_source inputs) [] top.sources) _ said rest3 (λ sources sources_is rest4.
     bound _ (gathered (next_stage inputs sources) [] top.stages) _ said rest4 (λ stages stages_is rest5.
-    bound _ (compare_table top.compare) _ said rest5 (λ compare compare_is rest6.
+    bound _ (compare_table top.format top.compare) _ said rest5 (λ compare compare_is rest6.
     let top_said = top_said document top top_is in
     let inputs_long = gathered_length next_input [] top.inputs inputs inputs_is in
     let sources_long = gathered_length (next_source inputs) [] top.sources sources sources_is in
@@ -90,8 +150,10 @@ walked_first bytes said e =
     (λ before table source distinct is. source_added inputs before source distinct (source_next inputs before table source is).name.is_new) input_names sources_is in
     let stage_names = gathered_keeps (λ found. IsDistinct bytes_eq (names_of inputs sources found)) (next_stage inputs sources) [] top.stages stages
     (λ before table stage distinct is. stage_added inputs sources before stage distinct (stage_next inputs sources before table stage is).name.is_new) source_names stages_is in
-    subst FirstSaid (ok_same (record { digest = record { 0 = sha256 bytes }; inputs = inputs; sources = sources; stages = stages; compare = compare }) said rest6)
+    subst FirstSaid (ok_same (record { digest = record { 0 = sha256 bytes }; format = top.format; inputs = inputs; sources = sources; stages = stages; compare = compare }) said rest6)
     (record {
+      format = top_said.format;
+      compare = compare_said top.format top.compare compare compare_is;
       digest = (bytes, refl);
       few_inputs = record { some = omega (arith, top_said.inputs.some, inputs_long); few = omega (arith, top_said.inputs.few, inputs_long) };
       few_sources = omega (arith, top_said.sources, sources_long);
@@ -137,6 +199,7 @@ keeps bytes said is second =
     let first = walked_first bytes said is in
     let walk = walked said second in
     record {
+      format = first.format;
       digest = first.digest;
       some_inputs = first.few_inputs.some;
       few_inputs = first.few_inputs.few;
@@ -157,6 +220,9 @@ keeps bytes said is second =
         files = all_at _ source.files (unless_ok _ _ tt (passes_at _ 1 said.sources i source walk.sources at));
       };
       stages = λ i stage at. stage_kept said i stage first second at;
+      some_compared = first.compare.some;
+      few_compared = first.compare.few;
+      compared_once = first.compare.once;
       compared = walk.compared;
       binary = walk.binary;
     }

@@ -1,6 +1,6 @@
 -- What the bytes of a recipe say is never want of memory.
-use Rattle.std.proofs.Common.{◌≡◌, ℕ, ◌+◌, ◌-◌, ◌^◌, take, List, [], ◌∷◌, Option, Some, None, Err, length}
-use Rattle.std.specs.Prelude.{is_some, not, option_and_then}
+use Rattle.std.proofs.Common.{◌≡◌, ℕ, ◌+◌, ◌-◌, ◌^◌, take, List, [], ◌∷◌, Option, Some, None, Err, length, Bool, true, false, cond}
+use Rattle.std.specs.Prelude.{◌==◌, is_some, not, option_and_then}
 use Rattle.std.specs.List.{list_all}
 use Rattle.toml.specs.Data.{Data, Members, get_member, as_str}
 use Rattle.ddc_base.specs.Names.{name_of}
@@ -20,15 +20,15 @@ use Rattle.recipe.specs.declared.parts.Stage.{Stage}
 use Rattle.recipe.specs.declared.parts.StageFile.{StageFile}
 use Rattle.recipe.specs.Lookups.{source_named, content_named, content_source, stage_at, input_at}
 use Rattle.recipe.specs.Reading.{first_walk, recipe_of}
-use Rattle.recipe.specs.SecondWalk.{is_content, refers_to_source, input_refers, source_refers, is_defined, checks_source, check_refers, stage_refers_after, stage_refers, compare_refers, has_source, is_argued, program_has_source, second_walk}
-use Rattle.recipe.specs.Tables.{top_place, input_place, source_place, stage_place, compare_place, top_table, is_taken, a_new_name, input_table, next_input, source_language, a_language, source_table, next_source, guest_path, is_file_path, entry_text, next_file, some_files, output_said, an_output, stage_table, next_stage, compare_table}
+use Rattle.recipe.specs.SecondWalk.{is_content, refers_to_source, input_refers, source_refers, is_defined, checks_source, check_refers, stage_refers_after, stage_refers, compare_refers, has_source, is_argued, program_has_source, is_stage, second_walk}
+use Rattle.recipe.specs.Tables.{top_place, input_place, source_place, stage_place, compare_place, top_table, is_taken, a_new_name, input_table, next_input, source_language, a_language, source_table, next_source, guest_path, is_file_path, entry_text, next_file, some_files, output_said, an_output, stage_table, next_stage, stages_key, is_among, next_stage_name, some_stage_names, one_stage, compared_stages, compare_table}
 
 -- ---- the first walk
 
 sated_top : (table : Members) → Sated (top_table table)
 unfolding top_table
 sated_top table =
-    sated_bind (required (a_number 1 1) top_place key.Format table) _ (sated_required (a_number 1 1) top_place key.Format table (sated_number 1 1 top_place key.Format)) (λ format.
+    sated_bind (required (a_number 1 2) top_place key.Format table) _ (sated_required (a_number 1 2) top_place key.Format table (sated_number 1 2 top_place key.Format)) (λ format.
     sated_bind (required (a_list a_table 1 256) top_place key.Input table) _ (sated_tables 1 key.Input table) (λ inputs.
     sated_bind (optional (a_list a_table 0 256) top_place key.Source table) _
     (sated_optional (a_list a_table 0 256) top_place key.Source table (λ value. sated_list a_table 0 256 top_place key.Source value (sated_table top_place key.Source))) (λ sources.
@@ -113,12 +113,30 @@ sated_stage inputs sources stages place table =
     sated_bind (optional a_name place key.Becomes table) _ (sated_optional a_name place key.Becomes table (sated_name place key.Becomes)) (λ becomes.
     sated_bind (no_other_key place stage_keys table) _ (sated_no_other_key place stage_keys table) (λ other. sated_ok _)))))))))))
 
-sated_compare : (table : Members) → Sated (compare_table table)
-unfolding compare_table
-sated_compare table =
-    sated_bind (required a_name compare_place key.Stage table) _ (sated_required a_name compare_place key.Stage table (sated_name compare_place key.Stage)) (λ stage.
+sated_stage_name : (before : List (List ℕ)) (value : Data) → Sated (next_stage_name compare_place key.Stages before value)
+unfolding next_stage_name
+sated_stage_name before value =
+    sated_bind (a_name compare_place key.Stages value) _ (sated_name compare_place key.Stages value) (λ name.
+    sated_bind (refused_unless (DoubleName compare_place key.Stages) (not (is_among before name))) (λ _. fine name)
+    (sated_unless (DoubleName compare_place key.Stages) (not (is_among before name)) (λ is. absurd cc)) (λ u. sated_ok name))
+
+sated_stage_names : (value : Data) → Sated (some_stage_names compare_place key.Stages value)
+unfolding some_stage_names
+sated_stage_names value =
+    sated_bind (an_array 1 16 compare_place key.Stages value) _ (sated_array 1 16 compare_place key.Stages value) (λ values.
+    sated_gathered (next_stage_name compare_place key.Stages) [] values (λ before. sated_stage_name before))
+
+sated_stages : (one : Bool) (table : Members) → Sated (cond one (one_stage table) (required some_stage_names compare_place key.Stages table))
+sated_stages true table =
+    sated_bind (required a_name compare_place key.Stage table) _ (sated_required a_name compare_place key.Stage table (sated_name compare_place key.Stage)) (λ stage. sated_ok _)
+sated_stages false table = sated_required some_stage_names compare_place key.Stages table sated_stage_names
+
+sated_compare : (format : ℕ) (table : Members) → Sated (compare_table format table)
+unfolding compare_table compared_stages
+sated_compare format table =
+    sated_bind (compared_stages format table) _ (sated_stages (format == 1) table) (λ stages.
     sated_bind (required a_name compare_place key.Binary table) _ (sated_required a_name compare_place key.Binary table (sated_name compare_place key.Binary)) (λ binary.
-    sated_bind (no_other_key compare_place (key.Stage ∷ key.Binary ∷ []) table) _ (sated_no_other_key compare_place (key.Stage ∷ key.Binary ∷ []) table) (λ other. sated_ok _)))
+    sated_bind (no_other_key compare_place (stages_key format ∷ key.Binary ∷ []) table) _ (sated_no_other_key compare_place (stages_key format ∷ key.Binary ∷ []) table) (λ other. sated_ok _)))
 
 sated_first : (bytes : List ℕ) → Sated (first_walk bytes)
 unfolding first_walk
@@ -130,7 +148,7 @@ sated_first bytes =
     (sated_gathered (next_source inputs) [] top.sources (λ before. sated_source inputs before (source_place (length before + 1)))) (λ sources.
     sated_bind (gathered (next_stage inputs sources) [] top.stages) _
     (sated_gathered (next_stage inputs sources) [] top.stages (λ before. sated_stage inputs sources before (stage_place (length before + 1)))) (λ stages.
-    sated_bind (compare_table top.compare) _ (sated_compare top.compare) (λ compare. sated_ok _))))))
+    sated_bind (compare_table top.format top.compare) _ (sated_compare top.format top.compare) (λ compare. sated_ok _))))))
 
 -- ---- the second walk
 
@@ -163,9 +181,9 @@ sated_after said earlier place stage =
 sated_comparison : (said : Said) → Sated (compare_refers said)
 unfolding compare_refers
 sated_comparison said =
-    sated_bind (refused_unless (NotMadeYet compare_place key.Stage) (is_some (stage_at said.stages said.compare.stage)))
+    sated_bind (refused_unless (NotMadeYet compare_place (stages_key said.format)) (list_all (is_stage said.stages) said.compare.stages))
     (λ _. refused_unless (NotMadeYet compare_place key.Binary) (is_some (input_at said.inputs said.compare.binary)))
-    (sated_unless (NotMadeYet compare_place key.Stage) (is_some (stage_at said.stages said.compare.stage)) (λ is. absurd cc)) (λ u.
+    (sated_unless (NotMadeYet compare_place (stages_key said.format)) (list_all (is_stage said.stages) said.compare.stages) (λ is. absurd cc)) (λ u.
     sated_unless (NotMadeYet compare_place key.Binary) (is_some (input_at said.inputs said.compare.binary)) (λ is. absurd cc))
 
 sated_program : (said : Said) (found : Option Content) → Sated (has_source said found)

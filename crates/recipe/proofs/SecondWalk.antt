@@ -15,8 +15,8 @@ use Rattle.recipe.specs.declared.parts.Source.{Source}
 use Rattle.recipe.specs.declared.parts.Stage.{Stage}
 use Rattle.recipe.specs.Kept.{Each, NamesSource, IsMade, Checks, IsCheck}
 use Rattle.recipe.specs.Lookups.{source_named, content_named, content_source, source_of, stage_at, input_at}
-use Rattle.recipe.specs.SecondWalk.{is_content, refers_to_source, input_refers, source_refers, is_defined, checks_source, check_refers, stage_refers_after, stage_refers, compare_refers, has_source, is_argued, program_has_source, second_walk}
-use Rattle.recipe.specs.Tables.{stage_place, compare_place}
+use Rattle.recipe.specs.SecondWalk.{is_content, refers_to_source, input_refers, source_refers, is_defined, checks_source, check_refers, stage_refers_after, stage_refers, compare_refers, has_source, is_argued, program_has_source, is_stage, second_walk}
+use Rattle.recipe.specs.Tables.{stage_place, compare_place, stages_key}
 use Rattle.recipe.proofs.MoreStages.{content_more}
 
 -- a test of each element, at an index
@@ -93,7 +93,7 @@ pub record Walked (said : Said) : Type 0 where
   pub inputs : each_passes (input_refers said) 1 said.inputs ≡ Ok tt
   pub sources : each_passes (source_refers said) 1 said.sources ≡ Ok tt
   pub stages : each_passes (stage_refers said) 1 said.stages ≡ Ok tt
-  pub compared : IsSome (stage_at said.stages said.compare.stage)
+  pub compared : Each (λ name. IsSome (stage_at said.stages name)) said.compare.stages
   pub binary : IsSome (input_at said.inputs said.compare.binary)
   pub argued : each_passes (program_has_source said) 1 said.stages ≡ Ok tt
 
@@ -104,13 +104,13 @@ walked said e =
     bound _ (each_passes (source_refers said) 1 said.sources) _ tt rest1 (λ b sources rest2.
     bound _ (each_passes (stage_refers said) 1 said.stages) _ tt rest2 (λ d stages rest3.
     bound _ (compare_refers said) (λ _. each_passes (program_has_source said) 1 said.stages) tt rest3 (λ f compare argued.
-    bound _ (refused_unless (NotMadeYet compare_place key.Stage) (is_some (stage_at said.stages said.compare.stage)))
+    bound _ (refused_unless (NotMadeYet compare_place (stages_key said.format)) (list_all (is_stage said.stages) said.compare.stages))
     (λ _. refused_unless (NotMadeYet compare_place key.Binary) (is_some (input_at said.inputs said.compare.binary))) f compare (λ g compared binary.
     record {
       inputs = inputs;
       sources = sources;
       stages = stages;
-      compared = unless_ok (NotMadeYet compare_place key.Stage) (is_some (stage_at said.stages said.compare.stage)) g compared;
+      compared = all_at (is_stage said.stages) said.compare.stages (unless_ok (NotMadeYet compare_place (stages_key said.format)) (list_all (is_stage said.stages) said.compare.stages) g compared);
       binary = unless_ok (NotMadeYet compare_place key.Binary) (is_some (input_at said.inputs said.compare.binary)) f binary;
       argued = argued;
     })))))

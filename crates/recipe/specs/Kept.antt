@@ -1,5 +1,5 @@
 -- What every recipe keeps, so that no layer above tests it again (docs/reference/recipe.md).
-use Rattle.std.specs.Prelude.{◌≡◌, ℕ, ◌≤◌, ◌^◌, IsTrue, true, List, ◌++◌, length, map, take, bytes_eq, slice_get, Option, Some, None, IsSome, IfSome}
+use Rattle.std.specs.Prelude.{◌≡◌, ℕ, ◌≤◌, ◌^◌, IsTrue, true, List, ◌++◌, length, map, take, bytes_eq, slice_get, Option, Some, None, IsSome, IfSome, ◌==◌, if◌then◌else◌}
 use Rattle.std.specs.List.{IsDistinct}
 use Rattle.sha2.specs.Sha256.{sha256}
 use Rattle.ddc_base.specs.Names.{IsName}
@@ -14,6 +14,7 @@ use Rattle.recipe.specs.declared.parts.Stage.{Stage}
 use Rattle.recipe.specs.declared.parts.StageFile.{StageFile}
 use Rattle.recipe.specs.Lookups.{content_named, input_at, source_named, source_of, stage_at}
 use Rattle.recipe.specs.SecondWalk.{is_defined}
+use Rattle.recipe.specs.Tables.{IsFormat}
 
 -- P holds of the element at each index
 abbrev pub Each : {A : Type 0} → (A → Type 0) → List A → Type 0
@@ -92,7 +93,12 @@ pub record IsStage (said : Said) (earlier : List Stage) (stage : Stage) : Type 0
 abbrev pub all_names : Said → List (List ℕ)
 all_names said = map (λ input. input.name) said.inputs ++ map (λ source. source.name) said.sources ++ map (λ stage. stage.name) said.stages
 
+-- how many stages a recipe of a format compares at most
+abbrev pub most_compared : ℕ → ℕ
+most_compared format = if format == 1 then 1 else 16
+
 pub record IsRecipe (said : Said) : Type 0 where
+  pub format : IsFormat said.format
   -- the digest is that of some bytes
   pub digest : (bytes : List ℕ) × (said.digest.0 ≡ sha256 bytes)
   pub some_inputs : 1 ≤ length said.inputs
@@ -104,5 +110,8 @@ pub record IsRecipe (said : Said) : Type 0 where
   pub inputs : Each (IsInput said) said.inputs
   pub sources : Each (IsSource said) said.sources
   pub stages : (i : ℕ) (stage : Stage) → slice_get said.stages i ≡ Some stage → IsStage said (take i said.stages) stage
-  pub compared : IsSome (stage_at said.stages said.compare.stage)
+  pub some_compared : 1 ≤ length said.compare.stages
+  pub few_compared : length said.compare.stages ≤ most_compared said.format
+  pub compared_once : IsDistinct bytes_eq said.compare.stages
+  pub compared : Each (λ name. IsSome (stage_at said.stages name)) said.compare.stages
   pub binary : IsSome (input_at said.inputs said.compare.binary)

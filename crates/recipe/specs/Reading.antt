@@ -15,8 +15,8 @@ first_walk bytes = do
   inputs ← gathered next_input [] top.inputs
   sources ← gathered (next_source inputs) [] top.sources
   stages ← gathered (next_stage inputs sources) [] top.stages
-  compare ← compare_table top.compare
-  Ok (record { digest = record { 0 = sha256 bytes }; inputs = inputs; sources = sources; stages = stages; compare = compare })
+  compare ← compare_table top.format top.compare
+  Ok (record { digest = record { 0 = sha256 bytes }; format = top.format; inputs = inputs; sources = sources; stages = stages; compare = compare })
 
 unfoldable pub recipe_of : List ℕ → Result Said RecipeRefusal
 recipe_of bytes = do

@@ -16,7 +16,7 @@ use Rattle.recipe.specs.declared.parts.SourceLanguage.TheVariants.{Defined, Othe
 use Rattle.recipe.specs.declared.parts.Stage.{Stage}
 use Rattle.recipe.specs.Lookups.{input_at, stage_at, source_named, content_named, content_source}
 use Rattle.recipe.specs.declared.contents.Said.{Said}
-use Rattle.recipe.specs.Tables.{input_place, source_place, stage_place, compare_place}
+use Rattle.recipe.specs.Tables.{input_place, source_place, stage_place, compare_place, stages_key}
 
 -- whether a name stands for one of these inputs or for what one of these stages makes
 abbrev pub is_content : List Input → List Stage → List ℕ → Bool
@@ -64,9 +64,13 @@ stage_refers_after said earlier place stage = do
 abbrev pub stage_refers : Said → ℕ → Stage → Result (Unit {0}) RecipeRefusal
 stage_refers said number stage = stage_refers_after said (take (number - 1) said.stages) (stage_place number) stage
 
+-- whether a stage has the name
+abbrev pub is_stage : List Stage → List ℕ → Bool
+is_stage stages name = is_some (stage_at stages name)
+
 unfoldable pub compare_refers : Said → Result (Unit {0}) RecipeRefusal
 compare_refers said = do
-  refused_unless (NotMadeYet compare_place key.Stage) (is_some (stage_at said.stages said.compare.stage))
+  refused_unless (NotMadeYet compare_place (stages_key said.format)) (list_all (is_stage said.stages) said.compare.stages)
   refused_unless (NotMadeYet compare_place key.Binary) (is_some (input_at said.inputs said.compare.binary))
 
 -- ---- the programs of the unchecked stages

@@ -1,5 +1,5 @@
 -- The first walk: each table of a recipe with its keys in order (docs/reference/recipe.md, "Tables").
-use Rattle.std.specs.Prelude.{ℕ, ◌+◌, ◌^◌, Bool, ◌||◌, not, List, [], ◌∷◌, length, codes, bytes_eq, Option, Some, option_and_then, option_map, unwrap_or, Result, Ok, if◌then◌else◌}
+use Rattle.std.specs.Prelude.{ℕ, ◌+◌, ◌^◌, ◌≡◌, ◌⊎◌, ◌==◌, Bool, ◌||◌, not, List, [], ◌∷◌, length, codes, bytes_eq, Option, Some, option_and_then, option_map, unwrap_or, Result, Ok, if◌then◌else◌}
 use Rattle.std.specs.List.{list_any}
 use Rattle.toml.specs.Data.{Data, Members, get_member, as_str}
 use Rattle.ddc_base.specs.Names.{name_of}
@@ -42,8 +42,13 @@ compare_place = record { table = table.Compare; number = 0 }
 
 -- ---- top
 
+-- a recipe is of format 1 or 2
+abbrev pub IsFormat : ℕ → Type 0
+IsFormat format = (format ≡ 1) ⊎ (format ≡ 2)
+
 -- the tables of the top, counted
 pub record Top : Type 0 where
+  pub format : ℕ
   pub inputs : List Members
   pub sources : List Members
   pub stages : List Members
@@ -51,13 +56,13 @@ pub record Top : Type 0 where
 
 unfoldable pub top_table : Members → Result Top RecipeRefusal
 top_table table = do
-  required (a_number 1 1) top_place key.Format table
+  format ← required (a_number 1 2) top_place key.Format table
   inputs ← required (a_list a_table 1 256) top_place key.Input table
   sources ← optional (a_list a_table 0 256) top_place key.Source table
   stages ← required (a_list a_table 1 256) top_place key.Stage table
   compare ← required a_table top_place key.Compare table
   no_other_key top_place (key.Format ∷ key.Input ∷ key.Source ∷ key.Stage ∷ key.Compare ∷ []) table
-  Ok (record { inputs = inputs; sources = unwrap_or sources []; stages = stages; compare = compare })
+  Ok (record { format = format; inputs = inputs; sources = unwrap_or sources []; stages = stages; compare = compare })
 
 -- ---- names
 
@@ -188,9 +193,39 @@ next_stage inputs sources stages table = stage_table inputs sources stages (stag
 
 -- ---- compare
 
-unfoldable pub compare_table : Members → Result Compare RecipeRefusal
-compare_table table = do
+-- the key at which a recipe of a format names the stages that it compares
+abbrev pub stages_key : ℕ → Key
+stages_key format = if format == 1 then key.Stage else key.Stages
+
+abbrev pub is_among : List (List ℕ) → List ℕ → Bool
+is_among names name = list_any (λ other. bytes_eq other name) names
+
+-- a name that none before it is
+unfoldable pub next_stage_name : Place → Key → List (List ℕ) → Data → Result (List ℕ) RecipeRefusal
+next_stage_name place key names value = do
+  name ← a_name place key value
+  refused_unless (DoubleName place key) (not (is_among names name))
+  Ok name
+
+-- 1 to 16 names, each of them once
+unfoldable pub some_stage_names : Place → Key → Data → Result (List (List ℕ)) RecipeRefusal
+some_stage_names place key value = do
+  values ← an_array 1 16 place key value
+  gathered (next_stage_name place key) [] values
+
+-- the one stage of format 1
+abbrev pub one_stage : Members → Result (List (List ℕ)) RecipeRefusal
+one_stage table = do
   stage ← required a_name compare_place key.Stage table
+  Ok (stage ∷ [])
+
+-- the stages that are compared: one in format 1
+unfoldable pub compared_stages : ℕ → Members → Result (List (List ℕ)) RecipeRefusal
+compared_stages format table = if format == 1 then one_stage table else required some_stage_names compare_place key.Stages table
+
+unfoldable pub compare_table : ℕ → Members → Result Compare RecipeRefusal
+compare_table format table = do
+  stages ← compared_stages format table
   binary ← required a_name compare_place key.Binary table
-  no_other_key compare_place (key.Stage ∷ key.Binary ∷ []) table
-  Ok (record { stage = stage; binary = binary })
+  no_other_key compare_place (stages_key format ∷ key.Binary ∷ []) table
+  Ok (record { stages = stages; binary = binary })

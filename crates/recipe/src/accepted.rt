@@ -44,6 +44,14 @@ impl Recipe {
         &self.said.digest
     }
 
+    /// The recipe's format: 1 or 2.
+    pub fn format(&self) -> u32
+        ensures value { result ≡ self.now.format }
+        ensures kept { IsRecipe self.now }
+    {
+        self.said.format
+    }
+
     /// The inputs.
     pub fn inputs(&self) -> &ListOf<Input>
         ensures value { result.now ≡ self.now.inputs }

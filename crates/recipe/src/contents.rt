@@ -7,6 +7,8 @@ use ddc_base::digests::Digest;
 pub(crate) struct Said {
     /// The digest of the recipe's bytes.
     pub(crate) digest: Digest,
+    /// 1 or 2.
+    pub(crate) format: u32,
     pub(crate) inputs: ListOf<Input>,
     pub(crate) sources: ListOf<Source>,
     pub(crate) stages: ListOf<Stage>,

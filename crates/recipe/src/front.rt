@@ -1,7 +1,7 @@
 ghost use Rattle.std.specs.Prelude.{◌≡◌, ◌≤◌, IfOk, IfSome, length, option_map};
 ghost use Rattle.toml.specs.View.{table_view};
 ghost use Rattle.recipe.specs.Text.Inside.Views.{tables_view};
-ghost use Rattle.recipe.specs.Text.Reading.{Gives, a_list, a_table, optional, required};
+ghost use Rattle.recipe.specs.Text.Reading.{Gives, a_list, a_number, a_table, optional, required};
 ghost use Rattle.recipe.specs.Inside.Views.{top_view};
 ghost use Rattle.recipe.specs.Tables.{top_table};
 
@@ -23,7 +23,7 @@ const TOP: Place = Place {
 pub(crate) fn top_of<'a>(alloc: Global, top: &'a Table) -> Result<Top<'a>, RecipeRefusal>
     ensures { Gives top_view result (top_table (table_view top.now)) }
 {
-    required_number(1, 1, TOP, Key::Format, top)?;
+    let format = format_of(top)?;
     let inputs = required_tables(alloc, Key::Input, top)?;
     let sources = optional_tables(alloc, Key::Source, top)?.unwrap_or(Vec::new(alloc));
     let stages = required_tables(alloc, Key::Stage, top)?;
@@ -40,11 +40,20 @@ pub(crate) fn top_of<'a>(alloc: Global, top: &'a Table) -> Result<Top<'a>, Recip
         top,
     )?;
     Ok(Top {
+        format,
         inputs,
         sources,
         stages,
         compare,
     })
+}
+
+/// The recipe's format, 1 or 2.
+fn format_of(top: &Table) -> Result<u32, RecipeRefusal>
+    ensures { Gives (λ x. x) result (required (a_number 1 2) TOP Key.Format (table_view top.now)) }
+{
+    let format = required_number(1, 2, TOP, Key::Format, top)?;
+    Ok(format as u32)
 }
 
 /// 1 to 256 tables at a key of the top.

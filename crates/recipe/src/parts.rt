@@ -79,8 +79,8 @@ pub struct Stage {
 /// What is compared at the end.
 #[derive(Debug, Drop)]
 pub struct Compare {
-    /// The name of a stage.
-    pub stage: Name,
+    /// The names of stages: one in format 1, 1 to 16 in format 2, each of them once.
+    pub stages: ListOf<Name>,
     /// The name of an input.
     pub binary: Name,
 }

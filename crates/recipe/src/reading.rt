@@ -41,9 +41,10 @@ fn first_walk(alloc: Global, bytes: &[u8]) -> Result<Said, RecipeRefusal>
         sources.as_slice(),
         top.stages.as_slice(),
     )?;
-    let compare = compare_of(top.compare)?;
+    let compare = compare_of(alloc, top.format, top.compare)?;
     Ok(Said {
         digest: ddc_base::digest(bytes),
+        format: top.format,
         inputs,
         sources,
         stages,

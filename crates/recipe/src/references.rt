@@ -6,9 +6,9 @@ ghost use Rattle.recipe.specs.Text.Reading.{Gives, each_passes, refused_unless};
 ghost use Rattle.recipe.specs.declared.text.refusal.RecipeRefusal.TheVariants.{NotMadeYet as NotYet};
 ghost use Rattle.recipe.specs.Lookups as spec;
 ghost use Rattle.recipe.specs.Lookups.{IsIndex};
-ghost use Rattle.recipe.specs.SecondWalk.{check_refers, checks_source, compare_refers, has_source, input_refers, is_argued, is_content, is_defined, program_has_source, refers_to_source, second_walk, source_refers, stage_refers, stage_refers_after};
+ghost use Rattle.recipe.specs.SecondWalk.{check_refers, checks_source, compare_refers, has_source, input_refers, is_argued, is_content, is_defined, is_stage, program_has_source, refers_to_source, second_walk, source_refers, stage_refers, stage_refers_after};
 
-use crate::comparison::COMPARE;
+use crate::comparison::{COMPARE, stages_key};
 use crate::contents::Said;
 use crate::lookups::{content_of, content_source, input_at, source_named, stage_at};
 use crate::parts::{Content, Input, Source, SourceLanguage, Stage, StageFile};
@@ -240,10 +240,24 @@ fn source_checks(
 fn compare_refers(said: &Said) -> Result<(), RecipeRefusal>
     ensures { Gives (λ x. x) result (compare_refers said.now) }
 {
-    let stage = stage_at(said.stages.as_slice(), &said.compare.stage);
-    made_by_now(stage.is_some(), COMPARE, Key::Stage)?;
+    let there = are_stages(said.stages.as_slice(), said.compare.stages.as_slice());
+    made_by_now(there, COMPARE, stages_key(said.format))?;
     let binary = input_at(said.inputs.as_slice(), &said.compare.binary);
     made_by_now(binary.is_some(), COMPARE, Key::Binary)
+}
+
+/// Whether each name is that of a stage.
+fn are_stages(stages: &[Stage], names: &[Name]) -> bool
+    ensures { result ≡ list_all (is_stage stages.now) names.now }
+{
+    names.iter().all(|name| is_stage(stages, name))
+}
+
+/// Whether a stage has the name.
+fn is_stage(stages: &[Stage], name: &Name) -> bool
+    ensures { result ≡ is_stage stages.now name.now }
+{
+    stage_at(stages, name).is_some()
 }
 
 /// Whether each unchecked stage's program has a source.

@@ -5,6 +5,7 @@ use toml::Table;
 /// The tables of the top, counted.
 #[derive(Drop)]
 pub(crate) struct Top<'a> {
+    pub(crate) format: u32,
     pub(crate) inputs: Vec<&'a Table>,
     pub(crate) sources: Vec<&'a Table>,
     pub(crate) stages: Vec<&'a Table>,

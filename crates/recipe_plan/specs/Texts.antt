@@ -1,5 +1,6 @@
 -- The printed lines on recipes and reports. docs/reference/command-line.md says the same for people.
 use Rattle.std.specs.Prelude.{ℕ, List, [], ◌∷◌, Option, Some, None, codes, decimal}
+use Rattle.std.specs.List.{flat_map}
 use Rattle.ddc_base.specs.Lines.{line}
 use Rattle.recipe.specs.Text.Keys.{key_word, table_word}
 use Rattle.recipe.specs.Text.Refusals.{recipe_refusal_number, recipe_refusal_place, refusal_key}
@@ -25,7 +26,7 @@ unfoldable pub recipe_line : RecipeRefusal → List ℕ
 recipe_line refusal =
     line (codes "recipe" ∷ codes "refused" ∷ decimal (recipe_refusal_number refusal) ∷ place_words (recipe_refusal_place refusal) (refusal_key refusal))
 
--- how the compared artefact and binary compare
+-- how a compared artefact and the binary compare
 abbrev pub comparison_words : List ℕ → List ℕ → Compared → List (List ℕ)
 comparison_words stage binary (Equal size) = codes "equal" ∷ stage ∷ binary ∷ decimal size ∷ []
 comparison_words stage binary (Differs offset made given) =
@@ -33,3 +34,7 @@ comparison_words stage binary (Differs offset made given) =
 
 unfoldable pub compared_line : CompareLine → List ℕ
 compared_line compare = line (comparison_words compare.stage compare.binary compare.result)
+
+-- a line for each comparison, in order
+unfoldable pub compared_lines : List CompareLine → List ℕ
+compared_lines lines = flat_map compared_line lines

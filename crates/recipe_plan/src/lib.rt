@@ -11,4 +11,4 @@ pub mod texts;
 
 pub use inputs::fetch_inputs;
 pub use recipes::{apart, fetch_recipe, read_recipe};
-pub use reports::fetch_report;
+pub use reports::{compared_status, fetch_report};

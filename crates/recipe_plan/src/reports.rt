@@ -1,20 +1,21 @@
-//! A report that is fetched and read.
+//! A report that is fetched and read, and the status of its comparisons.
 
-ghost use Rattle.std.specs.Prelude.{IfOk};
+ghost use Rattle.std.specs.Prelude.{◌≡◌, IfOk};
 ghost use Rattle.ddc_base.specs.Outside.{IsFileName, ShelfState};
 ghost use Rattle.report.specs.Reading.{report_of};
 ghost use Rattle.report.specs.Reports.{IsReport};
 ghost use Rattle.command_plan.specs.declared.status.Status.TheVariants.{ReportRefused};
 ghost use Rattle.command_plan.specs.Plan.{answers, unless_refused};
 ghost use Rattle.command_plan.specs.Steps.{Obtains, Says};
-ghost use Rattle.recipe_plan.specs.Reports.{needs_report};
+ghost use Rattle.recipe_plan.specs.Reports.{compared_status, needs_report};
 ghost use Rattle.recipe_plan.specs.Texts.{report_line};
 
 use crate::texts;
 use command_plan::{Answer, Status, Stop, fetch};
 use ddc_base::{Bytes, Shelf};
-use report::{Report, ReportRefusal};
+use report::{CompareLine, Report, ReportRefusal};
 use std::alloc::Global;
+use wheeler::all_equal;
 
 /// The most bytes of a report that is loaded. The text of every report has fewer.
 const REPORT_LIMIT: u64 = 1_073_741_824;
@@ -50,4 +51,15 @@ fn refused(alloc: Global, number: u64) -> Result<Answer, Stop>
         status: Status::ReportRefused,
         text: texts::report_line(alloc, number)?,
     })
+}
+
+/// The status of comparisons: whether each of them found no difference.
+pub fn compared_status(lines: &[CompareLine]) -> Status
+    ensures { result ≡ compared_status lines.now }
+{
+    if all_equal(lines) {
+        Status::Yes
+    } else {
+        Status::Differs
+    }
 }

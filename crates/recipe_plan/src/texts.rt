@@ -1,9 +1,9 @@
 //! The lines on recipes and reports.
 
-ghost use Rattle.std.specs.Prelude.{◌≡◌, ◌∷◌, [], codes, decimal, IfOk};
+ghost use Rattle.std.specs.Prelude.{◌≡◌, ◌∷◌, ◌++◌, [], codes, decimal, IfOk, OnOk};
 ghost use Rattle.ddc_base.specs.Lines.{line};
 ghost use Rattle.recipe.specs.Text.Keys.{key_word, table_word};
-ghost use Rattle.recipe_plan.specs.Texts.{report_line, recipe_line, compared_line};
+ghost use Rattle.recipe_plan.specs.Texts.{report_line, recipe_line, compared_line, compared_lines};
 
 use ddc_base::{Bytes, Name, OutOfMemory};
 use recipe::{Key, Place, RecipeRefusal};
@@ -60,48 +60,70 @@ fn refused_key(alloc: Global, number: u8, place: Place, key: Key) -> Result<Byte
     )?.into_bytes()))
 }
 
-/// How the compared artefact and binary compare.
-#[tactic(auto, unfolding(crate::specs::Texts::compared_line))]
-pub fn compared(alloc: Global, compare: &CompareLine) -> Result<Bytes, OutOfMemory>
-    ensures { IfOk result (λ text. text ≡ compared_line compare.now) }
+/// A line for each comparison, in order.
+#[tactic(auto, unfolding(crate::specs::Texts::compared_lines))]
+pub fn compared_lines(alloc: Global, lines: &[CompareLine]) -> Result<Bytes, OutOfMemory>
+    ensures { IfOk result (λ text. text ≡ compared_lines lines.now) }
 {
-    match compare.result {
-        Compared::Equal(size) => equal(alloc, &compare.stage, &compare.binary, size),
+    let mut text = Bytes::new(alloc);
+    for line in lines {
+        put_compared(alloc, &mut text, line)?;
+    }
+    Ok(text)
+}
+
+/// Adds how a compared artefact and the binary compare.
+#[tactic(auto, unfolding(crate::specs::Texts::compared_line))]
+fn put_compared(alloc: Global, text: &mut Bytes, line: &CompareLine) -> Result<(), OutOfMemory>
+    ensures { OnOk result (text.new ≡ text.old ++ compared_line line.now) }
+{
+    match line.result {
+        Compared::Equal(size) => put_equal(alloc, text, line, size),
         Compared::Differs(offset, made, given) => {
-            differs(alloc, &compare.stage, &compare.binary, offset, made, given)
+            put_differs(alloc, text, line, offset, made, given)
         }
     }
 }
 
 /// They are equal, of this length.
 #[tactic(auto, using(crate::proofs::Written::written))]
-fn equal(alloc: Global, stage: &Name, binary: &Name, size: u64) -> Result<Bytes, OutOfMemory>
-    ensures { IfOk result (λ text. text ≡ line (codes "equal" ∷ stage.now ∷ binary.now ∷ decimal size ∷ [])) }
+fn put_equal(
+    alloc: Global,
+    text: &mut Bytes,
+    names: &CompareLine,
+    size: u64,
+) -> Result<(), OutOfMemory>
+    ensures { OnOk result (text.new ≡ text.old ++ line (codes "equal" ∷ names.now.stage ∷ names.now.binary ∷ decimal size ∷ [])) }
 {
-    let mut text = Bytes::from_slice(alloc, b"equal ")?;
-    text.extend(stage.bytes())?;
-    text.push(b' ')?;
-    text.extend(binary.bytes())?;
-    text.extend(format!(in alloc; " {size}\n")?.as_bytes())?;
-    Ok(text)
+    text.extend(b"equal ")?;
+    put_names(text, names)?;
+    text.extend(format!(in alloc; "{size}\n")?.as_bytes())
 }
 
 /// They differ first at this offset, and have these lengths.
 #[tactic(auto, using(crate::proofs::Written::written))]
-fn differs(
+fn put_differs(
     alloc: Global,
-    stage: &Name,
-    binary: &Name,
+    text: &mut Bytes,
+    names: &CompareLine,
     offset: u64,
     made: u64,
     given: u64,
-) -> Result<Bytes, OutOfMemory>
-    ensures { IfOk result (λ text. text ≡ line (codes "differs" ∷ stage.now ∷ binary.now ∷ decimal offset ∷ decimal made ∷ decimal given ∷ [])) }
+) -> Result<(), OutOfMemory>
+    ensures { OnOk result (text.new ≡ text.old ++ line (codes "differs" ∷ names.now.stage ∷ names.now.binary ∷ decimal offset ∷ decimal made ∷ decimal given ∷ [])) }
 {
-    let mut text = Bytes::from_slice(alloc, b"differs ")?;
-    text.extend(stage.bytes())?;
+    text.extend(b"differs ")?;
+    put_names(text, names)?;
+    text.extend(format!(in alloc; "{offset} {made} {given}\n")?.as_bytes())
+}
+
+/// Adds the names of the stage and of the binary, with a blank behind each.
+#[tactic(auto, using(crate::proofs::Written::written))]
+fn put_names(text: &mut Bytes, names: &CompareLine) -> Result<(), OutOfMemory>
+    ensures { OnOk result (text.new ≡ text.old ++ names.now.stage ++ 32 ∷ names.now.binary ++ 32 ∷ []) }
+{
+    text.extend(names.stage.bytes())?;
     text.push(b' ')?;
-    text.extend(binary.bytes())?;
-    text.extend(format!(in alloc; " {offset} {made} {given}\n")?.as_bytes())?;
-    Ok(text)
+    text.extend(names.binary.bytes())?;
+    text.push(b' ')
 }

@@ -9,13 +9,14 @@ use std::test::Fail;
 /// What is changed, into what, and the answer.
 type Row = (&'static str, &'static str, &'static str);
 
-static TOP: [Row; 21] = [
+static TOP: [Row; 22] = [
     ("", "", "accepted"),
     ("format = 1", "format", "1"),
     ("format = 1", "", "2 top 0 format"),
     ("format = 1", "format = 1.0", "2 top 0 format"),
     ("format = 1", "format = 0", "8 top 0 format"),
-    ("format = 1", "format = 2", "8 top 0 format"),
+    ("format = 1", "format = 3", "8 top 0 format"),
+    ("format = 1", "format = 2", "2 compare 0 stages"),
     ("format = 1", "format = 1\ntitle = 1", "3 top 0"),
     ("\n[compare]", "\n[compared]", "2 top 0 compare"),
     ("\n[compare]", "\n[[compare]]", "2 top 0 compare"),

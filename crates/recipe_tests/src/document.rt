@@ -22,11 +22,17 @@ const NO_SOURCE: Change = (
 const NOTHING: Change = ("", "");
 
 /// Two changes of the example, and the answer.
-static CHANGES: [(Change, Change, &str); 34] = [
+static CHANGES: [(Change, Change, &str); 36] = [
     (("format = 1\n", "format\nformat = 1\n"), NOTHING, "1"),
     (("format = 1", ""), NOTHING, "2 top 0 format"),
     (("format = 1", "format = \"1\""), NOTHING, "2 top 0 format"),
-    (("format = 1", "format = 2"), NOTHING, "8 top 0 format"),
+    (("format = 1", "format = 3"), NOTHING, "8 top 0 format"),
+    (("format = 1", "format = 2"), NOTHING, "2 compare 0 stages"),
+    (
+        ("stage = \"two\"", "stage = \"two\"\nstages = [\"two\"]"),
+        NOTHING,
+        "3 compare 0",
+    ),
     (
         NO_SOURCE,
         ("format = 1", "format = 1\nsource = 5"),

@@ -12,6 +12,8 @@ mod changes;
 #[cfg(test)]
 mod document;
 #[cfg(test)]
+mod formats;
+#[cfg(test)]
 mod limits;
 #[cfg(test)]
 mod orders;

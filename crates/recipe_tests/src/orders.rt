@@ -15,7 +15,7 @@ type Row = (&'static str, Change, Change, &'static str);
 static FIRST_WALK: [Row; 17] = [
     (
         "a key and a later one",
-        ("format = 1", "format = 2"),
+        ("format = 1", "format = 3"),
         ("\n[compare]", "\n[compared]"),
         "8 top 0 format",
     ),
@@ -111,7 +111,7 @@ static FIRST_WALK: [Row; 17] = [
     ),
     (
         "no TOML and all else",
-        ("format = 1", "format = 2"),
+        ("format = 1", "format = 3"),
         ("binary = \"bin\"", "binary = "),
         "1",
     ),

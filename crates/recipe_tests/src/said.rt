@@ -123,9 +123,13 @@ fn told(alloc: Global, recipe: &Recipe) -> Result<String, OutOfMemory> {
         lines.push_str(of_stage(alloc, stage)?.as_str())?;
         lines.push_str("\n")?;
     }
-    let stage = text(recipe.compare().stage.bytes());
+    lines.push_str("compare")?;
+    for stage in recipe.compare().stages.as_slice() {
+        lines.push_str(" ")?;
+        lines.push_str(text(stage.bytes()))?;
+    }
     let binary = text(recipe.compare().binary.bytes());
-    lines.push_str(format!(in alloc; "compare {stage} {binary}\n")?.as_str())?;
+    lines.push_str(format!(in alloc; " {binary}, format {}\n", recipe.format())?.as_str())?;
     Ok(lines)
 }
 
@@ -147,7 +151,7 @@ fn every_key(rt: HostRuntime) -> Result<(), Fail> {
         "input prog copy.elf copy_src\ninput text copy.hex0 none\ninput bin b.bin none\n\
 source copy_src hex0 65536 text\nsource rest_src other 6291456 text one\n\
 stage one prog 100000 4096 copy | A=1 in=prog > out copy_src none\nstage two one 5 536870912 first | > the stream none rest_src\n\
-stage three two 6 536870912 second | > - none none\ncompare three bin\n",
+stage three two 6 536870912 second | > - none none\ncompare three bin, format 1\n",
     )?;
     Ok(())
 }
@@ -162,7 +166,7 @@ fn in_the_manner_of_a_chain(rt: HostRuntime) -> Result<(), Fail> {
 input hex1_text riscv64/hex1_riscv64.hex0 none\ninput want hex1.bin none\n\
 source hex0_src hex0 6291456 hex0_text\nsource hex1_src hex1 0 hex0_text hex1_text\n\
 stage hex0 seed 281474976710656 536870912 ./hex0 ./hex0.hex0 ././artifact/hex0 | hex0.hex0=hex0_text x=seed > artifact/hex0 hex0_src none\n\
-stage hex1 hex0 1 0 ./artifact/hex0 | ARCH=riscv64  > the stream none hex1_src\ncompare hex1 want\n",
+stage hex1 hex0 1 0 ./artifact/hex0 | ARCH=riscv64  > the stream none hex1_src\ncompare hex1 want, format 1\n",
     )?;
     Ok(())
 }

@@ -1,6 +1,6 @@
 -- What each state keeps of the rules of a report, and how it goes on to one.
-use Rattle.std.proofs.Common.{◌≡◌, ℕ, suc, ◌+◌, ◌-◌, ◌<◌, ◌≤◌, ◌^◌, Bool, true, cond, ltb, lit<, List, [], ◌∷◌, ◌++◌, length, map, Option, Some, None, refl, sym, ap, subst, ◌∙◌, append_assoc, arith, length-append}
-use Rattle.std.specs.Prelude.{◌&&◌, slice_get, All}
+use Rattle.std.proofs.Common.{◌≡◌, ℕ, suc, ◌+◌, ◌-◌, ◌<◌, ◌≤◌, ◌^◌, Bool, true, false, cond, ltb, lit<, List, [], ◌∷◌, ◌++◌, length, map, Option, Some, None, refl, sym, ap, subst, ◌∙◌, append_assoc, arith, length-append, inl}
+use Rattle.std.specs.Prelude.{◌&&◌, ◌==◌, slice_get, All, replicate}
 use Rattle.std.specs.List.{flat_map}
 use Rattle.std.specs.Ordering.{nat_cmp, is_lt}
 use Rattle.std.specs.Cmp.Lexicographic.{slice_cmp}
@@ -25,12 +25,13 @@ use Rattle.report.specs.declared.state.Opened.{Opened}
 use Rattle.report.specs.declared.state.State.{State}
 use Rattle.report.specs.declared.state.State.TheVariants.{Start, Titled, Inputs, Named, Heard, Leaving, Closing, Stages, Compared, Ended}
 use Rattle.report.specs.Inside.States.{step, follows, is_after, closed, with_stage}
-use Rattle.report.specs.Reports.{stage_block, report_lines, ascend, IsCount, IsDigest, IsMark, IsInputLine, IsLeft, IsStageLine, IsCompare, IsReport}
+use Rattle.report.specs.Reports.{stage_block, report_lines, ascend, most_comparisons, IsCount, IsForm, IsDigest, IsMark, IsInputLine, IsLeft, IsStageLine, IsCompare, IsReport}
 use Rattle.report.proofs.Cuts.{if_some, same_some}
 use Rattle.report.proofs.LineTexts.{IsLine}
 use Rattle.report.proofs.Takes.{so_far, step_takes}
 
 pub record IsFront (front : Front) : Type 0 where
+  pub form : IsForm front.form
   pub recipe : IsDigest front.recipe
   pub inputs : IsCount 1 256 (length front.inputs)
   pub each_input : All IsInputLine front.inputs
@@ -54,8 +55,8 @@ pub record HasRoom (front : Front) : Type 0 where
 -- what a state keeps
 abbrev pub Good : State → Type 0
 Good Start = Unit {0}
-Good Titled = Unit {0}
-Good (Inputs recipe inputs) = IsDigest recipe × (length inputs ≤ 256) × All IsInputLine inputs
+Good (Titled form) = IsForm form
+Good (Inputs form recipe inputs) = IsDigest recipe × (length inputs ≤ 256) × All IsInputLine inputs × IsForm form
 Good (Named front name steps) = HasRoom front × IsName name × (steps < 2 ^ 64)
 Good (Heard front name steps stream1) = HasRoom front × IsName name × (steps < 2 ^ 64) × IsMark stream1
 Good (Leaving front stage) = HasRoom front × IsOpened stage
@@ -87,6 +88,7 @@ grown xs x = length-append xs (x ∷ [])
 with_room : (front : Front) (stage : StageLine) → HasRoom front → IsStageLine stage → Good (Stages (with_stage front stage))
 with_room front stage has is = (
   record {
+    form = has.fits.form;
     recipe = has.fits.recipe;
     inputs = has.fits.inputs;
     each_input = has.fits.each_input;
@@ -96,18 +98,26 @@ with_room front stage has is = (
   omega (arith, grown front.stages stage),
 )
 
+-- there is room for one comparison in every form
+some_compared : (form : ℕ) → 1 ≤ most_comparisons form
+some_compared form = by_test (form == 1)
+  where
+    by_test : (t : Bool) → 1 ≤ cond t 1 16
+    by_test true = omega arith
+    by_test false = omega arith
+
 pub step_keeps : (s : State) (l : Line) (t : State) → Good s → IsLine l → step s l ≡ Some t → Good t
 unfolding step
-step_keeps Start Header t good is e = subst Good (same_some Titled t e) tt
-step_keeps Titled (Recipe recipe) t good is e = subst Good (same_some (Inputs recipe []) t e) (is, omega arith, All-nil IsInputLine)
-step_keeps (Inputs recipe inputs) (Input input) t good is e =
-    let p = if_some (ltb (length inputs) 256) (Some (Inputs recipe (inputs ++ input ∷ []))) t e in
-    subst Good (same_some (Inputs recipe (inputs ++ input ∷ [])) t p.1) (good.0, omega (arith, is_below _ _ p.0, grown inputs input), All-push IsInputLine inputs input good.2 is)
-step_keeps (Inputs recipe inputs) (Stage name steps) t good is e =
-    let front : Front = record { recipe = recipe; inputs = inputs; stages = [] } in
+step_keeps Start (Header form) t good is e = subst Good (same_some (Titled form) t e) is
+step_keeps (Titled form) (Recipe recipe) t good is e = subst Good (same_some (Inputs form recipe []) t e) (is, omega arith, All-nil IsInputLine, good)
+step_keeps (Inputs form recipe inputs) (Input input) t good is e =
+    let p = if_some (ltb (length inputs) 256) (Some (Inputs form recipe (inputs ++ input ∷ []))) t e in
+    subst Good (same_some (Inputs form recipe (inputs ++ input ∷ [])) t p.1) (good.0, omega (arith, is_below _ _ p.0, grown inputs input), All-push IsInputLine inputs input good.2 is, good.3)
+step_keeps (Inputs form recipe inputs) (Stage name steps) t good is e =
+    let front : Front = record { form = form; recipe = recipe; inputs = inputs; stages = [] } in
     let p = if_some (ltb 0 (length inputs)) (Some (Named front name steps)) t e in
     let some : 1 ≤ length inputs = omega (arith, is_below _ _ p.0) in
-    let fits : IsFront front = record { recipe = good.0; inputs = (some, good.1); each_input = good.2; stages = omega arith; each_stage = All-nil IsStageLine } in
+    let fits : IsFront front = record { form = good.3; recipe = good.0; inputs = (some, good.1); each_input = good.2; stages = omega arith; each_stage = All-nil IsStageLine } in
     subst Good (same_some (Named front name steps) t p.1) (record { fits = fits; room = lit< tt }, is.0, is.1)
 step_keeps (Named front name steps) (Stream1 mark) t good is e = subst Good (same_some (Heard front name steps mark) t e) (good.0, good.1, good.2, is)
 step_keeps (Heard front name steps stream1) (Stream2 mark) t good is e =
@@ -145,9 +155,32 @@ step_keeps (Stages front) (Stage name steps) t good is e =
     let p = if_some (ltb (length front.stages) 256) (Some (Named front name steps)) t e in
     subst Good (same_some (Named front name steps) t p.1) (record { fits = good.0; room = is_below _ _ p.0 }, is.0, is.1)
 step_keeps (Stages front) (Compare compare) t good is e =
-    let report : Report = record { recipe = front.recipe; inputs = front.inputs; stages = front.stages; compare = compare } in
+    let report : Report = record { form = front.form; recipe = front.recipe; inputs = front.inputs; stages = front.stages; compare = compare ∷ [] } in
     subst Good (same_some (Compared report) t e)
-    (record { recipe = good.0.recipe; inputs = good.0.inputs; each_input = good.0.each_input; stages = (good.1, good.0.stages); each_stage = good.0.each_stage; compare = is })
+    (record {
+      form = good.0.form;
+      recipe = good.0.recipe;
+      inputs = good.0.inputs;
+      each_input = good.0.each_input;
+      stages = (good.1, good.0.stages);
+      each_stage = good.0.each_stage;
+      compares = (omega arith, some_compared front.form);
+      each_compare = All-cons IsCompare compare [] is (All-nil IsCompare);
+    })
+step_keeps (Compared report) (Compare compare) t good is e =
+    let next : Report = record report { compare = report.compare ++ compare ∷ [] } in
+    let p = if_some (ltb (length report.compare) (most_comparisons report.form)) (Some (Compared next)) t e in
+    subst Good (same_some (Compared next) t p.1)
+    (record {
+      form = good.form;
+      recipe = good.recipe;
+      inputs = good.inputs;
+      each_input = good.each_input;
+      stages = good.stages;
+      each_stage = good.each_stage;
+      compares = (omega (arith, grown report.compare compare), omega (arith, is_below _ _ p.0, grown report.compare compare));
+      each_compare = All-push IsCompare report.compare compare good.each_compare is;
+    })
 step_keeps (Compared report) End t good is e = subst Good (same_some (Ended report) t e) good
 step_keeps _ _ t good is e = absurd cc
 
@@ -228,30 +261,31 @@ from_named : (front : Front) (name : List ℕ) (steps : ℕ) → Good (Named fro
 unfolding step
 from_named front name steps good = by (Named front name steps) (Stream1 some_mark) _ some_mark_is refl good (from_heard front name steps some_mark)
 
-from_inputs : (recipe : Digest) (input : InputLine) (inputs : List InputLine) → Good (Inputs recipe (input ∷ inputs)) → Finishes (Inputs recipe (input ∷ inputs))
+from_inputs : (form : ℕ) (recipe : Digest) (input : InputLine) (inputs : List InputLine) → Good (Inputs form recipe (input ∷ inputs))
+    → Finishes (Inputs form recipe (input ∷ inputs))
 unfolding step
-from_inputs recipe input inputs good =
-    let front : Front = record { recipe = recipe; inputs = input ∷ inputs; stages = [] } in
+from_inputs form recipe input inputs good =
+    let front : Front = record { form = form; recipe = recipe; inputs = input ∷ inputs; stages = [] } in
     let some : ltb 0 (suc (length inputs)) ≡ true = (Decides-ltb 0 (suc (length inputs))).1 (omega arith) in
-    let opens : step (Inputs recipe (input ∷ inputs)) (Stage some_name 0) ≡ Some (Named front some_name 0) = rw some refl in
-    by (Inputs recipe (input ∷ inputs)) (Stage some_name 0) (Named front some_name 0) (some_name_is, lit< tt) opens good (from_named front some_name 0)
+    let opens : step (Inputs form recipe (input ∷ inputs)) (Stage some_name 0) ≡ Some (Named front some_name 0) = rw some refl in
+    by (Inputs form recipe (input ∷ inputs)) (Stage some_name 0) (Named front some_name 0) (some_name_is, lit< tt) opens good (from_named front some_name 0)
 
-from_no_input : (recipe : Digest) → Good (Inputs recipe []) → Finishes (Inputs recipe [])
+from_no_input : (form : ℕ) (recipe : Digest) → Good (Inputs form recipe []) → Finishes (Inputs form recipe [])
 unfolding step
-from_no_input recipe good =
+from_no_input form recipe good =
     let input : InputLine = record { name = some_name; mark = some_mark } in
-    by (Inputs recipe []) (Input input) _ (record { name = some_name_is; mark = some_mark_is }) refl good (from_inputs recipe input [])
+    by (Inputs form recipe []) (Input input) _ (record { name = some_name_is; mark = some_mark_is }) refl good (from_inputs form recipe input [])
 
-from_titled : Finishes Titled
+from_titled : (form : ℕ) → Good (Titled form) → Finishes (Titled form)
 unfolding step
-from_titled = by Titled (Recipe some_digest) _ some_digest_is refl tt (from_no_input some_digest)
+from_titled form good = by (Titled form) (Recipe some_digest) _ some_digest_is refl good (from_no_input form some_digest)
 
 pub finished : (s : State) → Good s → Finishes s
 unfolding step
-finished Start good = by Start Header Titled tt refl tt (λ _. from_titled)
-finished Titled good = from_titled
-finished (Inputs recipe []) good = from_no_input recipe good
-finished (Inputs recipe (input ∷ inputs)) good = from_inputs recipe input inputs good
+finished Start good = by Start (Header 1) (Titled 1) (inl refl) refl tt (from_titled 1)
+finished (Titled form) good = from_titled form good
+finished (Inputs form recipe []) good = from_no_input form recipe good
+finished (Inputs form recipe (input ∷ inputs)) good = from_inputs form recipe input inputs good
 finished (Named front name steps) good = from_named front name steps good
 finished (Heard front name steps mark) good = from_heard front name steps mark good
 finished (Leaving front stage) good = from_leaving front stage good
@@ -282,8 +316,11 @@ pub lines_are : (report : Report) → IsReport report → All IsLine (report_lin
 lines_are report is =
     let inputs = map Input report.inputs in
     let stages = flat_map stage_block report.stages in
-    let front : All IsLine (Header ∷ Recipe report.recipe ∷ inputs) =
-    All-cons IsLine Header (Recipe report.recipe ∷ inputs) tt (All-cons IsLine (Recipe report.recipe) inputs is.recipe (All-map IsLine Input report.inputs is.each_input)) in
-    let last : All IsLine (Compare report.compare ∷ End ∷ []) = All-cons IsLine (Compare report.compare) (End ∷ []) is.compare (All-cons IsLine End [] tt (All-nil IsLine)) in
-    All-append IsLine ((Header ∷ Recipe report.recipe ∷ inputs) ++ stages) (Compare report.compare ∷ End ∷ [])
-    (All-append IsLine (Header ∷ Recipe report.recipe ∷ inputs) stages front (stages_are report.stages is.each_stage)) last
+    let front : All IsLine (Header report.form ∷ Recipe report.recipe ∷ inputs) =
+    All-cons IsLine (Header report.form) (Recipe report.recipe ∷ inputs) is.form (All-cons IsLine (Recipe report.recipe) inputs is.recipe (All-map IsLine Input report.inputs is.each_input)) in
+    let compares = map Compare report.compare in
+    let above : All IsLine ((Header report.form ∷ Recipe report.recipe ∷ inputs) ++ stages) =
+    All-append IsLine (Header report.form ∷ Recipe report.recipe ∷ inputs) stages front (stages_are report.stages is.each_stage) in
+    All-append IsLine (((Header report.form ∷ Recipe report.recipe ∷ inputs) ++ stages) ++ compares) (End ∷ [])
+    (All-append IsLine ((Header report.form ∷ Recipe report.recipe ∷ inputs) ++ stages) compares above (All-map IsLine Compare report.compare is.each_compare))
+    (All-cons IsLine End [] tt (All-nil IsLine))

@@ -1,6 +1,6 @@
 -- The text of a report is short.
-use Rattle.std.proofs.Common.{◌≡◌, ℕ, suc, ◌*◌, ◌<◌, ◌≤◌, ◌^◌, List, [], ◌∷◌, ◌++◌, length, map, codes, decimal, Some, None, Result, Ok, Err, refl, ap, arith, length-append, lit<}
-use Rattle.std.specs.Prelude.{All, IfOk}
+use Rattle.std.proofs.Common.{◌≡◌, ℕ, suc, ◌*◌, ◌<◌, ◌≤◌, ◌^◌, List, [], ◌∷◌, ◌++◌, length, map, codes, decimal, Some, None, Result, Ok, Err, refl, ap, arith, length-append, lit<, Bool, true, false, cond, inl, inr}
+use Rattle.std.specs.Prelude.{All, IfOk, ◌==◌}
 use Rattle.std.specs.List.{flat_map}
 use Rattle.std.proofs.lemmas.Fmt.{length-decimal-le}
 use Rattle.std.proofs.lemmas.List.Elements.{All-head, All-tail}
@@ -19,7 +19,7 @@ use Rattle.report.specs.declared.types.Compared.{Compared}
 use Rattle.report.specs.declared.types.Compared.TheVariants.{Equal, Differs}
 use Rattle.report.specs.declared.types.Report.{Report}
 use Rattle.report.specs.Lines.{line_words, mark_words, compared_words, lines_text}
-use Rattle.report.specs.Reports.{stage_block, report_lines, report_text, IsMark, IsStageLine, IsCompared, IsReport}
+use Rattle.report.specs.Reports.{stage_block, report_lines, report_text, most_comparisons, IsMark, IsStageLine, IsCompared, IsReport}
 use Rattle.report.proofs.LineTexts.{IsLine}
 use Rattle.report.proofs.Keeps.{lines_are}
 
@@ -58,7 +58,8 @@ compared_short (Differs o a b) is =
     )
 
 line_short : (l : Line) → IsLine l → length (line_text (line_words l)) ≤ 602
-line_short Header is = omega arith
+line_short (Header form) (inl one) = rw one (omega arith)
+line_short (Header form) (inr two) = rw two (omega arith)
 line_short (Recipe d) is = omega (arith, length-append (encode_lower d.0) (10 ∷ []), hex_long d.0, is.count)
 line_short (Input i) is = omega (arith, length-append i.name (32 ∷ line_text (mark_words i.mark)), fits i.name is.name, mark_short i.mark is.mark)
 line_short (Stage n s) is = omega (arith, length-append n (32 ∷ (decimal s ++ 10 ∷ [])), length-append (decimal s) (10 ∷ []), fits n is.0, number_short s is.1)
@@ -95,11 +96,31 @@ blocks_few [] each = omega arith
 blocks_few (stage ∷ stages) each =
     omega (arith, length-append (stage_block stage) (flat_map stage_block stages), block_few stage (All-head IsStageLine stage stages each), blocks_few stages (All-tail IsStageLine stage stages each))
 
-lines_few : (report : Report) → IsReport report → length (report_lines report) ≤ 1050116
+few_compared : (form : ℕ) → most_comparisons form ≤ 16
+few_compared form = by_test (form == 1)
+  where
+    by_test : (t : Bool) → cond t 1 16 ≤ 16
+    by_test true = omega arith
+    by_test false = omega arith
+
+lines_few : (report : Report) → IsReport report → length (report_lines report) ≤ 1050131
 lines_few report is =
     let inputs = map Input report.inputs in
     let stages = flat_map stage_block report.stages in
-    omega (arith, length-append (inputs ++ stages) (Compare report.compare ∷ End ∷ []), length-append inputs stages, mapped Input report.inputs, blocks_few report.stages is.each_stage, is.inputs.1, is.stages.1)
+    let compares = map Compare report.compare in
+    omega (
+      arith,
+      length-append ((inputs ++ stages) ++ compares) (End ∷ []),
+      length-append (inputs ++ stages) compares,
+      length-append inputs stages,
+      mapped Input report.inputs,
+      mapped Compare report.compare,
+      blocks_few report.stages is.each_stage,
+      is.inputs.1,
+      is.stages.1,
+      is.compares.1,
+      few_compared report.form,
+    )
 
 pub short : (report : Report) → IsReport report → length (report_text report) < 1073741824
 short report is = omega (arith, lines_short (report_lines report) (lines_are report is), lines_few report is)

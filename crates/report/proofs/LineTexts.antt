@@ -1,5 +1,5 @@
 -- A line's text is read as that line, and what reads as a line is its text.
-use Rattle.std.proofs.Common.{◌≡◌, ℕ, ◌<◌, ◌^◌, cond, List, [], ◌∷◌, ◌++◌, codes, decimal, Some, None, refl, sym, ap, subst, ◌∙◌, append_assoc}
+use Rattle.std.proofs.Common.{◌≡◌, ℕ, ◌<◌, ◌^◌, cond, List, [], ◌∷◌, ◌++◌, codes, decimal, Some, None, refl, sym, ap, subst, ◌∙◌, append_assoc, inl, inr}
 use Rattle.std.specs.Str.{bytes_eq}
 use Rattle.hex.specs.Hex.{encode_lower}
 use Rattle.ddc_base.specs.Lines.{line as line_text}
@@ -14,8 +14,8 @@ use Rattle.report.specs.Inside.Cuts.{◌>>=◌, cut_at}
 use Rattle.report.specs.Inside.Fields.{digest_of, mark_of}
 use Rattle.report.specs.Inside.LinesRead.{header_of, recipe_of, input_of, stage_of, stream_of, left_of, made_of, checked_of, compare_of, line_of_kind, longer_line_of, line_of}
 use Rattle.report.specs.Inside.Reading.{next_line}
-use Rattle.report.specs.Lines.{line_words, compared_words}
-use Rattle.report.specs.Reports.{IsDigest, IsMark, IsInputLine, IsLeft, IsCompare}
+use Rattle.report.specs.Lines.{form_word, line_words, compared_words}
+use Rattle.report.specs.Reports.{IsForm, IsDigest, IsMark, IsInputLine, IsLeft, IsCompare}
 use Rattle.report.proofs.Cuts.{Without, Without-append, cut_at-joined, cut_at-takes, bind_some, same_some}
 use Rattle.report.proofs.Plain.{no_blank, no_feed}
 use Rattle.report.proofs.Spelled.{two_again, two_takes}
@@ -23,7 +23,7 @@ use Rattle.report.proofs.FieldTexts.{by_word, number, name, name_word, language,
 
 -- a line that is spelled one way
 abbrev pub IsLine : Line → Type 0
-IsLine Header = Unit {0}
+IsLine (Header form) = IsForm form
 IsLine (Recipe digest) = IsDigest digest
 IsLine (Input input) = IsInputLine input
 IsLine (Stage name steps) = IsName name × (steps < 2 ^ 64)
@@ -37,7 +37,7 @@ IsLine End = Unit {0}
 
 -- the fields after a line's first word
 abbrev fields_text : Line → List ℕ
-fields_text Header = codes "1"
+fields_text (Header form) = form_word form
 fields_text (Recipe digest) = digest_text digest
 fields_text (Input input) = input.name ++ 32 ∷ mark_text input.mark
 fields_text (Stage name steps) = name ++ 32 ∷ decimal steps
@@ -52,7 +52,7 @@ fields_text End = []
 
 -- a line's text without its LF
 abbrev text_of : Line → List ℕ
-text_of Header = codes "ddc-report" ++ 32 ∷ fields_text Header
+text_of (Header form) = codes "ddc-report" ++ 32 ∷ fields_text (Header form)
 text_of (Recipe digest) = codes "recipe" ++ 32 ∷ fields_text (Recipe digest)
 text_of (Input input) = codes "input" ++ 32 ∷ fields_text (Input input)
 text_of (Stage name steps) = codes "stage" ++ 32 ∷ fields_text (Stage name steps)
@@ -74,7 +74,8 @@ kind_again kind fields l plain is = rw (cut_at-joined 32 kind fields plain, is) 
 
 line_again : (l : Line) → IsLine l → line_of (text_of l) ≡ Some l
 unfolding line_of line_of_kind header_of recipe_of input_of stage_of stream_of left_of made_of checked_of compare_of
-line_again Header is = kind_again (codes "ddc-report") (codes "1") Header (no_blank (codes "ddc-report") refl) refl
+line_again (Header form) (inl one) = rw one (kind_again (codes "ddc-report") (codes "1") (Header 1) (no_blank (codes "ddc-report") refl) refl)
+line_again (Header form) (inr two) = rw two (kind_again (codes "ddc-report") (codes "2") (Header 2) (no_blank (codes "ddc-report") refl) refl)
 line_again (Recipe d) is = kind_again (codes "recipe") (digest_text d) (Recipe d) (no_blank (codes "recipe") refl) (rw (digest.again d is) refl)
 line_again (Input i) is = kind_again (codes "input") (fields_text (Input i)) (Input i) (no_blank (codes "input") refl)
     (two_again name name_word mark (λ n m. Input (record { name = n; mark = m })) i.name i.mark is.name is.mark)
@@ -99,7 +100,8 @@ two_no_feed : (a b : List ℕ) → Without 10 a → Without 10 b → Without 10 
 two_no_feed a b h k = Without-append 10 a (32 ∷ b) h (refl, k)
 
 line_no_feed : (l : Line) → IsLine l → Without 10 (text_of l)
-line_no_feed Header is = two_no_feed (codes "ddc-report") (codes "1") (no_feed (codes "ddc-report") refl) (no_feed (codes "1") refl)
+line_no_feed (Header form) (inl one) = rw one (two_no_feed (codes "ddc-report") (codes "1") (no_feed (codes "ddc-report") refl) (no_feed (codes "1") refl))
+line_no_feed (Header form) (inr two) = rw two (two_no_feed (codes "ddc-report") (codes "2") (no_feed (codes "ddc-report") refl) (no_feed (codes "2") refl))
 line_no_feed (Recipe d) is = two_no_feed (codes "recipe") (digest_text d) (no_feed (codes "recipe") refl) (digest.no_feed d is)
 line_no_feed (Input i) is = two_no_feed (codes "input") (fields_text (Input i)) (no_feed (codes "input") refl) (two_no_feed i.name (mark_text i.mark) (name.no_feed i.name is.name) (mark.no_feed i.mark is.mark))
 line_no_feed (Stage n steps) is = two_no_feed (codes "stage") (fields_text (Stage n steps)) (no_feed (codes "stage") refl) (two_no_feed n (decimal steps) (name.no_feed n is.0) (number.no_feed steps is.1))
@@ -124,9 +126,12 @@ Is text l = IsLine l × (text ≡ text_of l)
 
 header_takes : (fields : List ℕ) (l : Line) → header_of fields ≡ Some l → Is (codes "ddc-report" ++ 32 ∷ fields) l
 unfolding header_of
-header_takes fields l e = by_word fields (codes "1") (Some Header) None l
-    (λ is here. subst (Is (codes "ddc-report" ++ 32 ∷ fields)) (same_some Header l here) (tt, ap (λ (t : List ℕ). codes "ddc-report" ++ 32 ∷ t) is))
-    (λ none. absurd cc) e
+header_takes fields l e =
+    by_word fields (codes "1") (Some (Header 1)) (cond (bytes_eq fields (codes "2")) (Some (Header 2)) None) l
+    (λ is here. subst (Is (codes "ddc-report" ++ 32 ∷ fields)) (same_some (Header 1) l here) (inl refl, ap (λ (t : List ℕ). codes "ddc-report" ++ 32 ∷ t) is))
+    (λ later. by_word fields (codes "2") (Some (Header 2)) None l
+    (λ is here. subst (Is (codes "ddc-report" ++ 32 ∷ fields)) (same_some (Header 2) l here) (inr refl, ap (λ (t : List ℕ). codes "ddc-report" ++ 32 ∷ t) is))
+    (λ none. absurd cc) later) e
 
 recipe_takes : (fields : List ℕ) (l : Line) → recipe_of fields ≡ Some l → Is (codes "recipe" ++ 32 ∷ fields) l
 unfolding recipe_of
@@ -224,7 +229,7 @@ line_takes text l e =
 -- ---- lines with their LF
 
 spelled : (l : Line) → line_text (line_words l) ≡ text_of l ++ 10 ∷ []
-spelled Header = refl
+spelled (Header form) = simp append_assoc
 spelled (Recipe d) = refl
 spelled (Input i) = simp append_assoc
 spelled (Stage n steps) = simp append_assoc

@@ -14,14 +14,15 @@ use Rattle.report.specs.declared.line.Line.TheVariants.{Input, Stream1, Stream2,
 use Rattle.report.specs.declared.types.InputLine.{InputLine}
 use Rattle.report.specs.declared.types.LeftLine.{LeftLine}
 use Rattle.report.specs.declared.types.StageLine.{StageLine}
+use Rattle.report.specs.declared.types.CompareLine.{CompareLine}
 use Rattle.report.specs.declared.types.Report.{Report}
 use Rattle.report.specs.declared.state.Front.{Front}
 use Rattle.report.specs.declared.state.Opened.{Opened}
 use Rattle.report.specs.declared.state.State.{State}
-use Rattle.report.specs.declared.state.State.TheVariants.{Start, Inputs, Named, Leaving, Stages, Ended}
+use Rattle.report.specs.declared.state.State.TheVariants.{Start, Inputs, Named, Leaving, Stages, Compared, Ended}
 use Rattle.report.specs.Inside.Cuts.{◌>>=◌}
 use Rattle.report.specs.Inside.States.{step, follows, is_after, with_stage}
-use Rattle.report.specs.Reports.{stage_block, report_lines, ascend, IsStageLine, IsReport}
+use Rattle.report.specs.Reports.{stage_block, report_lines, ascend, most_comparisons, IsCount, IsStageLine, IsReport}
 
 -- the state after the lines
 abbrev pub run : State → List Line → Option State
@@ -43,12 +44,12 @@ then s t front more first = run-append s front more ∙ ap (λ (next : Option St
 below : (a b : ℕ) → a < b → ltb a b ≡ true
 below a b h = (Decides-ltb a b).1 h
 
-run_inputs : (recipe : Digest) (front more : List InputLine) → length front + length more ≤ 256 → run (Inputs recipe front) (map Input more) ≡ Some (Inputs recipe (front ++ more))
+run_inputs : (form : ℕ) (recipe : Digest) (front more : List InputLine) → length front + length more ≤ 256 → run (Inputs form recipe front) (map Input more) ≡ Some (Inputs form recipe (front ++ more))
 unfolding step
-run_inputs recipe front [] few = ap (λ (inputs : List InputLine). Some (Inputs recipe inputs)) (sym (append-nil front))
-run_inputs recipe front (input ∷ more) few =
-    rw (below (length front) 256 (omega arith)) (run_inputs recipe (front ++ input ∷ []) more (omega (arith, length-append front (input ∷ [])))
-    ∙ ap (λ (inputs : List InputLine). Some (Inputs recipe inputs)) (append_assoc front (input ∷ []) more))
+run_inputs form recipe front [] few = ap (λ (inputs : List InputLine). Some (Inputs form recipe inputs)) (sym (append-nil front))
+run_inputs form recipe front (input ∷ more) few =
+    rw (below (length front) 256 (omega arith)) (run_inputs form recipe (front ++ input ∷ []) more (omega (arith, length-append front (input ∷ [])))
+    ∙ ap (λ (inputs : List InputLine). Some (Inputs form recipe inputs)) (append_assoc front (input ∷ []) more))
 
 -- what the neighbours say: a name is after the last one before it
 follows_last : (front : List LeftLine) (file : LeftLine) (more : List LeftLine) → ascend (front ++ file ∷ more) ≡ true → follows front file.name ≡ true
@@ -93,25 +94,46 @@ run_stages front (stage ∷ more) few each =
     ∙ ap (λ (stages : List StageLine). Some (Stages (record front { stages = stages }))) (append_assoc front.stages (stage ∷ []) more)
 
 -- the blocks, the first of which ends the inputs
-run_blocks : (recipe : Digest) (inputs : List InputLine) (stages : List StageLine) → 1 ≤ length inputs → 1 ≤ length stages → length stages ≤ 256 → All IsStageLine stages
-    → run (Inputs recipe inputs) (flat_map stage_block stages) ≡ Some (Stages (record { recipe = recipe; inputs = inputs; stages = stages }))
+run_blocks : (form : ℕ) (recipe : Digest) (inputs : List InputLine) (stages : List StageLine) → 1 ≤ length inputs → 1 ≤ length stages → length stages ≤ 256 → All IsStageLine stages
+    → run (Inputs form recipe inputs) (flat_map stage_block stages) ≡ Some (Stages (record { form = form; recipe = recipe; inputs = inputs; stages = stages }))
 unfolding step
-run_blocks recipe inputs [] some one few each = absurd (omega arith)
-run_blocks recipe inputs (stage ∷ more) some one few each =
-    let front : Front = record { recipe = recipe; inputs = inputs; stages = [] } in
-    let opened : run (Inputs recipe inputs) (stage_block stage) ≡ Some (Stages (with_stage front stage)) =
+run_blocks form recipe inputs [] some one few each = absurd (omega arith)
+run_blocks form recipe inputs (stage ∷ more) some one few each =
+    let front : Front = record { form = form; recipe = recipe; inputs = inputs; stages = [] } in
+    let opened : run (Inputs form recipe inputs) (stage_block stage) ≡ Some (Stages (with_stage front stage)) =
     rw (below 0 (length inputs) (omega arith)) (run_block front stage (All-head IsStageLine stage more each)) in
-    then (Inputs recipe inputs) (Stages (with_stage front stage)) (stage_block stage) (flat_map stage_block more) opened
+    then (Inputs form recipe inputs) (Stages (with_stage front stage)) (stage_block stage) (flat_map stage_block more) opened
     ∙ run_stages (with_stage front stage) more (omega arith) (All-tail IsStageLine stage more each)
+
+-- the comparisons after the first one
+run_compares : (report : Report) (more : List CompareLine) → length report.compare + length more ≤ most_comparisons report.form
+    → run (Compared report) (map Compare more) ≡ Some (Compared (record report { compare = report.compare ++ more }))
+unfolding step
+run_compares report [] few = ap (λ (compares : List CompareLine). Some (Compared (record report { compare = compares }))) (sym (append-nil report.compare))
+run_compares report (compare ∷ more) few =
+    rw (below (length report.compare) (most_comparisons report.form) (omega (arith, few)))
+    (run_compares (record report { compare = report.compare ++ compare ∷ [] }) more (omega (arith, few, length-append report.compare (compare ∷ [])))
+    ∙ ap (λ (compares : List CompareLine). Some (Compared (record report { compare = compares }))) (append_assoc report.compare (compare ∷ []) more))
+
+-- all of them
+run_compared : (report : Report) (compares : List CompareLine) → IsCount 1 (most_comparisons report.form) (length compares)
+    → run (Stages (record { form = report.form; recipe = report.recipe; inputs = report.inputs; stages = report.stages })) (map Compare compares)
+    ≡ Some (Compared (record report { compare = compares }))
+unfolding step
+run_compared report [] count = absurd (omega (arith, count.0))
+run_compared report (compare ∷ more) count = run_compares (record report { compare = compare ∷ [] }) more (omega (arith, count.1))
 
 pub run_report : (report : Report) → IsReport report → run Start (report_lines report) ≡ Some (Ended report)
 unfolding step
 run_report report is =
     let inputs = map Input report.inputs in
     let stages = flat_map stage_block report.stages in
-    let ending = Compare report.compare ∷ End ∷ [] in
-    let read : run (Inputs report.recipe []) inputs ≡ Some (Inputs report.recipe report.inputs) = run_inputs report.recipe [] report.inputs (omega (arith, is.inputs.1)) in
-    let before : run (Inputs report.recipe []) (inputs ++ stages) ≡ Some (Stages (record { recipe = report.recipe; inputs = report.inputs; stages = report.stages })) =
-    then (Inputs report.recipe []) (Inputs report.recipe report.inputs) inputs stages read
-    ∙ run_blocks report.recipe report.inputs report.stages is.inputs.0 is.stages.0 is.stages.1 is.each_stage in
-    then (Inputs report.recipe []) (Stages (record { recipe = report.recipe; inputs = report.inputs; stages = report.stages })) (inputs ++ stages) ending before
+    let compares = map Compare report.compare in
+    let start = Inputs report.form report.recipe [] in
+    let front = Stages (record { form = report.form; recipe = report.recipe; inputs = report.inputs; stages = report.stages }) in
+    let read : run start inputs ≡ Some (Inputs report.form report.recipe report.inputs) = run_inputs report.form report.recipe [] report.inputs (omega (arith, is.inputs.1)) in
+    let before : run start (inputs ++ stages) ≡ Some front =
+    then start (Inputs report.form report.recipe report.inputs) inputs stages read
+    ∙ run_blocks report.form report.recipe report.inputs report.stages is.inputs.0 is.stages.0 is.stages.1 is.each_stage in
+    let compared : run start ((inputs ++ stages) ++ compares) ≡ Some (Compared report) = then start front (inputs ++ stages) compares before ∙ run_compared report report.compare is.compares in
+    then start (Compared report) ((inputs ++ stages) ++ compares) (End ∷ []) compared

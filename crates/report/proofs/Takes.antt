@@ -12,11 +12,11 @@ use Rattle.report.specs.declared.state.Opened.{Opened}
 use Rattle.report.specs.declared.state.State.{State}
 use Rattle.report.specs.declared.state.State.TheVariants.{Start, Titled, Inputs, Named, Heard, Leaving, Closing, Stages, Compared, Ended}
 use Rattle.report.specs.Inside.States.{step, follows, closed, with_stage}
-use Rattle.report.specs.Reports.{stage_block, front_lines, report_lines}
+use Rattle.report.specs.Reports.{stage_block, front_lines, report_lines, most_comparisons}
 use Rattle.report.proofs.Cuts.{if_some, same_some}
 
 abbrev pub front_of : Front → List Line
-front_of front = front_lines front.recipe front.inputs front.stages
+front_of front = front_lines front.form front.recipe front.inputs front.stages
 
 abbrev pub opened_lines : Opened → List Line
 opened_lines stage = Stage stage.name stage.steps ∷ Stream1 stage.stream1 ∷ Stream2 stage.stream2 ∷ map Left stage.left
@@ -24,14 +24,14 @@ opened_lines stage = Stage stage.name stage.steps ∷ Stream1 stage.stream1 ∷ 
 -- the lines that a state has taken
 abbrev pub so_far : State → List Line
 so_far Start = []
-so_far Titled = Header ∷ []
-so_far (Inputs recipe inputs) = Header ∷ Recipe recipe ∷ map Input inputs
+so_far (Titled form) = Header form ∷ []
+so_far (Inputs form recipe inputs) = Header form ∷ Recipe recipe ∷ map Input inputs
 so_far (Named front name steps) = front_of front ++ Stage name steps ∷ []
 so_far (Heard front name steps stream1) = front_of front ++ Stage name steps ∷ Stream1 stream1 ∷ []
 so_far (Leaving front stage) = front_of front ++ opened_lines stage
 so_far (Closing front stage made) = front_of front ++ (opened_lines stage ++ Made made ∷ [])
 so_far (Stages front) = front_of front
-so_far (Compared report) = front_lines report.recipe report.inputs report.stages ++ Compare report.compare ∷ []
+so_far (Compared report) = front_lines report.form report.recipe report.inputs report.stages ++ map Compare report.compare
 so_far (Ended report) = report_lines report
 
 -- a state known by its lines
@@ -40,24 +40,24 @@ grows s t line e ls is = ap so_far (sym (same_some t s e)) ∙ is
 
 front_push : (front : Front) (stage : StageLine) → front_of (with_stage front stage) ≡ front_of front ++ stage_block stage
 front_push front stage =
-    let ls = Header ∷ Recipe front.recipe ∷ map Input front.inputs in
+    let ls = Header front.form ∷ Recipe front.recipe ∷ map Input front.inputs in
     ap (λ (more : List Line). ls ++ more) (flat_map-append stage_block front.stages (stage ∷ []) ∙ ap (λ (more : List Line). flat_map stage_block front.stages ++ more) (append-nil (stage_block stage)))
     ∙ sym (append_assoc ls (flat_map stage_block front.stages) (stage_block stage))
 
-no_stages : (recipe : _) (inputs : List InputLine) → front_lines recipe inputs [] ≡ Header ∷ Recipe recipe ∷ map Input inputs
-no_stages recipe inputs = append-nil (Header ∷ Recipe recipe ∷ map Input inputs)
+no_stages : (form : _) (recipe : _) (inputs : List InputLine) → front_lines form recipe inputs [] ≡ Header form ∷ Recipe recipe ∷ map Input inputs
+no_stages form recipe inputs = append-nil (Header form ∷ Recipe recipe ∷ map Input inputs)
 
 pub step_takes : (s : State) (line : Line) (t : State) → step s line ≡ Some t → so_far t ≡ so_far s ++ line ∷ []
 unfolding step
-step_takes Start Header t e = grows t Titled Header e [] refl
-step_takes Titled (Recipe recipe) t e = grows t (Inputs recipe []) (Recipe recipe) e (Header ∷ []) refl
-step_takes (Inputs recipe inputs) (Input input) t e =
-    let p = if_some (ltb (length inputs) 256) (Some (Inputs recipe (inputs ++ input ∷ []))) t e in
-    grows t (Inputs recipe (inputs ++ input ∷ [])) (Input input) p.1 (Header ∷ Recipe recipe ∷ map Input inputs) (ap (λ (ls : List Line). Header ∷ Recipe recipe ∷ ls) (map_push Input inputs input))
-step_takes (Inputs recipe inputs) (Stage name steps) t e =
-    let front : Front = record { recipe = recipe; inputs = inputs; stages = [] } in
+step_takes Start (Header form) t e = grows t (Titled form) (Header form) e [] refl
+step_takes (Titled form) (Recipe recipe) t e = grows t (Inputs form recipe []) (Recipe recipe) e (Header form ∷ []) refl
+step_takes (Inputs form recipe inputs) (Input input) t e =
+    let p = if_some (ltb (length inputs) 256) (Some (Inputs form recipe (inputs ++ input ∷ []))) t e in
+    grows t (Inputs form recipe (inputs ++ input ∷ [])) (Input input) p.1 (Header form ∷ Recipe recipe ∷ map Input inputs) (ap (λ (ls : List Line). Header form ∷ Recipe recipe ∷ ls) (map_push Input inputs input))
+step_takes (Inputs form recipe inputs) (Stage name steps) t e =
+    let front : Front = record { form = form; recipe = recipe; inputs = inputs; stages = [] } in
     let p = if_some (ltb 0 (length inputs)) (Some (Named front name steps)) t e in
-    grows t (Named front name steps) (Stage name steps) p.1 (Header ∷ Recipe recipe ∷ map Input inputs) (ap (λ (ls : List Line). ls ++ Stage name steps ∷ []) (no_stages recipe inputs))
+    grows t (Named front name steps) (Stage name steps) p.1 (Header form ∷ Recipe recipe ∷ map Input inputs) (ap (λ (ls : List Line). ls ++ Stage name steps ∷ []) (no_stages form recipe inputs))
 step_takes (Named front name steps) (Stream1 mark) t e =
     grows t (Heard front name steps mark) (Stream1 mark) e (front_of front ++ Stage name steps ∷ []) (sym (append_assoc (front_of front) (Stage name steps ∷ []) (Stream1 mark ∷ [])))
 step_takes (Heard front name steps stream1) (Stream2 mark) t e =
@@ -80,8 +80,12 @@ step_takes (Stages front) (Stage name steps) t e =
     let p = if_some (ltb (length front.stages) 256) (Some (Named front name steps)) t e in
     grows t (Named front name steps) (Stage name steps) p.1 (front_of front) refl
 step_takes (Stages front) (Compare compare) t e =
-    grows t (Compared (record { recipe = front.recipe; inputs = front.inputs; stages = front.stages; compare = compare })) (Compare compare) e (front_of front) refl
-step_takes (Compared report) End t e =
-    let front = front_lines report.recipe report.inputs report.stages in
-    grows t (Ended report) End e (front ++ Compare report.compare ∷ []) (sym (append_assoc front (Compare report.compare ∷ []) (End ∷ [])))
+    grows t (Compared (record { form = front.form; recipe = front.recipe; inputs = front.inputs; stages = front.stages; compare = compare ∷ [] })) (Compare compare) e (front_of front) refl
+step_takes (Compared report) (Compare compare) t e =
+    let next = Compared (record report { compare = report.compare ++ compare ∷ [] }) in
+    let front = front_lines report.form report.recipe report.inputs report.stages in
+    let p = if_some (ltb (length report.compare) (most_comparisons report.form)) (Some next) t e in
+    grows t next (Compare compare) p.1 (front ++ map Compare report.compare)
+    (ap (λ (ls : List Line). front ++ ls) (map_push Compare report.compare compare) ∙ sym (append_assoc front (map Compare report.compare) (Compare compare ∷ [])))
+step_takes (Compared report) End t e = grows t (Ended report) End e (front_lines report.form report.recipe report.inputs report.stages ++ map Compare report.compare) refl
 step_takes _ _ t e = absurd cc

@@ -1,5 +1,5 @@
 -- The lines of a report, as words. docs/reference/report.md says the same for people.
-use Rattle.std.specs.Prelude.{ℕ, List, [], ◌∷◌, Option, Some, None, decimal, codes}
+use Rattle.std.specs.Prelude.{ℕ, List, [], ◌∷◌, Option, Some, None, decimal, codes, ◌==◌, if◌then◌else◌}
 use Rattle.std.specs.List.{flat_map}
 use Rattle.hex.specs.Hex.{encode_lower}
 use Rattle.ddc_base.specs.Lines.{line}
@@ -23,9 +23,13 @@ abbrev pub compared_words : Compared → List (List ℕ)
 compared_words (Equal length) = codes "equal" ∷ decimal length ∷ []
 compared_words (Differs offset ours theirs) = codes "differs" ∷ decimal offset ∷ decimal ours ∷ decimal theirs ∷ []
 
+-- a report's form
+abbrev pub form_word : ℕ → List ℕ
+form_word form = if form == 1 then codes "1" else codes "2"
+
 -- the words of a line
 abbrev pub line_words : Line → List (List ℕ)
-line_words Header = codes "ddc-report" ∷ codes "1" ∷ []
+line_words (Header form) = codes "ddc-report" ∷ form_word form ∷ []
 line_words (Recipe digest) = codes "recipe" ∷ encode_lower digest.0 ∷ []
 line_words (Input input) = codes "input" ∷ input.name ∷ mark_words input.mark
 line_words (Stage name steps) = codes "stage" ∷ name ∷ decimal steps ∷ []

@@ -1,6 +1,6 @@
 -- A report: which are well formed, their one text, and where a text is none. Its digests are those of SHA-256 (FIPS 180-4).
 -- docs/reference/report.md says the same for people.
-use Rattle.std.specs.Prelude.{◌≡◌, ◌≢◌, ℕ, ◌<◌, ◌≤◌, ◌^◌, Bool, true, ◌&&◌, All, List, [], ◌∷◌, ◌++◌, length, take, map, Result, Ok, Err, ◌⊎◌, IsTrue}
+use Rattle.std.specs.Prelude.{◌≡◌, ◌≢◌, ℕ, ◌<◌, ◌≤◌, ◌^◌, Bool, true, ◌&&◌, All, List, [], ◌∷◌, ◌++◌, length, take, map, Result, Ok, Err, ◌⊎◌, ◌==◌, if◌then◌else◌, IsTrue}
 use Rattle.std.specs.List.{flat_map}
 use Rattle.std.specs.Ordering.{nat_cmp, is_lt}
 use Rattle.std.specs.Cmp.Lexicographic.{slice_cmp}
@@ -29,12 +29,12 @@ stage_block stage =
     (Stage stage.name stage.steps ∷ Stream1 stage.stream1 ∷ Stream2 stage.stream2 ∷ map Left stage.left)
     ++ Made stage.made ∷ Checked stage.checked ∷ []
 
--- the lines above the comparison
-abbrev pub front_lines : Digest → List InputLine → List StageLine → List Line
-front_lines recipe inputs stages = (Header ∷ Recipe recipe ∷ map Input inputs) ++ flat_map stage_block stages
+-- the lines above the comparisons
+abbrev pub front_lines : ℕ → Digest → List InputLine → List StageLine → List Line
+front_lines form recipe inputs stages = (Header form ∷ Recipe recipe ∷ map Input inputs) ++ flat_map stage_block stages
 
 abbrev pub report_lines : Report → List Line
-report_lines report = front_lines report.recipe report.inputs report.stages ++ Compare report.compare ∷ End ∷ []
+report_lines report = front_lines report.form report.recipe report.inputs report.stages ++ map Compare report.compare ++ End ∷ []
 
 -- the one text of a report
 abbrev pub report_text : Report → List ℕ
@@ -95,13 +95,23 @@ pub record IsCompare (compare : CompareLine) : Type 0 where
   pub binary : IsName compare.binary
   pub result : IsCompared compare.result
 
+-- a report is of form 1 or 2
+abbrev pub IsForm : ℕ → Type 0
+IsForm form = (form ≡ 1) ⊎ (form ≡ 2)
+
+-- the most comparisons of a report of a form
+abbrev pub most_comparisons : ℕ → ℕ
+most_comparisons form = if form == 1 then 1 else 16
+
 pub record IsReport (report : Report) : Type 0 where
+  pub form : IsForm report.form
   pub recipe : IsDigest report.recipe
   pub inputs : IsCount 1 256 (length report.inputs)
   pub each_input : All IsInputLine report.inputs
   pub stages : IsCount 1 256 (length report.stages)
   pub each_stage : All IsStageLine report.stages
-  pub compare : IsCompare report.compare
+  pub compares : IsCount 1 (most_comparisons report.form) (length report.compare)
+  pub each_compare : All IsCompare report.compare
 
 -- ---- reading
 

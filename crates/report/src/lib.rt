@@ -15,7 +15,7 @@ mod writing;
 pub use reading::read;
 pub use refusal::ReportRefusal;
 pub use types::{
-    CompareLine, Compared, InputLine, InputLines, LeftLine, LeftLines, Mark, Report, StageLine,
-    StageLines,
+    CompareLine, CompareLines, Compared, InputLine, InputLines, LeftLine, LeftLines, Mark, Report,
+    StageLine, StageLines,
 };
 pub use writing::write;

@@ -13,7 +13,8 @@ use std::alloc::Global;
 /// A line of a report.
 #[derive(Drop)]
 pub enum Line {
-    Header,
+    /// The report's form.
+    Header(u32),
     Recipe(Digest),
     Input(InputLine),
     Stage(Name, u64),
@@ -83,7 +84,8 @@ fn header_of(fields: &[u8]) -> Option<Line>
     ensures { result ≡ header_of fields.now }
 {
     match fields {
-        b"1" => Some(Line::Header),
+        b"1" => Some(Line::Header(1)),
+        b"2" => Some(Line::Header(2)),
         _ => None,
     }
 }

@@ -4,11 +4,13 @@ ghost use Rattle.std.specs.Prelude.{◌≡◌, IfOk};
 ghost use Rattle.std.specs.Ordering.{nat_cmp, is_lt};
 ghost use Rattle.std.specs.Cmp.Lexicographic.{slice_cmp};
 ghost use Rattle.report.specs.Inside.States.{Takes, follows};
+ghost use Rattle.report.specs.Reports.{most_comparisons};
 ghost use Rattle.report.specs.declared.line.Line.TheVariants as line;
 
 use crate::line::Line;
 use crate::types::{
-    CompareLine, InputLine, InputLines, LeftLine, LeftLines, Mark, Report, StageLine, StageLines,
+    CompareLine, CompareLines, InputLine, InputLines, LeftLine, LeftLines, Mark, Report, StageLine,
+    StageLines,
 };
 use ddc_base::digests::Digest;
 use ddc_base::languages::Language;
@@ -22,9 +24,13 @@ const MANY: usize = 256;
 /// The most files that a stage leaves.
 const MANY_LEFT: usize = 4096;
 
-/// What stands above the comparison.
+/// The most comparisons of a report of form 2.
+const MANY_COMPARED: usize = 16;
+
+/// What stands above the comparisons.
 #[derive(Drop)]
 pub struct Front {
+    pub form: u32,
     pub recipe: Digest,
     pub inputs: InputLines,
     pub stages: StageLines,
@@ -45,10 +51,10 @@ pub struct Opened {
 pub enum State {
     /// Nothing yet.
     Start,
-    /// The header.
-    Titled,
-    /// The recipe's digest, and these inputs.
-    Inputs(Digest, InputLines),
+    /// The header, which tells the form.
+    Titled(u32),
+    /// The recipe's digest, and these inputs, under the header.
+    Inputs(u32, Digest, InputLines),
     /// In a block: the stage's name and steps.
     Named(Front, Name, u64),
     /// In a block: its first stream too.
@@ -59,7 +65,7 @@ pub enum State {
     Closing(Front, Opened, Mark),
     /// Whole blocks, at least one.
     Stages(Front),
-    /// The comparison.
+    /// Comparisons, at least one.
     Compared(Report),
     /// The end.
     Ended(Report),
@@ -71,7 +77,7 @@ impl State {
         ensures { IfOk result (Takes self.old line self.new) }
     {
         match line {
-            Line::Header => Ok(self.take_header()),
+            Line::Header(form) => Ok(self.take_header(form)),
             Line::Recipe(recipe) => Ok(self.take_recipe(alloc, recipe)),
             Line::Input(input) => self.take_input(input),
             Line::Stage(name, steps) => Ok(self.take_stage(alloc, name, steps)),
@@ -80,18 +86,18 @@ impl State {
             Line::Left(file) => self.take_left(file),
             Line::Made(mark) => Ok(self.take_made(mark)),
             Line::Checked(language) => self.take_checked(language),
-            Line::Compare(compare) => Ok(self.take_compare(compare)),
+            Line::Compare(compare) => self.take_compare(alloc, compare),
             Line::End => Ok(self.take_end()),
         }
     }
 
     #[tactic(auto, unfolding(crate::specs::Inside::States::step))]
-    fn take_header(&mut self) -> bool
-        ensures { Takes self.old line.Header self.new result }
+    fn take_header(&mut self, form: u32) -> bool
+        ensures { Takes self.old (line.Header form) self.new result }
     {
         match self {
             State::Start => {
-                *self = State::Titled;
+                *self = State::Titled(form);
                 true
             }
             _ => false,
@@ -103,8 +109,8 @@ impl State {
         ensures { Takes self.old (line.Recipe recipe) self.new result }
     {
         match self {
-            State::Titled => {
-                *self = State::Inputs(recipe, ListOf::new(alloc));
+            State::Titled(form) => {
+                *self = State::Inputs(*form, recipe, ListOf::new(alloc));
                 true
             }
             _ => false,
@@ -116,7 +122,7 @@ impl State {
         ensures { IfOk result (Takes self.old (line.Input input) self.new) }
     {
         match self {
-            State::Inputs(_, inputs) => {
+            State::Inputs(_, _, inputs) => {
                 if inputs.len() < MANY {
                     inputs.push(input)?;
                     Ok(true)
@@ -133,11 +139,12 @@ impl State {
         ensures { Takes self.old (line.Stage name steps) self.new result }
     {
         match mem::replace(self, State::Start) {
-            State::Inputs(recipe, inputs) => {
+            State::Inputs(form, recipe, inputs) => {
                 if inputs.is_empty() {
                     return false;
                 }
                 let front = Front {
+                    form,
                     recipe,
                     inputs,
                     stages: ListOf::new(alloc),
@@ -245,20 +252,32 @@ impl State {
     }
 
     #[tactic(auto, unfolding(crate::specs::Inside::States::step))]
-    fn take_compare(&mut self, compare: CompareLine) -> bool
-        ensures { Takes self.old (line.Compare compare) self.new result }
+    fn take_compare(&mut self, alloc: Global, compare: CompareLine) -> Result<bool, OutOfMemory>
+        ensures { IfOk result (Takes self.old (line.Compare compare) self.new) }
     {
         match mem::replace(self, State::Start) {
             State::Stages(front) => {
+                let mut compares: CompareLines = ListOf::new(alloc);
+                compares.push(compare)?;
                 *self = State::Compared(Report {
+                    form: front.form,
                     recipe: front.recipe,
                     inputs: front.inputs,
                     stages: front.stages,
-                    compare,
+                    compare: compares,
                 });
-                true
+                Ok(true)
             }
-            _ => false,
+            State::Compared(mut report) => {
+                if report.compare.len() < most_comparisons(report.form) {
+                    report.compare.push(compare)?;
+                    *self = State::Compared(report);
+                    Ok(true)
+                } else {
+                    Ok(false)
+                }
+            }
+            _ => Ok(false),
         }
     }
 
@@ -274,6 +293,13 @@ impl State {
             _ => false,
         }
     }
+}
+
+/// The most comparisons of a report of a form.
+fn most_comparisons(form: u32) -> usize
+    ensures { result ≡ most_comparisons form }
+{
+    if form == 1 { 1 } else { MANY_COMPARED }
 }
 
 /// Whether a name comes after those of these files, which ascend.

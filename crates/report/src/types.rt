@@ -4,6 +4,8 @@ use ddc_base::{Bytes, ListOf, Name};
 
 /// The lines of the inputs, in the recipe's order.
 pub type InputLines = ListOf<InputLine>;
+/// The lines of the comparisons, in the recipe's order.
+pub type CompareLines = ListOf<CompareLine>;
 /// The lines of the files that a stage left, strictly ascending by the bytes of their names.
 pub type LeftLines = ListOf<LeftLine>;
 /// The stages' blocks, in the recipe's order.
@@ -66,12 +68,14 @@ pub struct CompareLine {
     pub result: Compared,
 }
 
-/// What an audit found: 1 to 256 inputs, 1 to 256 stages, and the comparison.
+/// What an audit found: 1 to 256 inputs, 1 to 256 stages, and the comparisons.
 #[derive(Debug, Drop)]
 pub struct Report {
+    /// 1 or 2: a report of form 1 has one comparison, one of form 2 has 1 to 16.
+    pub form: u32,
     /// The digest of the recipe's bytes.
     pub recipe: Digest,
     pub inputs: InputLines,
     pub stages: StageLines,
-    pub compare: CompareLine,
+    pub compare: CompareLines,
 }

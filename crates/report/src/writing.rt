@@ -4,7 +4,7 @@ ghost use Rattle.std.specs.Prelude.{◌≡◌, ◌++◌, ◌∷◌, ◌<◌, [],
 ghost use Rattle.std.specs.List.{flat_map};
 ghost use Rattle.hex.specs.Hex.{encode_lower};
 ghost use Rattle.ddc_base.specs.Lines.{line as line_text};
-ghost use Rattle.report.specs.Lines.{line_words, mark_words, compared_words, checked_words, lines_text};
+ghost use Rattle.report.specs.Lines.{line_words, mark_words, compared_words, checked_words, form_word, lines_text};
 ghost use Rattle.report.specs.Reports.{IsReport, stage_block, report_text};
 ghost use Rattle.report.specs.declared.line.Line.TheVariants as line;
 ghost use Rattle.report.specs.declared.types.Compared.TheVariants as compared;
@@ -14,15 +14,17 @@ use ddc_base::languages::Language;
 use ddc_base::{Bytes, Name, OutOfMemory, put_decimal, put_hex};
 use std::alloc::Global;
 
-/// Room for the lines around the inputs and stages, for an input's line, for a stage's block without left files, and for a left file's line
-/// without its name. Lengths and steps have at most 20 digits.
-const FRONT_ROOM: usize = 256;
+/// Room for the lines around the inputs, stages and comparisons, for an input's line, for a stage's block without left files, for a left
+/// file's line without its name, and for a comparison's line. Lengths and steps have at most 20 digits.
+const FRONT_ROOM: usize = 128;
 
 const INPUT_ROOM: usize = 128;
 
 const STAGE_ROOM: usize = 384;
 
 const LEFT_ROOM: usize = 92;
+
+const COMPARE_ROOM: usize = 160;
 
 /// The one text of a well-formed report. It has fewer than 2^30 bytes.
 pub fn write(alloc: Global, report: &Report) -> Result<Bytes, OutOfMemory>
@@ -39,7 +41,7 @@ fn text_of(alloc: Global, report: &Report) -> Result<Bytes, OutOfMemory>
     let mut out = Bytes::with_capacity(alloc, room(report))?;
     put_front(&mut out, report)?;
     put_stages(&mut out, report.stages.as_slice())?;
-    put_compare(&mut out, &report.compare)?;
+    put_compares(&mut out, report.compare.as_slice())?;
     out.extend(b"end\n")?;
     Ok(out)
 }
@@ -51,6 +53,8 @@ fn room(report: &Report) -> usize {
         .len()
         .saturating_mul(INPUT_ROOM)
         .saturating_add(FRONT_ROOM);
+    let compares = report.compare.len().saturating_mul(COMPARE_ROOM);
+    room = room.saturating_add(compares);
     for stage in report.stages.as_slice() {
         room = room.saturating_add(STAGE_ROOM);
         for file in stage.left.as_slice() {
@@ -64,12 +68,21 @@ fn room(report: &Report) -> usize {
 /// What stands above the stages.
 #[tactic(auto, using(crate::proofs::Written::written))]
 fn put_front(out: &mut Bytes, report: &Report) -> Result<(), OutOfMemory>
-    ensures { OnOk result (out.new ≡ out.old ++ lines_text (line.Header ∷ line.Recipe report.now.recipe ∷ map line.Input report.now.inputs)) }
+    ensures { OnOk result (out.new ≡ out.old ++ lines_text (line.Header report.now.form ∷ line.Recipe report.now.recipe ∷ map line.Input report.now.inputs)) }
 {
-    out.extend(b"ddc-report 1\nrecipe ")?;
+    out.extend(b"ddc-report ")?;
+    out.extend(form_word(report.form))?;
+    out.extend(b"\nrecipe ")?;
     put_hex(out, &report.recipe.0)?;
     out.push(b'\n')?;
     put_inputs(out, report.inputs.as_slice())
+}
+
+/// A report's form.
+fn form_word(form: u32) -> &'static [u8]
+    ensures { result.now ≡ form_word form }
+{
+    if form == 1 { b"1" } else { b"2" }
 }
 
 fn put_inputs(out: &mut Bytes, inputs: &[InputLine]) -> Result<(), OutOfMemory>
@@ -182,6 +195,15 @@ fn put_checked(out: &mut Bytes, checked: Option<Language>) -> Result<(), OutOfMe
             out.push(b'\n')
         }
     }
+}
+
+fn put_compares(out: &mut Bytes, compares: &[CompareLine]) -> Result<(), OutOfMemory>
+    ensures { OnOk result (out.new ≡ out.old ++ lines_text (map line.Compare compares.now)) }
+{
+    for compare in compares {
+        put_compare(out, compare)?;
+    }
+    Ok(())
 }
 
 #[tactic(auto, using(crate::proofs::Written::written))]

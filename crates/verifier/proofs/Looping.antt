@@ -1,16 +1,15 @@
 -- The stages' lines, one after the other.
-use Rattle.std.proofs.Common.{◌≡◌, ℕ, zero, suc, ◌+◌, ◌-◌, ◌<◌, ◌≤◌, None, Some, Ok, Err, List, [], ◌∷◌, ◌++◌, length, drop, take, get_or, refl, sym, ap, subst, ◌∙◌, arith, inl, inr}
+use Rattle.std.proofs.Common.{◌≡◌, ℕ, zero, suc, ◌+◌, ◌-◌, ◌<◌, ◌≤◌, Option, None, Some, Ok, Err, List, [], ◌∷◌, ◌++◌, length, drop, take, get_or, refl, sym, ap, subst, ◌∙◌, arith, inl, inr}
 use Rattle.std.specs.Prelude.{Contains, slice_get}
 use Rattle.std.proofs.lemmas.Bool.{cases_lt}
 use Rattle.std.proofs.lemmas.Option.{same_Some, slice_get-get_or, slice_get_past}
 use Rattle.std.proofs.lemmas.List.{at_drop_all, at_drop_more}
 use Rattle.recipe.specs.declared.contents.Said.{Said}
 use Rattle.recipe.specs.declared.parts.Stage.{Stage}
-use Rattle.report.specs.declared.types.Compared.{Compared}
 use Rattle.report.specs.declared.types.StageLine.{StageLine}
 use Rattle.wheeler.specs.Contents.{Contents}
 use Rattle.verifier.specs.declared.part.Part.{Part}
-use Rattle.verifier.specs.Faults.{fault_after_stage, compare_fault, replayed, stages_fault, with_artefact}
+use Rattle.verifier.specs.Faults.{fault_after_stage, replayed, stages_fault, with_artefact}
 use Rattle.verifier.specs.Verdicts.{AreReplayed, StandsAtStage}
 
 drop-found : {A : Type 0} (xs : List A) (index : ℕ) (x : A) → slice_get xs index ≡ Some x → drop index xs ≡ x ∷ drop (index + 1) xs
@@ -41,35 +40,35 @@ among xs index x is = elim (cases_lt index (length xs)) [
 ]
 
 -- the next stage and its line
-pub at_stage : (recipe : Said) (compare : Compared) (so_far : Contents) (stages : List Stage) (lines : List StageLine) (index : ℕ) (stage : Stage) (line : StageLine)
+pub at_stage : (recipe : Said) (last : Contents → Option (Part × ℕ)) (so_far : Contents) (stages : List Stage) (lines : List StageLine) (index : ℕ) (stage : Stage) (line : StageLine)
     → slice_get stages index ≡ Some stage → index < length lines → line ≡ get_or lines index line
-    → stages_fault recipe compare so_far (drop index stages) (drop index lines)
-    ≡ stages_fault recipe compare so_far (stage ∷ drop (index + 1) stages) (line ∷ drop (index + 1) lines)
-at_stage recipe compare so_far stages lines index stage line found less is =
+    → stages_fault recipe last so_far (drop index stages) (drop index lines)
+    ≡ stages_fault recipe last so_far (stage ∷ drop (index + 1) stages) (line ∷ drop (index + 1) lines)
+at_stage recipe last so_far stages lines index stage line found less is =
     let next : drop index lines ≡ line ∷ drop (index + 1) lines = at_drop_more (λ l. l) lines index line less ∙ ap (λ l. l ∷ drop (index + 1) lines) (sym is) in
-    λ i. stages_fault recipe compare so_far (drop-found stages index stage found i) (next i)
+    λ i. stages_fault recipe last so_far (drop-found stages index stage found i) (next i)
 
-pub goes_on : (recipe : Said) (compare : Compared) (so_far : Contents) (stage : Stage) (later : List Stage) (line : StageLine) (others : List StageLine) (made : List ℕ)
+pub goes_on : (recipe : Said) (last : Contents → Option (Part × ℕ)) (so_far : Contents) (stage : Stage) (later : List Stage) (line : StageLine) (others : List StageLine) (made : List ℕ)
     → replayed recipe so_far stage line ≡ Ok made
-    → stages_fault recipe compare so_far (stage ∷ later) (line ∷ others) ≡ stages_fault recipe compare (with_artefact so_far made) later others
-goes_on recipe compare so_far stage later line others made is =
-    ap (λ r. fault_after_stage (length so_far.artefacts + 1) r (λ m. stages_fault recipe compare (with_artefact so_far m) later others)) is
+    → stages_fault recipe last so_far (stage ∷ later) (line ∷ others) ≡ stages_fault recipe last (with_artefact so_far made) later others
+goes_on recipe last so_far stage later line others made is =
+    ap (λ r. fault_after_stage (length so_far.artefacts + 1) r (λ m. stages_fault recipe last (with_artefact so_far m) later others)) is
 
-pub stops : (recipe : Said) (compare : Compared) (so_far : Contents) (stage : Stage) (later : List Stage) (line : StageLine) (others : List StageLine) (why : Part)
+pub stops : (recipe : Said) (last : Contents → Option (Part × ℕ)) (so_far : Contents) (stage : Stage) (later : List Stage) (line : StageLine) (others : List StageLine) (why : Part)
     → replayed recipe so_far stage line ≡ Err why
-    → stages_fault recipe compare so_far (stage ∷ later) (line ∷ others) ≡ Some (why, length so_far.artefacts + 1)
-stops recipe compare so_far stage later line others why is =
-    ap (λ r. fault_after_stage (length so_far.artefacts + 1) r (λ m. stages_fault recipe compare (with_artefact so_far m) later others)) is
+    → stages_fault recipe last so_far (stage ∷ later) (line ∷ others) ≡ Some (why, length so_far.artefacts + 1)
+stops recipe last so_far stage later line others why is =
+    ap (λ r. fault_after_stage (length so_far.artefacts + 1) r (λ m. stages_fault recipe last (with_artefact so_far m) later others)) is
 
 -- behind the last stage, or the last line, the comparison is left
-pub no_stage : (recipe : Said) (compare : Compared) (so_far : Contents) (stages : List Stage) (lines : List StageLine) (index : ℕ) → slice_get stages index ≡ None
-    → stages_fault recipe compare so_far (drop index stages) lines ≡ compare_fault recipe so_far compare
-no_stage recipe compare so_far stages lines index none = ap (λ s. stages_fault recipe compare so_far s lines) (drop-past stages index none)
+pub no_stage : (recipe : Said) (last : Contents → Option (Part × ℕ)) (so_far : Contents) (stages : List Stage) (lines : List StageLine) (index : ℕ) → slice_get stages index ≡ None
+    → stages_fault recipe last so_far (drop index stages) lines ≡ last so_far
+no_stage recipe last so_far stages lines index none = ap (λ s. stages_fault recipe last so_far s lines) (drop-past stages index none)
 
-pub no_line : (recipe : Said) (compare : Compared) (so_far : Contents) (stages : List Stage) (lines : List StageLine) (index : ℕ) → length lines ≤ index
-    → stages_fault recipe compare so_far stages (drop index lines) ≡ compare_fault recipe so_far compare
-no_line recipe compare so_far stages lines index past = at_drop_all (stages_fault recipe compare so_far stages) lines index past ∙ by_stages stages where
-  by_stages : (stages : List Stage) → stages_fault recipe compare so_far stages [] ≡ compare_fault recipe so_far compare
+pub no_line : (recipe : Said) (last : Contents → Option (Part × ℕ)) (so_far : Contents) (stages : List Stage) (lines : List StageLine) (index : ℕ) → length lines ≤ index
+    → stages_fault recipe last so_far stages (drop index lines) ≡ last so_far
+no_line recipe last so_far stages lines index past = at_drop_all (stages_fault recipe last so_far stages) lines index past ∙ by_stages stages where
+  by_stages : (stages : List Stage) → stages_fault recipe last so_far stages [] ≡ last so_far
   by_stages [] = refl
   by_stages (stage ∷ stages) = refl
 

@@ -1,6 +1,6 @@
 -- The first fault of a report, part by part in the order of docs/reference/verify.md, which says the same for people.
 -- A stage's recorded step is judged and not searched for, and programs and files are the bytes that the earlier runs left. Digests are SHA-256 (FIPS 180-4).
-use Rattle.std.specs.Prelude.{ℕ, ◌+◌, ◌==◌, Bool, true, false, ◌&&◌, if◌then◌else◌, nat_le, bytes_eq, Option, None, Some, Result, Ok, Err, List, [], ◌∷◌, ◌++◌, length, sum_by}
+use Rattle.std.specs.Prelude.{ℕ, ◌+◌, ◌==◌, Bool, true, false, ◌&&◌, if◌then◌else◌, nat_le, bytes_eq, Option, None, Some, Result, Ok, Err, List, [], ◌∷◌, ◌++◌, length, option_map, sum_by}
 use Rattle.sha2.specs.Sha256.{sha256}
 use Rattle.ddc_base.specs.Difference.{first_difference}
 use Rattle.ddc_base.specs.declared.languages.Language.{Language}
@@ -55,13 +55,17 @@ names_stages recipe (stage ∷ stages) (line ∷ lines) =
     bytes_eq stage.name line.name && same_language (check_language recipe stage) line.checked && names_stages recipe stages lines
 names_stages recipe _ _ = false
 
-abbrev pub names_compared : Said → CompareLine → Bool
-names_compared recipe line = bytes_eq recipe.compare.stage line.stage && bytes_eq recipe.compare.binary line.binary
+-- a line for each compared stage, with its name and that of the binary, in order
+abbrev pub names_compared : List ℕ → List (List ℕ) → List CompareLine → Bool
+names_compared binary [] [] = true
+names_compared binary (stage ∷ stages) (line ∷ lines) =
+    bytes_eq stage line.stage && bytes_eq binary line.binary && names_compared binary stages lines
+names_compared binary _ _ = false
 
 unfoldable pub is_header : Said → Report → Bool
 is_header recipe report =
-    bytes_eq recipe.digest.0 report.recipe.0 && names_inputs recipe.inputs report.inputs
-    && names_stages recipe recipe.stages report.stages && names_compared recipe report.compare
+    recipe.format == report.form && bytes_eq recipe.digest.0 report.recipe.0 && names_inputs recipe.inputs report.inputs
+    && names_stages recipe recipe.stages report.stages && names_compared recipe.compare.binary recipe.compare.stages report.compare
 
 -- ---- inputs: each has the length and the digest of its line
 
@@ -130,7 +134,7 @@ replayed recipe so_far stage line = do
   made ← or_fails part.Files (recorded so_far stage line world)
   checked_artefact made (check_of recipe so_far stage made)
 
--- ---- comparison: the line says what the bytes say
+-- ---- comparisons: each line says what the bytes say
 
 abbrev pub is_at : ℕ → Option ℕ → Bool
 is_at offset None = false
@@ -142,10 +146,19 @@ says (Equal count) made binary = bytes_eq made binary && count == length made
 says (Differs offset ours theirs) made binary =
     is_at offset (first_difference made binary) && ours == length made && theirs == length binary
 
-abbrev pub compare_fault : Said → Contents → Compared → Option (Part × ℕ)
-compare_fault recipe all line =
-    if says line (content recipe all recipe.compare.stage) (content recipe all recipe.compare.binary) then None
-    else Some (part.Compare, 0)
+-- the number of the first line that does not, of those from this number on
+abbrev pub wrong_line : Said → Contents → ℕ → List CompareLine → Option ℕ
+wrong_line recipe all number [] = None
+wrong_line recipe all number (line ∷ lines) =
+    if says line.result (content recipe all line.stage) (content recipe all line.binary) then wrong_line recipe all (number + 1) lines
+    else Some number
+
+-- its place: that number in a report of form 2; a report of form 1 has one line, and its place is 0
+abbrev pub line_place : ℕ → ℕ → ℕ
+line_place form number = if form == 1 then 0 else number
+
+abbrev pub compare_fault : Said → ℕ → List CompareLine → Contents → Option (Part × ℕ)
+compare_fault recipe form lines all = option_map (λ number. (part.Compare, line_place form number)) (wrong_line recipe all 1 lines)
 
 -- ---- all parts
 
@@ -157,22 +170,22 @@ abbrev pub fault_after_stage : ℕ → Result (List ℕ) Part → (List ℕ → 
 fault_after_stage number (Err part) rest = Some (part, number)
 fault_after_stage number (Ok made) rest = rest made
 
--- the first fault of the stages that are left, and of the comparison after them; a header says that there are as many lines
-abbrev pub stages_fault : Said → Compared → Contents → List Stage → List StageLine → Option (Part × ℕ)
-stages_fault recipe compare so_far (stage ∷ stages) (line ∷ lines) =
-    fault_after_stage (length so_far.artefacts + 1) (replayed recipe so_far stage line) (λ made. stages_fault recipe compare (with_artefact so_far made) stages lines)
-stages_fault recipe compare so_far _ _ = compare_fault recipe so_far compare
+-- the first fault of the stages that are left, and then what is judged over all contents; a header says that there are as many lines
+abbrev pub stages_fault : Said → (Contents → Option (Part × ℕ)) → Contents → List Stage → List StageLine → Option (Part × ℕ)
+stages_fault recipe last so_far (stage ∷ stages) (line ∷ lines) =
+    fault_after_stage (length so_far.artefacts + 1) (replayed recipe so_far stage line) (λ made. stages_fault recipe last (with_artefact so_far made) stages lines)
+stages_fault recipe last so_far _ _ = last so_far
 
 -- the former fault, where there is one, else the latter
 abbrev pub first_of_both : Option (Part × ℕ) → Option (Part × ℕ) → Option (Part × ℕ)
 first_of_both (Some fault) later = Some fault
 first_of_both None later = later
 
--- the first part of a report that fails, with its place: the number of the input or of the stage from 1, and 0 for the header and the
--- comparison; none where every word of the report is true
+-- the first part of a report that fails, with its place: the number of the input or of the stage from 1, 0 for the header, and that of a
+-- comparison as above; none where every word of the report is true
 unfoldable pub first_fault : Said → List (List ℕ) → Report → Option (Part × ℕ)
 first_fault recipe inputs report =
     if is_header recipe report
     then first_of_both (inputs_fault 1 inputs report.inputs)
-    (stages_fault recipe report.compare.result (record { inputs = inputs; artefacts = [] }) recipe.stages report.stages)
+    (stages_fault recipe (compare_fault recipe report.form report.compare) (record { inputs = inputs; artefacts = [] }) recipe.stages report.stages)
     else Some (part.Header, 0)

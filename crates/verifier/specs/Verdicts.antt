@@ -1,30 +1,29 @@
 -- What a replay answers by the first fault of a report. docs/reference/verify.md says the same for people.
-use Rattle.std.specs.Prelude.{◌≡◌, ℕ, ◌-◌, ◌≤◌, true, Option, None, Some, Ok, List, [], ◌∷◌, length, take}
+use Rattle.std.specs.Prelude.{◌≡◌, ℕ, ◌-◌, ◌≤◌, true, Option, None, Some, Ok, List, [], ◌∷◌, length, take, if◌then◌else◌}
 use Rattle.recipe.specs.declared.contents.Said.{Said}
 use Rattle.recipe.specs.declared.parts.Stage.{Stage}
-use Rattle.report.specs.declared.types.Compared.{Compared}
-use Rattle.report.specs.declared.types.Compared.TheVariants.{Equal, Differs}
+use Rattle.report.specs.declared.types.CompareLine.{CompareLine}
 use Rattle.report.specs.declared.types.Report.{Report}
 use Rattle.report.specs.declared.types.StageLine.{StageLine}
+use Rattle.wheeler.specs.Bench.{all_equal}
 use Rattle.wheeler.specs.Contents.{Contents}
 use Rattle.verifier.specs.declared.part.Part.{Part}
 use Rattle.verifier.specs.declared.part.Verdict.{Verdict}
 use Rattle.verifier.specs.declared.part.Verdict.TheVariants.{Yes, TrueButDiffers, Refuted, OutOfMemory}
 use Rattle.verifier.specs.Faults.{inputs_fault, is_header, replayed, with_artefact}
 
--- a report without a fault is true, and says that the artefact and the binary are equal, or that they differ
-abbrev pub true_verdict : Compared → Verdict
-true_verdict (Equal length) = Yes
-true_verdict (Differs offset ours theirs) = TrueButDiffers
+-- a report without a fault is true; it is a yes where each of its comparisons says equal
+abbrev pub true_verdict : List CompareLine → Verdict
+true_verdict lines = if all_equal lines then Yes else TrueButDiffers
 
-abbrev pub verdict_of : Option (Part × ℕ) → Compared → Verdict
-verdict_of None line = true_verdict line
-verdict_of (Some (part, place)) line = Refuted part place
+abbrev pub verdict_of : Option (Part × ℕ) → List CompareLine → Verdict
+verdict_of None lines = true_verdict lines
+verdict_of (Some (part, place)) lines = Refuted part place
 
--- an answer to a report with this first fault and this compare line: the verdict, or want of memory
-abbrev pub Judges : Option (Part × ℕ) → Compared → Verdict → Type 0
-Judges fault line (OutOfMemory stage) = Unit {0}
-Judges fault line answer = answer ≡ verdict_of fault line
+-- an answer to a report with this first fault and these compare lines: the verdict, or want of memory
+abbrev pub Judges : Option (Part × ℕ) → List CompareLine → Verdict → Type 0
+Judges fault lines (OutOfMemory stage) = Unit {0}
+Judges fault lines answer = answer ≡ verdict_of fault lines
 
 -- a fact on the stage at which memory was wanting
 abbrev pub OnWant : Verdict → (ℕ → Type 0) → Type 0

@@ -7,8 +7,8 @@ ghost use Rattle.hex_langs.specs.declared.items.token.Dialect.TheVariants as dia
 ghost use Rattle.hex_langs.specs.Link.Link.{Links};
 ghost use Rattle.hex_langs.specs.Link.Values.{linked};
 ghost use Rattle.wheeler.specs.SourceCheck.Causes.{cause_of_hex, cause_of_m1};
-ghost use Rattle.wheeler.specs.SourceCheck.Checks.{check, checked, first_other_item, hex_value, items_against, joined_files, m1_value, same_item, same_kind};
-ghost use Rattle.std.specs.Prelude.{◌≡◌, ◌≤◌, ◌^◌, bytes_eq, is_none, ℕ, List, Result, IfOk};
+ghost use Rattle.wheeler.specs.SourceCheck.Checks.{check, checked, first_other_item, hex_value, items_against, joined_files, m1_value, same_item};
+ghost use Rattle.std.specs.Prelude.{◌≡◌, ◌≤◌, ◌^◌, is_none, ℕ, List, Result, IfOk};
 ghost use Rattle.verifier.specs.Inside.Holdings.{IsHeld, so_far};
 ghost use Rattle.wheeler.specs.Contents.{check_of, text_of};
 
@@ -16,11 +16,12 @@ use crate::held::Held;
 use ddc_base::languages::Language;
 use ddc_base::{Bytes, OutOfMemory};
 use hex_langs::hex0;
-use hex_langs::items::{HexRefusal, Item, Items, Kind, Name, items1, items2};
+use hex_langs::items::{HexRefusal, Item, Items, items1, items2};
 use hex_langs::link::link;
 use m1_lang::{M1Refusal, expand};
 use recipe::{Source, SourceLanguage, Stage};
 use std::alloc::Global;
+use wheeler::source_check::{same_kind, same_name};
 
 /// Whether an artefact is right by its stage's check, or unchecked.
 #[tactic(auto, unfolding(wheeler::specs::Contents::check_of))]
@@ -216,18 +217,4 @@ fn same_item(ours: &Item<'_>, theirs: &Item<'_>) -> bool
         Item::Abs(ours) => matches!(theirs, Item::Abs(theirs) if same_name(ours, theirs)),
         Item::Pad => matches!(theirs, Item::Pad),
     }
-}
-
-/// Whether both are the same name.
-fn same_name(ours: &Name<'_>, theirs: &Name<'_>) -> bool
-    ensures { result ≡ bytes_eq ours.now theirs.now }
-{
-    ours.bytes() == theirs.bytes()
-}
-
-/// Whether both are the same kind of reference.
-fn same_kind(ours: Kind, theirs: Kind) -> bool
-    ensures { result ≡ same_kind ours theirs }
-{
-    ours == theirs
 }

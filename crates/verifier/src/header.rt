@@ -4,19 +4,27 @@ ghost use Rattle.std.specs.Prelude.{◌≡◌};
 ghost use Rattle.verifier.specs.Faults.{is_header, names_compared, names_inputs, names_stages, same_language};
 ghost use Rattle.wheeler.specs.Contents.{check_language, defined};
 
+use ddc_base::Name;
 use ddc_base::languages::Language;
 use recipe::{Input, Recipe, SourceLanguage, Stage};
 use report::{CompareLine, InputLine, Report, StageLine};
 
-/// Whether a report has the recipe's digest, its names in order, and the languages of its checks.
+/// Whether a report is of the form of the recipe's format and has the recipe's digest, its names in order, and the languages of its
+/// checks.
 #[tactic(auto, unfolding(crate::specs::Faults::is_header))]
 pub(crate) fn is_header(recipe: &Recipe, report: &Report) -> bool
     ensures { result ≡ is_header recipe.now report.now }
 {
-    recipe.digest().0 == report.recipe.0
+    let compare = recipe.compare();
+    recipe.format() == report.form
+        && recipe.digest().0 == report.recipe.0
         && names_inputs(recipe.inputs().as_slice(), report.inputs.as_slice())
         && names_stages(recipe, recipe.stages().as_slice(), report.stages.as_slice())
-        && names_compared(recipe, &report.compare)
+        && names_compared(
+            &compare.binary,
+            compare.stages.as_slice(),
+            report.compare.as_slice(),
+        )
 }
 
 /// Whether there is a line for each input, with its name.
@@ -49,12 +57,21 @@ fn names_stages(recipe: &Recipe, stages: &[Stage], lines: &[StageLine]) -> bool
     }
 }
 
-/// Whether the compare line names what the recipe compares.
-fn names_compared(recipe: &Recipe, line: &CompareLine) -> bool
-    ensures { result ≡ names_compared recipe.now line.now }
+/// Whether there is a line for each compared stage, with its name and that of the binary.
+fn names_compared(binary: &Name, stages: &[Name], lines: &[CompareLine]) -> bool
+    ensures { result ≡ names_compared binary.now stages.now lines.now }
 {
-    let compare = recipe.compare();
-    compare.stage == line.stage && compare.binary == line.binary
+    match stages {
+        [] => lines.is_empty(),
+        [stage, stages @ ..] => match lines {
+            [] => false,
+            [line, lines @ ..] => {
+                *stage == line.stage
+                    && *binary == line.binary
+                    && names_compared(binary, stages, lines)
+            }
+        },
+    }
 }
 
 /// The language in which a stage is checked, if it is.

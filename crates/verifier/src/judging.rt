@@ -3,8 +3,8 @@
 ghost use Rattle.mem_files.specs.Outputs.{IsContent};
 ghost use Rattle.recipe.specs.Kept.{IsRecipe};
 ghost use Rattle.std.specs.Option.{option_map};
-ghost use Rattle.std.specs.Prelude.{◌≡◌, ◌+◌, ◌<◌, ◌^◌, length, All};
-ghost use Rattle.verifier.specs.Faults.{compare_fault, first_fault, inputs_fault, is_at, says};
+ghost use Rattle.std.specs.Prelude.{◌≡◌, ◌+◌, ◌<◌, ◌≤◌, ◌^◌, length, All};
+ghost use Rattle.verifier.specs.Faults.{compare_fault, first_fault, inputs_fault, is_at, line_place, says, wrong_line};
 ghost use Rattle.verifier.specs.Inside.Holdings.{IsHeld, so_far};
 ghost use Rattle.verifier.specs.Inside.Replays.{Replays};
 ghost use Rattle.verifier.specs.Verdicts.{IsReplaying, Judges, OnWant, verdict_of};
@@ -19,19 +19,20 @@ use crate::replay::replay;
 use crate::stop::Stop;
 use ddc_base::{Bytes, ListOf, OutOfMemory, first_difference};
 use recipe::{Inputs, Recipe, Stage};
-use report::{Compared, InputLine, Report, StageLine};
+use report::{CompareLine, Compared, InputLine, Report, StageLine};
 use std::alloc::Global;
+use wheeler::all_equal;
 
 /// Replays a report, which it doesn't believe.
 ///
-/// `Refuted` names the first part that is not true, judged on the bytes that the earlier runs left. Otherwise it is `Yes` where the report
-/// says that the artefact and the binary are equal, and `TrueButDiffers` where it says that they differ. Want of memory comes only at a
+/// `Refuted` names the first part that is not true, judged on the bytes that the earlier runs left. Otherwise it is `Yes` where each of the
+/// report's comparisons says that the artefact and the binary are equal, and `TrueButDiffers` where one says that they differ. Want of memory comes only at a
 /// stage, where the header, the inputs and all stages before it are right.
 ///
 /// The inputs are as many as the recipe's, each with at most 268,435,456 bytes. docs/reference/verify.md has the rules.
 pub fn verify(alloc: Global, recipe: &Recipe, inputs: &Inputs, report: &Report) -> Verdict
     requires { IsInputs recipe.now inputs.now }
-    ensures value { Judges (first_fault recipe.now inputs.now report.now) report.now.compare.result result }
+    ensures value { Judges (first_fault recipe.now inputs.now report.now) report.now.compare result }
     ensures memory { OnWant result (IsReplaying recipe.now inputs.now report.now) }
 {
     judge(alloc, recipe, inputs.as_slice(), report)
@@ -41,7 +42,7 @@ pub fn verify(alloc: Global, recipe: &Recipe, inputs: &Inputs, report: &Report) 
 #[tactic(auto, unfolding(crate::specs::Faults::first_fault))]
 fn judge(alloc: Global, recipe: &Recipe, inputs: &[Bytes], report: &Report) -> Verdict
     requires { IsInputs recipe.now inputs.now }
-    ensures value { Judges (first_fault recipe.now inputs.now report.now) report.now.compare.result result }
+    ensures value { Judges (first_fault recipe.now inputs.now report.now) report.now.compare result }
     ensures memory { OnWant result (IsReplaying recipe.now inputs.now report.now) }
 {
     let stages = recipe.stages().as_slice();
@@ -64,7 +65,7 @@ fn judge(alloc: Global, recipe: &Recipe, inputs: &[Bytes], report: &Report) -> V
                 inputs,
                 artefacts: artefacts.as_slice(),
             };
-            compared(&held, report.compare.result)
+            compared(&held, report.form, report.compare.as_slice())
         }
         Err(verdict) => verdict,
     }
@@ -135,25 +136,50 @@ fn replay_all(
     Ok(artefacts)
 }
 
-/// The verdict on a report of which all but the comparison is true.
-fn compared(held: &Held<'_>, line: Compared) -> Verdict
-    ensures { result ≡ verdict_of (compare_fault held.now.recipe.now (so_far held.now) line) line }
+/// The verdict on a report of which all but the comparisons is true.
+fn compared(held: &Held<'_>, form: u32, lines: &[CompareLine]) -> Verdict
+    requires { length lines.now ≤ 16 }
+    ensures { result ≡ verdict_of (compare_fault held.now.recipe.now form lines.now (so_far held.now)) lines.now }
 {
-    let compare = held.recipe.compare();
-    if !says(
-        line,
-        held.bytes(&compare.stage),
-        held.bytes(&compare.binary),
-    ) {
+    if let Some(number) = wrong_line(held, 1, lines) {
         return Verdict::Refuted {
             part: Part::Compare,
-            place: 0,
+            place: line_place(form, number),
         };
     }
-    match line {
-        Compared::Equal(_) => Verdict::Yes,
-        Compared::Differs(..) => Verdict::TrueButDiffers,
+    if all_equal(lines) {
+        Verdict::Yes
+    } else {
+        Verdict::TrueButDiffers
     }
+}
+
+/// The number of the first compare line that is not what the bytes say, of those from a number on.
+fn wrong_line(held: &Held<'_>, number: u32, lines: &[CompareLine]) -> Option<u32>
+    requires { number + length lines.now < 2 ^ 32 }
+    ensures { result ≡ wrong_line held.now.recipe.now (so_far held.now) number lines.now }
+{
+    match lines {
+        [] => None,
+        [line, lines @ ..] => {
+            if says(
+                line.result,
+                held.bytes(&line.stage),
+                held.bytes(&line.binary),
+            ) {
+                wrong_line(held, number + 1, lines)
+            } else {
+                Some(number)
+            }
+        }
+    }
+}
+
+/// The place of the compare line of a number: that number, and 0 in form 1, which has one.
+fn line_place(form: u32, number: u32) -> u32
+    ensures { result ≡ line_place form number }
+{
+    if form == 1 { 0 } else { number }
 }
 
 /// Whether a compare line says what the bytes say.

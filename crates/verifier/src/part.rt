@@ -37,11 +37,12 @@ impl Part {
 /// What a replay of a report comes to.
 #[derive(Clone, Copy, Debug, PartialEq, Eq)]
 pub enum Verdict {
-    /// Every word of the report is true, and it says that the artefact and the binary are equal.
+    /// Every word of the report is true, and each comparison says that the artefact and the binary are equal.
     Yes,
-    /// Every word of the report is true, and it says that they differ.
+    /// Every word of the report is true, and some comparison says that they differ.
     TrueButDiffers,
-    /// The first part that is not true, with the number of the input or of the stage, from 1; 0 for the header and the comparison.
+    /// The first part that is not true, with the number of the input, of the stage or, in a report of form 2, of the comparison, from 1;
+    /// 0 for the header, and for the comparison of a report of form 1.
     Refuted { part: Part, place: u32 },
     /// Want of memory of this process at the stage of this number, from 1; nothing before that stage is untrue.
     OutOfMemory { stage: u32 },

@@ -1,35 +1,45 @@
 -- What the command prints. docs/reference/command-line.md says the same for people.
-use Rattle.std.specs.Prelude.{ℕ, List, [], ◌∷◌, ◌++◌, codes, decimal, flat_map}
+use Rattle.std.specs.Prelude.{ℕ, List, [], ◌∷◌, ◌++◌, codes, decimal, flat_map, ◌==◌, if◌then◌else◌}
 use Rattle.ddc_base.specs.Lines.{line}
 use Rattle.recipe.specs.declared.contents.Said.{Said}
 use Rattle.report.specs.declared.types.CompareLine.{CompareLine}
-use Rattle.report.specs.declared.types.Compared.{Compared}
-use Rattle.report.specs.declared.types.Compared.TheVariants.{Equal, Differs}
+use Rattle.wheeler.specs.Bench.{all_equal}
 use Rattle.verifier.specs.declared.part.Part.{Part}
 use Rattle.verifier.specs.Words.{part_word}
-use Rattle.recipe_plan.specs.Texts.{compared_line}
+use Rattle.recipe_plan.specs.Texts.{compared_lines}
 use Rattle.meaning.specs.declared.assumption.Assumption.{Assumption}
 use Rattle.meaning.specs.declared.assumption.Assumption.TheVariants.{Implements, Compiles}
 use Rattle.meaning.specs.Assumptions.{assumed}
+use Rattle.meaning.specs.Routes.{assumed_named}
 
 -- the first part of a report that is not true, and the number of its input or stage
 unfoldable pub refuted_line : Part → ℕ → List ℕ
 refuted_line part place = line (codes "refuted" ∷ part_word part ∷ decimal place ∷ [])
 
--- the artefact and the binary are the same, by a report that is true
+-- a report is true, and each of its comparisons says that the artefact and the binary are the same
 unfoldable pub yes_line : List ℕ
 yes_line = line (codes "yes" ∷ [])
 
-abbrev pub headline : Compared → List ℕ
-headline (Equal size) = yes_line
-headline (Differs offset made given) = []
+abbrev pub headline : List CompareLine → List ℕ
+headline lines = if all_equal lines then yes_line else []
 
 -- what has to be believed of a program
 unfoldable pub assumption_line : Assumption → List ℕ
 assumption_line (Implements made source) = line (codes "assumes" ∷ codes "implements" ∷ made ∷ source ∷ [])
 assumption_line (Compiles source stage becomes) = line (codes "assumes" ∷ codes "compiles" ∷ source ∷ stage ∷ becomes ∷ [])
 
--- a report is true: how the artefact and the binary compare, after a yes where they are the same, and then exactly the lines of what is
--- assumed of the recipe's programs
-abbrev pub true_text : Said → CompareLine → List ℕ
-true_text recipe compare = headline compare.result ++ compared_line compare ++ flat_map assumption_line (assumed recipe)
+-- a route: its compared stage, and then exactly the lines of what is assumed for that stage
+unfoldable pub route_line : List ℕ → List ℕ
+route_line stage = line (codes "route" ∷ stage ∷ [])
+
+abbrev pub route_text : Said → List ℕ → List ℕ
+route_text recipe stage = route_line stage ++ flat_map assumption_line (assumed_named recipe stage)
+
+-- what is assumed of the recipe's programs: in format 1 all of it, in format 2 the route of each compared stage in order
+abbrev pub assumed_text : Said → List ℕ
+assumed_text recipe =
+    if recipe.format == 1 then flat_map assumption_line (assumed recipe) else flat_map (route_text recipe) recipe.compare.stages
+
+-- a report is true: how the artefacts and the binary compare, after a yes where all are the same, and then exactly what is assumed
+abbrev pub true_text : Said → List CompareLine → List ℕ
+true_text recipe lines = headline lines ++ compared_lines lines ++ assumed_text recipe

@@ -13,10 +13,10 @@ use Rattle.recipe_plan.specs.Recipes.{needs_apart, needs_inputs, needs_recipe}
 use Rattle.recipe_plan.specs.Reports.{compared_status, needs_report}
 use Rattle.verify_command.specs.Texts.{refuted_line, true_text}
 
--- a report without a fault is true, and its comparison is said, with what is assumed; of any other the first part that is not true is named
-abbrev pub judged_report : Said → CompareLine → Option (Part × ℕ) → Plan
-judged_report recipe compare None = answers (compared_status compare.result) (true_text recipe compare)
-judged_report recipe compare (Some (part, place)) = answers Refuted (refuted_line part place)
+-- a report without a fault is true, and its comparisons are said, with what is assumed; of any other the first part that is not true is named
+abbrev pub judged_report : Said → List CompareLine → Option (Part × ℕ) → Plan
+judged_report recipe lines None = answers (compared_status lines) (true_text recipe lines)
+judged_report recipe lines (Some (part, place)) = answers Refuted (refuted_line part place)
 
 abbrev pub verified : Said → List (List ℕ) → Report → Plan
 verified recipe inputs report = judged_report recipe report.compare (first_fault recipe inputs report)

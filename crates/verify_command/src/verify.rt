@@ -16,8 +16,8 @@ use command_plan::{Answer, Status, Stop, usage};
 use ddc_base::Shelf;
 use meaning::Meaning;
 use recipe::{Inputs, Recipe};
-use recipe_plan::{apart, fetch_inputs, fetch_recipe, fetch_report};
-use report::{CompareLine, Compared, Report};
+use recipe_plan::{apart, compared_status, fetch_inputs, fetch_recipe, fetch_report};
+use report::{CompareLine, Report};
 use std::alloc::Global;
 use verifier::{Part, Verdict};
 
@@ -68,28 +68,21 @@ fn answer<M: Meaning>(
     ensures { Says (verified recipe.now inputs.now report.now) result }
 {
     match verifier::conclusion::verify::<M>(alloc, recipe, inputs, report) {
-        Verdict::Yes => accepted(alloc, recipe, &report.compare),
-        Verdict::TrueButDiffers => accepted(alloc, recipe, &report.compare),
+        Verdict::Yes => accepted(alloc, recipe, report.compare.as_slice()),
+        Verdict::TrueButDiffers => accepted(alloc, recipe, report.compare.as_slice()),
         Verdict::Refuted { part, place } => refuted(alloc, part, place),
         Verdict::OutOfMemory { .. } => Err(Stop::OutOfMemory),
     }
 }
 
 /// The answer to a report that is true.
-fn accepted(alloc: Global, recipe: &Recipe, compare: &CompareLine) -> Result<Answer, Stop>
-    ensures { Says (judged_report recipe.now compare.now None) result }
+fn accepted(alloc: Global, recipe: &Recipe, lines: &[CompareLine]) -> Result<Answer, Stop>
+    ensures { Says (judged_report recipe.now lines.now None) result }
 {
-    let text = texts::accepted(alloc, recipe, compare)?;
-    match compare.result {
-        Compared::Equal(_) => Ok(Answer {
-            status: Status::Yes,
-            text,
-        }),
-        Compared::Differs(..) => Ok(Answer {
-            status: Status::Differs,
-            text,
-        }),
-    }
+    Ok(Answer {
+        status: compared_status(lines),
+        text: texts::accepted(alloc, recipe, lines)?,
+    })
 }
 
 /// The answer to a report of which this part is not true.

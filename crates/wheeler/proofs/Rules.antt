@@ -18,6 +18,7 @@ use Rattle.recipe.specs.declared.parts.Stage.{Stage}
 use Rattle.recipe.specs.declared.parts.StageFile.{StageFile}
 use Rattle.recipe.specs.Lookups.{input_at, stage_at}
 use Rattle.recipe.specs.Kept as kept
+use Rattle.recipe.specs.Tables.{IsFormat}
 use Rattle.report.specs.Reports.{IsDigest}
 use Rattle.report.proofs.Marks.{is_digest}
 
@@ -53,7 +54,10 @@ pub record IsRecipe (said : Said) : Type 0 where
   pub some_stages : 1 ≤ length said.stages
   pub few_stages : length said.stages ≤ 256
   pub stages : All IsStage said.stages
-  pub compared : IsName said.compare.stage
+  pub format : IsFormat said.format
+  pub some_compared : 1 ≤ length said.compare.stages
+  pub few_compared : length said.compare.stages ≤ kept.most_compared said.format
+  pub compared : All IsName said.compare.stages
   pub binary : IsName said.compare.binary
 
 -- of each element, in the two ways to say it
@@ -134,6 +138,9 @@ rules said is =
       some_stages = is.some_stages;
       few_stages = is.few_stages;
       stages = stages;
-      compared = stage-name said.stages said.compare.stage stages is.compared;
+      format = is.format;
+      some_compared = is.some_compared;
+      few_compared = is.few_compared;
+      compared = all-of (λ name. IsSome (stage_at said.stages name)) IsName (λ name at. stage-name said.stages name stages at) said.compare.stages is.compared;
       binary = input-name said.inputs said.compare.binary inputs is.binary;
     }

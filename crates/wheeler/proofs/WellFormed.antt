@@ -6,8 +6,9 @@ use Rattle.std.proofs.lemmas.Bool.{and_parts, leb-true}
 use Rattle.std.proofs.lemmas.Option.{same_Some}
 use Rattle.mem_files.specs.Limits.{most_name}
 use Rattle.mem_files.specs.Names.{begins_with_dot_slash, is_file_name, is_stripped_name}
-use Rattle.std.proofs.lemmas.List.{length-drop}
-use Rattle.std.proofs.lemmas.List.Elements.{All-cons, All-head, All-nil, All-tail, All-weaker}
+use Rattle.std.proofs.lemmas.List.{length-drop, length-map}
+use Rattle.std.proofs.lemmas.List.Elements.{All-cons, All-head, All-map, All-nil, All-tail, All-weaker}
+use Rattle.ddc_base.specs.Names.{IsName}
 use Rattle.ddc_base.specs.Difference.{first_difference}
 use Rattle.mem_files.specs.Outputs.{IsContent}
 use Rattle.recipe.specs.declared.contents.Said.{Said}
@@ -15,11 +16,11 @@ use Rattle.recipe.specs.declared.parts.Input.{Input}
 use Rattle.recipe.specs.declared.parts.Stage.{Stage}
 use Rattle.wheeler.proofs.Rules as kept
 use Rattle.report.specs.declared.types.LeftLine.{LeftLine}
-use Rattle.report.specs.Reports.{IsCompared, IsInputLine, IsLeft, IsReport, IsStageLine}
+use Rattle.report.specs.Reports.{IsCompare, IsCompared, IsInputLine, IsLeft, IsReport, IsStageLine}
 use Rattle.wheeler.specs.declared.answer.Finished.{Finished}
 use Rattle.wheeler.specs.Contents.{content}
 use Rattle.wheeler.specs.Stages.{contents}
-use Rattle.wheeler.specs.Bench.{compared, compared_at, input_lines, bench_report, stage_line, stage_lines}
+use Rattle.wheeler.specs.Bench.{compare_line, compared, compared_at, input_lines, bench_report, stage_line, stage_lines}
 use Rattle.wheeler.specs.Positions.{todo}
 use Rattle.wheeler.specs.Valid.{AreDone, AreFinished, IsFinished, IsInputs, IsLeftLine}
 use Rattle.wheeler.proofs.GivenBoxes.{AreContents, content-is}
@@ -120,6 +121,7 @@ pub report-is : (recipe : Said) → kept.IsRecipe recipe → (inputs : List (Lis
     → AreContents (contents inputs done) → todo recipe done ≡ [] → IsReport (bench_report recipe inputs done)
 unfolding bench_report
 report-is recipe is inputs given done are all left =
+    let all_of = contents inputs done in
     let few = fewer recipe.stages done are.each in
     let none : length (drop (length done) recipe.stages) ≡ 0 = ap length left in
     let many = length-drop (length done) recipe.stages in
@@ -131,10 +133,16 @@ report-is recipe is inputs given done are all left =
       each_input = lines.1;
       stages = (omega (arith, blocks.0, is.some_stages), omega (arith, blocks.0, is.few_stages));
       each_stage = blocks.1;
-      compare = record {
-        stage = is.compared;
-        binary = is.binary;
-        result = compared-is (content recipe (contents inputs done) recipe.compare.stage) (content recipe (contents inputs done) recipe.compare.binary)
-            (content-is recipe (contents inputs done) recipe.compare.stage all) (content-is recipe (contents inputs done) recipe.compare.binary all);
-      };
+      form = is.format;
+      compares = (
+        omega (arith, is.some_compared, length-map recipe.compare.stages (compare_line recipe all_of)),
+        omega (arith, is.few_compared, length-map recipe.compare.stages (compare_line recipe all_of)),
+      );
+      each_compare = All-map IsCompare (compare_line recipe all_of) recipe.compare.stages (All-weaker IsName (λ stage. IsCompare (compare_line recipe all_of stage))
+          (λ stage name. record {
+            stage = name;
+            binary = is.binary;
+            result = compared-is (content recipe all_of stage) (content recipe all_of recipe.compare.binary)
+                (content-is recipe all_of stage all) (content-is recipe all_of recipe.compare.binary all);
+          }) recipe.compare.stages is.compared);
     }

@@ -1,5 +1,6 @@
--- The bench: the stages in order, and the comparison; and the report of it. docs/reference/audit.md says the same for people.
-use Rattle.std.specs.Prelude.{ℕ, suc, Option, None, Some, Result, Ok, Err, List, [], ◌∷◌, ◌++◌, length}
+-- The bench: the stages in order, and the comparisons; and the report of it. docs/reference/audit.md says the same for people.
+use Rattle.std.specs.Prelude.{ℕ, suc, Bool, true, false, Option, None, Some, Result, Ok, Err, List, [], ◌∷◌, ◌++◌, length, map}
+use Rattle.std.specs.List.{list_all}
 use Rattle.ddc_base.specs.Difference.{first_difference}
 use Rattle.recipe.specs.declared.contents.Said.{Said}
 use Rattle.recipe.specs.declared.parts.Input.{Input}
@@ -47,21 +48,33 @@ compared_at (Some offset) made binary = Differs offset (length made) (length bin
 abbrev pub compared : List ℕ → List ℕ → Compared
 compared made binary = compared_at (first_difference made binary) made binary
 
--- what the recipe asks to compare
-abbrev pub compare_line : Said → Contents → CompareLine
-compare_line recipe all = record {
-  stage = recipe.compare.stage;
+-- what the recipe asks to compare: the artefact of a stage with the binary, for each compared stage in order
+abbrev pub compare_line : Said → Contents → List ℕ → CompareLine
+compare_line recipe all stage = record {
+  stage = stage;
   binary = recipe.compare.binary;
-  result = compared (content recipe all recipe.compare.stage) (content recipe all recipe.compare.binary);
+  result = compared (content recipe all stage) (content recipe all recipe.compare.binary);
 }
+
+abbrev pub compare_lines : Said → Contents → List CompareLine
+compare_lines recipe all = map (compare_line recipe all) recipe.compare.stages
+
+-- whether a comparison, and whether each of them, says that the artefact and the binary are equal
+abbrev pub is_equal : Compared → Bool
+is_equal (Equal length) = true
+is_equal (Differs offset ours theirs) = false
+
+abbrev pub all_equal : List CompareLine → Bool
+all_equal lines = list_all (λ (line : CompareLine). is_equal line.result) lines
 
 -- the report of all stages
 unfoldable pub bench_report : Said → List (List ℕ) → List Finished → Report
 bench_report recipe inputs done = record {
+  form = recipe.format;
   recipe = recipe.digest;
   inputs = input_lines recipe.inputs inputs;
   stages = stage_lines recipe recipe.stages done;
-  compare = compare_line recipe (contents inputs done);
+  compare = compare_lines recipe (contents inputs done);
 }
 
 -- the stage of this number is done and what follows goes on, or the audit is over

@@ -30,7 +30,7 @@ pub enum Fault {
 /// How an audit is over.
 #[derive(Debug, Drop)]
 pub enum Answer {
-    /// Every stage is done, and the artefact was compared.
+    /// Every stage is done, and the artefacts were compared.
     Completes(Report),
     /// The stage of this number, from 1, is not done.
     Fails(u32, Fault),

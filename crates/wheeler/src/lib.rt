@@ -7,11 +7,13 @@
 
 mod answer;
 mod cause;
+mod comparison;
 pub mod laws;
 pub mod source_check;
 
 pub use answer::{Answer, Fault, Finished};
 pub use cause::{RunCause, StartCause};
+pub use comparison::all_equal;
 
 /// The most bytes of all artefacts together.
 pub const MAX_ARTEFACTS: u64 = 1_073_741_824;

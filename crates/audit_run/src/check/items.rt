@@ -1,10 +1,11 @@
 //! The first item at which two lists differ.
 
 ghost use Rattle.hex_langs.specs.declared.items.item.Item.{Item as ItemOf};
-ghost use Rattle.wheeler.specs.SourceCheck.Checks.{first_other_item, same_item, same_kind};
-ghost use Rattle.std.specs.Prelude.{◌≡◌, ◌<◌, bytes_eq, length, slice_index_or};
+ghost use Rattle.wheeler.specs.SourceCheck.Checks.{first_other_item, same_item};
+ghost use Rattle.std.specs.Prelude.{◌≡◌, ◌<◌, length, slice_index_or};
 
-use hex_langs::items::{Item, Items, Kind, Name};
+use hex_langs::items::{Item, Items};
+use wheeler::source_check::{same_kind, same_name};
 
 /// The number, from 0, of the first item at which two lists differ or exactly one of them has ended.
 pub(crate) fn first_other_item(ours: &Items<'_>, theirs: &Items<'_>) -> Option<u64>
@@ -52,16 +53,4 @@ fn same_item(one: &Item<'_>, other: &Item<'_>) -> bool
         (Item::Pad, Item::Pad) => true,
         _ => false,
     }
-}
-
-fn same_kind(one: Kind, other: Kind) -> bool
-    ensures { result ≡ same_kind one other }
-{
-    one == other
-}
-
-fn same_name(one: &Name<'_>, other: &Name<'_>) -> bool
-    ensures { result ≡ bytes_eq one.now other.now }
-{
-    one.bytes() == other.bytes()
 }

@@ -2,7 +2,7 @@
 
 ghost use Rattle.ddc_base.specs.Difference.{first_difference as difference_of};
 ghost use Rattle.std.specs.Prelude.{◌≡◌, IfOk, length};
-ghost use Rattle.wheeler.specs.Bench.{compared, compare_line, input_lines, bench_report, stage_line, stage_lines};
+ghost use Rattle.wheeler.specs.Bench.{compared, compare_line, compare_lines, input_lines, bench_report, stage_line, stage_lines};
 ghost use Rattle.wheeler.specs.Contents.{check_language};
 ghost use Rattle.wheeler.specs.Stages.{contents, mark_of};
 
@@ -11,15 +11,15 @@ use crate::stage::done::Done;
 use crate::stage::marks::mark_of;
 use crate::stage::sources::{check_source, defined};
 use ddc_base::languages::Language;
-use ddc_base::{Bytes, OutOfMemory, first_difference};
+use ddc_base::{Bytes, Name, OutOfMemory, first_difference};
 use recipe::{Input, Recipe, Stage};
 use report::{
-    CompareLine, Compared, InputLine, InputLines, LeftLine, LeftLines, Report, StageLine,
-    StageLines,
+    CompareLine, CompareLines, Compared, InputLine, InputLines, LeftLine, LeftLines, Report,
+    StageLine, StageLines,
 };
 use std::alloc::Global;
 
-/// The report of all stages, with the comparison.
+/// The report of all stages, with the comparisons.
 #[tactic(auto, unfolding(wheeler::specs::Bench::bench_report))]
 pub fn report_of(
     alloc: Global,
@@ -30,10 +30,11 @@ pub fn report_of(
     ensures { IfOk result (λ report. report ≡ bench_report recipe.now inputs.now done.now) }
 {
     Ok(Report {
+        form: recipe.format(),
         recipe: *recipe.digest(),
         inputs: input_lines(alloc, recipe.inputs().as_slice(), inputs)?,
         stages: stage_lines(alloc, recipe, recipe.stages().as_slice(), done)?,
-        compare: comparison(recipe, inputs, done),
+        compare: compare_lines(alloc, recipe, inputs, done)?,
     })
 }
 
@@ -113,17 +114,34 @@ fn check_language(recipe: &Recipe, stage: &Stage) -> Option<Language>
     }
 }
 
-/// What the recipe asks to compare.
-fn comparison(recipe: &Recipe, inputs: &[Bytes], done: &[Done]) -> CompareLine
-    ensures { result ≡ compare_line recipe.now (contents inputs.now done.now) }
+/// The lines of the comparisons: one for each compared stage, in the recipe's order.
+fn compare_lines(
+    alloc: Global,
+    recipe: &Recipe,
+    inputs: &[Bytes],
+    done: &[Done],
+) -> Result<CompareLines, OutOfMemory>
+    ensures { IfOk result (λ lines. lines ≡ compare_lines recipe.now (contents inputs.now done.now)) }
 {
-    let asked = recipe.compare();
+    let mut lines = CompareLines::new(alloc);
+    let stages = recipe.compare().stages.as_slice();
+    for stage in stages {
+        lines.push(compare_line(recipe, inputs, done, stage))?;
+    }
+    Ok(lines)
+}
+
+/// The line of a compared stage: its artefact with the binary.
+fn compare_line(recipe: &Recipe, inputs: &[Bytes], done: &[Done], stage: &Name) -> CompareLine
+    ensures { result ≡ compare_line recipe.now (contents inputs.now done.now) stage.now }
+{
+    let binary = &recipe.compare().binary;
     CompareLine {
-        stage: asked.stage.copy(),
-        binary: asked.binary.copy(),
+        stage: stage.copy(),
+        binary: binary.copy(),
         result: compared(
-            content(recipe, inputs, done, &asked.stage),
-            content(recipe, inputs, done, &asked.binary),
+            content(recipe, inputs, done, stage),
+            content(recipe, inputs, done, binary),
         ),
     }
 }

@@ -13,7 +13,7 @@ fn text(name: &Name) -> &str {
     std::str::from_utf8(name.bytes()).unwrap_or("no text")
 }
 
-fn line(alloc: Global, assumption: &Assumption) -> Result<String, OutOfMemory> {
+pub(crate) fn line(alloc: Global, assumption: &Assumption) -> Result<String, OutOfMemory> {
     match assumption {
         Assumption::Implements { made, source } => Ok(format!(in alloc;
             "implements {} {}\n",

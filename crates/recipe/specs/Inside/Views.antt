@@ -6,6 +6,7 @@ use Rattle.recipe.specs.declared.top_tables.Top.{Top}
 
 abbrev pub top_view : Top → tables.Top
 top_view top = record {
+  format = top.format;
   inputs = tables_view top.inputs.items;
   sources = tables_view top.sources.items;
   stages = tables_view top.stages.items;

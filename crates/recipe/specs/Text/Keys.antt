@@ -29,6 +29,7 @@ key_word key.Steps = codes "steps"
 key_word key.Heap = codes "heap"
 key_word key.Check = codes "check"
 key_word key.Becomes = codes "becomes"
+key_word key.Stages = codes "stages"
 key_word key.Binary = codes "binary"
 
 -- a kind of table by its word

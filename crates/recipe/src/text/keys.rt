@@ -37,6 +37,7 @@ pub enum Key {
     Heap,
     Check,
     Becomes,
+    Stages,
     Binary,
 }
 
@@ -88,6 +89,7 @@ impl Key {
             Key::Heap => "heap",
             Key::Check => "check",
             Key::Becomes => "becomes",
+            Key::Stages => "stages",
             Key::Binary => "binary",
         }
     }

@@ -1,7 +1,7 @@
 use crate::reports::put_text;
 use ddc_base::languages::Language;
 use ddc_base::{Bytes, OutOfMemory, digest, put_hex};
-use report::{Compared, Report, ReportRefusal, read, write};
+use report::{CompareLine, Compared, Report, ReportRefusal, read, write};
 use std::alloc::Global;
 use std::process::Abort;
 use std::test::Fail;
@@ -39,7 +39,13 @@ const LINES: u64 = 22;
 /// of it is no report from this line on, or a report's text where the number is 0, as the grammar of docs/reference/report.md has it.
 static CHANGES: &[(u64, u64, &str, u64)] = &[
     // Each field, letter and blank of a line.
-    (1, 1, "ddc-report 2\n", 1),
+    (1, 1, "ddc-report 0\n", 1),
+    (1, 1, "ddc-report 2\n", 0),
+    (1, 1, "ddc-report 3\n", 1),
+    (1, 1, "ddc-report 12\n", 1),
+    (1, 1, "ddc-report 2 \n", 1),
+    (1, 1, "ddc-report 02\n", 1),
+    (1, 1, "ddc-report 2 2\n", 1),
     (1, 1, "ddc-report 01\n", 1),
     (1, 1, "ddc-report 1 \n", 1),
     (1, 1, " ddc-report 1\n", 1),
@@ -174,6 +180,8 @@ static CHANGES: &[(u64, u64, &str, u64)] = &[
     (17, 2, "", 0),
     // A line too many.
     (14, 0, "compare two bin equal 3\n", 15),
+    (22, 0, "compare one bin equal 3\n", 22),
+    (21, 0, "compare one bin differs 0 1 1\n", 22),
     (7, 0, "end\n", 7),
     (23, 0, "x", 23),
     (23, 0, "\n", 23),
@@ -260,7 +268,18 @@ fn is_example(report: &Report) -> bool {
         && one.stream2.digest == digest(b"")
         && file.name.as_slice() == b"out".as_slice()
         && one.checked == Some(Language::Hex0)
-        && report.compare.result == Compared::Equal(3)
+        && report.form == 1
+        && report.compare.len() == 1
+        && is_equal_line(report.compare.get(0))
+}
+
+/// Whether a comparison is that of the example.
+fn is_equal_line(line: Option<&CompareLine>) -> bool {
+    line.is_some_and(|line| {
+        line.stage.bytes() == b"two".as_slice()
+            && line.binary.bytes() == b"bin".as_slice()
+            && line.result == Compared::Equal(3)
+    })
 }
 
 #[test]
@@ -367,6 +386,121 @@ fn counts_have_limits(rt: HostRuntime) -> Result<(), Fail> {
     ] {
         let text = sized(alloc, inputs, stages, left, name)?;
         assert_eq!(rt; fault_of(&rt, alloc, text.as_slice())?, line);
+    }
+    Ok(())
+}
+
+/// The example with another first line and these compare lines.
+fn of_form(alloc: Global, header: &str, compares: &str) -> Result<Bytes, OutOfMemory> {
+    let mut text = Bytes::new(alloc);
+    put_text(&mut text, header.as_bytes())?;
+    put_lines(&mut text, 2, 20)?;
+    put_text(&mut text, compares.as_bytes())?;
+    put_lines(&mut text, LINES, LINES)?;
+    Ok(text)
+}
+
+/// A first line, compare lines, and the line at which the example with these is no report, or 0.
+static FORMS: [(&str, &str, u64); 14] = [
+    ("ddc-report 1\n", "compare two bin equal 3\n", 0),
+    ("ddc-report 2\n", "compare two bin equal 3\n", 0),
+    ("ddc-report 2\n", "", 21),
+    (
+        "ddc-report 2\n",
+        "compare two bin equal 3\ncompare one bin differs 0 232 3\n",
+        0,
+    ),
+    (
+        "ddc-report 1\n",
+        "compare two bin equal 3\ncompare one bin differs 0 232 3\n",
+        22,
+    ),
+    (
+        "ddc-report 2\n",
+        "compare two bin equal 3\ncompare two bin equal 3\n",
+        0,
+    ),
+    (
+        "ddc-report 2\n",
+        "compare two bin equal 3\ncompare one two equal 4\n",
+        0,
+    ),
+    (
+        "ddc-report 2\n",
+        "compare two bin equal 3\ncompare one bin equal 03\n",
+        22,
+    ),
+    (
+        "ddc-report 2\n",
+        "compare two bin equal 3\n\ncompare one bin equal 3\n",
+        22,
+    ),
+    (
+        "ddc-report 2\n",
+        "compare two bin equal 3\nend\ncompare one bin equal 3\n",
+        23,
+    ),
+    (
+        "ddc-report 2\n",
+        "compare two bin equal 3\nstage one 32\n",
+        22,
+    ),
+    ("ddc-report 2\n", "compare two bin equal 3\nunchecked\n", 22),
+    (
+        "ddc-report 2\nddc-report 2\n",
+        "compare two bin equal 3\n",
+        2,
+    ),
+    ("ddc-report 3\n", "compare two bin equal 3\n", 1),
+];
+
+#[test]
+fn forms_have_their_comparisons(rt: HostRuntime) -> Result<(), Fail> {
+    let alloc = rt.alloc();
+    for (header, compares, line) in &FORMS {
+        let text = of_form(alloc, header, compares)?;
+        assert_eq!(rt; fault_of(&rt, alloc, text.as_slice())?, *line);
+    }
+    Ok(())
+}
+
+/// So many equal compare lines: form 1 takes one of them, form 2 takes 16.
+#[test]
+fn comparisons_have_limits(rt: HostRuntime) -> Result<(), Fail> {
+    let alloc = rt.alloc();
+    for (header, count, line) in [
+        ("ddc-report 1\n", 0, 21),
+        ("ddc-report 1\n", 1, 0),
+        ("ddc-report 1\n", 2, 22),
+        ("ddc-report 1\n", 17, 22),
+        ("ddc-report 2\n", 0, 21),
+        ("ddc-report 2\n", 2, 0),
+        ("ddc-report 2\n", 15, 0),
+        ("ddc-report 2\n", 16, 0),
+        ("ddc-report 2\n", 17, 37),
+        ("ddc-report 2\n", 18, 37),
+    ] {
+        let lines = "compare two bin equal 3\n".repeat(alloc, count)?;
+        let text = of_form(alloc, header, lines.as_str())?;
+        assert_eq!(rt; fault_of(&rt, alloc, text.as_slice())?, line);
+    }
+    Ok(())
+}
+
+#[test]
+fn comparisons_keep_their_order(rt: HostRuntime) -> Result<(), Fail> {
+    let alloc = rt.alloc();
+    let lines = "compare two bin equal 3\ncompare one bin differs 0 232 3\n";
+    let text = of_form(alloc, "ddc-report 2\n", lines)?;
+    let Ok(report) = read(alloc, text.as_slice()) else {
+        panic!(rt; "a report of form 2 is none");
+    };
+    assert_eq!(rt; report.form, 2);
+    assert_eq!(rt; report.compare.len(), 2);
+    assert!(rt; is_equal_line(report.compare.get(0)));
+    if let Some(second) = report.compare.get(1) {
+        assert!(rt; second.stage.bytes() == b"one".as_slice());
+        assert!(rt; second.result == Compared::Differs(0, 232, 3));
     }
     Ok(())
 }

@@ -10,7 +10,7 @@ use Rattle.report.specs.Inside.Cuts.{◌>>=◌, cut_at}
 use Rattle.report.specs.Inside.Fields.{file_name_of, digest_of, mark_of, compared_of}
 
 unfoldable pub header_of : List ℕ → Option Line
-header_of fields = if bytes_eq fields (codes "1") then Some Header else None
+header_of fields = if bytes_eq fields (codes "1") then Some (Header 1) else (if bytes_eq fields (codes "2") then Some (Header 2) else None)
 
 unfoldable pub recipe_of : List ℕ → Option Line
 recipe_of fields = do

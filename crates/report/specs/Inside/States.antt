@@ -9,6 +9,7 @@ use Rattle.report.specs.declared.types.Mark.{Mark}
 use Rattle.report.specs.declared.types.LeftLine.{LeftLine}
 use Rattle.report.specs.declared.types.StageLine.{StageLine}
 use Rattle.report.specs.declared.state.Front.{Front}
+use Rattle.report.specs.Reports.{most_comparisons}
 use Rattle.report.specs.declared.state.Opened.{Opened}
 use Rattle.report.specs.declared.state.State.{State}
 use Rattle.report.specs.declared.state.State.TheVariants.{Start, Titled, Inputs, Named, Heard, Leaving, Closing, Stages, Compared, Ended}
@@ -39,11 +40,12 @@ with_stage front stage = record front { stages = front.stages ++ stage ∷ [] }
 
 -- the state after one more line
 unfoldable pub step : State → Line → Option State
-step Start Header = Some Titled
-step Titled (Recipe recipe) = Some (Inputs recipe [])
-step (Inputs recipe inputs) (Input input) = if nat_lt (length inputs) 256 then Some (Inputs recipe (inputs ++ input ∷ [])) else None
-step (Inputs recipe inputs) (Stage name steps) =
-    if nat_lt 0 (length inputs) then Some (Named (record { recipe = recipe; inputs = inputs; stages = [] }) name steps) else None
+step Start (Header form) = Some (Titled form)
+step (Titled form) (Recipe recipe) = Some (Inputs form recipe [])
+step (Inputs form recipe inputs) (Input input) =
+    if nat_lt (length inputs) 256 then Some (Inputs form recipe (inputs ++ input ∷ [])) else None
+step (Inputs form recipe inputs) (Stage name steps) =
+    if nat_lt 0 (length inputs) then Some (Named (record { form = form; recipe = recipe; inputs = inputs; stages = [] }) name steps) else None
 step (Named front name steps) (Stream1 mark) = Some (Heard front name steps mark)
 step (Heard front name steps stream1) (Stream2 mark) =
     Some (Leaving front (record { name = name; steps = steps; stream1 = stream1; stream2 = mark; left = [] }))
@@ -55,7 +57,11 @@ step (Leaving front stage) (Made mark) = Some (Closing front stage mark)
 step (Closing front stage made) (Checked checked) = Some (Stages (with_stage front (closed stage made checked)))
 step (Stages front) (Stage name steps) = if nat_lt (length front.stages) 256 then Some (Named front name steps) else None
 step (Stages front) (Compare compare) =
-    Some (Compared (record { recipe = front.recipe; inputs = front.inputs; stages = front.stages; compare = compare }))
+    Some (Compared (record { form = front.form; recipe = front.recipe; inputs = front.inputs; stages = front.stages; compare = compare ∷ [] }))
+step (Compared report) (Compare compare) =
+    if nat_lt (length report.compare) (most_comparisons report.form)
+    then Some (Compared (record report { compare = report.compare ++ compare ∷ [] }))
+    else None
 step (Compared report) End = Some (Ended report)
 step _ _ = None
 

@@ -12,9 +12,10 @@ use std::alloc::Global;
 
 /// Replays a report, as `crate::verify` does, with the same verdict.
 ///
-/// Whatever sources mean: where the report is true and every line of `meaning::assumptions` holds, every stage follows. Where it says that
-/// the artefact and the binary are equal, the parent source prescribes the audited binary and nothing else; where it says that they differ,
-/// no program that makes the audited binary implements the parent source. docs/reference/argument.md has the words.
+/// Whatever sources mean: where the report is true and every line of `meaning::assumptions` holds, every stage follows. Of each compared
+/// stage, where every line of `meaning::assumptions_for` that stage holds: if its comparison says that the artefact and the binary are equal,
+/// its parent source prescribes the audited binary and nothing else, and if it says that they differ, no program that makes the audited
+/// binary implements the parent source. No line of another route is used. docs/reference/argument.md has the words.
 pub fn verify<M: Meaning>(
     alloc: Global,
     recipe: &Recipe,
@@ -22,9 +23,9 @@ pub fn verify<M: Meaning>(
     report: &Report,
 ) -> Verdict
     requires { IsInputs recipe.now inputs.now }
-    ensures value { Judges (first_fault recipe.now inputs.now report.now) report.now.compare.result result }
+    ensures value { Judges (first_fault recipe.now inputs.now report.now) report.now.compare result }
     ensures memory { OnWant result (IsReplaying recipe.now inputs.now report.now) }
-    ensures shown { Shows M.prescribes M.compiles recipe.now inputs.now result }
+    ensures shown { Shows M.prescribes M.compiles recipe.now inputs.now report.now.compare result }
 {
     a_true_report_shows::<M>();
     let _digest = recipe.digest();

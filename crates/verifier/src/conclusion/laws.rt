@@ -17,7 +17,7 @@ use meaning::laws::the_bench_concludes;
 /// meaning of sources.
 pub fn a_true_report_shows<M: Meaning>()
     ensures { (recipe : Said) (inputs : List (List ℕ)) (report : Report) → IsRecipe recipe → IsInputs recipe inputs
-        → first_fault recipe inputs report ≡ None → Shows M.prescribes M.compiles recipe inputs (true_verdict report.compare.result) }
+        → first_fault recipe inputs report ≡ None → Shows M.prescribes M.compiles recipe inputs report.compare (true_verdict report.compare) }
 {
     one_report();
     the_bench_concludes::<M>();

@@ -52,11 +52,11 @@ loop-index-preserved c =
       omega (arith, c.loop-index.invariant.1, summed, len),
       omega (arith, c.loop-index.invariant.1, small, len),
       subst (λ (a : List (List ℕ)). All IsContent a) (sym pushed) (All-push IsContent c.loop-index.artefacts c.in-Ok.made c.loop-index.invariant.3 made.0),
-      λ compare.
-          c.loop-index.invariant.4 compare
-          ∙ at_stage c.args.recipe.now compare all c.args.stages.now c.args.lines.now c.loop-index.index stage line found (omega arith) c.index-lines-index.is
-          ∙ goes_on c.args.recipe.now compare all stage (drop (c.loop-index.index + 1) c.args.stages.now) line (drop (c.loop-index.index + 1) c.args.lines.now) c.in-Ok.made right
-          ∙ ap (λ a. stages_fault c.args.recipe.now compare (record { inputs = c.args.inputs.now; artefacts = a }) (drop (c.loop-index.index + 1) c.args.stages.now) (drop (c.loop-index.index + 1) c.args.lines.now)) (sym pushed),
+      λ last.
+          c.loop-index.invariant.4 last
+          ∙ at_stage c.args.recipe.now last all c.args.stages.now c.args.lines.now c.loop-index.index stage line found (omega arith) c.index-lines-index.is
+          ∙ goes_on c.args.recipe.now last all stage (drop (c.loop-index.index + 1) c.args.stages.now) line (drop (c.loop-index.index + 1) c.args.lines.now) c.in-Ok.made right
+          ∙ ap (λ a. stages_fault c.args.recipe.now last (record { inputs = c.args.inputs.now; artefacts = a }) (drop (c.loop-index.index + 1) c.args.stages.now) (drop (c.loop-index.index + 1) c.args.lines.now)) (sym pushed),
       subst (λ (a : List (List ℕ)). AreReplayed c.args.recipe.now (record { inputs = c.args.inputs.now; artefacts = [] }) (take (c.loop-index.index + 1) c.args.stages.now) (take (c.loop-index.index + 1) c.args.lines.now)
           (record { inputs = c.args.inputs.now; artefacts = a })) (sym pushed)
           (replayed_on c.args.recipe.now (record { inputs = c.args.inputs.now; artefacts = [] }) all c.args.stages.now c.args.lines.now c.loop-index.index stage line c.in-Ok.made
@@ -64,6 +64,6 @@ loop-index-preserved c =
     )
 
 pub returns : goal.returns
-returns c = λ compare.
-    c.loop-index.invariant.4 compare
-    ∙ no_line c.args.recipe.now compare (record { inputs = c.args.inputs.now; artefacts = c.loop-index.artefacts }) (drop c.loop-index.index c.args.stages.now) c.args.lines.now c.loop-index.index (omega arith)
+returns c = λ last.
+    c.loop-index.invariant.4 last
+    ∙ no_line c.args.recipe.now last (record { inputs = c.args.inputs.now; artefacts = c.loop-index.artefacts }) (drop c.loop-index.index c.args.stages.now) c.args.lines.now c.loop-index.index (omega arith)

@@ -1,6 +1,7 @@
-use Rattle.std.proofs.Common.{◌≡◌, ◌≤◌, [], length, drop, take, sum_by, All}
+use Rattle.std.proofs.Common.{◌≡◌, ◌≤◌, ℕ, Option, [], length, drop, take, sum_by, All}
 use Rattle.mem_files.specs.Outputs.{IsContent}
-use Rattle.report.specs.declared.types.Compared.{Compared}
+use Rattle.wheeler.specs.Contents.{Contents}
+use Rattle.verifier.specs.declared.part.Part.{Part}
 use Rattle.verifier.specs.Faults.{stages_fault}
 use Rattle.verifier.specs.Inside.Replays.{whole_fault}
 use Rattle.verifier.specs.Verdicts.{AreReplayed}
@@ -9,6 +10,6 @@ use Rattle.verifier.proofs.judging.replay_all.Given as goal
 abbrev pub invariant-loop-index : goal.invariant-loop-index
 invariant-loop-index l =
     (length l.artefacts ≡ l.index) × (l.total ≡ sum_by length l.artefacts) × (l.total ≤ 1073741824) × All IsContent l.artefacts
-    × ((compare : Compared) → whole_fault l.recipe l.inputs l.lines compare
-    ≡ stages_fault l.recipe compare (record { inputs = l.inputs; artefacts = l.artefacts }) (drop l.index l.stages) (drop l.index l.lines))
+    × ((last : Contents → Option (Part × ℕ)) → whole_fault l.recipe l.inputs l.lines last
+    ≡ stages_fault l.recipe last (record { inputs = l.inputs; artefacts = l.artefacts }) (drop l.index l.stages) (drop l.index l.lines))
     × AreReplayed l.recipe (record { inputs = l.inputs; artefacts = [] }) (take l.index l.stages) (take l.index l.lines) (record { inputs = l.inputs; artefacts = l.artefacts })

@@ -2,8 +2,9 @@ use Rattle.std.proofs.Common.{◌≡◌, ℕ, ◌+◌, ◌<◌, Option, List, []
 use Rattle.std.specs.List.{cons_option}
 use Rattle.std.proofs.lemmas.List.{take_more}
 use Rattle.std.proofs.lemmas.List.Elements.{filter_map-append}
-use Rattle.meaning.specs.Assumptions.{input_assumption, is_trusted, stage_assumption}
-use Rattle.meaning.proofs.listing.assumptions.Goals as goal
+use Rattle.meaning.specs.Assumptions.{input_assumption, stage_assumption}
+use Rattle.meaning.specs.Inside.Trusting.{trusts}
+use Rattle.meaning.proofs.listing.trust_lines.Goals as goal
 
 -- one more line, or none
 line_more : {X Y : Type 0} (f : X → Option Y) (shown xs : List X) (i : ℕ) (x : X) → shown ≡ xs → i < length shown → x ≡ get_or shown i x
@@ -19,14 +20,14 @@ loop-input-preserved c =
     let recipe = c.args.recipe.now in
     c.in_ok-push_line.ensures
     ∙ ap₂ (λ l o. l ++ cons_option o []) c.loop-input.invariant c.input_line.ensures
-    ∙ line_more (input_assumption (is_trusted recipe) recipe) c.as_slice-input-items.result.now recipe.inputs c.loop-input.input-index c.input-item.result
+    ∙ line_more (input_assumption (trusts recipe c.args.trusted.now) recipe) c.as_slice-input-items.result.now recipe.inputs c.loop-input.input-index c.input-item.result
     (c.as_slice-input-items.ensures ∙ c.inputs.ensures.value) c.loop-input-test.true c.input-item.is
 
 pub loop-stage-preserved : goal.loop-stage-preserved
 loop-stage-preserved c =
     let recipe = c.args.recipe.now in
-    let line = stage_assumption (is_trusted recipe) recipe in
-    let front = filter_map (input_assumption (is_trusted recipe) recipe) recipe.inputs in
+    let line = stage_assumption (trusts recipe c.args.trusted.now) recipe in
+    let front = filter_map (input_assumption (trusts recipe c.args.trusted.now) recipe) recipe.inputs in
     c.in_ok-push_line-2.ensures
     ∙ ap₂ (λ l o. l ++ cons_option o []) c.loop-stage.invariant c.stage_line.ensures
     ∙ append_assoc front (filter_map line (take c.loop-stage.stage-index recipe.stages)) (cons_option (line c.stage-item.result) [])

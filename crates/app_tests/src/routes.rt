@@ -1,0 +1,311 @@
+//! Audits and replays of recipes of format 2, which compare several stages with one binary.
+//! What they come to was written down from docs/reference/verify.md and docs/reference/argument.md.
+
+use crate::audits::{RECIPE, REPORT, audit_shelf};
+use crate::worked::{run, with};
+use ddc_app::Status;
+use ddc_base::{MemShelf, MemSink, OutOfMemory};
+use std::alloc::Global;
+use std::process::Abort;
+use std::test::Fail;
+
+/// The worked recipe with a third stage, of which the seed itself makes the artefact, and both stages compared.
+fn two_routes(alloc: Global) -> Result<String, OutOfMemory> {
+    let second = with(alloc, RECIPE, "format = 1", "format = 2")?;
+    let argued = with(
+        alloc,
+        second.as_str(),
+        "path = \"copy.elf\"",
+        "path = \"copy.elf\"\nimplements = \"copy_src\"",
+    )?;
+    with(
+        alloc,
+        argued.as_str(),
+        "[compare]\nstage = \"two\"",
+        r#"[[stage]]
+name = "three"
+program = "prog"
+args = ["copy"]
+files = [{ path = "in", from = "src" }]
+output = "out"
+steps = 100000
+[compare]
+stages = ["two", "three"]"#,
+    )
+}
+
+/// A shelf with that recipe, changed once, and its files.
+fn shelf_of(alloc: Global, old: &str, new: &str) -> Result<MemShelf, OutOfMemory> {
+    let mut shelf = audit_shelf(alloc, "", "")?;
+    let recipe = two_routes(alloc)?;
+    shelf.set(
+        "a.toml",
+        with(alloc, recipe.as_str(), old, new)?.as_bytes(),
+    )?;
+    Ok(shelf)
+}
+
+/// Runs a command on `a.toml` and `r`, and compares its status and text.
+fn comes_to(
+    rt: &impl Abort,
+    alloc: Global,
+    shelf: &mut MemShelf,
+    command: &str,
+    status: Status,
+    text: &str,
+) -> Result<(), OutOfMemory> {
+    let mut out = MemSink::new(alloc);
+    let ended = run(alloc, &[command, "a.toml", "r"], shelf, &mut out)?;
+    assert_eq!(rt; out.written(), text.as_bytes(), "{command}: {text}");
+    assert_eq!(rt; ended, status, "{command}: {text}");
+    Ok(())
+}
+
+/// Replaces one piece of the report on a shelf.
+fn alter(alloc: Global, shelf: &mut MemShelf, old: &str, new: &str) -> Result<(), OutOfMemory> {
+    let report = with(alloc, text_of(shelf, "r"), old, new)?;
+    shelf.set("r", report.as_bytes())?;
+    Ok(())
+}
+
+/// What a shelf holds under a name, as text.
+fn text_of<'s>(shelf: &'s MemShelf, name: &str) -> &'s str {
+    std::str::from_utf8(shelf.get(name).unwrap_or(&[])).unwrap_or("no text")
+}
+
+/// What is changed in the recipe, the status, the comparisons, and what `verify` prints under them.
+type Row = (&'static str, &'static str, Status, &'static str, &'static str);
+
+static RECIPES: [Row; 7] = [
+    (
+        "",
+        "",
+        Status::Yes,
+        "equal two bin 3\nequal three bin 3\n",
+        "route two\nroute three\nassumes implements prog copy_src\n",
+    ),
+    // `three` copies a longer file
+    (
+        "from = \"src\" }]\noutput = \"out\"\nsteps = 100000\n[compare]",
+        "from = \"text\" }]\noutput = \"out\"\nsteps = 100000\n[compare]",
+        Status::Differs,
+        "equal two bin 3\ndiffers three bin 0 465 3\n",
+        "route two\nroute three\nassumes implements prog copy_src\n",
+    ),
+    // the stages in the other order, and one of them alone
+    (
+        "stages = [\"two\", \"three\"]",
+        "stages = [\"three\", \"two\"]",
+        Status::Yes,
+        "equal three bin 3\nequal two bin 3\n",
+        "route three\nassumes implements prog copy_src\nroute two\n",
+    ),
+    (
+        "stages = [\"two\", \"three\"]",
+        "stages = [\"two\"]",
+        Status::Yes,
+        "equal two bin 3\n",
+        "route two\n",
+    ),
+    // another binary: both differ
+    (
+        "\"b.bin\"",
+        "\"abd\"",
+        Status::Differs,
+        "differs two bin 2 3 3\ndiffers three bin 2 3 3\n",
+        "route two\nroute three\nassumes implements prog copy_src\n",
+    ),
+    // a checked stage among them: it is the copier, and its line has nothing under it
+    (
+        "stages = [\"two\", \"three\"]",
+        "stages = [\"one\", \"three\"]",
+        Status::Differs,
+        "differs one bin 0 232 3\nequal three bin 3\n",
+        "route one\nroute three\nassumes implements prog copy_src\n",
+    ),
+    // `one` is not checked but made of the seed: the route of `two` goes on to it
+    (
+        "check = \"copy_src\"",
+        "becomes = \"copy_src\"",
+        Status::Yes,
+        "equal two bin 3\nequal three bin 3\n",
+        "route two\nassumes implements prog copy_src\nassumes compiles copy_src one copy_src\nroute three\nassumes implements prog copy_src\n",
+    ),
+];
+
+/// A yes above the comparisons, where all are equal.
+fn answered(
+    alloc: Global,
+    status: Status,
+    compared: &str,
+    routes: &str,
+) -> Result<String, OutOfMemory> {
+    if status == Status::Yes {
+        Ok(format!(in alloc; "yes\n{compared}{routes}")?)
+    } else {
+        Ok(format!(in alloc; "{compared}{routes}")?)
+    }
+}
+
+#[test]
+fn routes_are_printed(rt: HostRuntime) -> Result<(), Fail> {
+    let alloc = rt.alloc();
+    for (old, new, status, compared, routes) in &RECIPES {
+        let mut shelf = shelf_of(alloc, old, new)?;
+        comes_to(&rt, alloc, &mut shelf, "audit", *status, compared)?;
+        let text = answered(alloc, *status, compared, routes)?;
+        comes_to(&rt, alloc, &mut shelf, "verify", *status, text.as_str())?;
+    }
+    Ok(())
+}
+
+/// What is changed in the report, into what, and what `verify` says of it.
+type Change = (&'static str, &'static str, &'static str);
+
+static CHANGES: [Change; 14] = [
+    // one comparison is not true: the first, the second, and both
+    (
+        "compare two bin equal 3",
+        "compare two bin equal 4",
+        "refuted compare 1\n",
+    ),
+    (
+        "compare three bin equal 3",
+        "compare three bin equal 2",
+        "refuted compare 2\n",
+    ),
+    (
+        "compare three bin equal 3",
+        "compare three bin differs 0 3 3",
+        "refuted compare 2\n",
+    ),
+    (
+        "compare two bin equal 3\ncompare three bin equal 3",
+        "compare two bin equal 4\ncompare three bin equal 4",
+        "refuted compare 1\n",
+    ),
+    // other names, another order, a line too few, one too many, one twice
+    (
+        "compare two bin equal 3\ncompare three",
+        "compare three bin equal 3\ncompare two",
+        "refuted header 0\n",
+    ),
+    ("compare three bin", "compare three src", "refuted header 0\n"),
+    ("compare two bin", "compare two src", "refuted header 0\n"),
+    ("compare three bin", "compare two bin", "refuted header 0\n"),
+    ("compare three bin equal 3\n", "", "refuted header 0\n"),
+    ("compare two bin equal 3\n", "", "refuted header 0\n"),
+    (
+        "\nend\n",
+        "\ncompare three bin equal 3\nend\n",
+        "refuted header 0\n",
+    ),
+    // a compare line is judged behind the stages
+    ("stage three 32", "stage three 31", "refuted run 3\n"),
+    (
+        "made 3 ba78",
+        "made 3 ba79",
+        "refuted files 2\n",
+    ),
+    // of form 1 a report of one comparison is read, and refuted by its form
+    (
+        "ddc-report 2",
+        "ddc-report 1",
+        "report line 29\n",
+    ),
+];
+
+#[test]
+fn reports_are_refuted(rt: HostRuntime) -> Result<(), Fail> {
+    let alloc = rt.alloc();
+    for (old, new, text) in &CHANGES {
+        let mut shelf = shelf_of(alloc, "", "")?;
+        comes_to(
+            &rt,
+            alloc,
+            &mut shelf,
+            "audit",
+            Status::Yes,
+            "equal two bin 3\nequal three bin 3\n",
+        )?;
+        alter(alloc, &mut shelf, old, new)?;
+        let status = if text.starts_with("report") {
+            Status::ReportRefused
+        } else {
+            Status::Refuted
+        };
+        comes_to(&rt, alloc, &mut shelf, "verify", status, text)?;
+    }
+    Ok(())
+}
+
+/// A report that was made before there were several forms, and the same under the other form.
+#[test]
+fn forms_are_compared(rt: HostRuntime) -> Result<(), Fail> {
+    let alloc = rt.alloc();
+    let mut shelf = audit_shelf(alloc, "", "")?;
+    shelf.set("r", REPORT.as_bytes())?;
+    let yes = "yes\nequal two bin 3\n";
+    comes_to(&rt, alloc, &mut shelf, "verify", Status::Yes, yes)?;
+    alter(alloc, &mut shelf, "ddc-report 1", "ddc-report 2")?;
+    let header = "refuted header 0\n";
+    comes_to(&rt, alloc, &mut shelf, "verify", Status::Refuted, header)?;
+    Ok(())
+}
+
+/// A recipe of format 2 that compares one stage: its comparison has the place 1, and under form 1 the report is another's.
+#[test]
+fn one_comparison_has_a_place(rt: HostRuntime) -> Result<(), Fail> {
+    let alloc = rt.alloc();
+    let mut shelf = shelf_of(
+        alloc,
+        "stages = [\"two\", \"three\"]",
+        "stages = [\"three\"]",
+    )?;
+    let equal = "equal three bin 3\n";
+    comes_to(&rt, alloc, &mut shelf, "audit", Status::Yes, equal)?;
+    alter(alloc, &mut shelf, "bin equal 3", "bin equal 4")?;
+    let compare = "refuted compare 1\n";
+    comes_to(&rt, alloc, &mut shelf, "verify", Status::Refuted, compare)?;
+    alter(alloc, &mut shelf, "ddc-report 2", "ddc-report 1")?;
+    let header = "refuted header 0\n";
+    comes_to(&rt, alloc, &mut shelf, "verify", Status::Refuted, header)?;
+    Ok(())
+}
+
+/// Sixteen stages that copy three bytes, odd ones by the seed and even ones by what the stage before them made of it.
+#[test]
+fn sixteen_routes(rt: HostRuntime) -> Result<(), Fail> {
+    let alloc = rt.alloc();
+    let mut stages = String::new(alloc);
+    let mut names = String::new(alloc);
+    let mut compared = String::new(alloc);
+    let mut routes = String::new(alloc);
+    for letter in "abcdefghijklmnop".chars() {
+        stages.push_str(
+            format!(in alloc;
+                "[[stage]]\nname = \"{letter}\"\nprogram = \"prog\"\nargs = [\"copy\"]\nfiles = [{{ path = \"in\", from = \"src\" }}]\noutput = \"out\"\nsteps = 100000\n"
+            )?
+            .as_str(),
+        )?;
+        names.push_str(format!(in alloc; "\"{letter}\", ")?.as_str())?;
+        compared.push_str(format!(in alloc; "equal {letter} bin 3\n")?.as_str())?;
+        routes.push_str(
+            format!(in alloc; "route {letter}\nassumes implements prog copy_src\n")?.as_str(),
+        )?;
+    }
+    let mut shelf = shelf_of(alloc, "", "")?;
+    let recipe = two_routes(alloc)?;
+    let compare = format!(in alloc; "{stages}[compare]\nstages = [{names}]")?;
+    let recipe = with(
+        alloc,
+        recipe.as_str(),
+        "[compare]\nstages = [\"two\", \"three\"]",
+        compare.as_str(),
+    )?;
+    shelf.set("a.toml", recipe.as_bytes())?;
+    comes_to(&rt, alloc, &mut shelf, "audit", Status::Yes, compared.as_str())?;
+    let text = answered(alloc, Status::Yes, compared.as_str(), routes.as_str())?;
+    comes_to(&rt, alloc, &mut shelf, "verify", Status::Yes, text.as_str())?;
+    Ok(())
+}

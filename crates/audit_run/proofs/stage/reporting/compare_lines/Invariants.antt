@@ -1,0 +1,7 @@
+use Rattle.std.proofs.Common.{◌≡◌, map, take}
+use Rattle.wheeler.specs.Bench.{compare_line}
+use Rattle.wheeler.specs.Stages.{contents}
+use Rattle.audit_run.proofs.stage.reporting.compare_lines.Given as goal
+
+abbrev pub invariant-loop-stage : goal.invariant-loop-stage
+invariant-loop-stage l = l.lines ≡ map (compare_line l.recipe (contents l.inputs l.done)) (take l.stage-index l.stages)

@@ -1,0 +1,114 @@
+//! Recipes, each with the lines of every stage's route, written down from docs/reference/argument.md.
+
+use crate::meanings::lines::line;
+use crate::meanings::recipes::{FRONT, KEYS};
+use crate::meanings::with_stages;
+use ddc_base::OutOfMemory;
+use meaning::assumptions_for;
+use recipe::read;
+use std::alloc::Global;
+use std::test::Fail;
+
+/// Stages, and for each stage a line with its number and the lines of its route.
+type Row = (&'static str, &'static str);
+
+static ROUTES: [Row; 14] = [
+    // one program; none of a checked stage
+    (
+        r#"{ name = "a", program = "seed", $ }"#,
+        "1\nimplements seed zero\n",
+    ),
+    (
+        r#"{ name = "a", program = "seed", $, check = "zero" }"#,
+        "1\n",
+    ),
+    // two routes with nothing in common
+    (
+        r#"{ name = "a", program = "seed", $ }, { name = "b", program = "tool", $ }"#,
+        "1\nimplements seed zero\n2\nimplements tool other\n",
+    ),
+    (
+        r#"{ name = "a", program = "seed", $, becomes = "other" }, { name = "b", program = "tool", $, becomes = "words" }, { name = "c", program = "a", $ }, { name = "d", program = "b", $ }"#,
+        "1\nimplements seed zero\n2\nimplements tool other\n3\nimplements seed zero\ncompiles zero a other\n4\nimplements tool other\ncompiles other b words\n",
+    ),
+    // a prefix that is shared
+    (
+        r#"{ name = "a", program = "seed", $, becomes = "other" }, { name = "b", program = "a", $ }, { name = "c", program = "a", $ }"#,
+        "1\nimplements seed zero\n2\nimplements seed zero\ncompiles zero a other\n3\nimplements seed zero\ncompiles zero a other\n",
+    ),
+    // a route inside another
+    (
+        r#"{ name = "a", program = "seed", $, becomes = "other" }, { name = "b", program = "a", $, becomes = "words" }, { name = "c", program = "b", $ }"#,
+        "1\nimplements seed zero\n2\nimplements seed zero\ncompiles zero a other\n3\nimplements seed zero\ncompiles zero a other\ncompiles other b words\n",
+    ),
+    // a fork behind a shared program
+    (
+        r#"{ name = "a", program = "seed", $, becomes = "other" }, { name = "b", program = "a", $, becomes = "words" }, { name = "c", program = "a", $, becomes = "one" }, { name = "d", program = "c", $ }"#,
+        "1\nimplements seed zero\n2\nimplements seed zero\ncompiles zero a other\n3\nimplements seed zero\ncompiles zero a other\n4\nimplements seed zero\ncompiles zero a other\ncompiles other c one\n",
+    ),
+    // a route ends at what a checked stage makes: by a check that is enough, by one of another source, by one in M1
+    (
+        r#"{ name = "a", program = "seed", $, check = "zero" }, { name = "b", program = "a", $, becomes = "other" }, { name = "c", program = "b", $ }, { name = "d", program = "seed", $ }"#,
+        "1\n2\n3\ncompiles zero b other\n4\nimplements seed zero\n",
+    ),
+    (
+        r#"{ name = "a", program = "seed", $, check = "one", becomes = "two" }, { name = "b", program = "a", $ }"#,
+        "1\n2\nimplements a two\n",
+    ),
+    (
+        r#"{ name = "a", program = "seed", $, check = "words", becomes = "words" }, { name = "b", program = "a", $, becomes = "other" }, { name = "c", program = "b", $ }"#,
+        "1\n2\nimplements a words\n3\nimplements a words\ncompiles words b other\n",
+    ),
+    // a checked stage in the middle of a chain
+    (
+        r#"{ name = "a", program = "seed", $, becomes = "other" }, { name = "b", program = "a", $, check = "words", becomes = "zero" }, { name = "c", program = "b", $, becomes = "one" }, { name = "d", program = "c", $ }"#,
+        "1\nimplements seed zero\n2\n3\nimplements b zero\n4\nimplements b zero\ncompiles zero c one\n",
+    ),
+    // the lines stand in the order of the recipe, and not in that of the route
+    (
+        r#"{ name = "a", program = "spare", $, becomes = "zero" }, { name = "b", program = "seed", $, becomes = "other" }, { name = "c", program = "b", $, becomes = "one" }, { name = "d", program = "c", $ }"#,
+        "1\nimplements spare zero\n2\nimplements seed zero\n3\nimplements seed zero\ncompiles zero b other\n4\nimplements seed zero\ncompiles zero b other\ncompiles other c one\n",
+    ),
+    // a stage that no other rests on adds nothing to a route
+    (
+        r#"{ name = "a", program = "tool", $, becomes = "words" }, { name = "b", program = "seed", $, becomes = "other" }, { name = "c", program = "b", $ }"#,
+        "1\nimplements tool other\n2\nimplements seed zero\n3\nimplements seed zero\ncompiles zero b other\n",
+    ),
+    // sixteen stages: odd ones run the seed, even ones the stage before
+    (
+        r#"{ name = "a", program = "seed", $, becomes = "other" }, { name = "b", program = "a", $ }, { name = "c", program = "seed", $, becomes = "other" }, { name = "d", program = "c", $ },
+        { name = "e", program = "seed", $, becomes = "other" }, { name = "f", program = "e", $ }, { name = "g", program = "seed", $, becomes = "other" }, { name = "h", program = "g", $ },
+        { name = "i", program = "seed", $, becomes = "other" }, { name = "j", program = "i", $ }, { name = "k", program = "seed", $, becomes = "other" }, { name = "l", program = "k", $ },
+        { name = "m", program = "seed", $, becomes = "other" }, { name = "n", program = "m", $ }, { name = "o", program = "seed", $, becomes = "other" }, { name = "p", program = "o", $ }"#,
+        "1\nimplements seed zero\n2\nimplements seed zero\ncompiles zero a other\n3\nimplements seed zero\n4\nimplements seed zero\ncompiles zero c other\n\
+        5\nimplements seed zero\n6\nimplements seed zero\ncompiles zero e other\n7\nimplements seed zero\n8\nimplements seed zero\ncompiles zero g other\n\
+        9\nimplements seed zero\n10\nimplements seed zero\ncompiles zero i other\n11\nimplements seed zero\n12\nimplements seed zero\ncompiles zero k other\n\
+        13\nimplements seed zero\n14\nimplements seed zero\ncompiles zero m other\n15\nimplements seed zero\n16\nimplements seed zero\ncompiles zero o other\n",
+    ),
+];
+
+/// The lines of each stage's route, under its number.
+fn routes(alloc: Global, stages: &str) -> Result<String, OutOfMemory> {
+    let stages = stages.replace(alloc, "$", KEYS)?;
+    let text = with_stages(alloc, FRONT, stages.as_str())?;
+    let mut lines = String::new(alloc);
+    if let Ok(recipe) = read(alloc, text.as_str().as_bytes()) {
+        let count = recipe.stages().as_slice().len();
+        for index in 0..count {
+            let number = index as u32 + 1;
+            lines.push_str(format!(in alloc; "{number}\n")?.as_str())?;
+            for assumption in assumptions_for(alloc, &recipe, number)?.as_slice() {
+                lines.push_str(line(alloc, assumption)?.as_str())?;
+            }
+        }
+    }
+    Ok(lines)
+}
+
+#[test]
+fn of_stages(rt: HostRuntime) -> Result<(), Fail> {
+    for (stages, wanted) in &ROUTES {
+        assert_eq!(&rt; routes(rt.alloc(), stages)?.as_str(), *wanted, "{stages}");
+    }
+    Ok(())
+}
