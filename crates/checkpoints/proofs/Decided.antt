@@ -5,7 +5,7 @@ use Rattle.std.specs.Bool.{Decides}
 use Rattle.std.specs.FinMap.{get}
 use Rattle.std.specs.List.{IsDistinct}
 use Rattle.std.specs.Ordering.{eq_by_cmp}
-use Rattle.std.proofs.lemmas.Bool.Decides.{Decides-below_and, Decides-eqb, Decides-like, Decides-ltb, Decides-not, Decides-or}
+use Rattle.std.proofs.lemmas.Bool.Decides.{Decides-below_and, Decides-eqb, Decides-like, Decides-ltb, Decides-or}
 use Rattle.std.proofs.lemmas.List.Elements.{All-from_recursion, recursion_from_All}
 use Rattle.paged_mem.specs.Memory.{Memory, IsFree, maps, page_up}
 use Rattle.mem_files.specs.declared.slot.Slot.{Slot}

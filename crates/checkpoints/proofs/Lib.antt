@@ -1,6 +1,8 @@
 pub mod Decided
 pub mod Decisions
 pub mod Exactly
+pub mod PatchCounts
+pub mod Patched
 pub mod FileTurns
 pub mod Memories
 pub mod PageCounts

@@ -3,7 +3,7 @@ use Rattle.std.proofs.Common.{◌≡◌, ◌%◌, Err}
 use Rattle.rv64_machine.specs.Hart.{IsReservation}
 use Rattle.guest_run.specs.Valid.{Fits}
 use Rattle.save_text.specs.StateText.StateText.{StateText}
-use Rattle.checkpoints.specs.Checkpoint.{AreMappable, Becomes, IsInMemory, lists_in, memory_of}
+use Rattle.checkpoints.specs.Checkpoint.{Becomes, IsInMemory, lists_in, memory_of}
 use Rattle.checkpoints.specs.Inside.Parts.{MakesFiles, RefusesMemory, RefusesReservation}
 use Rattle.checkpoints.specs.declared.file_parts.restoring.RestoreRefusal.{RestoreRefusal}
 use Rattle.checkpoints.specs.declared.file_parts.restoring.RestoreRefusal.TheVariants.{Range, FileRef, OutOfMemory}

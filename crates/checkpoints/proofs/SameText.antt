@@ -78,7 +78,7 @@ zeroed runs a = both (in_runs runs (a / 4096)) (finite.get (mapped_runs finite.e
 same_pages_again : (runs : List Run) (pages : List PageText) → AreShown 0 pages → pages_of (with_pages (mapped_runs finite.empty runs) pages) ≡ pages
 same_pages_again runs pages shown = pages_again (mapped_runs finite.empty runs) pages 0 0 (2 ^ 26) (zeroed runs) shown (omega arith) refl
 
-no_memory : IsWhole finite.empty
+pub no_memory : IsWhole finite.empty
 no_memory = record {
   small = λ at byte e. absurd (none-some byte (sym (finite.get-empty nat_cmp at) ∙ e));
   low = λ at byte e. absurd (none-some byte (sym (finite.get-empty nat_cmp at) ∙ e));
@@ -89,7 +89,7 @@ zero_bytes : (count : ℕ) → All (λ byte. byte < 256) (zeros count)
 unfolding zeros
 zero_bytes count = All-replicate (λ (byte : ℕ). byte < 256) count 0 (omega arith)
 
-whole_runs : (m : Memory) (runs : List Run) (least : ℕ) → IsWhole m → ArePlaced least runs → IsWhole (mapped_runs m runs)
+pub whole_runs : (m : Memory) (runs : List Run) (least : ℕ) → IsWhole m → ArePlaced least runs → IsWhole (mapped_runs m runs)
 unfolding mapped_runs
 whole_runs m [] least whole turn = whole
 whole_runs m (run ∷ runs) least whole turn =

@@ -1,4 +1,5 @@
 pub mod Checkpoint
+pub mod Patching
 pub mod FileParts
 pub mod Inside
 pub mod MemoryParts

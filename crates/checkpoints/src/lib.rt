@@ -8,11 +8,13 @@ pub mod file_parts;
 pub mod laws;
 mod memory;
 pub mod memory_parts;
+mod patching;
 mod reading;
 mod restoring;
 mod writing;
 
 pub use crate::file_parts::RestoreRefusal;
+pub use patching::{apply_patch, patched_guest_of, put_patch_of, write_patch};
 pub use reading::{StateRefusal, read_state};
 pub use restoring::guest_of;
 pub use writing::{put_state, write_state};

@@ -36,7 +36,7 @@ pub fn put_state<R: Ram>(
 }
 
 /// What a guest's state says. Contents are lent.
-fn parts_of<R: Ram>(alloc: Global, guest: &Guest<R>) -> Result<Parts<'_>, OutOfMemory>
+pub(crate) fn parts_of<R: Ram>(alloc: Global, guest: &Guest<R>) -> Result<Parts<'_>, OutOfMemory>
     ensures seen { IfOk result (λ parts. state_view parts ≡ state_of guest.now) }
     ensures text { IfOk result (λ parts. IsStateText (state_view parts)) }
 {

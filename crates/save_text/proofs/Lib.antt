@@ -2,3 +2,5 @@ pub mod Texts
 pub mod Written
 pub mod ByteFieldsLemmas
 pub mod StateTextLemmas
+pub mod PatchTextLemmas
+pub mod DeltaTextLemmas

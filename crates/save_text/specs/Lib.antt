@@ -4,3 +4,5 @@ pub mod Seen
 pub mod Inside
 pub mod ByteFields
 pub mod StateText
+pub mod PatchText
+pub mod DeltaText

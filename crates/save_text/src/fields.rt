@@ -32,7 +32,7 @@ pub(crate) fn digest_of(cursor: &mut Cursor<'_>) -> Result<Digest, WrongField>
 
 /// A length of 4 bytes, and a digest.
 #[tactic(auto, unfolding(crate::specs::SaveText::mark_at))]
-fn mark_of(cursor: &mut Cursor<'_>) -> Result<Mark, WrongField>
+pub(crate) fn mark_of(cursor: &mut Cursor<'_>) -> Result<Mark, WrongField>
     ensures { Finds (λ x. x) result cursor.new (mark_at cursor.old) }
 {
     let length = cursor.u32()?;
@@ -97,7 +97,10 @@ fn left_of(alloc: Global, cursor: &mut Cursor<'_>, count: u32) -> Result<LeftLin
 
 /// A file that a stage left: its name, lent, and its mark.
 #[tactic(auto, unfolding(crate::specs::SaveText::saved_left_at))]
-fn line_of<'a>(cursor: &mut Cursor<'a>, last: Option<&[u8]>) -> Result<(&'a [u8], Mark), WrongField>
+pub(crate) fn line_of<'a>(
+    cursor: &mut Cursor<'a>,
+    last: Option<&[u8]>,
+) -> Result<(&'a [u8], Mark), WrongField>
     ensures { Finds (λ x. record { name = x.0.now; mark = x.1 }) result cursor.new (saved_left_at (option_copied last.entry) cursor.old) }
 {
     let name = name_of(cursor, last)?;
@@ -167,7 +170,7 @@ impl<'a> Item<'a> for InputPart {
 
 /// A stage that is done.
 #[tactic(auto, unfolding(crate::specs::SaveText::saved_stage_at))]
-fn stage_of(alloc: Global, cursor: &mut Cursor<'_>) -> Result<StagePart, Stop>
+pub(crate) fn stage_of(alloc: Global, cursor: &mut Cursor<'_>) -> Result<StagePart, Stop>
     ensures { GivesField stage_view result cursor.new (saved_stage_at 0 cursor.old) }
 {
     let steps = cursor.u64()?;
@@ -223,7 +226,7 @@ fn pass_left(cursor: &mut Cursor<'_>, count: u32) -> Result<(), WrongField>
 
 /// Goes past a stage that is done.
 #[tactic(auto, unfolding(crate::specs::SaveText::saved_stage_at))]
-fn pass_stage(cursor: &mut Cursor<'_>) -> Result<(), WrongField>
+pub(crate) fn pass_stage(cursor: &mut Cursor<'_>) -> Result<(), WrongField>
     ensures { GoesPast result cursor.new (saved_stage_at 0 cursor.old) }
 {
     let _steps = cursor.u64()?;

@@ -6,9 +6,11 @@
 #![tactic(auto)]
 
 pub mod byte_fields;
+pub mod delta_text;
 mod fields;
 pub mod laws;
 mod parts;
+pub mod patch_text;
 mod reading;
 pub mod state_text;
 mod writing;

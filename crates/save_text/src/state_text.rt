@@ -10,8 +10,10 @@ mod parts;
 mod reading;
 mod writing;
 
+pub(crate) use items::{is_zero, name_of};
 pub use listing::{descriptors_of, files_of};
 pub use parts::{Descriptor, File, Page, Parts, Reserved, Run};
-pub(crate) use reading::{parts_in, pass_state_in};
+pub(crate) use reading::{heap_of, parts_in, pass_state_in, reservation_of};
 pub use reading::{TextRefusal, read};
 pub use writing::put_parts;
+pub(crate) use writing::{put_heap, put_reservation};

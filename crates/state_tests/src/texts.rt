@@ -1,11 +1,17 @@
-//! Tests of the texts of states and saves: what is expected comes from docs/reference/save.md.
+//! Tests of the texts of states and saves: what is expected comes from docs/reference/save.md and docs/reference/delta.md.
 
 ghost use Rattle.std.specs.Prelude.{◌≡◌, ◌++◌, OnOk, replicate};
 
 use std::alloc::AllocError;
 
 #[cfg(test)]
+mod deltas;
+#[cfg(test)]
+mod guest_patches;
+#[cfg(test)]
 mod guests;
+#[cfg(test)]
+mod patches;
 #[cfg(test)]
 mod pieces;
 #[cfg(test)]

@@ -1,5 +1,5 @@
 -- Pages that do not overlap may be written in any order.
-use Rattle.std.proofs.Common.{◌≡◌, ℕ, suc, ◌+◌, ◌*◌, ◌<◌, ◌≤◌, List, [], ◌∷◌, length, map, ◌++◌, get_or, reverse, take, refl, sym, ap, ◌∙◌, ◌⊎◌, arith, inl, inr, take_all}
+use Rattle.std.proofs.Common.{◌≡◌, ℕ, ◌+◌, ◌*◌, ◌<◌, ◌≤◌, List, [], ◌∷◌, length, map, ◌++◌, get_or, reverse, take, refl, sym, ap, ◌∙◌, ◌⊎◌, arith, inl, inr, take_all}
 use Rattle.std.specs.FinMap.{get}
 use Rattle.std.proofs.lemmas.Bool.{cases_lt}
 use Rattle.std.proofs.lemmas.Grind.{reverse_onto}

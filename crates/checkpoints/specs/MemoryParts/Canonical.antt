@@ -1,6 +1,6 @@
 -- The runs and the pages of a memory, in order: what a text of a state lists.
-use Rattle.std.specs.Prelude.{◌≡◌, ◌<◌, length, ℕ, zero, suc, ◌+◌, ◌*◌, ◌^◌, ◌≤◌, Bool, true, false, ◌==◌, Option, None, Some, List, [], ◌∷◌, ◌++◌, if◌then◌else◌}
-use Rattle.std.specs.FinMap.{contains_key, empty}
+use Rattle.std.specs.Prelude.{◌≡◌, ◌<◌, length, ℕ, zero, suc, ◌+◌, ◌*◌, ◌^◌, ◌≤◌, Bool, true, ◌==◌, Option, None, Some, List, [], ◌∷◌, ◌++◌, if◌then◌else◌}
+use Rattle.std.specs.FinMap.{contains_key}
 use Rattle.paged_mem.specs.Memory.{Memory, bytes_at, with_bytes, zeros}
 use Rattle.save_text.specs.declared.state_text.parts.Run.{Run}
 use Rattle.save_text.specs.StateText.StateText.{PageText, is_page, after_run, after_page}

@@ -1,5 +1,5 @@
 -- What stands in front of a text that more was added to.
-use Rattle.std.proofs.Common.{◌≡◌, ℕ, ◌≤◌, List, ◌++◌, length, take, refl, ap, ◌∙◌, arith, length-take, take_all}
+use Rattle.std.proofs.Common.{◌≡◌, ℕ, ◌≤◌, List, ◌++◌, length, refl, ap, ◌∙◌, arith, length-take, take_all}
 use Rattle.std.proofs.lemmas.List.{take_at, take-append-le}
 use Rattle.std.specs.Io.{StartsWith}
 

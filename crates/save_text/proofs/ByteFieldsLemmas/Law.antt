@@ -1,5 +1,5 @@
 -- The law of a field, from what its lemmas say.
-use Rattle.std.proofs.Common.{◌≡◌, ℕ, ◌<◌, ◌≤◌, List, length, get_or, arith, inl, inr}
+use Rattle.std.proofs.Common.{ℕ, List, length, arith, inl, inr}
 use Rattle.std.proofs.lemmas.Bool.{cases_lt}
 use Rattle.std.proofs.lemmas.List.{get_or_past}
 use Rattle.mem_files.specs.Sound as sound

@@ -353,6 +353,14 @@ pub record SpellsForms {A : Type 0} (field : Reader A) (text : TextForm → A �
   pub again : (form : TextForm) (x : A) (rest : List ℕ) → Fits form x → field (text form x ++ rest) ≡ Ok (x, rest)
   pub within : (left : List ℕ) (at : ℕ) → AreBytes left → field left ≡ Err at → at ≤ length left
 
+-- a text of one form, as one whose forms do not differ
+pub one_form : {A : Type 0} {field : Reader A} {text : A → List ℕ} {F : A → Type 0} → Spells field text F → SpellsForms field (λ form. text) (λ form. F)
+one_form s = record {
+  takes = λ left x rest fits e. let p = s.takes left x rest fits e in (First, p.0, p.1);
+  again = λ form. s.again;
+  within = s.within;
+}
+
 -- the bytes that begin a text of one of two forms
 pub spells_begun_in : (magic : TextForm → List ℕ) → ((form : TextForm) → length (magic form) ≡ 8) → bytes_eq (magic First) (magic Second) ≡ false → Spells (begun_in (magic First) (magic Second)) magic Nothing
 spells_begun_in magic long differ =

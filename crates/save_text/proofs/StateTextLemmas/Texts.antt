@@ -127,20 +127,20 @@ spells_page least =
 
 -- ---- a file
 
-again_named : (name : Option (List ℕ)) (bytes : List ℕ) → IsNameText name → bytes ≡ name_bytes name → optional_name bytes ≡ name
+pub again_named : (name : Option (List ℕ)) (bytes : List ℕ) → IsNameText name → bytes ≡ name_bytes name → optional_name bytes ≡ name
 again_named None bytes f e = ap optional_name e
 again_named (Some []) bytes f e = absurd (omega (arith, f.0))
 again_named (Some (byte ∷ more)) bytes f e = ap optional_name e
 
-named_bytes : (bytes : List ℕ) → name_bytes (optional_name bytes) ≡ bytes
+pub named_bytes : (bytes : List ℕ) → name_bytes (optional_name bytes) ≡ bytes
 named_bytes [] = refl
 named_bytes (byte ∷ more) = refl
 
-is_named : (bytes : List ℕ) → IsBlob (2 ^ 16) bytes → IsNameText (optional_name bytes)
+pub is_named : (bytes : List ℕ) → IsBlob (2 ^ 16) bytes → IsNameText (optional_name bytes)
 is_named [] f = tt
 is_named (byte ∷ more) f = (omega arith, f.short)
 
-short_name : (name : Option (List ℕ)) → IsNameText name → IsBlob (2 ^ 16) (name_bytes name)
+pub short_name : (name : Option (List ℕ)) → IsNameText name → IsBlob (2 ^ 16) (name_bytes name)
 short_name None f = record { short = omega arith }
 short_name (Some name) f = record { short = f.1 }
 

@@ -82,7 +82,8 @@ impl<'a> Item<'a> for Page<'a> {
     }
 }
 
-fn is_zero(bytes: &[u8]) -> bool
+/// Whether all bytes are zero.
+pub(crate) fn is_zero(bytes: &[u8]) -> bool
     ensures { result ≡ list_all (λ b. b == 0) bytes.now }
 {
     bytes.iter().all(|byte| *byte == 0)
@@ -146,7 +147,7 @@ ghost use Rattle.std.specs.Option.{option_copied};
 ghost use Rattle.save_text.specs.StateText.StateText.{optional_name};
 
 /// The name of a file: no bytes are none.
-fn name_of(bytes: &[u8]) -> Option<&[u8]>
+pub(crate) fn name_of(bytes: &[u8]) -> Option<&[u8]>
     ensures { option_copied result ≡ optional_name bytes.now }
 {
     match bytes {

@@ -37,7 +37,10 @@ fn registers_of(cursor: &mut Cursor<'_>) -> Result<[u64; 31], WrongField>
 
 /// What is reserved by a text of this form.
 #[tactic(auto, unfolding(crate::specs::StateText::StateText::reservation_at, crate::specs::StateText::StateText::reserved_at))]
-fn reservation_of(cursor: &mut Cursor<'_>, form: TextForm) -> Result<Option<Reserved>, WrongField>
+pub(crate) fn reservation_of(
+    cursor: &mut Cursor<'_>,
+    form: TextForm,
+) -> Result<Option<Reserved>, WrongField>
     ensures { Finds (option_map reserved_view) result cursor.new (reservation_at form cursor.old) }
 {
     if form == TextForm::First {
@@ -55,7 +58,7 @@ fn reservation_of(cursor: &mut Cursor<'_>, form: TextForm) -> Result<Option<Rese
 }
 
 #[tactic(auto, unfolding(crate::specs::StateText::StateText::heap_at))]
-fn heap_of(cursor: &mut Cursor<'_>) -> Result<Heap, WrongField>
+pub(crate) fn heap_of(cursor: &mut Cursor<'_>) -> Result<Heap, WrongField>
     ensures { Finds (λ x. x) result cursor.new (heap_at cursor.old) }
 {
     let first = cursor.u64()?;

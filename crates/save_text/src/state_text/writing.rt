@@ -24,7 +24,10 @@ fn put_registers(out: &mut Bytes, registers: &[u64]) -> Result<(), OutOfMemory>
 }
 
 #[tactic(auto, using(crate::proofs::ByteFieldsLemmas::Kept::kept))]
-fn put_reservation(out: &mut Bytes, reservation: Option<Reserved>) -> Result<(), OutOfMemory>
+pub(crate) fn put_reservation(
+    out: &mut Bytes,
+    reservation: Option<Reserved>,
+) -> Result<(), OutOfMemory>
     ensures ok { OnOk result (out.new ≡ out.old ++ reservation_text Second (option_map reserved_view reservation)) }
     ensures err { OnErr result (StartsWith out.new out.old) }
 {
@@ -38,7 +41,7 @@ fn put_reservation(out: &mut Bytes, reservation: Option<Reserved>) -> Result<(),
 }
 
 #[tactic(auto, using(crate::proofs::ByteFieldsLemmas::Kept::kept))]
-fn put_heap(out: &mut Bytes, heap: Heap) -> Result<(), OutOfMemory>
+pub(crate) fn put_heap(out: &mut Bytes, heap: Heap) -> Result<(), OutOfMemory>
     ensures ok { OnOk result (out.new ≡ out.old ++ heap_text heap) }
     ensures err { OnErr result (StartsWith out.new out.old) }
 {

@@ -237,7 +237,8 @@ static SEVERAL: &[Several] = &[
     (&[(2, N8(0x10002)), (68, N1(0))], FORM),
 ];
 
-fn pieces(alloc: Global) -> Result<Vec<Piece>, AllocError> {
+/// The text of a guest.
+pub fn pieces(alloc: Global) -> Result<Vec<Piece>, AllocError> {
     let mut list = Vec::new(alloc);
     for piece in STATE.iter().take(35) {
         list.push(*piece)?;

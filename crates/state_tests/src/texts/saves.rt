@@ -69,7 +69,8 @@ static CHANGES: &[Change] = &[
     (93, N4(1), Some(94)),
 ];
 
-fn save(alloc: Global) -> Result<Vec<Piece>, AllocError> {
+/// The text of a save.
+pub fn save(alloc: Global) -> Result<Vec<Piece>, AllocError> {
     let mut pieces = Vec::from_slice(alloc, FRONT)?;
     pieces.extend_from_slice(STATE)?;
     Ok(pieces)

@@ -1,5 +1,5 @@
 -- The memory that runs and pages say, from the last run on.
-use Rattle.std.specs.Prelude.{ℕ, ◌*◌, List, [], ◌∷◌}
+use Rattle.std.specs.Prelude.{◌*◌, List, [], ◌∷◌}
 use Rattle.std.specs.FinMap.{empty}
 use Rattle.paged_mem.specs.Memory.{Memory, with_bytes, zeros}
 use Rattle.save_text.specs.declared.state_text.parts.Run.{Run}

@@ -1,4 +1,4 @@
-use Rattle.std.proofs.Common.{◌≡◌, Ok, ap, sym, ◌∙◌}
+use Rattle.std.proofs.Common.{ap, sym, ◌∙◌}
 use Rattle.save_text.specs.SaveText.{parsed_save, save_at}
 use Rattle.save_text.specs.Seen.{save_view}
 use Rattle.save_text.proofs.ByteFieldsLemmas.Spells.{formed_so}

@@ -1,4 +1,4 @@
-use Rattle.std.proofs.Common.{◌≡◌, Ok, ap, sym, ◌∙◌}
+use Rattle.std.proofs.Common.{ap, sym, ◌∙◌}
 use Rattle.save_text.specs.StateText.StateText.{parsed_state, state_at}
 use Rattle.save_text.specs.StateText.Seen.{state_view}
 use Rattle.save_text.proofs.ByteFieldsLemmas.Spells.{formed_so}

@@ -1,0 +1,133 @@
+//! A guest's state beside another one's, its base, as a patch, and back.
+
+ghost use Rattle.std.specs.Prelude.{◌≡◌, ◌<◌, ◌≤◌, ◌^◌, ◌↔◌, ◌++◌, IfOk, IsTrue, OnErr, OnOk, length};
+ghost use Rattle.guest_run.specs.State.{GuestState};
+ghost use Rattle.guest_run.specs.Valid.{IsValid};
+ghost use Rattle.save_text.specs.PatchText.Spelled.{IsPatched, text_of_patch};
+ghost use Rattle.save_text.specs.StateText.Seen.{state_view};
+ghost use Rattle.save_text.specs.StateText.Spelled.{IsStateText};
+ghost use Rattle.save_text.specs.StateText.StateText.{StateText};
+ghost use Rattle.checkpoints.specs.Checkpoint.{Becomes, IsReadAs, state_of};
+ghost use Rattle.checkpoints.specs.Patching.{AppliesPatch};
+
+use crate::file_parts::RestoreRefusal;
+use crate::reading::StateRefusal;
+use crate::restoring::guest_of;
+use crate::writing::parts_of;
+use ddc_base::{Bytes, OutOfMemory};
+use guest_run::Guest;
+use paged_mem::Ram;
+use save_text::patch_text::{put_patch, read};
+use save_text::state_text::{Parts, TextRefusal};
+use std::alloc::Global;
+
+/// The one patch of a guest's state against a base. Neither state's text is made: pages and contents are compared where they stand.
+pub fn write_patch<R: Ram>(
+    alloc: Global,
+    base: &Guest<R>,
+    now: &Guest<R>,
+) -> Result<Bytes, OutOfMemory>
+    ensures { IfOk result (λ text. text ≡ text_of_patch (state_of base.now) (state_of now.now)) }
+{
+    let mut out = Bytes::new(alloc);
+    let known = known_of(alloc, base)?;
+    put_patch_of(alloc, &mut out, &known, now)?;
+    Ok(out)
+}
+
+/// What the state of a base says, which lists few pages.
+fn known_of<R: Ram>(alloc: Global, base: &Guest<R>) -> Result<Parts<'_>, OutOfMemory>
+    ensures seen { IfOk result (λ parts. state_view parts ≡ state_of base.now) }
+    ensures text { IfOk result (λ parts. IsStateText (state_view parts)) }
+    ensures few { IfOk result (λ parts. length (state_view parts).pages ≤ 2 ^ 26) }
+{
+    parts_of(alloc, base)
+}
+
+/// Adds the patch of a guest's state against what a base says, all or none.
+pub fn put_patch_of<R: Ram>(
+    alloc: Global,
+    out: &mut Bytes,
+    base: &Parts<'_>,
+    guest: &Guest<R>,
+) -> Result<(), OutOfMemory>
+    requires base { IsStateText (state_view base.now) }
+    requires few { length (state_view base.now).pages ≤ 2 ^ 26 }
+    ensures ok { OnOk result (out.new ≡ out.old ++ text_of_patch (state_view base.now) (state_of guest.now)) }
+    ensures err { OnErr result (out.new ≡ out.old) }
+{
+    let parts = parts_of(alloc, guest)?;
+    put_patch(alloc, out, base, &parts)
+}
+
+/// The guest whose state a patch says beside the base.
+pub fn apply_patch<R: Ram>(
+    alloc: Global,
+    base: &Guest<R>,
+    text: &[u8],
+) -> Result<Guest<R>, StateRefusal>
+    // What is made has this patch against the base.
+    ensures found { IfOk result (λ guest. text.now ≡ text_of_patch (state_of base.now) (state_of guest)) }
+    // The patch of a valid state is read as the guest in that state, unless memory runs out.
+    ensures only { (g : GuestState) → IsValid g → g.steps < 2 ^ 64 → text.now ≡ text_of_patch (state_of base.now) (state_of g) → IsReadAs g result }
+    // When each refusal comes.
+    ensures exact { AppliesPatch (state_of base.now) text.now result }
+{
+    applied(alloc, base, text)
+}
+
+fn applied<R: Ram>(alloc: Global, base: &Guest<R>, text: &[u8]) -> Result<Guest<R>, StateRefusal>
+    ensures applies { AppliesPatch (state_of base.now) text.now result }
+    ensures base { IsValid base.now }
+    ensures few { base.now.steps < 2 ^ 64 }
+{
+    // Every guest is in a valid state: this call tells it.
+    base.steps();
+    match parts_of(alloc, base) {
+        Ok(known) => beside(alloc, &known, text),
+        Err(OutOfMemory) => Err(StateRefusal::OutOfMemory),
+    }
+}
+
+/// The guest whose state a patch says beside what a base says.
+fn beside<'a, R: Ram>(
+    alloc: Global,
+    known: &Parts<'a>,
+    text: &'a [u8],
+) -> Result<Guest<R>, StateRefusal>
+    requires { IsStateText (state_view known.now) }
+    ensures { AppliesPatch (state_view known.now) text.now result }
+{
+    let parts = match read(alloc, known, text) {
+        Ok(parts) => parts,
+        Err(TextRefusal::Form(offset)) => return Err(StateRefusal::Form(offset)),
+        Err(TextRefusal::OutOfMemory) => return Err(StateRefusal::OutOfMemory),
+    };
+    match patched_guest_of(alloc, &parts) {
+        Ok(guest) => Ok(guest),
+        Err(RestoreRefusal::Range) => Err(StateRefusal::Range),
+        Err(RestoreRefusal::FileRef) => Err(StateRefusal::FileRef),
+        Err(RestoreRefusal::OutOfMemory) => Err(StateRefusal::OutOfMemory),
+    }
+}
+
+/// Whether a count of 4 bytes has a place for so many pages.
+fn are_countable(parts: &Parts<'_>) -> bool
+    ensures { IsTrue result ↔ (length (state_view parts.now).pages < 2 ^ 32) }
+{
+    (parts.pages.as_slice().len() as u64) < 1 << 32
+}
+
+/// The guest that a patch says beside some base: `Range` and `FileRef` as of a state's text.
+pub fn patched_guest_of<R: Ram>(
+    alloc: Global,
+    parts: &Parts<'_>,
+) -> Result<Guest<R>, RestoreRefusal>
+    requires { (base : StateText) × IsPatched base (state_view parts.now) }
+    ensures { Becomes (state_view parts.now) result }
+{
+    if !are_countable(parts) {
+        return Err(RestoreRefusal::Range);
+    }
+    guest_of(alloc, parts)
+}

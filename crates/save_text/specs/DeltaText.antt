@@ -1,0 +1,5 @@
+pub mod Stages
+pub mod DeltaText
+pub mod Front
+pub mod Seen
+pub mod Inside

@@ -1,0 +1,14 @@
+//! The text of a delta: where an audit stands, kept beside a save, its base, as what differs.
+//!
+//! docs/reference/delta.md has its fields for a reader, and specs/DeltaText/DeltaText.antt the same for the prover.
+
+pub mod laws;
+mod parts;
+mod passing;
+mod reading;
+mod stages;
+
+pub use parts::DeltaParts;
+pub use passing::names_other_base;
+pub use reading::{MAGIC, read};
+pub use stages::is_same_stage;

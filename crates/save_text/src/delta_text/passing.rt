@@ -1,0 +1,184 @@
+//! Going past the fields of a delta without keeping them: its form is judged so, with no memory.
+
+ghost use Rattle.std.specs.Prelude.{◌≡◌, ◌==◌, ◌&&◌, None, bytes_eq, drop, length, map, nat_le, option_map};
+ghost use Rattle.std.specs.Option.{option_copied};
+ghost use Rattle.save_text.specs.ByteFields.Reader.{Finds, several};
+ghost use Rattle.save_text.specs.DeltaText.DeltaText.{delta_at, delta_front_at, parsed_delta};
+ghost use Rattle.save_text.specs.DeltaText.Front.{is_of_other_base};
+ghost use Rattle.save_text.specs.DeltaText.Inside.Beside.{IsLeftNext, PassesBeside};
+ghost use Rattle.save_text.specs.DeltaText.Stages.{after_further, equal_lefts, equal_marks, equal_stages, further_at, stages_beside_at};
+ghost use Rattle.save_text.specs.Inside.Passing.{GoesPast, JudgesForm};
+ghost use Rattle.save_text.specs.SaveText.{after_left, saved_left_at, saved_stage_at};
+ghost use Rattle.save_text.specs.Seen.{save_view, stage_view};
+ghost use Rattle.save_text.specs.Spelled.{IsSaveText};
+
+use crate::byte_fields::{Cursor, WrongField};
+use crate::delta_text::reading::MAGIC;
+use crate::delta_text::stages::{is_same_left, is_same_mark, kept_of, known_at};
+use crate::fields::{digest_of, line_of, mark_of, pass_stage};
+use crate::parts::{Parts, StagePart};
+use crate::patch_text::pass_patch;
+use crate::state_text::TextRefusal;
+use ddc_base::digests::Digest;
+use report::{LeftLine, Mark};
+
+/// Whether a text begins as a delta against another base than that of this digest.
+pub fn names_other_base(base: &Digest, text: &[u8]) -> bool
+    ensures { result ≡ is_of_other_base base.now text.now }
+{
+    let mut cursor = Cursor::new(text);
+    match front_of(&mut cursor) {
+        Ok(found) => found != *base,
+        Err(_) => false,
+    }
+}
+
+/// Of which base a text is, by the digest behind its magic.
+#[tactic(auto, unfolding(crate::specs::DeltaText::DeltaText::delta_front_at))]
+fn front_of(cursor: &mut Cursor<'_>) -> Result<Digest, WrongField>
+    ensures { Finds (λ x. x) result cursor.new (delta_front_at cursor.old) }
+{
+    cursor.begins_with(&MAGIC)?;
+    digest_of(cursor)
+}
+
+/// Whether both hold.
+fn are_both(first: bool, second: bool) -> bool
+    ensures { result ≡ (first && second) }
+{
+    if first { second } else { false }
+}
+
+/// Whether the file at an index is one of this name and mark.
+fn is_left_at(known: &[LeftLine], index: usize, name: &[u8], mark: Mark) -> bool
+    ensures { IsLeftNext (drop index known.now) (record { name = name.now; mark = mark }) result }
+{
+    match known.get(index) {
+        Some(file) => is_same_left(file, name, mark),
+        None => false,
+    }
+}
+
+/// Whether there are no more files than so many.
+fn is_reached(known: &[LeftLine], count: u32) -> bool
+    ensures { result ≡ nat_le (length known.now) count }
+{
+    known.len() <= count as usize
+}
+
+/// Goes past the files that a stage left, and says whether they are those of the base.
+fn pass_lefts(cursor: &mut Cursor<'_>, count: u32, known: &[LeftLine]) -> Result<bool, WrongField>
+    ensures { PassesBeside (equal_lefts known.now) result cursor.new (several saved_left_at after_left None count cursor.old) }
+{
+    let mut last = None;
+    let mut same = true;
+    for index in 0..count {
+        let (name, mark) = line_of(cursor, last)?;
+        last = Some(name);
+        same = are_both(same, is_left_at(known, index as usize, name, mark));
+    }
+    Ok(are_both(same, is_reached(known, count)))
+}
+
+/// Whether a stage of the base has these steps and marks, and this artefact, where it is known whether the files that were left are the same.
+fn are_same(known: &StagePart, ended: (u64, Mark, Mark), same_left: bool, made: &[u8]) -> bool
+    ensures { result ≡ (known.now.steps == ended.0 && (equal_marks known.now.stream1 ended.1
+        && (equal_marks known.now.stream2 ended.2 && (same_left && bytes_eq known.now.made made.now)))) }
+{
+    if known.steps != ended.0 {
+        return false;
+    }
+    if !is_same_mark(known.stream1, ended.1) {
+        return false;
+    }
+    if !is_same_mark(known.stream2, ended.2) {
+        return false;
+    }
+    are_both(same_left, known.made.as_slice() == made)
+}
+
+/// Goes past a stage that is done, and says whether it is that of the base.
+#[tactic(auto, unfolding(crate::specs::SaveText::saved_stage_at))]
+fn pass_beside(cursor: &mut Cursor<'_>, known: &StagePart) -> Result<bool, WrongField>
+    ensures { PassesBeside (equal_stages (stage_view known.now)) result cursor.new (saved_stage_at 0 cursor.old) }
+{
+    let steps = cursor.u64()?;
+    let stream1 = mark_of(cursor)?;
+    let stream2 = mark_of(cursor)?;
+    let count = cursor.u32()?;
+    let same_left = pass_lefts(cursor, count, known.left.as_slice())?;
+    let made = cursor.blob32()?;
+    Ok(are_same(known, (steps, stream1, stream2), same_left, made))
+}
+
+/// Goes past a further stage, which is wrong where it could have been kept.
+#[tactic(auto, unfolding(crate::specs::DeltaText::Stages::further_at))]
+fn pass_further(cursor: &mut Cursor<'_>, known: Option<&StagePart>) -> Result<(), WrongField>
+    ensures { GoesPast result cursor.new (further_at (option_map stage_view (option_copied known.entry)) cursor.old) }
+{
+    let at = cursor.len();
+    match known {
+        None => pass_stage(cursor),
+        Some(known) => {
+            if pass_beside(cursor, known)? {
+                return Err(WrongField { left: at });
+            }
+            Ok(())
+        }
+    }
+}
+
+/// Goes past so many further stages.
+fn pass_several(
+    cursor: &mut Cursor<'_>,
+    known: Option<&StagePart>,
+    count: u32,
+) -> Result<(), WrongField>
+    ensures { GoesPast result cursor.new (several further_at after_further (option_map stage_view (option_copied known.entry)) count cursor.old) }
+{
+    let mut beside = known;
+    for _ in 0..count {
+        pass_further(cursor, beside)?;
+        beside = None;
+    }
+    Ok(())
+}
+
+/// Goes past the stages that are done.
+#[tactic(auto, unfolding(crate::specs::DeltaText::Stages::stages_beside_at))]
+fn pass_stages_beside(cursor: &mut Cursor<'_>, base: &[StagePart]) -> Result<(), WrongField>
+    ensures { GoesPast result cursor.new (stages_beside_at (map stage_view base.now) cursor.old) }
+{
+    let kept = kept_of(cursor, base)?;
+    let count = cursor.u32()?;
+    pass_several(cursor, known_at(base, kept), count)
+}
+
+/// Goes past a delta.
+#[tactic(auto, unfolding(crate::specs::DeltaText::DeltaText::delta_at))]
+fn pass_delta<'a>(cursor: &mut Cursor<'a>, base: &Parts<'a>) -> Result<(), WrongField>
+    requires { IsSaveText (save_view base.now) }
+    ensures { GoesPast result cursor.new (delta_at (save_view base.now) cursor.old) }
+{
+    cursor.begins_with(&MAGIC)?;
+    let _digest = digest_of(cursor)?;
+    pass_stages_beside(cursor, base.done.as_slice())?;
+    pass_patch(cursor, &base.state)
+}
+
+/// Whether a text has the form of a delta, all of it.
+#[tactic(auto, unfolding(crate::specs::DeltaText::DeltaText::parsed_delta))]
+pub(crate) fn judge<'a>(base: &Parts<'a>, text: &'a [u8]) -> Result<(), TextRefusal>
+    requires { IsSaveText (save_view base.now) }
+    ensures { JudgesForm result (parsed_delta (save_view base.now) text.now) }
+{
+    let mut cursor = Cursor::new(text);
+    match pass_delta(&mut cursor, base) {
+        Ok(()) => {}
+        Err(field) => return Err(TextRefusal::Form((text.len() - field.left) as u64)),
+    }
+    match cursor.len() {
+        0 => Ok(()),
+        left => Err(TextRefusal::Form((text.len() - left) as u64)),
+    }
+}

@@ -1,0 +1,149 @@
+//! A position read of a delta, beside its base.
+
+ghost use Rattle.std.specs.Prelude.{◌≡◌, ◌++◌, IfOk, Ok, map, option_map, take};
+ghost use Rattle.std.specs.Option.{option_copied};
+ghost use Rattle.save_text.specs.ByteFields.Reader.{GivesField, several};
+ghost use Rattle.save_text.specs.DeltaText.DeltaText.{DeltaText, IsDelta, delta_at, parsed_delta, text_of_delta};
+ghost use Rattle.save_text.specs.DeltaText.Seen.{ReadsDeltaText, delta_view};
+ghost use Rattle.save_text.specs.DeltaText.Stages.{after_further, further_at, stages_beside_at};
+ghost use Rattle.save_text.specs.Seen.{save_view, stage_view};
+ghost use Rattle.save_text.specs.Spelled.{IsSaveText};
+
+use crate::byte_fields::{Cursor, Stop};
+use crate::delta_text::parts::DeltaParts;
+use crate::delta_text::passing::judge;
+use crate::delta_text::stages::{is_other, kept_of, known_at};
+use crate::fields::{digest_of, stage_of};
+use crate::parts::{Parts, StagePart};
+use crate::patch_text::patch_of;
+use crate::state_text::TextRefusal;
+use std::alloc::{AllocError, Global};
+
+/// The eight bytes that begin the text of a delta.
+pub const MAGIC: [u8; 8] = *b"ddcdelt2";
+
+/// A further stage, which is wrong where it could have been kept.
+#[tactic(auto, unfolding(crate::specs::DeltaText::Stages::further_at))]
+fn further_of(
+    alloc: Global,
+    cursor: &mut Cursor<'_>,
+    known: Option<&StagePart>,
+) -> Result<StagePart, Stop>
+    ensures { GivesField stage_view result cursor.new (further_at (option_map stage_view (option_copied known.entry)) cursor.old) }
+{
+    let at = cursor.len();
+    let stage = stage_of(alloc, cursor)?;
+    if !is_other(known, &stage) {
+        return Err(Stop::Wrong(at));
+    }
+    Ok(stage)
+}
+
+/// So many further stages.
+fn several_further(
+    alloc: Global,
+    cursor: &mut Cursor<'_>,
+    known: Option<&StagePart>,
+    count: u32,
+) -> Result<Vec<StagePart>, Stop>
+    ensures { GivesField (λ v. map stage_view v.items) result cursor.new (several further_at after_further (option_map stage_view (option_copied known.entry)) count cursor.old) }
+{
+    let mut stages = Vec::new(alloc);
+    let mut beside = known;
+    for _ in 0..count {
+        let stage = further_of(alloc, cursor, beside)?;
+        beside = None;
+        stages.push(stage)?;
+    }
+    Ok(stages)
+}
+
+/// The first so many of a base's stages, and further ones behind them. No artefact is copied.
+fn joined(
+    base: Vec<StagePart>,
+    kept: usize,
+    further: Vec<StagePart>,
+) -> Result<Vec<StagePart>, AllocError>
+    ensures { IfOk result (λ stages. stages.items ≡ take kept base.items ++ further.items) }
+{
+    let mut stages = base;
+    let mut behind = further;
+    stages.truncate(kept);
+    stages.append(&mut behind)?;
+    Ok(stages)
+}
+
+/// The stages that are done.
+#[tactic(auto, unfolding(crate::specs::DeltaText::Stages::stages_beside_at))]
+fn stages_of(
+    alloc: Global,
+    cursor: &mut Cursor<'_>,
+    base: Vec<StagePart>,
+) -> Result<Vec<StagePart>, Stop>
+    ensures { GivesField (λ v. map stage_view v.items) result cursor.new (stages_beside_at (map stage_view base.items) cursor.old) }
+{
+    let kept = kept_of(cursor, base.as_slice())?;
+    let count = cursor.u32()?;
+    let further = several_further(alloc, cursor, known_at(base.as_slice(), kept), count)?;
+    let stages = joined(base, kept as usize, further)?;
+    Ok(stages)
+}
+
+/// A delta's text at the front of what is left.
+#[tactic(auto, unfolding(crate::specs::DeltaText::DeltaText::delta_at))]
+fn delta_of<'a>(
+    alloc: Global,
+    cursor: &mut Cursor<'a>,
+    base: Parts<'a>,
+) -> Result<DeltaParts<'a>, Stop>
+    requires { IsSaveText (save_view base) }
+    ensures { GivesField delta_view result cursor.new (delta_at (save_view base.entry) cursor.old) }
+{
+    let Parts {
+        done,
+        state,
+        recipe: _,
+        inputs: _,
+    } = base;
+    cursor.begins_with(&MAGIC)?;
+    let digest = digest_of(cursor)?;
+    let stages = stages_of(alloc, cursor, done)?;
+    let state = patch_of(alloc, cursor, &state)?;
+    Ok(DeltaParts {
+        base: digest,
+        done: stages,
+        state,
+    })
+}
+
+/// What a delta says beside its base. Each field is judged given those before it and the base, so an offset is that of the first wrong one; a
+/// wrong field of the patch has its place in the delta. The form is judged first, which takes no memory.
+pub fn read<'a>(
+    alloc: Global,
+    base: Parts<'a>,
+    text: &'a [u8],
+) -> Result<DeltaParts<'a>, TextRefusal>
+    requires { IsSaveText (save_view base) }
+    // What is read is spelled so beside the base.
+    ensures found { IfOk result (λ p. IsDelta (save_view base.entry) (delta_view p) × (text.now ≡ text_of_delta (save_view base.entry) (delta_view p))) }
+    // What is spelled so beside the base is read, unless memory runs out.
+    ensures only { (d : DeltaText) → IsDelta (save_view base.entry) d → text.now ≡ text_of_delta (save_view base.entry) d → ReadsDeltaText result (Ok d) }
+    // Which field is the first wrong one.
+    ensures exact { ReadsDeltaText result (parsed_delta (save_view base.entry) text.now) }
+{
+    all(alloc, base, text)
+}
+
+#[tactic(auto, unfolding(crate::specs::DeltaText::DeltaText::parsed_delta))]
+fn all<'a>(alloc: Global, base: Parts<'a>, text: &'a [u8]) -> Result<DeltaParts<'a>, TextRefusal>
+    requires { IsSaveText (save_view base) }
+    ensures { ReadsDeltaText result (parsed_delta (save_view base.entry) text.now) }
+{
+    judge(&base, text)?;
+    let mut cursor = Cursor::new(text);
+    match delta_of(alloc, &mut cursor, base) {
+        Ok(parts) => Ok(parts),
+        Err(Stop::OutOfMemory) => Err(TextRefusal::OutOfMemory),
+        Err(Stop::Wrong(_)) => unreachable!(),
+    }
+}

@@ -1,0 +1,18 @@
+//! The text of a patch: a state, kept beside another one, its base, as what differs.
+//!
+//! docs/reference/delta.md has its fields for a reader, and specs/PatchText/PatchText.antt the same for the prover.
+
+mod change;
+mod fields;
+pub mod laws;
+mod merging;
+mod numbered;
+mod passing;
+mod reading;
+mod writing;
+
+pub use change::Change;
+pub(crate) use passing::pass_patch;
+pub(crate) use reading::patch_of;
+pub use reading::read;
+pub use writing::put_patch;
