@@ -74,6 +74,7 @@ module _ (size : ℕ) (report : Report) (fault : Option (Part × ℕ)) (none : f
 
   pub yes : (result : Result Answer Stop) → Judges fault report.compare verdict.Yes → Says (answers status.Yes (demo_line size (steps_of_all report))) result
       → Says (demo_compared size report) result
+  unfolding demo_compared
   yes result is said = by_equal (all_equal report.compare) result (judged verdict.Yes is) said
 
   by_differs : (equal : Bool) (answer : Answer) → verdict.TrueButDiffers ≡ verdict_by equal → answer.status ≡ (if equal then status.Yes else status.Differs)
@@ -83,6 +84,7 @@ module _ (size : ℕ) (report : Report) (fault : Option (Part × ℕ)) (none : f
 
   pub differs : (answer : Answer) → Judges fault report.compare verdict.TrueButDiffers → answer.status ≡ compared_status report.compare
       → answer.text ≡ compared_lines report.compare → Says (demo_compared size report) (Ok answer)
+  unfolding demo_compared
   differs answer is told said = by_differs (all_equal report.compare) answer (judged verdict.TrueButDiffers is) told said
 
   by_refuted : (equal : Bool) (part : Part) (place : ℕ) → verdict.Refuted part place ≡ verdict_by equal → ⊥

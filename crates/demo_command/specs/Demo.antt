@@ -53,7 +53,7 @@ abbrev pub steps_of_all : Report → ℕ
 steps_of_all report = sum_by (λ (stage : StageLine). stage.steps) report.stages
 
 -- what the audit comes to; where the artefact differs or a stage is not done, that is said as `audit` does
-abbrev pub demo_compared : ℕ → Report → Plan
+unfoldable pub demo_compared : ℕ → Report → Plan
 demo_compared size report =
     if all_equal report.compare then answers status.Yes (demo_line size (steps_of_all report))
     else answers status.Differs (compared_lines report.compare)

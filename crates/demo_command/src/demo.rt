@@ -170,6 +170,7 @@ fn run<M: Meaning>(
 }
 
 /// Verifies a report, which is known to be true, and says how its comparisons ended.
+#[tactic(auto, unfolding(crate::specs::Demo::demo_compared))]
 fn verify<M: Meaning>(
     alloc: Global,
     recipe: &Recipe,
