@@ -38,10 +38,7 @@ stages = ["two", "three"]"#,
 fn shelf_of(alloc: Global, old: &str, new: &str) -> Result<MemShelf, OutOfMemory> {
     let mut shelf = audit_shelf(alloc, "", "")?;
     let recipe = two_routes(alloc)?;
-    shelf.set(
-        "a.toml",
-        with(alloc, recipe.as_str(), old, new)?.as_bytes(),
-    )?;
+    shelf.set("a.toml", with(alloc, recipe.as_str(), old, new)?.as_bytes())?;
     Ok(shelf)
 }
 
@@ -74,7 +71,13 @@ fn text_of<'s>(shelf: &'s MemShelf, name: &str) -> &'s str {
 }
 
 /// What is changed in the recipe, the status, the comparisons, and what `verify` prints under them.
-type Row = (&'static str, &'static str, Status, &'static str, &'static str);
+type Row = (
+    &'static str,
+    &'static str,
+    Status,
+    &'static str,
+    &'static str,
+);
 
 static RECIPES: [Row; 7] = [
     (
@@ -190,7 +193,11 @@ static CHANGES: [Change; 14] = [
         "compare three bin equal 3\ncompare two",
         "refuted header 0\n",
     ),
-    ("compare three bin", "compare three src", "refuted header 0\n"),
+    (
+        "compare three bin",
+        "compare three src",
+        "refuted header 0\n",
+    ),
     ("compare two bin", "compare two src", "refuted header 0\n"),
     ("compare three bin", "compare two bin", "refuted header 0\n"),
     ("compare three bin equal 3\n", "", "refuted header 0\n"),
@@ -202,17 +209,9 @@ static CHANGES: [Change; 14] = [
     ),
     // a compare line is judged behind the stages
     ("stage three 32", "stage three 31", "refuted run 3\n"),
-    (
-        "made 3 ba78",
-        "made 3 ba79",
-        "refuted files 2\n",
-    ),
+    ("made 3 ba78", "made 3 ba79", "refuted files 2\n"),
     // of form 1 a report of one comparison is read, and refuted by its form
-    (
-        "ddc-report 2",
-        "ddc-report 1",
-        "report line 29\n",
-    ),
+    ("ddc-report 2", "ddc-report 1", "report line 29\n"),
 ];
 
 #[test]
@@ -282,17 +281,14 @@ fn sixteen_routes(rt: HostRuntime) -> Result<(), Fail> {
     let mut compared = String::new(alloc);
     let mut routes = String::new(alloc);
     for letter in "abcdefghijklmnop".chars() {
-        stages.push_str(
-            format!(in alloc;
-                "[[stage]]\nname = \"{letter}\"\nprogram = \"prog\"\nargs = [\"copy\"]\nfiles = [{{ path = \"in\", from = \"src\" }}]\noutput = \"out\"\nsteps = 100000\n"
-            )?
-            .as_str(),
-        )?;
+        stages.push_str(format!(in alloc;
+            "[[stage]]\nname = \"{letter}\"\nprogram = \"prog\"\nargs = [\"copy\"]\nfiles = [{{ path = \"in\", from = \"src\" }}]\noutput = \"out\"\nsteps = 100000\n"
+        )?.as_str())?;
         names.push_str(format!(in alloc; "\"{letter}\", ")?.as_str())?;
         compared.push_str(format!(in alloc; "equal {letter} bin 3\n")?.as_str())?;
-        routes.push_str(
-            format!(in alloc; "route {letter}\nassumes implements prog copy_src\n")?.as_str(),
-        )?;
+        routes.push_str(format!(in alloc;
+            "route {letter}\nassumes implements prog copy_src\n"
+        )?.as_str())?;
     }
     let mut shelf = shelf_of(alloc, "", "")?;
     let recipe = two_routes(alloc)?;
@@ -304,7 +300,14 @@ fn sixteen_routes(rt: HostRuntime) -> Result<(), Fail> {
         compare.as_str(),
     )?;
     shelf.set("a.toml", recipe.as_bytes())?;
-    comes_to(&rt, alloc, &mut shelf, "audit", Status::Yes, compared.as_str())?;
+    comes_to(
+        &rt,
+        alloc,
+        &mut shelf,
+        "audit",
+        Status::Yes,
+        compared.as_str(),
+    )?;
     let text = answered(alloc, Status::Yes, compared.as_str(), routes.as_str())?;
     comes_to(&rt, alloc, &mut shelf, "verify", Status::Yes, text.as_str())?;
     Ok(())
