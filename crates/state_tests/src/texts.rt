@@ -15,9 +15,9 @@ mod patches;
 #[cfg(test)]
 mod pieces;
 #[cfg(test)]
-mod saves;
+mod runs;
 #[cfg(test)]
-mod segments;
+mod saves;
 #[cfg(test)]
 mod starts;
 #[cfg(test)]
