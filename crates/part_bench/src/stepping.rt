@@ -1,13 +1,7 @@
-//! Runs a loop of arithmetic, a load, a store and a branch on the machine, for bench/step.
-//!
-//! Its words are the number of turns and the number of data pages, a power of two. Each turn touches the next page. It prints how many
-//! steps were done, and the sum that the loop left in x10.
-#![tactic(auto)]
+//! A loop of arithmetic, a load, a store and a branch on the machine, for bench/step.
 
 use paged_mem::{FlatRam, Ram};
 use rv64_machine::{Hart, StepEnd};
-use std::io::ErrorKind;
-use std::{env, io};
 
 /// The loop, as GNU as makes it of bench/step/loop.s.
 const CODE: [u8; 48] = [
@@ -22,7 +16,7 @@ const CODE_AT: u64 = 0x1_0000;
 const DATA_AT: u64 = 0x1_1000;
 
 /// A hart at the loop's start, with its registers set; `None` for want of memory or too many pages.
-fn hart_at_loop(rt: &impl AllocGlobal, turns: u64, pages: u64) -> Option<Hart<FlatRam>> {
+pub(crate) fn hart_at_loop(rt: &impl AllocGlobal, turns: u64, pages: u64) -> Option<Hart<FlatRam>> {
     if pages > 65_536 {
         return None;
     }
@@ -38,7 +32,7 @@ fn hart_at_loop(rt: &impl AllocGlobal, turns: u64, pages: u64) -> Option<Hart<Fl
 }
 
 /// Steps until the loop calls the system, or `most` steps were done; how many were.
-fn steps_of(hart: &mut Hart<FlatRam>, most: u64) -> u64 {
+pub(crate) fn steps_of(hart: &mut Hart<FlatRam>, most: u64) -> u64 {
     for done in 0..most {
         match hart.step() {
             StepEnd::Done => {}
@@ -46,25 +40,4 @@ fn steps_of(hart: &mut Hart<FlatRam>, most: u64) -> u64 {
         }
     }
     most
-}
-
-fn number(word: Option<String>) -> io::Result<u64> {
-    match word {
-        Some(word) => word
-            .parse()
-            .map_err(|_| io::Error::from(ErrorKind::InvalidInput)),
-        None => Err(io::Error::from(ErrorKind::InvalidInput)),
-    }
-}
-
-fn main(rt: HostRuntime) -> io::Result<()> {
-    let mut words = env::args(&rt)?.skip(1);
-    let turns = number(words.next())?;
-    let pages = number(words.next())?;
-    let Some(mut hart) = hart_at_loop(&rt, turns, pages) else {
-        return Err(io::Error::from(ErrorKind::OutOfMemory));
-    };
-    let steps = steps_of(&mut hart, u64::MAX);
-    let sum = hart.reg(10);
-    println!(rt; "steps {steps} sum {sum}")
 }
