@@ -21,8 +21,9 @@ use Rattle.rv64_machine.specs.Hart.{IsReservation}
 use Rattle.guest_run.specs.Stack.{stack_end, stack_size}
 use Rattle.guest_run.specs.Valid.{Fits, pages_beside}
 use Rattle.save_text.specs.declared.state_text.parts.Run.{Run}
+use Rattle.save_text.specs.StateText.Mappable.{AreMappable}
 use Rattle.save_text.specs.StateText.StateText.{StateText}
-use Rattle.checkpoints.specs.Checkpoint.{AreMappable, IsInMemory, IsInRange, IsJoined, lists_in, mapped_of, memory_of}
+use Rattle.checkpoints.specs.Checkpoint.{IsInMemory, IsInRange, IsJoined, lists_in, mapped_of, memory_of}
 use Rattle.checkpoints.specs.FileParts.Inside.Judged.{is_slot_at}
 use Rattle.checkpoints.specs.Inside.Tests as test
 use Rattle.checkpoints.proofs.Decisions.{are_all, both, has_none, is_at_most, is_test}

@@ -3,6 +3,7 @@ pub mod Decisions
 pub mod Exactly
 pub mod PatchCounts
 pub mod Patched
+pub mod PatchLengths
 pub mod FileTurns
 pub mod Memories
 pub mod PageCounts

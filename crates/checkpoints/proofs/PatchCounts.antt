@@ -56,11 +56,11 @@ counted_text base s text few = record {
 
 -- ---- changes are no more than the pages of both
 
-abbrev count_of : {A : Type 0} → Option A → ℕ
+abbrev pub count_of : {A : Type 0} → Option A → ℕ
 count_of None = 0
 count_of (Some x) = 1
 
-item_count : {A : Type 0} (o : Option A) (xs : List A) → length (with_item o xs) ≡ count_of o + length xs
+pub item_count : {A : Type 0} (o : Option A) (xs : List A) → length (with_item o xs) ≡ count_of o + length xs
 item_count None xs = omega arith
 item_count (Some x) xs = omega arith
 
@@ -96,7 +96,7 @@ placed_at n (Some bytes) page e =
     let is : record { number = n; bytes = bytes } ≡ page = same_Some (record { number = n; bytes = bytes }) page e in
     ap page_number (sym is)
 
-listed_again : (pages : List PageText) → InTurn IsPage after_page 0 pages → items_from (λ n. page_of n (page_in pages n)) 0 (2 ^ 32) ≡ pages
+pub listed_again : (pages : List PageText) → InTurn IsPage after_page 0 pages → items_from (λ n. page_of n (page_in pages n)) 0 (2 ^ 32) ≡ pages
 listed_again pages turn =
     items_again page_number (λ n. page_of n (page_in pages n)) (λ n p e. placed_at n (page_in pages n) p e) pages (2 ^ 32) (pages_rise 0 pages turn)
     (λ n p e. omega (arith, has_number page_number pages n p e, (page_whole pages n p turn e).number)) (λ n lt. page_again pages n)

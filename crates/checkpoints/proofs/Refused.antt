@@ -1,7 +1,9 @@
 -- What refuses a part of what a text says refuses the whole.
-use Rattle.std.proofs.Common.{◌≡◌, ◌%◌, Err}
+use Rattle.std.proofs.Common.{◌≡◌, ℕ, ◌%◌, Bool, Result, Ok, Err, refl}
+use Rattle.std.specs.Prelude.{◌↔◌, IsOk, IsTrue}
 use Rattle.rv64_machine.specs.Hart.{IsReservation}
 use Rattle.guest_run.specs.Valid.{Fits}
+use Rattle.save_text.specs.StateText.Mappable.{AreMappable}
 use Rattle.save_text.specs.StateText.StateText.{StateText}
 use Rattle.checkpoints.specs.Checkpoint.{Becomes, IsInMemory, lists_in, memory_of}
 use Rattle.checkpoints.specs.Inside.Parts.{MakesFiles, RefusesMemory, RefusesReservation}
@@ -22,3 +24,8 @@ pub by_files : (s : StateText) (why : RestoreRefusal) → s.pc % 4 ≡ 0 → IsR
 by_files s Range aligned reserved memory fits makes = λ range. makes range.files
 by_files s FileRef aligned reserved memory fits makes = (record { aligned = aligned; reserved = reserved; memory = memory; fits = fits; files = makes.0 }, makes.1)
 by_files s OutOfMemory aligned reserved memory fits makes = (aligned, reserved, memory.runs)
+
+-- what is told of the runs of any state that is read is told of those of the one that is
+pub wanted : (read : Result StateText ℕ) (mappable : Bool) → IsOk read → ((s : StateText) → read ≡ Ok s → IsTrue mappable ↔ AreMappable s.runs) → (s : StateText) × (read ≡ Ok s) × (IsTrue mappable ↔ AreMappable s.runs)
+wanted (Ok s) mappable formed told = (s, refl, told s refl)
+wanted (Err at) mappable formed told = absurd cc

@@ -26,15 +26,15 @@ use Rattle.checkpoints.proofs.Turns.{pages_shown, runs_placed}
 
 -- ---- its parts
 
-heap_most : (heap : Heap) → HasAtMost 24 (heap_text heap)
+pub heap_most : (heap : Heap) → HasAtMost 24 (heap_text heap)
 heap_most heap = joined (number64 heap.first) (joined (number64 heap.now) (number64 heap.limit))
 
-reservation_most : (form : TextForm) (held : Option (ℕ × ℕ)) → HasAtMost 9 (reservation_text form held)
+pub reservation_most : (form : TextForm) (held : Option (ℕ × ℕ)) → HasAtMost 9 (reservation_text form held)
 reservation_most First held = record { long = omega arith }
 reservation_most Second None = record { long = omega arith }
 reservation_most Second (Some held) = after_byte (number64 held.1)
 
-run_most : (run : Run) → HasAtMost 8 (run_text run)
+pub run_most : (run : Run) → HasAtMost 8 (run_text run)
 run_most run = joined (number32 run.first) (number32 run.pages)
 
 page_most : (page : PageText) → length page.bytes ≡ 4096 → HasAtMost 4100 (page_text page)
@@ -48,10 +48,10 @@ slot_most : (slot : Slot) → HasAtMost 13 (slot_text slot)
 slot_most (File number cursor access) = joined (number32 number) (joined (number64 cursor) (itself (flags_of access ∷ [])))
 slot_most _ = record { long = omega arith }
 
-descriptor_most : (d : ℕ × Slot) → HasAtMost 18 (descriptor_text d)
+pub descriptor_most : (d : ℕ × Slot) → HasAtMost 18 (descriptor_text d)
 descriptor_most d = joined (number32 d.0) (after_byte (slot_most d.1))
 
-name_most : (name : Option (List ℕ)) (number : ℕ) (others : List (List ℕ × ℕ)) → All Named (with_name name number others) → HasAtMost 255 (name_bytes name) × All Named others
+pub name_most : (name : Option (List ℕ)) (number : ℕ) (others : List (List ℕ × ℕ)) → All Named (with_name name number others) → HasAtMost 255 (name_bytes name) × All Named others
 name_most None number others all = (record { long = omega arith }, all)
 name_most (Some name) number others all = (record { long = (short_name name (All-head Named (name, number) others all).0).1 }, All-tail Named (name, number) others all)
 
@@ -68,15 +68,15 @@ files_most (file ∷ files) all =
 -- ---- the whole
 
 -- what a text says has few parts
-record IsSmall (s : StateText) : Type 0 where
-  registers : length s.registers ≡ 31
-  runs : length s.runs ≤ 329_728
-  pages : length s.pages ≤ 329_728
-  shown : AreShown 0 s.pages
-  files : length s.files ≤ 5_120
-  names : All Named (named s.files)
-  descriptors : length s.descriptors ≤ 1_024
-  contents : length s.stream1 + length s.stream2 + sum_by (λ file. length file.content) s.files ≤ 536_870_912
+pub record IsSmall (s : StateText) : Type 0 where
+  pub registers : length s.registers ≡ 31
+  pub runs : length s.runs ≤ 329_728
+  pub pages : length s.pages ≤ 329_728
+  pub shown : AreShown 0 s.pages
+  pub files : length s.files ≤ 5_120
+  pub names : All Named (named s.files)
+  pub descriptors : length s.descriptors ≤ 1_024
+  pub contents : length s.stream1 + length s.stream2 + sum_by (λ file. length file.content) s.files ≤ 536_870_912
 
 body_most : (form : TextForm) (s : StateText) → IsSmall s → HasAtMost 1_892_769_089 (body_text form s)
 unfolding body_text
@@ -96,7 +96,7 @@ body_most form s small =
     (joined (counted descriptor_text s.descriptors (alike descriptor_text 18 s.descriptors (λ k d less. descriptor_most _)))
     (joined (joined (number32 (length s.stream1)) (itself s.stream1)) (joined (number32 (length s.stream2)) (itself s.stream2)))))))))))) (omega (arith, small.registers))
 
-is_small : (g : GuestState) → IsValid g → IsSmall (state_of g)
+pub is_small : (g : GuestState) → IsValid g → IsSmall (state_of g)
 unfolding state_of
 is_small g valid =
     let m = g.hart.memory in

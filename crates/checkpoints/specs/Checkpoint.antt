@@ -1,5 +1,5 @@
 -- The text of a guest's state, and the guest that a text says. docs/reference/save.md says the same for people.
-use Rattle.std.specs.Prelude.{◌≡◌, ◌*◌, ◌%◌, ◌+◌, ◌^◌, ◌≤◌, IsOk, IsTrue, [], ◌∷◌, All, drop, sum_by, ℕ, List, Result, Ok, Err}
+use Rattle.std.specs.Prelude.{◌≡◌, ◌*◌, ◌%◌, IsTrue, [], ◌∷◌, All, drop, ℕ, List, Result, Ok, Err}
 use Rattle.std.specs.FinMap as finite
 use Rattle.paged_mem.specs.Memory.{Memory, maps}
 use Rattle.mem_files.specs.Lists.{AreInRange, AreJoined, FileLists, lists_of, world_of}
@@ -7,7 +7,7 @@ use Rattle.rv64_machine.specs.Hart.{IsReservation}
 use Rattle.guest_run.specs.State.{GuestState}
 use Rattle.guest_run.specs.Valid.{Fits}
 use Rattle.checkpoints.specs.MemoryParts.Canonical.{with_pages, mapped_runs, pages_of, runs_of}
-use Rattle.save_text.specs.declared.state_text.parts.Run.{Run}
+use Rattle.save_text.specs.StateText.Mappable.{AreMappable}
 use Rattle.save_text.specs.StateText.StateText.{StateText, parsed_state}
 use Rattle.checkpoints.specs.declared.file_parts.restoring.RestoreRefusal.{RestoreRefusal}
 use Rattle.checkpoints.specs.declared.file_parts.restoring.RestoreRefusal.TheVariants as restored
@@ -50,11 +50,6 @@ guest_of s = record {
   steps = s.steps;
 }
 
--- what runs can be mapped: they end in memory, and have no more pages than a guest can have, 67,584 beside its heap and 262,144 of its heap
-pub record AreMappable (runs : List Run) : Type 0 where
-  pub within : All (λ run. run.first + run.pages ≤ 2 ^ 26) runs
-  pub few : sum_by (λ run. run.pages) runs ≤ 329_728
-
 -- what runs and pages say is a memory: the runs can be mapped, and each listed page is in one of them
 pub record IsInMemory (s : StateText) : Type 0 where
   pub runs : AreMappable s.runs
@@ -81,13 +76,18 @@ Becomes s (Err restored.Range) = ¬ (IsInRange s)
 Becomes s (Err restored.FileRef) = IsInRange s × ¬ (IsJoined s)
 Becomes s (Err restored.OutOfMemory) = (s.pc % 4 ≡ 0) × IsReservation s.reservation × AreMappable s.runs
 
--- what a text becomes: its form is judged first, then counts and ranges, then references. Want of memory comes only where the form holds
+-- memory may be wanted for the state that a text says: its form holds, and its runs can be mapped
+abbrev pub MayWantMemory : List ℕ → Type 0
+MayWantMemory text = (s : StateText) × (parsed_state text ≡ Ok s) × AreMappable s.runs
+
+-- what a text becomes: its form is judged first, then counts and ranges, then references. Want of memory comes only where the form holds and the
+-- runs can be mapped
 abbrev pub ReadsState : List ℕ → Result GuestState StateRefusal → Type 0
 ReadsState text (Ok guest) = (s : StateText) × (parsed_state text ≡ Ok s) × IsInRange s × IsJoined s × (guest ≡ guest_of s)
 ReadsState text (Err (state.Form offset)) = parsed_state text ≡ Err offset
 ReadsState text (Err state.Range) = (s : StateText) × (parsed_state text ≡ Ok s) × ¬ (IsInRange s)
 ReadsState text (Err state.FileRef) = (s : StateText) × (parsed_state text ≡ Ok s) × IsInRange s × ¬ (IsJoined s)
-ReadsState text (Err state.OutOfMemory) = IsOk (parsed_state text)
+ReadsState text (Err state.OutOfMemory) = MayWantMemory text
 
 -- what is read of the text of this state
 abbrev pub IsReadAs : GuestState → Result GuestState StateRefusal → Type 0

@@ -1,9 +1,10 @@
 //! Laws about the definitions.
 
-ghost use Rattle.std.specs.Prelude.{◌+◌, ◌*◌, ◌^◌, ◌≤◌, ℕ, All, IsTrue, List, length, sum_by};
+ghost use Rattle.std.specs.Prelude.{◌+◌, ◌*◌, ◌^◌, ◌<◌, ◌≤◌, ℕ, All, IsTrue, List, length, sum_by};
 ghost use Rattle.guest_run.specs.State.{GuestState};
 ghost use Rattle.guest_run.specs.Valid.{Fits, IsValid};
 ghost use Rattle.paged_mem.specs.Memory.{maps};
+ghost use Rattle.save_text.specs.PatchText.Spelled.{text_of_patch};
 ghost use Rattle.save_text.specs.StateText.StateText.{StateText};
 ghost use Rattle.save_text.specs.StateText.Spelled.{IsStateText, IsTextOfState};
 ghost use Rattle.checkpoints.specs.Checkpoint.{mapped_of, memory_of, state_of};
@@ -18,4 +19,10 @@ pub fn few_pages()
 /// The texts of every valid state have at most 1,892,769,097 bytes.
 pub fn texts_are_short()
     ensures { (g : GuestState) (text : List ℕ) → IsValid g → IsTextOfState (state_of g) text → length text ≤ 1_892_769_097 }
+{}
+
+/// The patch of every valid state against every other one has at most 1,894,752,591 bytes.
+pub fn patches_are_short()
+    ensures { (base g : GuestState) → IsValid base → base.steps < 2 ^ 64 → IsValid g → g.steps < 2 ^ 64
+        → length (text_of_patch (state_of base) (state_of g)) ≤ 1_894_752_591 }
 {}

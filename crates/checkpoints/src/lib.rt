@@ -14,7 +14,8 @@ mod restoring;
 mod writing;
 
 pub use crate::file_parts::RestoreRefusal;
-pub use patching::{apply_patch, patched_guest_of, put_patch_of, write_patch};
+pub use memory::are_mappable;
+pub use patching::{apply_patch, guest_beside, known_of, patched_guest_of, put_patch_of, write_patch};
 pub use reading::{StateRefusal, read_state};
 pub use restoring::guest_of;
 pub use writing::{put_state, write_state};

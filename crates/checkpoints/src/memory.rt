@@ -1,19 +1,17 @@
 //! The memory that a text says.
 
 ghost use Rattle.std.specs.Prelude.{◌≡◌, ◌+◌, ◌-◌, ◌^◌, ◌≤◌, ◌↔◌, All, IsTrue, MatchResult, SomeIff, sum_by};
+ghost use Rattle.save_text.specs.StateText.Mappable.{AreMappable};
 ghost use Rattle.save_text.specs.StateText.Spelled.{IsStateText};
 ghost use Rattle.save_text.specs.StateText.Seen.{state_view};
-ghost use Rattle.checkpoints.specs.Checkpoint.{AreMappable, IsInMemory, memory_of};
+ghost use Rattle.checkpoints.specs.Checkpoint.{IsInMemory, memory_of};
 ghost use Rattle.checkpoints.specs.Inside.Parts.{RefusesMemory};
 
 use crate::file_parts::RestoreRefusal;
 use crate::memory_parts::{are_mapped, fill_pages, map_runs};
 use paged_mem::Ram;
-use save_text::state_text::{Parts, Run};
+use save_text::state_text::{MOST_PAGES, Parts, Run};
 use std::alloc::Global;
-
-/// How many pages a guest can have: 67,584 beside its heap, and 262,144 of its heap.
-const MOST_PAGES: u64 = 329_728;
 
 /// The memory that a text says. Its runs are judged before anything is mapped, so that a short text asks for little memory.
 pub fn memory_of<R: Ram>(alloc: Global, parts: &Parts<'_>) -> Result<R, RestoreRefusal>
@@ -34,7 +32,7 @@ pub fn memory_of<R: Ram>(alloc: Global, parts: &Parts<'_>) -> Result<R, RestoreR
 }
 
 /// Whether all runs end in memory and a guest can have so many pages.
-fn are_mappable(runs: &[Run]) -> bool
+pub fn are_mappable(runs: &[Run]) -> bool
     ensures { IsTrue result ↔ AreMappable runs.now }
 {
     are_within(runs) && are_few(runs)

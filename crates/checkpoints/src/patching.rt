@@ -1,14 +1,15 @@
 //! A guest's state beside another one's, its base, as a patch, and back.
 
-ghost use Rattle.std.specs.Prelude.{◌≡◌, ◌<◌, ◌≤◌, ◌^◌, ◌↔◌, ◌++◌, IfOk, IsTrue, OnErr, OnOk, length};
+ghost use Rattle.std.specs.Prelude.{◌≡◌, ◌<◌, ◌≤◌, ◌^◌, ◌↔◌, ◌++◌, Err, IfOk, IsOk, IsTrue, OnErr, OnOk, length};
 ghost use Rattle.guest_run.specs.State.{GuestState};
 ghost use Rattle.guest_run.specs.Valid.{IsValid};
+ghost use Rattle.save_text.specs.PatchText.PatchText.{parsed_patch};
 ghost use Rattle.save_text.specs.PatchText.Spelled.{IsPatched, text_of_patch};
 ghost use Rattle.save_text.specs.StateText.Seen.{state_view};
 ghost use Rattle.save_text.specs.StateText.Spelled.{IsStateText};
 ghost use Rattle.save_text.specs.StateText.StateText.{StateText};
 ghost use Rattle.checkpoints.specs.Checkpoint.{Becomes, IsReadAs, state_of};
-ghost use Rattle.checkpoints.specs.Patching.{AppliesPatch};
+ghost use Rattle.checkpoints.specs.Patching.{AppliesPatch, AppliesPatchTo};
 
 use crate::file_parts::RestoreRefusal;
 use crate::reading::StateRefusal;
@@ -17,7 +18,7 @@ use crate::writing::parts_of;
 use ddc_base::{Bytes, OutOfMemory};
 use guest_run::Guest;
 use paged_mem::Ram;
-use save_text::patch_text::{put_patch, read};
+use save_text::patch_text::{is_mappable, put_patch, read};
 use save_text::state_text::{Parts, TextRefusal};
 use std::alloc::Global;
 
@@ -35,8 +36,8 @@ pub fn write_patch<R: Ram>(
     Ok(out)
 }
 
-/// What the state of a base says, which lists few pages.
-fn known_of<R: Ram>(alloc: Global, base: &Guest<R>) -> Result<Parts<'_>, OutOfMemory>
+/// What the state of a guest says, as the base of patches. It lists few pages.
+pub fn known_of<R: Ram>(alloc: Global, base: &Guest<R>) -> Result<Parts<'_>, OutOfMemory>
     ensures seen { IfOk result (λ parts. state_view parts ≡ state_of base.now) }
     ensures text { IfOk result (λ parts. IsStateText (state_view parts)) }
     ensures few { IfOk result (λ parts. length (state_view parts).pages ≤ 2 ^ 26) }
@@ -60,7 +61,7 @@ pub fn put_patch_of<R: Ram>(
     put_patch(alloc, out, base, &parts)
 }
 
-/// The guest whose state a patch says beside the base.
+/// The guest whose state a patch says beside the base's. What the base says is listed first, for which memory may be wanting whatever the patch is.
 pub fn apply_patch<R: Ram>(
     alloc: Global,
     base: &Guest<R>,
@@ -71,43 +72,62 @@ pub fn apply_patch<R: Ram>(
     // The patch of a valid state is read as the guest in that state, unless memory runs out.
     ensures only { (g : GuestState) → IsValid g → g.steps < 2 ^ 64 → text.now ≡ text_of_patch (state_of base.now) (state_of g) → IsReadAs g result }
     // When each refusal comes.
-    ensures exact { AppliesPatch (state_of base.now) text.now result }
+    ensures exact { AppliesPatchTo (state_of base.now) text.now result }
 {
-    applied(alloc, base, text)
-}
-
-fn applied<R: Ram>(alloc: Global, base: &Guest<R>, text: &[u8]) -> Result<Guest<R>, StateRefusal>
-    ensures applies { AppliesPatch (state_of base.now) text.now result }
-    ensures base { IsValid base.now }
-    ensures few { base.now.steps < 2 ^ 64 }
-{
-    // Every guest is in a valid state: this call tells it.
-    base.steps();
-    match parts_of(alloc, base) {
-        Ok(known) => beside(alloc, &known, text),
+    match known_of(alloc, base) {
+        Ok(known) => guest_beside(alloc, &known, text),
         Err(OutOfMemory) => Err(StateRefusal::OutOfMemory),
     }
 }
 
 /// The guest whose state a patch says beside what a base says.
-fn beside<'a, R: Ram>(
+pub fn guest_beside<'a, R: Ram>(
     alloc: Global,
-    known: &Parts<'a>,
+    base: &Parts<'a>,
     text: &'a [u8],
 ) -> Result<Guest<R>, StateRefusal>
-    requires { IsStateText (state_view known.now) }
-    ensures { AppliesPatch (state_view known.now) text.now result }
+    requires base { IsStateText (state_view base.now) }
+    requires few { length (state_view base.now).pages ≤ 2 ^ 26 }
+    // What is made has this patch against the base.
+    ensures found { IfOk result (λ guest. text.now ≡ text_of_patch (state_view base.now) (state_of guest)) }
+    // The patch of a valid state is read as the guest in that state, unless memory runs out.
+    ensures only { (g : GuestState) → IsValid g → g.steps < 2 ^ 64 → text.now ≡ text_of_patch (state_view base.now) (state_of g) → IsReadAs g result }
+    // When each refusal comes.
+    ensures exact { AppliesPatch (state_view base.now) text.now result }
 {
-    let parts = match read(alloc, known, text) {
+    applied(alloc, base, text)
+}
+
+fn applied<'a, R: Ram>(
+    alloc: Global,
+    base: &Parts<'a>,
+    text: &'a [u8],
+) -> Result<Guest<R>, StateRefusal>
+    requires { IsStateText (state_view base.now) }
+    ensures { AppliesPatch (state_view base.now) text.now result }
+{
+    let parts = match read(alloc, base, text) {
         Ok(parts) => parts,
         Err(TextRefusal::Form(offset)) => return Err(StateRefusal::Form(offset)),
-        Err(TextRefusal::OutOfMemory) => return Err(StateRefusal::OutOfMemory),
+        Err(TextRefusal::OutOfMemory) => return Err(wanting(base, text)),
     };
     match patched_guest_of(alloc, &parts) {
         Ok(guest) => Ok(guest),
         Err(RestoreRefusal::Range) => Err(StateRefusal::Range),
         Err(RestoreRefusal::FileRef) => Err(StateRefusal::FileRef),
         Err(RestoreRefusal::OutOfMemory) => Err(StateRefusal::OutOfMemory),
+    }
+}
+
+/// Why a text of the form is no guest's, where memory was wanting for the lists of its parts.
+fn wanting(base: &Parts<'_>, text: &[u8]) -> StateRefusal
+    requires { IsOk (parsed_patch (state_view base.now) text.now) }
+    ensures { AppliesPatch (state_view base.now) text.now (Err result) }
+{
+    if is_mappable(base, text) {
+        StateRefusal::OutOfMemory
+    } else {
+        StateRefusal::Range
     }
 }
 

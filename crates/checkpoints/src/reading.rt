@@ -1,16 +1,17 @@
 //! A guest read of its text.
 
-ghost use Rattle.std.specs.Prelude.{◌≡◌, ◌<◌, ◌^◌, IfOk};
+ghost use Rattle.std.specs.Prelude.{◌≡◌, ◌<◌, ◌^◌, Err, IfOk, IsOk};
 ghost use Rattle.guest_run.specs.State.{GuestState};
 ghost use Rattle.guest_run.specs.Valid.{IsValid};
 ghost use Rattle.save_text.specs.StateText.Spelled.{IsTextOfState};
+ghost use Rattle.save_text.specs.StateText.StateText.{parsed_state};
 ghost use Rattle.checkpoints.specs.Checkpoint.{IsReadAs, ReadsState, state_of, state_refusal_number};
 
 use crate::file_parts::RestoreRefusal;
 use crate::restoring::guest_of;
 use guest_run::Guest;
 use paged_mem::Ram;
-use save_text::state_text::{TextRefusal, read};
+use save_text::state_text::{TextRefusal, is_mappable, read};
 use std::alloc::Global;
 
 /// Why a text is no guest's. Its form is judged first, then counts and ranges, then references.
@@ -51,13 +52,25 @@ pub fn read_state<R: Ram>(alloc: Global, text: &[u8]) -> Result<Guest<R>, StateR
     judged(alloc, text)
 }
 
+/// Why a text of the form is no guest's, where memory was wanting for the lists of its parts.
+fn wanting(text: &[u8]) -> StateRefusal
+    requires { IsOk (parsed_state text.now) }
+    ensures { ReadsState text.now (Err result) }
+{
+    if is_mappable(text) {
+        StateRefusal::OutOfMemory
+    } else {
+        StateRefusal::Range
+    }
+}
+
 fn judged<R: Ram>(alloc: Global, text: &[u8]) -> Result<Guest<R>, StateRefusal>
     ensures { ReadsState text.now result }
 {
     let parts = match read(alloc, text) {
         Ok(parts) => parts,
         Err(TextRefusal::Form(offset)) => return Err(StateRefusal::Form(offset)),
-        Err(TextRefusal::OutOfMemory) => return Err(StateRefusal::OutOfMemory),
+        Err(TextRefusal::OutOfMemory) => return Err(wanting(text)),
     };
     match guest_of(alloc, &parts) {
         Ok(guest) => Ok(guest),

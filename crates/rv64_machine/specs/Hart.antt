@@ -1,7 +1,5 @@
 -- A hart and one act of it (docs/reference/machine.md).
 use Rattle.std.specs.Prelude.{◌≡◌, ℕ, zero, suc, ◌+◌, ◌*◌, ◌%◌, ◌^◌, ◌<◌, ◌==◌, ◌&&◌, ◌⊎◌, Bool, true, false, if◌then◌else◌, IsTrue, length, All, List, slice_index, slice_set, Option, None, Some, option_map, option_and_then, refl}
-use Rattle.std.specs.Coded.{Coded, code_by, coded×, coded_ℕ, coded_list, coded_option}
-use Rattle.std.specs.FinMap as map
 use Rattle.paged_mem.specs.Memory.{IsWhole, Memory, maps, reads, writes}
 use Rattle.paged_mem.specs.Ram.{count_of}
 use Rattle.paged_mem.specs.declared.ram.Width.{Width}
@@ -49,15 +47,6 @@ pub record IsHart (hart : HartState) : Type 0 where
 pub record HasNumbers (hart : HartState) : Type 0 where
   pub registers : All (λ value. value < 2 ^ 64) hart.registers
   pub pc : hart.pc < 2 ^ 64
-
--- a state is stored as its four parts
-abbrev pub code : Coded HartState
-code =
-    code_by (List ℕ × (ℕ × (Memory × Option (ℕ × ℕ))))
-    (coded× (coded_list coded_ℕ) (coded× coded_ℕ (coded× (map.code coded_ℕ coded_ℕ) (coded_option (coded× coded_ℕ coded_ℕ)))))
-    (λ h. (h.registers, (h.pc, (h.memory, h.reservation))))
-    (λ p. record { registers = p.0; pc = p.1.0; memory = p.1.1.0; reservation = p.1.1.1 })
-    (λ _. refl)
 
 -- one act: the hart goes on in a state, calls the system, or traps; both of the latter leave the state
 pub data Act : Type 0 where

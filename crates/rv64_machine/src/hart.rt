@@ -45,11 +45,12 @@ pub struct Hart<R: Ram> {
 
 impl<R: Ram> Model for Hart<R> {
     ghost use Rattle.std.specs.Prelude.{◌≡◌, ◌%◌, length, option_map, slice_index};
-    ghost use Rattle.rv64_machine.specs.Hart.{HartState, IsReservation, code, reserved_bytes};
+    ghost use Rattle.rv64_machine.specs.Hart.{HartState, IsReservation, reserved_bytes};
+    ghost use Rattle.rv64_machine.specs.Inside.Codes.{hart_code};
 
     ghost Value = { HartState };
 
-    ghost coded = { code };
+    ghost coded = { hart_code };
 
     ghost view = { λ h. record { registers = h.registers; pc = h.pc; memory = R.bytes h.ram; reservation = option_map reserved_bytes h.reservation } };
 

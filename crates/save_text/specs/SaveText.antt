@@ -83,6 +83,14 @@ fields_at form = do
   state ← state_in form
   done (record { recipe = recipe; inputs = inputs; stages = stages; state = state })
 
+-- of which recipe a text of either form is, and of how many inputs, whose digests follow
+unfoldable pub origin_at : Reader (Digest × ℕ)
+origin_at = do
+  form ← begun_in (save_magic First) (save_magic Second)
+  recipe ← digest_at
+  count ← u32
+  done (recipe, count)
+
 -- a text of either form
 unfoldable pub save_at : Reader SaveText
 save_at = do

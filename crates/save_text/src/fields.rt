@@ -21,7 +21,7 @@ use std::alloc::Global;
 
 /// The 32 bytes of a digest.
 #[tactic(auto, unfolding(crate::specs::SaveText::digest_at))]
-pub(crate) fn digest_of(cursor: &mut Cursor<'_>) -> Result<Digest, WrongField>
+pub fn digest_of(cursor: &mut Cursor<'_>) -> Result<Digest, WrongField>
     ensures { Finds (λ x. x) result cursor.new (digest_at cursor.old) }
 {
     let bytes = cursor.bytes(32)?;

@@ -9,12 +9,15 @@ pub mod byte_fields;
 pub mod delta_text;
 mod fields;
 pub mod laws;
+mod mapping;
 mod parts;
 pub mod patch_text;
 mod reading;
 pub mod state_text;
 mod writing;
 
+pub use fields::digest_of;
+pub use mapping::{is_mappable, origin_of};
 pub use parts::{InputPart, Parts, StagePart};
 pub use reading::{MAGIC, read};
 pub use writing::put_stage;

@@ -5,6 +5,7 @@
 mod change;
 mod fields;
 pub mod laws;
+mod mapping;
 mod merging;
 mod numbered;
 mod passing;
@@ -12,6 +13,7 @@ mod reading;
 mod writing;
 
 pub use change::Change;
+pub use mapping::is_mappable;
 pub(crate) use passing::pass_patch;
 pub(crate) use reading::patch_of;
 pub use reading::read;

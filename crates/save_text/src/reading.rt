@@ -15,7 +15,7 @@ use std::alloc::Global;
 pub const MAGIC: [u8; 8] = *b"ddcsave2";
 
 /// Those that began one of the first form.
-const OLD_MAGIC: [u8; 8] = *b"ddcsave1";
+pub(crate) const OLD_MAGIC: [u8; 8] = *b"ddcsave1";
 
 /// A save's text of either form at the front of what is left.
 #[tactic(auto, unfolding(crate::specs::SaveText::save_at))]

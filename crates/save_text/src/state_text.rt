@@ -6,12 +6,15 @@
 mod items;
 pub mod laws;
 mod listing;
+mod mapping;
 mod parts;
 mod reading;
 mod writing;
 
 pub(crate) use items::{is_zero, name_of};
 pub use listing::{descriptors_of, files_of};
+pub use mapping::{MOST_PAGES, is_mappable};
+pub(crate) use mapping::{runs_mappable, state_mappable};
 pub use parts::{Descriptor, File, Page, Parts, Reserved, Run};
 pub(crate) use reading::{heap_of, parts_in, pass_state_in, reservation_of};
 pub use reading::{TextRefusal, read};

@@ -3,7 +3,7 @@
 use Rattle.std.specs.Prelude.{◌≡◌, ℕ, ◌+◌, ◌-◌, ◌<◌, ◌≤◌, ◌^◌, ◌⊎◌, Ok, Err, Some, None, List, [], ◌∷◌}
 use Rattle.ddc_base.specs.Difference.{first_difference}
 use Rattle.save_text.specs.StateText.Spelled.{text_of_state}
-use Rattle.checkpoints.specs.Checkpoint.{ReadsState, state_of}
+use Rattle.checkpoints.specs.Checkpoint.{MayWantMemory, ReadsState, state_of}
 use Rattle.guest_run.specs.declared.run.RunEnd.{RunEnd}
 use Rattle.guest_run.specs.declared.run.RunEnd.TheVariants as run
 use Rattle.guest_run.specs.Run.{after, first_end, End, Runs}
@@ -76,7 +76,8 @@ pub record IsSegment (from to : List ℕ) (steps : ℕ) : Type 0 where
   pub piece : IsPieceOf states.first states.last steps
   pub near : steps ≤ 2 ^ 48
 
--- what an answer on two texts says; the first that fits is given, since each says that those before it do not fit
+-- what an answer on two texts says; the first that fits is given, since each says that those before it do not fit. Memory may be wanting only where
+-- the former's form holds, and its runs can be mapped
 abbrev pub ChecksPiece : List ℕ → List ℕ → SegmentAnswer → Type 0
 ChecksPiece from to (segment.Yes steps) = IsSegment from to steps
 ChecksPiece from to (segment.No (fault.From why)) = IsNoState from why
@@ -85,7 +86,7 @@ ChecksPiece from to (segment.No fault.NotLater) = (states : AreTwoStates from to
 ChecksPiece from to (segment.No fault.TooFar) = (states : AreTwoStates from to) × (states.first.steps + 2 ^ 48 < states.last.steps)
 ChecksPiece from to (segment.No (fault.EndsAt step)) = EndsBetween from to step
 ChecksPiece from to (segment.No (fault.Differs offset)) = DiffersAt from to offset
-ChecksPiece from to segment.OutOfMemory = Unit {0}
+ChecksPiece from to segment.OutOfMemory = MayWantMemory from
 
 -- ---- the start
 

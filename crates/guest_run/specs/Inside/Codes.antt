@@ -3,7 +3,7 @@ use Rattle.std.specs.Prelude.{ℕ, List, refl}
 use Rattle.std.specs.FinMap as map
 use Rattle.std.specs.Coded.{Coded, code_by, coded×, coded_ℕ, coded_list}
 use Rattle.rv64_machine.specs.Hart.{HartState}
-use Rattle.rv64_machine.specs.Hart as hart
+use Rattle.rv64_machine.specs.Inside.Codes.{hart_code}
 use Rattle.mem_files.specs.World.{World}
 use Rattle.mem_files.specs.Inside.Codes.{world_code}
 use Rattle.linux_calls.specs.declared.Heap.{Heap}
@@ -27,6 +27,6 @@ heap_code =
 
 abbrev pub guest_code : Coded GuestState
 guest_code =
-    code_by (HartState × (World × (Heap × ℕ))) (coded× hart.code (coded× world_code (coded× heap_code coded_ℕ)))
+    code_by (HartState × (World × (Heap × ℕ))) (coded× hart_code (coded× world_code (coded× heap_code coded_ℕ)))
     (λ g. (g.hart, (g.world, (g.heap, g.steps))))
     (λ p. record { hart = p.0; world = p.1.0; heap = p.1.1.0; steps = p.1.1.1 }) (λ _. refl)

@@ -49,7 +49,7 @@ is_done item next s front count i left total le so_far =
 abbrev pub Went : {A S : Type 0} → (S → Reader A) → (A → S) → S → ℕ → List ℕ → Read (List A) → Type 0
 Went {A} {S} item next s count left total = (front : List A) × (with_front front (several item next s count left) ≡ total)
 
-none_before : {A : Type 0} (read : Read (List A)) → with_front [] read ≡ read
+pub none_before : {A : Type 0} (read : Read (List A)) → with_front [] read ≡ read
 none_before (Ok r) = refl
 none_before (Err at) = refl
 

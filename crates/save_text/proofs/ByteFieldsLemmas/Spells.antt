@@ -412,16 +412,16 @@ by_form {A} {begin} {magic} {field} {text} {F} first each = record {
 
 -- ---- a whole text
 
-abbrev only_if : {A : Type 0} → Bool → A → ℕ → Result A ℕ
+abbrev pub only_if : {A : Type 0} → Bool → A → ℕ → Result A ℕ
 only_if b x at = cond b (Ok x) (Err at)
 
-abbrev ok_of : {A : Type 0} → A → Result A ℕ
+abbrev pub ok_of : {A : Type 0} → A → Result A ℕ
 ok_of x = Ok x
 
-abbrev stop_of : {A : Type 0} → ℕ → Result A ℕ
+abbrev pub stop_of : {A : Type 0} → ℕ → Result A ℕ
 stop_of at = Err at
 
-all_taken : {A : Type 0} (size : ℕ) (r : Read A) (x : A) → placed_in size (ended r) ≡ Ok x → r ≡ Ok (x, [])
+pub all_taken : {A : Type 0} (size : ℕ) (r : Read A) (x : A) → placed_in size (ended r) ≡ Ok x → r ≡ Ok (x, [])
 all_taken size (Err at) x e = absurd cc
 all_taken {A} size (Ok (y, left)) x e = closing (eqb (length left) 0) refl e
   where

@@ -15,7 +15,7 @@ use std::alloc::Global;
 pub const MAGIC: [u8; 8] = *b"ddcstat2";
 
 /// Those that began one of the first form.
-const OLD_MAGIC: [u8; 8] = *b"ddcstat1";
+pub(crate) const OLD_MAGIC: [u8; 8] = *b"ddcstat1";
 
 /// Why a text is refused.
 #[derive(Clone, Copy, Debug, PartialEq, Eq)]
@@ -25,7 +25,7 @@ pub enum TextRefusal {
     OutOfMemory,
 }
 
-fn registers_of(cursor: &mut Cursor<'_>) -> Result<[u64; 31], WrongField>
+pub(crate) fn registers_of(cursor: &mut Cursor<'_>) -> Result<[u64; 31], WrongField>
     ensures { Finds (λ x. x) result cursor.new (alike u64 31 cursor.old) }
 {
     let mut registers = [0; 31];
@@ -99,7 +99,7 @@ fn body_of<'a>(alloc: Global, cursor: &mut Cursor<'a>, form: TextForm) -> Result
 }
 
 /// The eight bytes that begin a text of this form.
-fn begin(cursor: &mut Cursor<'_>, form: TextForm) -> Result<(), WrongField>
+pub(crate) fn begin(cursor: &mut Cursor<'_>, form: TextForm) -> Result<(), WrongField>
     ensures { Finds (λ x. x) result cursor.new (begun (state_magic form) cursor.old) }
 {
     match form {

@@ -1,5 +1,6 @@
 -- What reading a text answers.
 use Rattle.std.specs.Prelude.{◌≡◌, ℕ, ◌<◌, ◌^◌, Result, Ok, Err, List}
+use Rattle.checkpoints.specs.Checkpoint.{MayWantMemory}
 use Rattle.guest_run.specs.State.{GuestState}
 use Rattle.guest_run.specs.Valid.{IsValid}
 use Rattle.segments.specs.declared.reading.Unread.{Unread}
@@ -8,7 +9,7 @@ use Rattle.segments.specs.Segments.{IsNoState, IsStateOf, second_text}
 
 abbrev pub NotRead : List ℕ → Unread → Type 0
 NotRead text (Fault why) = IsNoState text why
-NotRead text OutOfMemory = Unit {0}
+NotRead text OutOfMemory = MayWantMemory text
 
 abbrev pub ReadBy : List ℕ → Result GuestState Unread → Type 0
 ReadBy text (Ok guest) = IsStateOf text guest

@@ -1,10 +1,24 @@
-use Rattle.std.proofs.Common.{arith}
-use Rattle.checkpoints.proofs.States.{is_text}
-use Rattle.checkpoints.proofs.Patched.{is_found, is_only}
+use Rattle.std.proofs.Common.{◌≡◌, ℕ, ◌^◌, ◌<◌, subst}
+use Rattle.std.specs.Prelude.{IfOk}
+use Rattle.guest_run.specs.State.{GuestState}
+use Rattle.guest_run.specs.Valid.{IsValid}
+use Rattle.save_text.specs.PatchText.Spelled.{text_of_patch}
+use Rattle.save_text.specs.StateText.StateText.{StateText}
+use Rattle.checkpoints.specs.Checkpoint.{IsReadAs, state_of}
+use Rattle.checkpoints.specs.Patching.{AppliesPatchTo}
+use Rattle.checkpoints.proofs.Patched.{listed_first}
 use Rattle.checkpoints.proofs.patching.apply_patch.Goals as goal
 
-pub returns-clause-found : goal.returns-clause-found
-returns-clause-found g c = is_found c.args.base.now c.args.text.now c.applied.result (is_text c.args.base.now c.applied.ensures.base c.applied.ensures.few) (λ i. omega (arith, c.type_inv.text i)) c.applied.ensures.applies
+pub returns-in-Ok-clause-found : goal.returns-in-Ok-clause-found
+returns-in-Ok-clause-found g c =
+    subst (λ (b : StateText). IfOk c.guest_beside.result (λ guest. c.args.text.now ≡ text_of_patch b (state_of guest))) c.in-Ok.ensures.seen c.guest_beside.ensures.found
 
-pub returns-clause-only : goal.returns-clause-only
-returns-clause-only g c = is_only c.args.base.now c.args.text.now c.applied.result (is_text c.args.base.now c.applied.ensures.base c.applied.ensures.few) c.applied.ensures.applies
+pub returns-in-Ok-clause-only : goal.returns-in-Ok-clause-only
+returns-in-Ok-clause-only g c =
+    subst (λ (b : StateText). (made : GuestState) → IsValid made → made.steps < 2 ^ 64 → c.args.text.now ≡ text_of_patch b (state_of made) → IsReadAs made c.guest_beside.result)
+    c.in-Ok.ensures.seen c.guest_beside.ensures.only
+
+pub returns-in-Ok-clause-exact : goal.returns-in-Ok-clause-exact
+returns-in-Ok-clause-exact g c =
+    subst (λ (b : StateText). AppliesPatchTo b c.args.text.now c.guest_beside.result) c.in-Ok.ensures.seen
+    (listed_first _ c.args.text.now c.guest_beside.result c.guest_beside.ensures.exact)
