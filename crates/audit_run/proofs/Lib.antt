@@ -6,4 +6,5 @@ mod Stretching
 mod Continuing
 pub mod CheckLemmas
 pub mod SaveLemmas
+pub mod DeltaLemmas
 pub mod StageLemmas

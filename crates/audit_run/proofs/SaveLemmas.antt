@@ -4,3 +4,4 @@ pub mod Written
 pub mod Exactly
 pub mod Placed
 pub mod SaveLengths
+pub mod Origins

@@ -5,4 +5,5 @@ pub mod Earlier
 pub mod Inside
 pub mod Check
 pub mod Save
+pub mod Delta
 pub mod Stage

@@ -1,7 +1,9 @@
 //! The audit as callers see it.
 
 ghost use Rattle.audit_run.specs.Advances.{Advances};
-ghost use Rattle.audit_run.specs.Saved.{IsOn, IsResumed, IsResumedAt, IsSave, ResumesAudit};
+ghost use Rattle.audit_run.specs.Saved.{IsOn, IsResumed, IsResumedAt, IsSave, ResumesAudit, standing_at};
+ghost use Rattle.audit_run.specs.Delta.Audits.{IsDeltaBetween, IsDeltaFrom, IsResumedBeside, IsResumedBesideAt, ResumesAuditBeside};
+ghost use Rattle.audit_run.specs.Delta.Deltas.{IsBaseAt, delta_text_of};
 ghost use Rattle.audit_run.specs.Seen.{place_of, finished_report, present_setting};
 ghost use Rattle.audit_run.specs.Save.Saves.{save_of};
 ghost use Rattle.report.specs.Reports.{IsReport};
@@ -9,12 +11,13 @@ ghost use Rattle.save_text.specs.Spelled.{IsTextOfSave};
 ghost use Rattle.std.specs.Option.{option_copied};
 ghost use Rattle.std.specs.Prelude.{◌≡◌, ◌<◌, ◌≤◌, ◌+◌, length, None, Some, IsOk, IfOk, IfSome, option_map};
 ghost use Rattle.wheeler.specs.declared.answer.Answer.{Answer as AuditAnswer};
-ghost use Rattle.wheeler.specs.Positions.{Position, Over};
+ghost use Rattle.wheeler.specs.Positions.{Position, On, Over};
 ghost use Rattle.wheeler.specs.Valid.{IsInputs, IsPosition};
 
 use crate::advance::advance_parts;
+use crate::delta::DeltaRefusal;
 use crate::place::{Place, Progress};
-use crate::save::SaveRefusal;
+use crate::save::{Resumed, SaveRefusal};
 use crate::setting::setting_of;
 use crate::stage::Done;
 use ddc_base::{Bytes, OutOfMemory};
@@ -132,7 +135,9 @@ impl Audit {
     /// which holds after `Paused` and after `resume`.
     pub fn save(&self) -> Result<Bytes, OutOfMemory>
         requires { IsOn self.now.stands }
-        ensures { IfOk result (IsSave self.now.recipe self.now.inputs self.now.stands) }
+        ensures text { IfOk result (IsSave self.now.recipe self.now.inputs self.now.stands) }
+        // Deltas can be kept against it.
+        ensures base { IfOk result (λ text. (p : Position) × (self.now.stands ≡ Some (On p)) × IsBaseAt self.now.recipe self.now.inputs p text) }
     {
         let alloc = self.alloc;
         match &self.place {
@@ -167,14 +172,86 @@ impl Audit {
         ensures exact { ResumesAudit recipe inputs text.now result }
     {
         let place = crate::save::read(alloc, &recipe, inputs.as_slice(), text)?;
+        Ok(Audit::standing(alloc, recipe, inputs, place))
+    }
+
+    /// The one text of the position's delta against where another audit of the same recipe and inputs stands (docs/reference/delta.md). This is a
+    /// condition on callers: in both audits the present stage has started. The text of the base is made for its digest; where the base was
+    /// saved before, `save_delta_of` takes what was saved.
+    pub fn save_delta(&self, base: &Audit) -> Result<Bytes, OutOfMemory>
+        requires on { IsOn self.now.stands }
+        requires base { IsOn base.now.stands }
+        requires recipe { base.now.recipe ≡ self.now.recipe }
+        requires inputs { base.now.inputs ≡ self.now.inputs }
+        ensures { IfOk result (IsDeltaBetween self.now.recipe self.now.inputs base.now.stands self.now.stands) }
+    {
+        let text = base.save()?;
+        self.save_delta_of(text.as_slice())
+    }
+
+    /// The one text of the position's delta against a save, its base, which may be of either form. This is a condition on callers: the present stage
+    /// has started, and the bytes are the save of a position of this audit's recipe and inputs.
+    pub fn save_delta_of(&self, base: &[u8]) -> Result<Bytes, OutOfMemory>
+        requires on { IsOn self.now.stands }
+        requires base { (b : Position) × IsBaseAt self.now.recipe self.now.inputs b base.now }
+        ensures { IfOk result (λ text. (b : Position) → IsBaseAt self.now.recipe self.now.inputs b base.now
+            → IsDeltaFrom self.now.recipe self.now.inputs b self.now.stands text) }
+    {
+        let alloc = self.alloc;
+        match &self.place {
+            Place::Ready => unreachable!(),
+            Place::Over(_) => unreachable!(),
+            Place::Running(guest) => crate::delta::write(
+                alloc,
+                &self.recipe,
+                self.inputs.as_slice(),
+                self.done.as_slice(),
+                guest,
+                base,
+            ),
+        }
+    }
+
+    /// The audit of this recipe and these inputs at the position that a base and a delta say, whether an audit was ever there or not. Its answer is
+    /// that of the position's continuation (`laws::resumed_audits_continue`).
+    ///
+    /// The base is judged first and whole, as `resume` judges a save, then whether the delta names another base, then its form, then whether it is
+    /// a position.
+    pub fn resume_delta(
+        alloc: Global,
+        recipe: Recipe,
+        inputs: Inputs,
+        base: &[u8],
+        delta: &[u8],
+    ) -> Result<Audit, DeltaRefusal>
+        requires { IsInputs recipe inputs }
+        // What is resumed is an audit of this recipe and these inputs at a position, and the text is its delta against the base's position.
+        ensures found { IfOk result (λ audit. IsResumedBeside recipe inputs base.now delta.now audit) }
+        // The delta of every position of this recipe and these inputs, reached or not, against every other one is resumed there beside each text of
+        // the save of its base, unless memory runs out.
+        ensures only { (b : Position) (p : Position) → IsBaseAt recipe inputs b base.now → IsPosition recipe p
+            → delta.now ≡ delta_text_of recipe inputs b p → IsResumedBesideAt recipe inputs p result }
+        // When each refusal comes.
+        ensures exact { ResumesAuditBeside recipe inputs base.now delta.now result }
+    {
+        let place = crate::delta::read(alloc, &recipe, inputs.as_slice(), base, delta)?;
+        Ok(Audit::standing(alloc, recipe, inputs, place))
+    }
+
+    /// The audit that stands at a place.
+    fn standing(alloc: Global, recipe: Recipe, inputs: Inputs, place: Resumed) -> Audit
+        requires given { IsInputs recipe inputs }
+        requires place { IsPosition recipe place }
+        ensures { result ≡ standing_at recipe inputs place }
+    {
         let (done, guest) = place.into_parts();
-        Ok(Audit {
+        Audit {
             recipe,
             inputs,
             done,
             place: Place::Running(guest),
             alloc,
-        })
+        }
     }
 
     /// The recipe.

@@ -1,5 +1,5 @@
 //! The audit: stage after stage, and the comparison, in as many advances as a caller likes, saved and resumed between them. One
-//! stage is in `stage`, its check in `check`, and the saves in `save`.
+//! stage is in `stage`, its check in `check`, the saves in `save`, and what differs from a save in `delta`.
 //!
 //! docs/reference/audit.md has the rules.
 #![tactic(auto)]
@@ -7,6 +7,7 @@
 mod advance;
 mod audit;
 pub mod check;
+pub mod delta;
 mod earlier;
 mod entering;
 pub mod laws;
@@ -17,6 +18,7 @@ pub mod stage;
 mod stage_run;
 mod stretch;
 
+pub use crate::delta::DeltaRefusal;
 pub use crate::save::SaveRefusal;
 pub use audit::Audit;
 pub use earlier::{Undone, run_earlier};

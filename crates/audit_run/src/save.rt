@@ -4,8 +4,11 @@
 
 mod judging;
 pub mod laws;
+mod origin;
 mod reading;
 mod writing;
 
+pub(crate) use reading::place_of;
 pub use reading::{Resumed, SaveRefusal, read};
+pub(crate) use writing::put_done;
 pub use writing::write;

@@ -8,6 +8,9 @@ use ddc_base::Bytes;
 use recipe::{Inputs, Recipe};
 
 #[cfg(test)]
+mod deltas;
+pub mod kept;
+#[cfg(test)]
 mod places;
 #[cfg(test)]
 mod saves;

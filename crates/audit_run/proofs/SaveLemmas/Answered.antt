@@ -1,5 +1,5 @@
 -- Each text has one answer as a save, since what the rules ask of it is decided by tests.
-use Rattle.std.proofs.Common.{◌≡◌, ◌≢◌, ℕ, ◌^◌, Bool, true, false, List, [], ◌∷◌, length, map, bytes_eq, Result, Ok, Err, Contains, refl, sym, ap, ◌∙◌, subst₂}
+use Rattle.std.proofs.Common.{◌≡◌, ◌≢◌, ℕ, ◌^◌, List, [], ◌∷◌, length, map, Result, Ok, Err, Contains, refl, sym, ap, ◌∙◌, subst₂}
 use Rattle.std.specs.Bool.{Decides}
 use Rattle.std.specs.List.{list_any}
 use Rattle.std.proofs.lemmas.Bool.Decides.{Decides-by_or, Decides-eqb, Decides-like, Decides-ltb}
@@ -23,7 +23,7 @@ use Rattle.wheeler.specs.Stages.{artefact_bytes, mark_of}
 use Rattle.wheeler.specs.Valid.{AreDone, AreFinished, HasMark, IsFinished, IsLeftLine, IsSmallMark}
 use Rattle.audit_run.specs.Save.Inside.Tests as test
 use Rattle.audit_run.specs.Save.Judged.{judged, judged_as}
-use Rattle.audit_run.specs.Save.Saves.{SaveAnswer, IsOf, IsPlace, IsPlaceIn, Resumes, digest_of, done_in, position_of}
+use Rattle.audit_run.specs.Save.Saves.{SaveAnswer, IsOf, IsPlace, IsPlaceIn, Resumes, digest_of, done_in}
 use Rattle.audit_run.specs.declared.save.reading.SaveRefusal.{SaveRefusal}
 use Rattle.audit_run.specs.declared.save.reading.SaveRefusal.TheVariants.{Form, OtherRecipe, State, OutOfMemory}
 

@@ -2,10 +2,8 @@
 use Rattle.std.proofs.Common.{◌≡◌, ℕ, List, [], ◌∷◌, map, Result, Ok, Err, refl, sym, ap, subst, ◌∙◌}
 use Rattle.std.specs.Prelude.{IfOk}
 use Rattle.save_text.proofs.ByteFieldsLemmas.Spells.{AreBytes}
-use Rattle.guest_run.specs.State.{GuestState}
 use Rattle.guest_run.specs.Valid.{IsValid}
 use Rattle.recipe.specs.declared.contents.Said.{Said}
-use Rattle.recipe.specs.declared.parts.Stage.{Stage}
 use Rattle.recipe.specs.Kept as kept
 use Rattle.checkpoints.specs.Checkpoint.{IsInRange, guest_of, state_of}
 use Rattle.checkpoints.proofs.SameText.{same_text}
@@ -20,7 +18,7 @@ use Rattle.wheeler.specs.Positions.{Position, at, todo}
 use Rattle.wheeler.specs.Valid.{AreDone, IsInputs, IsPosition}
 use Rattle.audit_run.specs.declared.save.reading.SaveRefusal.{SaveRefusal}
 use Rattle.audit_run.specs.declared.save.reading.SaveRefusal.TheVariants.{Form, OtherRecipe, State, OutOfMemory}
-use Rattle.audit_run.specs.Save.Saves.{IsOf, IsPlace, IsResumedAs, Resumes, Stands, digest_of, done_in, finished_of, position_of, save_of, stage_of}
+use Rattle.audit_run.specs.Save.Saves.{IsOf, IsPlace, IsResumedAs, Resumes, Stands, digest_of, finished_of, position_of, save_of, stage_of}
 use Rattle.audit_run.specs.Save.Inside.Seen.{AreDigests}
 use Rattle.audit_run.proofs.SaveLemmas.Written.{has_text}
 
@@ -40,7 +38,7 @@ are_digests (part ∷ parts) (input ∷ inputs) same = (cc, are_digests parts in
 
 -- ---- what a save says of a position, and back
 
-same_stages : (stages : List StageText) → map stage_of (map finished_of stages) ≡ stages
+pub same_stages : (stages : List StageText) → map stage_of (map finished_of stages) ≡ stages
 same_stages [] = refl
 same_stages (stage ∷ stages) = ap (λ ss. stage ∷ ss) (same_stages stages)
 
@@ -48,7 +46,7 @@ same_done : (done : List Finished) → map finished_of (map stage_of done) ≡ d
 same_done [] = refl
 same_done (f ∷ done) = ap (λ fs. f ∷ fs) (same_done done)
 
-same_save : (recipe : Said) (inputs : List (List ℕ)) (save : SaveText) → IsSaveText save → IsOf recipe inputs save → IsInRange save.state → save_of recipe inputs (position_of save) ≡ save
+pub same_save : (recipe : Said) (inputs : List (List ℕ)) (save : SaveText) → IsSaveText save → IsOf recipe inputs save → IsInRange save.state → save_of recipe inputs (position_of save) ≡ save
 same_save recipe inputs save text is range =
     λ i. record {
       recipe = sym is.same_recipe i;
@@ -57,7 +55,7 @@ same_save recipe inputs save text is range =
       state = same_text save.state text.state range i;
     }
 
-same_position : (recipe : Said) (inputs : List (List ℕ)) (p : Position) → IsValid p.at → position_of (save_of recipe inputs p) ≡ p
+pub same_position : (recipe : Said) (inputs : List (List ℕ)) (p : Position) → IsValid p.at → position_of (save_of recipe inputs p) ≡ p
 same_position recipe inputs p valid = λ i. at (same_done p.done i) (same_guest p.at valid i)
 
 same_said : (text : List ℕ) (s t : SaveText) → parsed_save text ≡ Ok s → parsed_save text ≡ Ok t → s ≡ t
@@ -65,9 +63,10 @@ same_said text s t a b = let both : ◌≡◌ {A = Result SaveText ℕ} (Ok s) (
 
 -- ---- each answer
 
-pub is_place : (recipe : Said) (inputs : List (List ℕ)) (text : List ℕ) (result : Result Position SaveRefusal) → IfOk result (λ p. IsValid p.at) → Resumes recipe inputs text result → IfOk result (λ p. IsPosition recipe p)
+-- a place whose guest is valid is a position
+pub position_is : (recipe : Said) (save : SaveText) (p : Position) → IsValid p.at → IsPlace recipe save → p ≡ position_of save → IsPosition recipe p
 unfolding guest_of
-is_place recipe inputs text (Ok p) valid (save, formed_is, is, (stage, stages, place), found) =
+position_is recipe save p valid (stage, stages, place) found =
     subst (IsPosition recipe) (sym found) (
       stage,
       stages,
@@ -79,6 +78,9 @@ is_place recipe inputs text (Ok p) valid (save, formed_is, is, (stage, stages, p
         done = place.done;
       },
     )
+
+pub is_place : (recipe : Said) (inputs : List (List ℕ)) (text : List ℕ) (result : Result Position SaveRefusal) → IfOk result (λ p. IsValid p.at) → Resumes recipe inputs text result → IfOk result (λ p. IsPosition recipe p)
+is_place recipe inputs text (Ok p) valid (save, formed_is, is, place, found) = position_is recipe save p valid place found
 is_place recipe inputs text (Err refusal) valid resumes = tt
 
 pub is_found : (recipe : Said) (inputs : List (List ℕ)) (text : List ℕ) (result : Result Position SaveRefusal) → AreBytes text → Resumes recipe inputs text result
@@ -94,7 +96,7 @@ is_found recipe inputs text (Err refusal) fits resumes = tt
 saves_its_recipe : (recipe : Said) (inputs : List (List ℕ)) (p : Position) → IsOf recipe inputs (save_of recipe inputs p)
 saves_its_recipe recipe inputs p = record { same_recipe = refl; same_inputs = refl }
 
-saves_a_place : (recipe : Said) (inputs : List (List ℕ)) (p : Position) → IsPosition recipe p → IsPlace recipe (save_of recipe inputs p)
+pub saves_a_place : (recipe : Said) (inputs : List (List ℕ)) (p : Position) → IsPosition recipe p → IsPlace recipe (save_of recipe inputs p)
 unfolding state_of
 saves_a_place recipe inputs p (stage, stages, ok) =
     let same : map finished_of (map stage_of p.done) ≡ p.done = same_done p.done in (
@@ -110,7 +112,7 @@ saves_a_place recipe inputs p (stage, stages, ok) =
       },
     )
 
-formed_of : (recipe : Said) (inputs : List (List ℕ)) (text : List ℕ) (p : Position) → kept.IsRecipe recipe → IsInputs recipe inputs → IsPosition recipe p → IsTextOfSave (save_of recipe inputs p) text
+pub formed_of : (recipe : Said) (inputs : List (List ℕ)) (text : List ℕ) (p : Position) → kept.IsRecipe recipe → IsInputs recipe inputs → IsPosition recipe p → IsTextOfSave (save_of recipe inputs p) text
     → parsed_save text ≡ Ok (save_of recipe inputs p)
 formed_of recipe inputs text p is given place said = formed_again (save_of recipe inputs p) text (has_text recipe inputs p is given place) said
 
@@ -135,6 +137,6 @@ pub stood : (recipe : Said) (inputs : List (List ℕ)) (text : List ℕ) (save :
     → parsed_save text ≡ Ok save → IsOf recipe inputs save → Stands recipe save result → Resumes recipe inputs text result
 stood recipe inputs text save (Ok p) is of stands = (save, is, of, stands.0, stands.1)
 stood recipe inputs text save (Err State) is of stands = (save, is, of, stands)
-stood recipe inputs text save (Err OutOfMemory) is of stands = rw is refl
+stood recipe inputs text save (Err OutOfMemory) is of stands = (save, is, of, stands)
 stood recipe inputs text save (Err (Form offset)) is of stands = absurd stands
 stood recipe inputs text save (Err OtherRecipe) is of stands = absurd stands

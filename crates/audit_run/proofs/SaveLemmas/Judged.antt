@@ -1,5 +1,5 @@
 -- A stage that is done, by its tests.
-use Rattle.std.proofs.Common.{◌≡◌, ℕ, ◌≤◌, Option, Some, List, [], ◌∷◌, length, All, IsTrue, refl, sym, subst}
+use Rattle.std.proofs.Common.{◌≡◌, ℕ, ◌≤◌, Option, List, [], ◌∷◌, length, All, IsTrue, refl, sym, subst}
 use Rattle.save_text.specs.ByteFields.Spelling.{InTurn}
 use Rattle.mem_files.specs.Outputs.{IsContent}
 use Rattle.recipe.specs.declared.parts.Stage.{Stage}

@@ -2,12 +2,12 @@
 use Rattle.std.proofs.Common.{◌≡◌, ℕ, zero, suc, ◌+◌, ◌<◌, true, None, List, [], ◌∷◌, length, map, drop, get_or, All, refl, sym, ap, subst, ◌∙◌, arith}
 use Rattle.std.specs.Prelude.{nat_lt as ltb}
 use Rattle.std.proofs.lemmas.Bool.{ltb-true}
-use Rattle.std.proofs.lemmas.List.Elements.{All-cons, All-nil}
+use Rattle.std.proofs.lemmas.List.Elements.{All-cons, All-head, All-nil, All-tail}
 use Rattle.save_text.specs.ByteFields.Spelling.{InTurn}
 use Rattle.recipe.specs.declared.contents.Said.{Said}
 use Rattle.recipe.specs.declared.parts.Stage.{Stage}
 use Rattle.save_text.specs.declared.parts.StagePart.{StagePart}
-use Rattle.save_text.specs.SaveText.{after_left}
+use Rattle.save_text.specs.SaveText.{StageText, after_left}
 use Rattle.save_text.specs.Spelled.{IsSavedLeft, IsStageText}
 use Rattle.save_text.specs.Seen.{stage_view}
 use Rattle.wheeler.specs.declared.answer.Finished.{Finished}
@@ -18,10 +18,15 @@ use Rattle.audit_run.specs.Save.Saves.{finished_of}
 abbrev pub IsOrdered : Finished → Type 0
 IsOrdered f = InTurn IsSavedLeft after_left None f.left
 
-pub each_ordered : (parts : List StagePart) (any : ℕ) → InTurn (λ (any : ℕ). IsStageText) (λ stage. 0) any (map stage_view parts) → All IsOrdered (map (λ part. finished_of (stage_view part)) parts)
-each_ordered [] any turn = All-nil IsOrdered
-each_ordered (part ∷ parts) any turn =
-    All-cons IsOrdered (finished_of (stage_view part)) (map (λ part. finished_of (stage_view part)) parts) turn.0.left.1 (each_ordered parts 0 turn.1)
+pub each_ordered : (parts : List StagePart) → All IsStageText (map stage_view parts) → All IsOrdered (map (λ part. finished_of (stage_view part)) parts)
+each_ordered [] all = All-nil IsOrdered
+each_ordered (part ∷ parts) all =
+    All-cons IsOrdered (finished_of (stage_view part)) (map (λ part. finished_of (stage_view part)) parts) (All-head IsStageText (stage_view part) (map stage_view parts) all).left.1
+    (each_ordered parts (All-tail IsStageText (stage_view part) (map stage_view parts) all))
+
+pub all_of : (any : ℕ) (stages : List StageText) → InTurn (λ (any : ℕ). IsStageText) (λ stage. 0) any stages → All IsStageText stages
+all_of any [] turn = All-nil IsStageText
+all_of any (stage ∷ stages) turn = All-cons IsStageText stage stages turn.0 (all_of 0 stages turn.1)
 
 pub twice : (parts : List StagePart) → map (λ part. finished_of (stage_view part)) parts ≡ map finished_of (map stage_view parts)
 twice [] = refl

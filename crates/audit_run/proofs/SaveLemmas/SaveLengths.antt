@@ -56,20 +56,25 @@ magic_long : (form : TextForm) → length (save_magic form) ≡ 8
 magic_long First = refl
 magic_long Second = refl
 
+pub done_most : (recipe : Said) (p : Position) → IsRecipe recipe → IsPosition recipe p → HasAtMost 1_380_997_120 (flat_map stage_text (map stage_of p.done))
+done_most recipe p is (stage, stages, ok) =
+    let few_stages = (rule.rules recipe is).few_stages in
+    let small = ok.done.small in
+    let few = few_done recipe.stages p.done ok.done.each in
+    let done : HasAtMost (length p.done * 1_200_216 + artefact_bytes p.done) (flat_map stage_text (map stage_of p.done)) =
+    rw flat_map-map (items (λ f. stage_text (stage_of f)) (λ f. length f.made) 1_200_216 p.done (stages_most recipe.stages p.done ok.done.each)) in
+    within done (omega arith)
+
 save_most : (form : TextForm) (recipe : Said) (inputs : List (List ℕ)) (p : Position) → IsRecipe recipe → IsInputs recipe inputs → IsPosition recipe p → HasAtMost 3_273_774_457 (save_text_in form (save_of recipe inputs p))
 unfolding save_text_in
 save_most form recipe inputs p is given (stage, stages, ok) =
     let rules = rule.rules recipe is in
     let digest = rules.digest.count in
     let few_inputs = rules.few_inputs in
-    let few_stages = rules.few_stages in
     let count = given.count in
-    let small = ok.done.small in
-    let few = few_done recipe.stages p.done ok.done.each in
     let said : HasAtMost 32 (digest_text recipe.digest) = record { long = omega arith } in
     let given_inputs = alike digest_text 32 (map digest_of inputs) (All-map (λ digest. HasAtMost 32 (digest_text digest)) digest_of inputs (λ k d less. input_most _)) in
-    let done : HasAtMost (length p.done * 1_200_216 + artefact_bytes p.done) (flat_map stage_text (map stage_of p.done)) =
-    rw flat_map-map (items (λ f. stage_text (stage_of f)) (λ f. length f.made) 1_200_216 p.done (stages_most recipe.stages p.done ok.done.each)) in
+    let done = done_most recipe p is (stage, stages, ok) in
     let at : HasAtMost 1_892_769_097 (state_text.state_text_in form (state_of p.at)) = record { long = state.short form p.at ok.valid } in
     within (joined (itself (save_magic form)) (joined said (joined (counted digest_text (map digest_of inputs) given_inputs) (joined (counted stage_text (map stage_of p.done) done) at))))
     (omega (arith, magic_long form, length-map inputs digest_of))

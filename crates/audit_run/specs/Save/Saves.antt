@@ -1,12 +1,13 @@
 -- The save of an audit, and the position that a save says. Recipes and inputs are known by their SHA-256 (FIPS 180-4). docs/reference/save.md
 -- says the same for people.
-use Rattle.std.specs.Prelude.{◌≡◌, ◌≢◌, ◌<◌, ℕ, IsOk, List, ◌∷◌, map, Result, Ok, Err}
+use Rattle.std.specs.Prelude.{◌≡◌, ◌≢◌, ◌<◌, ℕ, List, ◌∷◌, map, Result, Ok, Err}
 use Rattle.sha2.specs.Sha256.{sha256}
 use Rattle.ddc_base.specs.declared.digests.Digest.{Digest}
 use Rattle.recipe.specs.declared.contents.Said.{Said}
 use Rattle.recipe.specs.declared.parts.Stage.{Stage}
 use Rattle.checkpoints.specs.Checkpoint.{IsInRange, IsJoined, guest_of, state_of}
 use Rattle.save_text.specs.SaveText.{SaveText, StageText, parsed_save}
+use Rattle.save_text.specs.StateText.Mappable.{AreMappable}
 use Rattle.wheeler.specs.declared.answer.Finished.{Finished}
 use Rattle.wheeler.specs.Positions.{Position, at, todo}
 use Rattle.wheeler.specs.Valid.{AreDone}
@@ -57,22 +58,22 @@ pub record IsPlaceIn (recipe : Said) (save : SaveText) (stage : Stage) (stages :
 abbrev pub IsPlace : Said → SaveText → Type 0
 IsPlace recipe save = (stage : Stage) × (stages : List Stage) × IsPlaceIn recipe save stage stages
 
--- what becomes of what a save of the recipe says; want of memory says nothing of it
+-- what becomes of what a save of the recipe says; want of memory comes only where the runs of its state can be mapped
 abbrev pub Stands : Said → SaveText → Result Position SaveRefusal → Type 0
 Stands recipe save (Ok p) = IsPlace recipe save × (p ≡ position_of save)
 Stands recipe save (Err State) = ¬ (IsPlace recipe save)
-Stands recipe save (Err OutOfMemory) = Unit {0}
+Stands recipe save (Err OutOfMemory) = AreMappable save.state.runs
 Stands recipe save (Err (Form offset)) = ⊥
 Stands recipe save (Err OtherRecipe) = ⊥
 
 -- what becomes of a text: its form is judged first, then whether it is of this recipe and these inputs, then whether it is a place. Want of
--- memory comes only where the form holds
+-- memory comes only where the form holds, the save is of this recipe and these inputs, and the runs of its state can be mapped
 abbrev pub Resumes : Said → List (List ℕ) → List ℕ → Result Position SaveRefusal → Type 0
 Resumes recipe inputs text (Ok p) = (save : SaveText) × (parsed_save text ≡ Ok save) × IsOf recipe inputs save × IsPlace recipe save × (p ≡ position_of save)
 Resumes recipe inputs text (Err (Form offset)) = parsed_save text ≡ Err offset
 Resumes recipe inputs text (Err OtherRecipe) = (save : SaveText) × (parsed_save text ≡ Ok save) × ¬ (IsOf recipe inputs save)
 Resumes recipe inputs text (Err State) = (save : SaveText) × (parsed_save text ≡ Ok save) × IsOf recipe inputs save × ¬ (IsPlace recipe save)
-Resumes recipe inputs text (Err OutOfMemory) = IsOk (parsed_save text)
+Resumes recipe inputs text (Err OutOfMemory) = (save : SaveText) × (parsed_save text ≡ Ok save) × IsOf recipe inputs save × AreMappable save.state.runs
 
 -- the answer to a text: what the rules allow of it where memory is not wanting, of which there is exactly one
 -- (`laws::every_text_has_one_answer`)

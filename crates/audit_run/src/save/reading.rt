@@ -1,24 +1,30 @@
 //! The place in an audit that a text says.
 
-ghost use Rattle.std.specs.Prelude.{◌≡◌, ◌↔◌, IfOk, IsTrue, map};
+ghost use Rattle.std.specs.Prelude.{◌≡◌, ◌↔◌, All, Err, IfOk, IsOk, IsTrue, List, map};
 ghost use Rattle.audit_run.specs.Save.Saves.{IsResumedAs, Resumes, Stands, digest_of, finished_of, save_of, save_refusal_number};
 ghost use Rattle.audit_run.specs.Save.Inside.Seen.{AreDigests};
 ghost use Rattle.guest_run.specs.Valid.{IsValid};
 ghost use Rattle.recipe.specs.Kept.{IsRecipe};
-ghost use Rattle.save_text.specs.Spelled.{IsSaveText, IsTextOfSave};
-ghost use Rattle.save_text.specs.Seen.{stage_view, save_view};
+ghost use Rattle.ddc_base.specs.declared.digests.Digest.{Digest};
+ghost use Rattle.save_text.specs.PatchText.Spelled.{IsPatched};
+ghost use Rattle.save_text.specs.SaveText.{parsed_save};
+ghost use Rattle.save_text.specs.Spelled.{IsStageText, IsTextOfSave};
+ghost use Rattle.save_text.specs.Seen.{stage_view};
+ghost use Rattle.save_text.specs.StateText.Seen.{state_view};
+ghost use Rattle.save_text.specs.StateText.StateText.{StateText};
 ghost use Rattle.wheeler.specs.Positions.{Position, at};
 ghost use Rattle.wheeler.specs.Valid.{IsInputs, IsPosition};
 
 use crate::save::judging::are_done;
+use crate::save::origin::is_text_of;
 use crate::stage::Done;
-use checkpoints::{RestoreRefusal, guest_of};
+use checkpoints::{RestoreRefusal, are_mappable, patched_guest_of};
 use ddc_base::digests::Digest;
 use ddc_base::{Bytes, OutOfMemory, digest};
 use guest_run::{Guest, RunRam};
 use recipe::Recipe;
-use save_text::state_text::TextRefusal;
-use save_text::{InputPart, Parts, StagePart};
+use save_text::state_text::{self, TextRefusal};
+use save_text::{InputPart, Parts, StagePart, is_mappable};
 use std::alloc::Global;
 use std::marker::Model;
 use wheeler::Finished;
@@ -120,12 +126,33 @@ fn judged(
     let parts = match save_text::read(alloc, text) {
         Ok(parts) => parts,
         Err(TextRefusal::Form(offset)) => return Err(SaveRefusal::Form(offset)),
-        Err(TextRefusal::OutOfMemory) => return Err(SaveRefusal::OutOfMemory),
+        Err(TextRefusal::OutOfMemory) => return Err(wanting(recipe, inputs, text)),
     };
     if !is_of(&parts, digest, inputs) {
         return Err(SaveRefusal::OtherRecipe);
     }
-    place_of(alloc, recipe, parts)
+    let Parts {
+        done,
+        state,
+        recipe: _,
+        inputs: _,
+    } = parts;
+    place_of(alloc, recipe, done, &state)
+}
+
+/// Why a text of the form is not resumed, where memory was wanting for the lists of its parts.
+fn wanting(recipe: &Recipe, inputs: &[Bytes], text: &[u8]) -> SaveRefusal
+    requires { IsOk (parsed_save text.now) }
+    ensures { Resumes recipe.now inputs.now text.now (Err result) }
+{
+    if !is_text_of(text, recipe, inputs) {
+        return SaveRefusal::OtherRecipe;
+    }
+    if is_mappable(text) {
+        SaveRefusal::OutOfMemory
+    } else {
+        SaveRefusal::State
+    }
 }
 
 /// Whether a save is of the recipe of this digest and of these inputs.
@@ -153,24 +180,27 @@ fn are_digests(parts: &[InputPart], inputs: &[Bytes]) -> bool
     }
 }
 
-fn is_digest_of(part: &InputPart, input: &Bytes) -> bool
+pub(crate) fn is_digest_of(part: &InputPart, input: &Bytes) -> bool
     ensures { IsTrue result ↔ (part.now.digest ≡ digest_of input.now) }
 {
     part.digest == digest(input.as_slice())
 }
 
-/// The place in a recipe's audit that a save says.
-fn place_of(alloc: Global, recipe: &Recipe, parts: Parts<'_>) -> Result<Resumed, SaveRefusal>
-    requires { IsSaveText (save_view parts) }
-    ensures stands { Stands recipe.now (save_view parts.entry) result }
+/// The place in a recipe's audit that a save says, by the stages that are done and the present guest's state, which may stand beside a base's.
+pub(crate) fn place_of(
+    alloc: Global,
+    recipe: &Recipe,
+    parts: Vec<StagePart>,
+    state: &state_text::Parts<'_>,
+) -> Result<Resumed, SaveRefusal>
+    requires stages { All IsStageText (map stage_view parts.items) }
+    requires state { (base : StateText) × IsPatched base (state_view state.now) }
+    ensures stands { (digest : Digest) (inputs : List Digest) → Stands recipe.now (record { recipe = digest; inputs = inputs; stages = map stage_view parts.items; state = state_view state.now }) result }
     ensures valid { IfOk result (λ p. IsValid p.at) }
 {
-    let Parts {
-        done: parts,
-        state,
-        recipe: _,
-        inputs: _,
-    } = parts;
+    if !are_mappable(&state.runs) {
+        return Err(SaveRefusal::State);
+    }
     let done = done_of(alloc, parts)?;
     if !are_done(recipe, done.as_slice()) {
         return Err(SaveRefusal::State);
@@ -184,7 +214,7 @@ fn place_of(alloc: Global, recipe: &Recipe, parts: Parts<'_>) -> Result<Resumed,
     if state.heap.limit != stage.heap {
         return Err(SaveRefusal::State);
     }
-    match guest_of(alloc, &state) {
+    match patched_guest_of(alloc, state) {
         Ok(guest) => {
             // Every guest is in a valid state: this call tells it.
             guest.steps();

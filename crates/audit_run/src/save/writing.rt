@@ -49,7 +49,7 @@ fn put_inputs(out: &mut Bytes, inputs: &[Bytes]) -> Result<(), OutOfMemory>
     Ok(())
 }
 
-fn put_done(out: &mut Bytes, done: &[Done]) -> Result<(), OutOfMemory>
+pub(crate) fn put_done(out: &mut Bytes, done: &[Done]) -> Result<(), OutOfMemory>
     requires few { length done.now < 2 ^ 32 }
     requires short { All (λ f. IsShortStage (stage_of f)) done.now }
     ensures { OnOk result (out.new ≡ out.old ++ list_text stage_text (map stage_of done.now)) }

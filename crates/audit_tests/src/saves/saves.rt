@@ -9,7 +9,7 @@ use std::alloc::Global;
 use std::test::Fail;
 
 /// The recipe of a text.
-fn recipe_of(alloc: Global, text: &str) -> Result<Recipe, OutOfMemory> {
+pub(crate) fn recipe_of(alloc: Global, text: &str) -> Result<Recipe, OutOfMemory> {
     match recipe::read(alloc, text.as_bytes()) {
         Ok(recipe) => Ok(recipe),
         Err(_) => Err(OutOfMemory),
@@ -181,7 +181,7 @@ fn an_audit_goes_on_from_what_a_save_says(rt: HostRuntime) -> Result<(), Fail> {
 
 /// The save after so many steps as the first form has it: both magics end with another byte, and nothing says what is reserved. The state
 /// begins at 176 in the first stage, and at 577 behind it.
-fn old_save_at(alloc: Global, steps: u64) -> Result<Bytes, OutOfMemory> {
+pub(crate) fn old_save_at(alloc: Global, steps: u64) -> Result<Bytes, OutOfMemory> {
     let (magic, reserved) = if steps < 32 { (183, 448) } else { (584, 849) };
     let text = save_at(alloc, steps)?;
     let text = edited(alloc, text.as_slice(), (reserved, 1, b""))?;

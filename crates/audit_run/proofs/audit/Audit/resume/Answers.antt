@@ -1,13 +1,12 @@
-use Rattle.std.proofs.Common.{◌≡◌, ℕ, List, Ok, subst}
+use Rattle.std.proofs.Common.{ℕ, List, Ok, subst}
 use Rattle.audit_run.specs.Save.Saves.{Resumes, save_of}
 use Rattle.save_text.specs.Spelled.{IsTextOfSave}
-use Rattle.audit_run.specs.Saved.{standing_at}
 use Rattle.audit_run.proofs.audit.Audit.resume.Goals as goal
 
 pub returns-clause-found : goal.returns-clause-found
 returns-clause-found c = (
   c.in_ok-place.place,
-  λ i. standing_at c.args.recipe c.args.inputs (c.into_parts-done.ensures i),
+  c.standing.ensures,
   c.in_ok-place.ensures.place,
   subst (λ (inputs : List (List ℕ)). IsTextOfSave (save_of c.args.recipe inputs c.in_ok-place.place) c.args.text.now) c.as_slice.ensures c.in_ok-place.ensures.found,
 )
@@ -15,6 +14,6 @@ returns-clause-found c = (
 pub returns-clause-exact : goal.returns-clause-exact
 returns-clause-exact c = (
   c.in_ok-place.place,
-  λ i. standing_at c.args.recipe c.args.inputs (c.into_parts-done.ensures i),
+  c.standing.ensures,
   subst (λ (inputs : List (List ℕ)). Resumes c.args.recipe inputs c.args.text.now (Ok c.in_ok-place.place)) c.as_slice.ensures c.in_ok-place.ensures.exact,
 )

@@ -1,25 +1,25 @@
-use Rattle.std.proofs.Common.{◌≡◌, ◌+◌, true, false, length, drop, All, refl, sym, ap, subst, ◌∙◌, arith}
-use Rattle.save_text.specs.Seen.{save_view}
+use Rattle.std.proofs.Common.{◌≡◌, ◌+◌, true, false, length, drop, map, All, refl, sym, ap, subst, ◌∙◌, arith}
+use Rattle.save_text.specs.Seen.{stage_view}
 use Rattle.wheeler.specs.Positions.{at}
 use Rattle.wheeler.specs.Valid.{AreDone}
-use Rattle.audit_run.specs.Save.Saves.{done_in}
+use Rattle.audit_run.specs.Save.Saves.{finished_of}
 use Rattle.audit_run.proofs.SaveLemmas.Placed.{IsOrdered, each_ordered, present, twice}
 use Rattle.audit_run.proofs.save.reading.place_of.Goals as goal
 
 pub are_done-requires : goal.are_done-requires
-are_done-requires c = subst (All IsOrdered) (sym (c.as_slice.ensures.value ∙ c.in_ok-done.ensures)) (each_ordered c.args.parts.done.items 0 c.requires.stages.1)
+are_done-requires c = subst (All IsOrdered) (sym (c.as_slice.ensures.value ∙ c.in_ok-done.ensures)) (each_ordered c.args.parts.items c.requires.stages)
 
 pub returns-then-not-are_done-clause-stands : goal.returns-then-not-are_done-clause-stands
-returns-then-not-are_done-clause-stands c = λ place.
-    let same : c.as_slice.result.now ≡ done_in (save_view c.args.parts) = c.as_slice.ensures.value ∙ c.in_ok-done.ensures ∙ twice c.args.parts.done.items in
+returns-then-not-are_done-clause-stands c = λ digest inputs place.
+    let same : c.as_slice.result.now ≡ map finished_of (map stage_view c.args.parts.items) = c.as_slice.ensures.value ∙ c.in_ok-done.ensures ∙ twice c.args.parts.items in
     let no : false ≡ true = c.if-not-are_done.ensures.1 (subst (AreDone c.args.recipe.now) (sym same) place.2.done) in
     cc
 
 pub returns-in-Ok-clause-stands : goal.returns-in-Ok-clause-stands
-returns-in-Ok-clause-stands c =
+returns-in-Ok-clause-stands c = λ digest inputs.
     let recipe = c.args.recipe.now in
-    let fs = done_in (save_view c.args.parts) in
-    let same : c.in_ok-done.done.items ≡ fs = c.in_ok-done.ensures ∙ twice c.args.parts.done.items in
+    let fs = map finished_of (map stage_view c.args.parts.items) in
+    let same : c.in_ok-done.done.items ≡ fs = c.in_ok-done.ensures ∙ twice c.args.parts.items in
     let stage = c.in-Some.stage.now in
     let low = c.if-state-stage.false in (
       (

@@ -1,0 +1,6 @@
+pub mod Answered
+pub mod Bases
+pub mod DeltaLengths
+pub mod Exactly
+pub mod Judging
+pub mod Writing

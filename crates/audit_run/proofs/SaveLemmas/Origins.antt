@@ -1,0 +1,86 @@
+-- Of which recipe and inputs a text is a save, told at its front.
+use Rattle.std.proofs.Common.{◌≡◌, ◌≢◌, ◌∙◌, ◌-◌, ◌≤◌, ℕ, Bool, false, true, List, [], ◌∷◌, drop, get_or, length, map, take, Ok, Err, refl, sym, ap, subst, arith}
+use Rattle.std.specs.Prelude.{◌↔◌, IsOk, IsTrue, Result}
+use Rattle.std.proofs.lemmas.List.{length-map, take_all}
+use Rattle.ddc_base.specs.declared.digests.Digest.{Digest}
+use Rattle.save_text.specs.ByteFields.Reader.{Read}
+use Rattle.save_text.specs.SaveText.{SaveText, digest_at, origin_at, parsed_save, save_at}
+use Rattle.save_text.proofs.ByteFieldsLemmas.Spells.{all_taken}
+use Rattle.save_text.proofs.Origins.{OriginOf, as_many, digests_at, none_at, one_at, origin_there, wrong_at}
+use Rattle.save_text.proofs.StateTextLemmas.Mapped.{same_rest, same_value}
+use Rattle.audit_run.specs.Save.Saves.{IsOf, digest_of}
+use Rattle.recipe.specs.declared.contents.Said.{Said}
+
+-- the first of a list, and what is behind it
+pub split : {A : Type 0} (xs : List A) (x : A) → 1 ≤ length xs → x ≡ get_or xs 0 x → x ∷ take (length xs - 1) (drop 1 xs) ≡ xs
+split [] x some is = absurd (omega arith)
+split (y ∷ xs) x some is = λ i. is i ∷ take_all (length (y ∷ xs) - 1) xs (omega arith) i
+
+-- whether the digests that are read are those of these inputs
+abbrev pub Tells : List (List ℕ) → Bool → List ℕ → Type 0
+Tells inputs same left = (digests : List Digest) (rest : List ℕ) → digests_at (length inputs) left ≡ Ok (digests, rest) → IsTrue same ↔ (digests ≡ map digest_of inputs)
+
+pub no_next : (inputs : List (List ℕ)) (left : List ℕ) → length inputs ≡ 0 → Tells inputs true left
+no_next [] left none = λ digests rest e. (λ t. none_at left rest digests e, λ same. refl)
+no_next (input ∷ inputs) left none = absurd (omega arith)
+
+pub other_next : (input : List ℕ) (inputs : List (List ℕ)) (left behind : List ℕ) (first : Digest) → digest_at left ≡ Ok (first, behind) → first ≢ digest_of input → Tells (input ∷ inputs) false left
+other_next input inputs left behind first read other = λ digests rest e.
+    let one = one_at (length inputs) left behind rest first digests read e in
+    (λ t. cc, λ same. let all : first ∷ one.0 ≡ digest_of input ∷ map digest_of inputs = sym one.2 ∙ same in absurd (other cc))
+
+pub same_next : (input : List ℕ) (inputs : List (List ℕ)) (left behind : List ℕ) (first : Digest) (same : Bool) → digest_at left ≡ Ok (first, behind) → first ≡ digest_of input → Tells inputs same behind → Tells (input ∷ inputs) same left
+same_next input inputs left behind first same read is tells = λ digests rest e.
+    let one = one_at (length inputs) left behind rest first digests read e in
+    let later = tells one.0 rest one.1 in (
+      λ t. one.2 ∙ (λ i. is i ∷ later.0 t i),
+      λ all. let parts : first ∷ one.0 ≡ digest_of input ∷ map digest_of inputs = sym one.2 ∙ all in later.1 cc,
+    )
+
+pub wrong_next : (input : List ℕ) (inputs : List (List ℕ)) (left : List ℕ) (at : ℕ) (same : Bool) → digest_at left ≡ Err at → Tells (input ∷ inputs) same left
+wrong_next input inputs left at same read = λ digests rest e. absurd (wrong_at (length inputs) at left rest digests read e)
+
+-- what is told of a text is told of the save that it says
+module _ (text cursor : List ℕ) (whole : cursor ≡ text) (save : SaveText) (formed : parsed_save text ≡ Ok save) where
+  there : OriginOf cursor save
+  unfolding parsed_save
+  there = subst (λ (t : List ℕ). OriginOf t save) (sym whole) (origin_there text save [] (all_taken (length text) (save_at text) save formed))
+
+  module _ (recipe : Digest) (count : ℕ) (behind : List ℕ) (read : origin_at cursor ≡ Ok ((recipe, count), behind)) where
+    both : ◌≡◌ {A = Read (Digest × ℕ)} (Ok ((save.recipe, there.count), there.behind)) (Ok ((recipe, count), behind))
+    both = sym there.said ∙ read
+
+    pub its_recipe : save.recipe ≡ recipe
+    its_recipe = ap (λ (o : Digest × ℕ). o.0) (same_value (save.recipe, there.count) (recipe, count) there.behind behind both)
+
+    its_count : there.count ≡ count
+    its_count = ap (λ (o : Digest × ℕ). o.1) (same_value (save.recipe, there.count) (recipe, count) there.behind behind both)
+
+    its_inputs : digests_at count behind ≡ Ok (save.inputs, there.after)
+    its_inputs =
+        subst (λ (n : ℕ). digests_at n behind ≡ Ok (save.inputs, there.after)) its_count
+        (subst (λ (l : List ℕ). digests_at there.count l ≡ Ok (save.inputs, there.after)) (same_rest (save.recipe, there.count) (recipe, count) there.behind behind both) there.inputs)
+
+    pub other_count : (said : Said) (inputs : List (List ℕ)) → count ≢ length inputs → IsTrue false ↔ IsOf said inputs save
+    other_count said inputs other = (
+      λ t. cc,
+      λ of. absurd (other (sym (as_many count behind there.after save.inputs its_inputs) ∙ ap length of.same_inputs ∙ length-map inputs digest_of)),
+    )
+
+    pub other_recipe : (said : Said) (inputs : List (List ℕ)) → recipe ≢ said.digest → IsTrue false ↔ IsOf said inputs save
+    other_recipe said inputs other = (λ t. cc, λ of. absurd (other (sym its_recipe ∙ of.same_recipe)))
+
+    pub same_count : (said : Said) (inputs : List (List ℕ)) (same : Bool) → recipe ≡ said.digest → count ≡ length inputs → Tells inputs same behind → IsTrue same ↔ IsOf said inputs save
+    same_count said inputs same is many tells =
+        let told = tells save.inputs there.after (subst (λ (n : ℕ). digests_at n behind ≡ Ok (save.inputs, there.after)) many its_inputs) in
+        (λ t. record { same_recipe = its_recipe ∙ is; same_inputs = told.0 t }, λ of. told.1 of.same_inputs)
+
+  pub no_front : (at : ℕ) → origin_at cursor ≡ Err at → (same : Bool) (said : Said) (inputs : List (List ℕ)) → IsTrue same ↔ IsOf said inputs save
+  no_front at wrong same said inputs =
+      let none : ◌≡◌ {A = Read (Digest × ℕ)} (Err at) (Ok ((save.recipe, there.count), there.behind)) = sym wrong ∙ there.said in
+      absurd cc
+
+-- a text of the form says some save
+pub wanted : (read : Result SaveText ℕ) → IsOk read → (save : SaveText) × (read ≡ Ok save)
+wanted (Ok save) formed = (save, refl)
+wanted (Err at) formed = absurd cc

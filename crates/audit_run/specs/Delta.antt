@@ -1,0 +1,4 @@
+pub mod Deltas
+pub mod Judged
+pub mod Audits
+pub mod Inside

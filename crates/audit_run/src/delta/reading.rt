@@ -1,0 +1,156 @@
+//! The place in an audit that a text says beside its base.
+
+ghost use Rattle.std.specs.Prelude.{◌≡◌, IfOk, Ok};
+ghost use Rattle.audit_run.specs.Delta.Deltas.{GoesOnBeside, HasDelta, IsBaseAt, IsResumedBesideAs, ResumesBeside, delta_refusal_number, delta_text_of};
+ghost use Rattle.audit_run.specs.Delta.Inside.Judging.{JudgesBase};
+ghost use Rattle.audit_run.specs.Save.Saves.{Resumes};
+ghost use Rattle.guest_run.specs.Valid.{IsValid};
+ghost use Rattle.recipe.specs.Kept.{IsRecipe};
+ghost use Rattle.save_text.specs.Seen.{save_view};
+ghost use Rattle.save_text.specs.Spelled.{IsSaveText, IsTextOfSave};
+ghost use Rattle.wheeler.specs.Positions.{Position};
+ghost use Rattle.wheeler.specs.Valid.{IsInputs, IsPosition};
+
+use crate::delta::base::{digest_of, known_of};
+use crate::save::{Resumed, SaveRefusal, place_of};
+use ddc_base::{Bytes, OutOfMemory};
+use recipe::Recipe;
+use save_text::Parts;
+use save_text::delta_text::{self, DeltaParts, names_other_base};
+use save_text::state_text::TextRefusal;
+use std::alloc::Global;
+
+/// Why a text is no delta of an audit against its base.
+#[derive(Clone, Copy, Debug, PartialEq, Eq)]
+pub enum DeltaRefusal {
+    /// The base is no save of the audit, for this reason, which is never want of memory.
+    Base(SaveRefusal),
+    /// The field that begins at this offset of the delta is the first that is wrong.
+    Form(u64),
+    /// It is a delta against another base.
+    OtherBase,
+    /// It says no place in the recipe's audit.
+    State,
+    OutOfMemory,
+}
+
+impl From<OutOfMemory> for DeltaRefusal {
+    ghost use Rattle.audit_run.specs.declared.delta.reading.DeltaRefusal.TheVariants as refusal;
+
+    ghost from_gives = { λ _ why. why ≡ refusal.OutOfMemory };
+
+    fn from(_error: OutOfMemory) -> DeltaRefusal {
+        DeltaRefusal::OutOfMemory
+    }
+}
+
+impl DeltaRefusal {
+    /// The number of the refusal: 1 to 3 for a base, as for a save, and 5 to 7 for a delta.
+    pub fn number(&self) -> u8
+        ensures { result ≡ delta_refusal_number self.now }
+    {
+        match self {
+            DeltaRefusal::Base(refusal) => refusal.number(),
+            DeltaRefusal::Form(_) => 5,
+            DeltaRefusal::OtherBase => 6,
+            DeltaRefusal::State => 7,
+            DeltaRefusal::OutOfMemory => 4,
+        }
+    }
+}
+
+/// Where the audit of this recipe and these inputs stands by a save of it and a delta against that.
+pub fn read(
+    alloc: Global,
+    recipe: &Recipe,
+    inputs: &[Bytes],
+    base: &[u8],
+    text: &[u8],
+) -> Result<Resumed, DeltaRefusal>
+    requires { IsInputs recipe.now inputs.now }
+    // What is read is a place in the audit, and this is its delta against the place of the base.
+    ensures place { IfOk result (λ p. IsPosition recipe.now p) }
+    ensures found { IfOk result (λ p. HasDelta recipe.now inputs.now base.now text.now p) }
+    // The delta of every place in the audit against every other one is read as that place beside each save of its base, unless memory runs out.
+    ensures only { (b : Position) (p : Position) → IsBaseAt recipe.now inputs.now b base.now → IsPosition recipe.now p
+        → text.now ≡ delta_text_of recipe.now inputs.now b p → IsResumedBesideAs p result }
+    // When each refusal comes.
+    ensures exact { ResumesBeside recipe.now inputs.now base.now text.now result }
+{
+    judged(alloc, recipe, inputs, base, text)
+}
+
+fn judged(
+    alloc: Global,
+    recipe: &Recipe,
+    inputs: &[Bytes],
+    base: &[u8],
+    text: &[u8],
+) -> Result<Resumed, DeltaRefusal>
+    requires { IsInputs recipe.now inputs.now }
+    ensures kept { IsRecipe recipe.now }
+    ensures base { IfOk result (λ p. (b : Position) → Resumes recipe.now inputs.now base.now (Ok b) → IsPosition recipe.now b) }
+    ensures resumes { ResumesBeside recipe.now inputs.now base.now text.now result }
+    ensures valid { IfOk result (λ p. IsValid p.at) }
+{
+    // Every recipe keeps its rules: this call tells it.
+    recipe.digest();
+    judge_base(alloc, recipe, inputs, base)?;
+    let known = known_of(alloc, base)?;
+    beside(alloc, recipe, known, base, text)
+}
+
+/// Judges the base as a save is judged. The guest that is made of it is let go before another is made.
+fn judge_base(
+    alloc: Global,
+    recipe: &Recipe,
+    inputs: &[Bytes],
+    base: &[u8],
+) -> Result<(), DeltaRefusal>
+    requires { IsInputs recipe.now inputs.now }
+    ensures { JudgesBase recipe.now inputs.now base.now result }
+{
+    match crate::save::read(alloc, recipe, inputs, base) {
+        Ok(_place) => Ok(()),
+        Err(SaveRefusal::Form(offset)) => Err(DeltaRefusal::Base(SaveRefusal::Form(offset))),
+        Err(SaveRefusal::OtherRecipe) => Err(DeltaRefusal::Base(SaveRefusal::OtherRecipe)),
+        Err(SaveRefusal::State) => Err(DeltaRefusal::Base(SaveRefusal::State)),
+        Err(SaveRefusal::OutOfMemory) => Err(DeltaRefusal::OutOfMemory),
+    }
+}
+
+/// The place that a text says beside what a base says.
+fn beside<'a>(
+    alloc: Global,
+    recipe: &Recipe,
+    known: Parts<'a>,
+    base: &'a [u8],
+    text: &'a [u8],
+) -> Result<Resumed, DeltaRefusal>
+    requires text { IsSaveText (save_view known) }
+    requires spelled { IsTextOfSave (save_view known) base.now }
+    ensures goes { GoesOnBeside recipe.now (save_view known.entry) text.now result }
+    ensures valid { IfOk result (λ p. IsValid p.at) }
+{
+    let digest = digest_of(alloc, &known, base)?;
+    if names_other_base(&digest, text) {
+        return Err(DeltaRefusal::OtherBase);
+    }
+    let parts = match delta_text::read(alloc, known, text) {
+        Ok(parts) => parts,
+        Err(TextRefusal::Form(offset)) => return Err(DeltaRefusal::Form(offset)),
+        Err(TextRefusal::OutOfMemory) => return Err(DeltaRefusal::OutOfMemory),
+    };
+    let DeltaParts {
+        done,
+        state,
+        base: _,
+    } = parts;
+    match place_of(alloc, recipe, done, &state) {
+        Ok(place) => Ok(place),
+        Err(SaveRefusal::Form(_)) => unreachable!(),
+        Err(SaveRefusal::OtherRecipe) => unreachable!(),
+        Err(SaveRefusal::State) => Err(DeltaRefusal::State),
+        Err(SaveRefusal::OutOfMemory) => Err(DeltaRefusal::OutOfMemory),
+    }
+}

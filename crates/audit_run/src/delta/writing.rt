@@ -1,0 +1,117 @@
+//! The text of an audit that stands in a stage, beside its base.
+
+ghost use Rattle.std.specs.Prelude.{◌≡◌, ◌<◌, ◌≤◌, ◌^◌, ◌++◌, All, IfOk, OnOk, length, map};
+ghost use Rattle.audit_run.specs.Delta.Deltas.{IsBaseAt, base_digest, delta_text_of};
+ghost use Rattle.audit_run.specs.Save.Saves.{stage_of};
+ghost use Rattle.checkpoints.specs.Checkpoint.{state_of};
+ghost use Rattle.save_text.specs.DeltaText.DeltaText.{text_of_delta};
+ghost use Rattle.save_text.specs.DeltaText.Stages.{equal_stages, kept_stages, stages_beside_text};
+ghost use Rattle.save_text.specs.Seen.{save_view, stage_view};
+ghost use Rattle.save_text.specs.Spelled.{IsSaveText, IsShortStage, IsTextOfSave};
+ghost use Rattle.wheeler.specs.Positions.{Position, at};
+ghost use Rattle.wheeler.specs.Valid.{IsInputs, IsPosition};
+
+use crate::delta::base::{digest_of, known_of};
+use crate::save::put_done;
+use crate::stage::Done;
+use checkpoints::put_patch_of;
+use ddc_base::{Bytes, OutOfMemory};
+use guest_run::{Guest, RunRam};
+use recipe::Recipe;
+use save_text::byte_fields::put_u32;
+use save_text::delta_text::{MAGIC, is_same_stage};
+use save_text::{Parts, StagePart};
+use std::alloc::Global;
+
+/// The one delta of an audit that stands in a stage against a save of it, its base. The pages of the base are compared where they stand in its text.
+pub fn write(
+    alloc: Global,
+    recipe: &Recipe,
+    inputs: &[Bytes],
+    done: &[Done],
+    guest: &Guest<RunRam>,
+    base: &[u8],
+) -> Result<Bytes, OutOfMemory>
+    requires given { IsInputs recipe.now inputs.now }
+    requires position { IsPosition recipe.now (at done.now guest.now) }
+    requires base { (b : Position) × IsBaseAt recipe.now inputs.now b base.now }
+    ensures { IfOk result (λ text. (b : Position) → IsBaseAt recipe.now inputs.now b base.now
+        → text ≡ delta_text_of recipe.now inputs.now b (at done.now guest.now)) }
+{
+    // Every recipe keeps its rules: this call tells it.
+    recipe.digest();
+    let known = known_of(alloc, base)?;
+    beside(alloc, &known, base, done, guest)
+}
+
+/// The delta against what a base says.
+#[tactic(auto, using(crate::proofs::SaveLemmas::Written::written))]
+fn beside(
+    alloc: Global,
+    known: &Parts<'_>,
+    base: &[u8],
+    done: &[Done],
+    guest: &Guest<RunRam>,
+) -> Result<Bytes, OutOfMemory>
+    requires text { IsSaveText (save_view known.now) }
+    requires spelled { IsTextOfSave (save_view known.now) base.now }
+    requires pages { length (save_view known.now).state.pages ≤ 2 ^ 26 }
+    requires few { length done.now < 2 ^ 32 }
+    requires short { All (λ f. IsShortStage (stage_of f)) done.now }
+    ensures { IfOk result (λ text. text ≡ text_of_delta (save_view known.now)
+        (record { base = base_digest (save_view known.now); stages = map stage_of done.now; state = state_of guest.now })) }
+{
+    let digest = digest_of(alloc, known, base)?;
+    let mut out = Bytes::new(alloc);
+    out.extend(&MAGIC)?;
+    out.extend(&digest.0)?;
+    put_beside(&mut out, &known.done, done)?;
+    put_patch_of(alloc, &mut out, &known.state, guest)?;
+    Ok(out)
+}
+
+/// Adds how many stages in front are the base's, and the further ones.
+fn put_beside(out: &mut Bytes, known: &[StagePart], done: &[Done]) -> Result<(), OutOfMemory>
+    requires few { length done.now < 2 ^ 32 }
+    requires short { All (λ f. IsShortStage (stage_of f)) done.now }
+    ensures { OnOk result (out.new ≡ out.old ++ stages_beside_text (map stage_view known.now) (map stage_of done.now)) }
+{
+    let kept = kept_of(known, done);
+    put_u32(out, kept as u32)?;
+    put_done(out, &done[kept..])
+}
+
+/// How many stages in front are done alike in both.
+#[tactic(auto, unfolding(save_text::specs::DeltaText::Stages::kept_stages))]
+fn kept_of(known: &[StagePart], done: &[Done]) -> usize
+    ensures value { result ≡ kept_stages (map stage_view known.now) (map stage_of done.now) }
+    ensures few { result ≤ length done.now }
+{
+    match known {
+        [] => 0,
+        [first, more @ ..] => match done {
+            [] => 0,
+            [stage, later @ ..] => {
+                if is_same(first, stage) {
+                    1 + kept_of(more, later)
+                } else {
+                    0
+                }
+            }
+        },
+    }
+}
+
+/// Whether a stage is done as the base says.
+fn is_same(known: &StagePart, done: &Done) -> bool
+    ensures { result ≡ equal_stages (stage_view known.now) (stage_of done.now) }
+{
+    let finished = done.finished();
+    is_same_stage(
+        known,
+        finished.steps,
+        (finished.stream1, finished.stream2),
+        finished.left.as_slice(),
+        finished.made.as_slice(),
+    )
+}

@@ -1,0 +1,54 @@
+//! Audits of a recipe and its inputs that are kept as a save and a delta.
+
+ghost use Rattle.std.specs.Prelude.{◌≤◌};
+ghost use Rattle.audit_run.specs.Delta.Deltas.{IsBaseAt};
+ghost use Rattle.wheeler.specs.Positions.{Position};
+ghost use Rattle.wheeler.specs.Valid.{IsInputs};
+
+use audit_run::{Audit, DeltaRefusal, Progress};
+use ddc_base::{Bytes, OutOfMemory};
+use recipe::{Inputs, Recipe};
+use std::alloc::Global;
+
+/// The delta of an audit behind so many steps more, against a save of it.
+fn delta_behind(audit: &mut Audit, base: &[u8], more: u64) -> Result<Bytes, OutOfMemory>
+    requires some { 1 ≤ more }
+    requires base { (b : Position) × IsBaseAt audit.old.recipe audit.old.inputs b base.now }
+{
+    match audit.advance(more) {
+        Progress::Paused => audit.save_delta_of(base),
+        _ => Err(OutOfMemory),
+    }
+}
+
+/// The delta of the audit that a base says, behind so many steps more.
+pub fn delta_from(
+    alloc: Global,
+    recipe: Recipe,
+    inputs: Inputs,
+    base: &[u8],
+    more: u64,
+) -> Result<Bytes, OutOfMemory>
+    requires given { IsInputs recipe inputs }
+    requires some { 1 ≤ more }
+{
+    match Audit::resume(alloc, recipe, inputs, base) {
+        Ok(mut audit) => delta_behind(&mut audit, base, more),
+        Err(_) => Err(OutOfMemory),
+    }
+}
+
+/// The save of the audit that a base and a delta say.
+pub fn save_beside(
+    alloc: Global,
+    recipe: Recipe,
+    inputs: Inputs,
+    base: &[u8],
+    delta: &[u8],
+) -> Result<Bytes, DeltaRefusal>
+    requires { IsInputs recipe inputs }
+{
+    let audit = Audit::resume_delta(alloc, recipe, inputs, base, delta)?;
+    let text = audit.save()?;
+    Ok(text)
+}
