@@ -1,10 +1,11 @@
--- A position's save is set, and its place is said.
-use Rattle.std.proofs.Common.{◌≡◌, ℕ, ◌+◌, List, length, Option, Some, Result, ap, ◌∙◌, subst}
+-- What is kept of a position is set, and its place is said.
+use Rattle.std.proofs.Common.{◌≡◌, ℕ, ◌+◌, List, length, Option, Some, Result, Ok, Err, ap, sym, ◌∙◌, subst}
+use Rattle.std.specs.Prelude.{IfOk}
 use Rattle.ddc_base.specs.Outside.{ShelfState}
 use Rattle.recipe.specs.declared.contents.Said.{Said}
-use Rattle.save_text.specs.Spelled.{text_of_save}
-use Rattle.audit_run.specs.Save.Saves.{save_of}
 use Rattle.wheeler.specs.Positions.{Position, Standing, On}
+use Rattle.audit_run.specs.Delta.Audits.{IsDeltaFrom}
+use Rattle.audit_run.specs.Delta.Deltas.{IsBaseAt}
 use Rattle.audit_run.specs.Saved.{IsSave}
 use Rattle.audit_run.specs.Seen.{place_of}
 use Rattle.command_plan.specs.declared.answer.Answer.{Answer}
@@ -12,18 +13,39 @@ use Rattle.command_plan.specs.declared.stop.Stop.{Stop}
 use Rattle.command_plan.specs.declared.status.Status.TheVariants.{Paused}
 use Rattle.command_plan.specs.Performs.{Performs}
 use Rattle.command_plan.specs.Plan.{answers, sets}
+use Rattle.audit_commands.specs.declared.going.Kept.{Kept}
+use Rattle.audit_commands.specs.declared.going.Kept.TheVariants.{Whole, Beside}
+use Rattle.audit_commands.specs.Inside.Keeping.{Keeps}
 use Rattle.audit_commands.specs.Texts.{stage_name}
 use Rattle.audit_commands.specs.Pause.{paused}
 use Rattle.audit_commands.specs.PauseTexts.{paused_line}
+use Rattle.std.specs.Borrow.{Bor}
 
-pub sets_save : (recipe : Said) (inputs : List (List ℕ)) (save : List ℕ) (stands : Option Standing) (old new : ShelfState) (result : Result Answer Stop) (text line : List ℕ) (place : ℕ × ℕ)
-    → IsSave recipe inputs stands text → place ≡ place_of stands → line ≡ paused_line (stage_name recipe.stages place.0) place.1
-    → Performs (sets save text (answers Paused line)) old new result → (p : Position) → stands ≡ Some (On p) → Performs (paused recipe inputs save p) old new result
+-- what was written is what is kept
+pub whole_is_kept : {E : Type 0} (recipe : Said) (inputs : List (List ℕ)) (stands : Option Standing) (result : Result (List ℕ) E) → IfOk result (IsSave recipe inputs stands)
+    → (p : Position) (text : Position → List ℕ) → stands ≡ Some (On p) → Keeps recipe inputs Whole text → IfOk result (λ bytes. bytes ≡ text p)
+whole_is_kept recipe inputs stands (Ok bytes) saved p text on keeps = subst (λ s. IsSave recipe inputs s bytes) on saved ∙ sym (keeps p)
+whole_is_kept recipe inputs stands (Err e) saved p text on keeps = tt
+
+pub delta_is_kept : {E : Type 0} (recipe : Said) (inputs : List (List ℕ)) (stands : Option Standing) (save : Bor (List ℕ)) (result : Result (List ℕ) E)
+    → IfOk result (λ bytes. (b : Position) → IsBaseAt recipe inputs b save.now → IsDeltaFrom recipe inputs b stands bytes)
+    → (p : Position) (text : Position → List ℕ) → stands ≡ Some (On p) → Keeps recipe inputs (Beside save) text → IfOk result (λ bytes. bytes ≡ text p)
+delta_is_kept recipe inputs stands save (Ok bytes) saved p text on keeps =
+    subst (λ s. IsDeltaFrom recipe inputs keeps.0 s bytes) on (saved keeps.0 keeps.1) ∙ sym (keeps.2 p)
+delta_is_kept recipe inputs stands save (Err e) saved p text on keeps = tt
+
+-- what is kept beside a base is kept beside the save of a position
+pub base_of : (recipe : Said) (inputs : List (List ℕ)) (kept : Kept) (save : Bor (List ℕ)) → kept ≡ Beside save → (text : Position → List ℕ) × Keeps recipe inputs kept text
+    → (b : Position) × IsBaseAt recipe inputs b save.now
+base_of recipe inputs kept save is keeps = let k = subst (λ k. Keeps recipe inputs k keeps.0) is keeps.1 in (k.0, k.1)
+
+pub sets_kept : (recipe : Said) (kept : Position → List ℕ) (name : List ℕ) (stands : Option Standing) (old new : ShelfState) (result : Result Answer Stop) (text line : List ℕ) (place : ℕ × ℕ) (p : Position)
+    → stands ≡ Some (On p) → text ≡ kept p → place ≡ place_of stands → line ≡ paused_line (stage_name recipe.stages place.0) place.1
+    → Performs (sets name text (answers Paused line)) old new result → Performs (paused recipe kept name p) old new result
 unfolding paused
-sets_save recipe inputs save stands old new result text line place saved placed said performs p on =
-    let text_is : text ≡ text_of_save (save_of recipe inputs p) = subst (λ s. IsSave recipe inputs s text) on saved in
+sets_kept recipe kept name stands old new result text line place p on kept_is placed said performs =
     let place_is : place ≡ (length p.done + 1, p.at.steps) = placed ∙ ap place_of on in
     let line_is : line ≡ paused_line (stage_name recipe.stages (length p.done + 1)) p.at.steps =
     said ∙ ap (λ (q : ℕ × ℕ). paused_line (stage_name recipe.stages q.0) q.1) place_is in
-    subst (λ l. Performs (sets save (text_of_save (save_of recipe inputs p)) (answers Paused l)) old new result) line_is
-    (subst (λ t. Performs (sets save t (answers Paused line)) old new result) text_is performs)
+    subst (λ l. Performs (sets name (kept p) (answers Paused l)) old new result) line_is
+    (subst (λ t. Performs (sets name t (answers Paused line)) old new result) kept_is performs)

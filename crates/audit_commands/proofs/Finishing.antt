@@ -16,7 +16,7 @@ use Rattle.command_plan.specs.declared.answer.Answer.{Answer}
 use Rattle.command_plan.specs.declared.stop.Stop.{Stop}
 use Rattle.command_plan.specs.Performs.{Performs}
 use Rattle.audit_commands.specs.Audit.{audited}
-use Rattle.audit_commands.specs.Pause.{came_to}
+use Rattle.audit_commands.specs.Pause.{came_to, whole_save}
 use Rattle.audit_commands.specs.Inside.Finishing.{Comes}
 
 ends_at : (old : AuditState) → IsRecipe old.recipe → old.stands ≡ None → forward_from old.recipe old.inputs (seen.standing old) (2 ^ 64 - 1) ≡ Over (bench old.recipe old.inputs)
@@ -47,7 +47,7 @@ carried recipe inputs kept audit out old new result k is p =
 -- where an audit that begins comes to
 pub begun : (recipe : Said) (inputs : List (List ℕ)) (audit : AuditState) (save report : List ℕ) (steps : ℕ) (old new : ShelfState) (result : Result Answer Stop)
     → audit ≡ record { recipe = recipe; inputs = inputs; stands = None }
-    → Performs (came_to audit.recipe audit.inputs save report (forward_from audit.recipe audit.inputs (seen.standing audit) steps)) old new result
-    → Performs (came_to recipe inputs save report (position recipe inputs steps)) old new result
+    → Performs (came_to audit.recipe (whole_save audit.recipe audit.inputs) save report (forward_from audit.recipe audit.inputs (seen.standing audit) steps)) old new result
+    → Performs (came_to recipe (whole_save recipe inputs) save report (position recipe inputs steps)) old new result
 begun recipe inputs audit save report steps old new result is p =
-    subst (λ (a : AuditState). Performs (came_to a.recipe a.inputs save report (forward_from a.recipe a.inputs (seen.standing a) steps)) old new result) is p
+    subst (λ (a : AuditState). Performs (came_to a.recipe (whole_save a.recipe a.inputs) save report (forward_from a.recipe a.inputs (seen.standing a) steps)) old new result) is p

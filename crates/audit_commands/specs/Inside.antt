@@ -1,3 +1,4 @@
 -- What serves the split of the code. No promise of a command rests on these files being read.
 pub mod Finishing
+pub mod Keeping
 pub mod Refusing

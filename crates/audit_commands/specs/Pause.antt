@@ -17,15 +17,19 @@ use Rattle.audit_commands.specs.PauseTexts.{paused_line, save_refused_line}
 
 -- ---- where an audit came to
 
--- it stands at a position: the save is set, and the present stage is said, with the steps that were taken in it
-unfoldable pub paused : Said → List (List ℕ) → List ℕ → Position → Plan
-paused recipe inputs save p =
-    sets save (text_of_save (save_of recipe inputs p)) (answers Paused (paused_line (stage_name recipe.stages (length p.done + 1)) p.at.steps))
+-- what these commands keep of a position: its whole save
+abbrev pub whole_save : Said → List (List ℕ) → Position → List ℕ
+whole_save recipe inputs p = text_of_save (save_of recipe inputs p)
+
+-- it stands at a position: what is kept of it is set, and the present stage is said, with the steps that were taken in it
+unfoldable pub paused : Said → (Position → List ℕ) → List ℕ → Position → Plan
+paused recipe kept name p =
+    sets name (kept p) (answers Paused (paused_line (stage_name recipe.stages (length p.done + 1)) p.at.steps))
 
 -- it is over, which is told as `audit` tells it, or it stands at a position
-abbrev pub came_to : Said → List (List ℕ) → List ℕ → List ℕ → Standing → Plan
-came_to recipe inputs save report (Over answer) = audited recipe report answer
-came_to recipe inputs save report (On p) = paused recipe inputs save p
+abbrev pub came_to : Said → (Position → List ℕ) → List ℕ → List ℕ → Standing → Plan
+came_to recipe kept name report (Over answer) = audited recipe report answer
+came_to recipe kept name report (On p) = paused recipe kept name p
 
 -- ---- `part`
 
@@ -36,7 +40,7 @@ part_files recipe save report steps =
     needs_apart said report (λ _.
     needs_apart said save (λ _.
     needs_inputs said (λ inputs.
-    came_to said inputs save report (position said inputs steps)))))
+    came_to said (whole_save said inputs) save report (position said inputs steps)))))
 
 -- ---- `resume`
 
@@ -59,7 +63,7 @@ resume_files recipe save report steps =
     needs save 4_294_967_296 (λ text.
     needs_inputs said (λ inputs.
     needs_position said inputs text (λ p.
-    came_to said inputs save report (forward said inputs p steps)))))))
+    came_to said (whole_save said inputs) save report (forward said inputs p steps)))))))
 
 -- ---- the words
 

@@ -2,6 +2,8 @@
 use Rattle.std.specs.Prelude.{ℕ, List, [], ◌∷◌, codes, decimal}
 use Rattle.ddc_base.specs.Lines.{line}
 use Rattle.audit_run.specs.Save.Saves.{save_refusal_number}
+use Rattle.audit_run.specs.Delta.Deltas.{delta_refusal_number}
+use Rattle.audit_run.specs.declared.delta.reading.DeltaRefusal.{DeltaRefusal}
 use Rattle.audit_run.specs.declared.save.reading.SaveRefusal.{SaveRefusal}
 
 -- an audit stands in this stage, after so many steps of it
@@ -11,3 +13,7 @@ paused_line stage steps = line (codes "paused" ∷ stage ∷ decimal steps ∷ [
 -- a file is no save of the recipe and its inputs
 unfoldable pub save_refused_line : SaveRefusal → List ℕ
 save_refused_line refusal = line (codes "save" ∷ codes "refused" ∷ decimal (save_refusal_number refusal) ∷ [])
+
+-- files are no save of the recipe and its inputs and no delta against it
+unfoldable pub delta_refused_line : DeltaRefusal → List ℕ
+delta_refused_line refusal = line (codes "save" ∷ codes "refused" ∷ decimal (delta_refusal_number refusal) ∷ [])

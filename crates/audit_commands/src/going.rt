@@ -1,11 +1,12 @@
 //! An audit goes on, and where it came to is told.
 
-ghost use Rattle.std.specs.Prelude.{◌≡◌, ◌≤◌, Some};
+ghost use Rattle.std.specs.Prelude.{◌≡◌, ◌≤◌, ℕ, IfOk, List, Some};
 ghost use Rattle.ddc_base.specs.Outside.{IsFileName};
 ghost use Rattle.wheeler.specs.Positions.{Position, Standing, On, forward_from};
 ghost use Rattle.audit_run.specs.Saved.{IsOn};
 ghost use Rattle.audit_run.specs.Seen.{standing};
 ghost use Rattle.audit_commands.specs.Inside.Finishing.{Comes};
+ghost use Rattle.audit_commands.specs.Inside.Keeping.{Keeps};
 ghost use Rattle.command_plan.specs.Performs.{Performs};
 ghost use Rattle.audit_commands.specs.Pause.{came_to, paused};
 
@@ -14,46 +15,60 @@ use crate::pause_texts;
 use crate::texts::stage_name;
 use audit_run::{Audit, Progress};
 use command_plan::{Answer, Status, Stop, keep};
-use ddc_base::Shelf;
+use ddc_base::{Bytes, OutOfMemory, Shelf};
 use std::alloc::Global;
 
-/// Goes on by at most so many steps, and then keeps the save or the report.
+/// What is kept of an audit that is not over.
+#[derive(Clone, Copy)]
+pub(crate) enum Kept<'a> {
+    /// Its whole save.
+    Whole,
+    /// What differs from this save of the same recipe and inputs.
+    Beside(&'a [u8]),
+}
+
+/// Goes on by at most so many steps, and then keeps where the audit stands, under a name, or its report.
 pub(crate) fn go_on<S: Shelf>(
     alloc: Global,
     audit: Audit,
     steps: u64,
-    save: &str,
+    kept: Kept<'_>,
+    name: &str,
     report: &str,
     shelf: &mut S,
 ) -> Result<Answer, Stop>
     requires some { 1 ≤ steps }
-    requires save { IsFileName save.now }
+    requires keeps { (text : Position → List ℕ) × Keeps audit.recipe audit.inputs kept text }
+    requires name { IsFileName name.now }
     requires report { IsFileName report.now }
-    ensures { Performs (came_to audit.recipe audit.inputs save.now report.now (forward_from audit.recipe audit.inputs (standing audit) steps))
+    ensures { (text : Position → List ℕ) → Keeps audit.recipe audit.inputs kept.entry text
+        → Performs (came_to audit.recipe text name.now report.now (forward_from audit.recipe audit.inputs (standing audit) steps))
         (S.state shelf.old) (S.state shelf.new) result }
 {
     let mut audit = audit;
     let progress = audit.advance(steps);
-    settle(alloc, &audit, progress, save, report, shelf)
+    settle(alloc, &audit, progress, kept, name, report, shelf)
 }
 
-/// Keeps the save of an audit that is not over, or tells one that is over.
+/// Keeps where an audit stands that is not over, or tells one that is over.
 fn settle<S: Shelf>(
     alloc: Global,
     audit: &Audit,
     progress: Progress,
-    save: &str,
+    kept: Kept<'_>,
+    name: &str,
     report: &str,
     shelf: &mut S,
 ) -> Result<Answer, Stop>
     requires came { (stands : Standing) × Comes stands progress audit.now.stands }
-    requires save { IsFileName save.now }
+    requires keeps { (text : Position → List ℕ) × Keeps audit.now.recipe audit.now.inputs kept text }
+    requires name { IsFileName name.now }
     requires report { IsFileName report.now }
-    ensures { (stands : Standing) → Comes stands progress audit.now.stands
-        → Performs (came_to audit.now.recipe audit.now.inputs save.now report.now stands) (S.state shelf.old) (S.state shelf.new) result }
+    ensures { (stands : Standing) (text : Position → List ℕ) → Comes stands progress audit.now.stands → Keeps audit.now.recipe audit.now.inputs kept.entry text
+        → Performs (came_to audit.now.recipe text name.now report.now stands) (S.state shelf.old) (S.state shelf.new) result }
 {
     match progress {
-        Progress::Paused => keep_save(alloc, audit, save, shelf),
+        Progress::Paused => keep_place(alloc, audit, kept, name, shelf),
         Progress::Equal
         | Progress::Differs
         | Progress::RunFailed { .. }
@@ -62,24 +77,39 @@ fn settle<S: Shelf>(
     }
 }
 
-/// Saves where an audit stands, and says the stage and its steps.
-fn keep_save<S: Shelf>(
+/// Keeps where an audit stands, and says the stage and its steps.
+fn keep_place<S: Shelf>(
     alloc: Global,
     audit: &Audit,
-    save: &str,
+    kept: Kept<'_>,
+    name: &str,
     shelf: &mut S,
 ) -> Result<Answer, Stop>
     requires on { IsOn audit.now.stands }
-    requires save { IsFileName save.now }
-    ensures { (p : Position) → audit.now.stands ≡ Some (On p)
-        → Performs (paused audit.now.recipe audit.now.inputs save.now p) (S.state shelf.old) (S.state shelf.new) result }
+    requires keeps { (text : Position → List ℕ) × Keeps audit.now.recipe audit.now.inputs kept text }
+    requires name { IsFileName name.now }
+    ensures { (p : Position) (text : Position → List ℕ) → audit.now.stands ≡ Some (On p) → Keeps audit.now.recipe audit.now.inputs kept.entry text
+        → Performs (paused audit.now.recipe text name.now p) (S.state shelf.old) (S.state shelf.new) result }
 {
-    let text = audit.save()?;
+    let text = kept_text(audit, kept)?;
     let (stage, steps) = audit.place();
     let line = pause_texts::paused(alloc, stage_name(audit.recipe(), stage), steps)?;
     let answer = Answer {
         status: Status::Paused,
         text: line,
     };
-    keep(alloc, shelf, save, text.as_slice(), answer)
+    keep(alloc, shelf, name, text.as_slice(), answer)
+}
+
+/// What is kept of where an audit stands.
+fn kept_text(audit: &Audit, kept: Kept<'_>) -> Result<Bytes, OutOfMemory>
+    requires on { IsOn audit.now.stands }
+    requires keeps { (text : Position → List ℕ) × Keeps audit.now.recipe audit.now.inputs kept text }
+    ensures { (p : Position) (text : Position → List ℕ) → audit.now.stands ≡ Some (On p) → Keeps audit.now.recipe audit.now.inputs kept.entry text
+        → IfOk result (λ bytes. bytes ≡ text p) }
+{
+    match kept {
+        Kept::Whole => audit.save(),
+        Kept::Beside(base) => audit.save_delta_of(base),
+    }
 }

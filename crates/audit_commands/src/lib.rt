@@ -1,12 +1,16 @@
-//! The commands of an audit: `audit`, its pieces `part` and `resume`, and `show`, which prints a report.
+//! The commands of an audit: `audit`, its pieces `part` and `resume`, those that keep what differs from a save, `delta_start` and
+//! `delta_resume`, `step` and `left`, which show what a stage's program does and left, and `show`, which prints a report.
 //!
 //! Their rules for people: docs/reference/command-line.md.
 #![tactic(auto)]
 
 pub mod audit;
 mod causes;
+pub mod delta_resume;
+pub mod delta_start;
 mod going;
 pub mod laws;
+pub mod left;
 pub mod part;
 pub mod pause_texts;
 pub mod resume;

@@ -5,7 +5,7 @@ ghost use Rattle.ddc_base.specs.Outside.{IsFileName};
 ghost use Rattle.command_plan.specs.Performs.{Performs};
 ghost use Rattle.audit_commands.specs.Pause.{part_files, part_plan};
 
-use crate::going::go_on;
+use crate::going::{Kept, go_on};
 use crate::words::are_three_files;
 use audit_run::Audit;
 use command_plan::words::steps_of;
@@ -51,5 +51,5 @@ fn part<S: Shelf>(
     apart(alloc, &recipe, save)?;
     let inputs = fetch_inputs(alloc, shelf, &recipe)?;
     let audit = Audit::new(alloc, recipe, inputs);
-    go_on(alloc, audit, steps, save, report, shelf)
+    go_on(alloc, audit, steps, Kept::Whole, save, report, shelf)
 }

@@ -1,8 +1,9 @@
 //! What the commands print beside the lines of `audit`.
 
 ghost use Rattle.std.specs.Prelude.{◌≡◌, IfOk};
-ghost use Rattle.audit_commands.specs.PauseTexts.{paused_line, save_refused_line};
+ghost use Rattle.audit_commands.specs.PauseTexts.{delta_refused_line, paused_line, save_refused_line};
 
+use audit_run::DeltaRefusal;
 use audit_run::save::SaveRefusal;
 use ddc_base::{Bytes, OutOfMemory};
 use std::alloc::Global;
@@ -25,4 +26,13 @@ pub fn refused(alloc: Global, refusal: SaveRefusal) -> Result<Bytes, OutOfMemory
 {
     let number = refusal.number();
     Ok(Bytes::from_vec(format!(in alloc; "save refused {number}\n")?.into_bytes()))
+}
+
+/// Files are no save of the recipe and its inputs and no delta against it.
+#[tactic(auto, unfolding(crate::specs::PauseTexts::delta_refused_line))]
+pub fn delta_refused(alloc: Global, refusal: DeltaRefusal) -> Result<Bytes, OutOfMemory>
+    ensures { IfOk result (λ text. text ≡ delta_refused_line refusal) }
+{
+    let printed = refusal.number();
+    Ok(Bytes::from_vec(format!(in alloc; "save refused {printed}\n")?.into_bytes()))
 }

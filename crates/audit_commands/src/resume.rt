@@ -12,7 +12,7 @@ ghost use Rattle.audit_commands.specs.Inside.Refusing.{Refuses};
 ghost use Rattle.audit_commands.specs.Pause.{needs_position, resume_files, resume_plan};
 ghost use Rattle.audit_commands.specs.PauseTexts.{save_refused_line};
 
-use crate::going::go_on;
+use crate::going::{Kept, go_on};
 use crate::pause_texts;
 use crate::words::are_three_files;
 use audit_run::Audit;
@@ -24,8 +24,8 @@ use recipe::{Inputs, Recipe};
 use recipe_plan::{apart, fetch_inputs, fetch_recipe};
 use std::alloc::Global;
 
-/// The most bytes of a save that is loaded. Every save of a position has fewer.
-const SAVE_LIMIT: u64 = 4_294_967_296;
+/// The most bytes of a save or a delta that is loaded. Each of a position has fewer.
+pub(crate) const SAVE_LIMIT: u64 = 4_294_967_296;
 
 /// Performs the command on the words after its name.
 #[tactic(auto, using(command_plan::proofs::Performing::performing))]
@@ -65,7 +65,7 @@ fn resume<S: Shelf>(
     let text = fetch(alloc, shelf, save, SAVE_LIMIT)?;
     let inputs = fetch_inputs(alloc, shelf, &recipe)?;
     let audit = audit_at(alloc, recipe, inputs, text)?;
-    go_on(alloc, audit, steps, save, report, shelf)
+    go_on(alloc, audit, steps, Kept::Whole, save, report, shelf)
 }
 
 /// The audit that stands where a save says, or what ends the command.
@@ -89,7 +89,7 @@ fn read(alloc: Global, recipe: Recipe, inputs: Inputs, text: Bytes) -> Result<Au
 }
 
 /// The answer to a file that is no save of the recipe and its inputs, or want of memory.
-fn refuse(alloc: Global, refusal: SaveRefusal) -> Result<Answer, Stop>
+pub(crate) fn refuse(alloc: Global, refusal: SaveRefusal) -> Result<Answer, Stop>
     ensures { Refuses refusal result }
 {
     match refusal {

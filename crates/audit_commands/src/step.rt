@@ -96,7 +96,7 @@ fn step<S: Shelf, K: Sink, P: Prompt>(
 }
 
 /// How many stages come before the one of a name.
-fn stages_before(alloc: Global, recipe: &Recipe, name: &str) -> Result<usize, Stop>
+pub fn stages_before(alloc: Global, recipe: &Recipe, name: &str) -> Result<usize, Stop>
     ensures obtained { (shelf : ShelfState) → Obtains (needs_stage recipe.now name.now) shelf shelf result }
     ensures within { IfOk result (λ count. count < length recipe.now.stages) }
 {
@@ -119,7 +119,7 @@ fn stage_at(recipe: &Recipe, name: &str) -> Option<usize>
 }
 
 /// Runs so many stages; one that is not done ends the command.
-fn run_before(
+pub fn run_before(
     alloc: Global,
     recipe: &Recipe,
     inputs: &Inputs,

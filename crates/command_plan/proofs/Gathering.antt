@@ -1,13 +1,15 @@
--- Loads in a row.
+-- Loads in a row, and saves in a row.
 use Rattle.std.proofs.Common.{◌≡◌, ℕ, zero, suc, ◌+◌, ◌-◌, ◌<◌, ◌≤◌, Result, Ok, Err, List, [], ◌∷◌, ◌++◌, length, map, drop, get_or, min, append_assoc, append-nil, le_trans, sym, ap, subst, arith}
 use Rattle.std.proofs.lemmas.List.{drop_all, length-map}
 use Rattle.std.proofs.Math.Nat.{min-le_left, min-le_right}
 use Rattle.ddc_base.specs.Outside.{ShelfState}
 use Rattle.command_plan.specs.declared.stop.Stop.{Stop}
 use Rattle.command_plan.specs.declared.stop.Stop.TheVariants as stop
-use Rattle.command_plan.specs.Plan.{Plan, needs_all}
-use Rattle.command_plan.specs.Steps.{EndsAs, Fetches, LeadsOn, Obtains}
-use Rattle.command_plan.proofs.Performing.{ends_at_fetch, leads_after_fetch, led_to, wants_memory}
+use Rattle.command_plan.specs.declared.answer.Answer.{Answer}
+use Rattle.command_plan.specs.Performs.{Performs}
+use Rattle.command_plan.specs.Plan.{Plan, needs_all, sets}
+use Rattle.command_plan.specs.Steps.{EndsAs, Fetches, LeadsOn, Obtains, PlanEnding, Saves}
+use Rattle.command_plan.proofs.Performing.{ends_at_fetch, ends_at_save, leads_after_fetch, leads_after_save, led_to, wants_memory}
 
 -- what is left of loads in a row: these names, after these contents
 abbrev pub rest_of : ℕ → ℕ → List (List ℕ) → List (List ℕ) → (List (List ℕ) → Plan) → Plan
@@ -86,3 +88,22 @@ pub fetched_within : (text : List ℕ) (most room limit : ℕ) (old new : ShelfS
 fetched_within text most room limit old new content limited f =
     let fits : length content ≤ min most room = subst (λ l. length content ≤ l) limited f.by_result.2 in
     (le_trans fits (min-le_left most room), le_trans fits (min-le_right most room))
+
+-- ---- saves in a row
+
+-- from where the shelf stands now a plan goes on as this rest: the invariant of a loop that saves
+abbrev pub GoesOnAs : Plan → Plan → ShelfState → ShelfState → Type 0
+GoesOnAs plan rest old now = (final : ShelfState) (ending : PlanEnding) → EndsAs rest now final ending → EndsAs plan old final ending
+
+module _ (plan rest : Plan) (old now : ShelfState) (leads : GoesOnAs plan rest old now) where
+  pub ends_as : (new : ShelfState) (result : Result Answer Stop) → Performs rest now new result → Performs plan old new result
+  ends_as new result p = led_to {A = Unit {0}} (λ _. plan) (λ _. rest) old now (λ n final ending e. leads final ending e) (λ _. rest) new result p
+
+module _ (plan : Plan) (name content : List ℕ) (next : Plan) (old now : ShelfState) (leads : GoesOnAs plan (sets name content next) old now) where
+  -- one more save
+  pub goes_on_saved : (mid : ShelfState) (done : Unit {0}) → Saves name content now mid (Ok done) → GoesOnAs plan next old mid
+  goes_on_saved mid done s = λ final ending e. leads final ending (leads_after_save name content next now mid done s final ending e)
+
+  -- a save that ends the command
+  pub ends_at_one : (new : ShelfState) (ending : Stop) → Saves name content now new (Err ending) → Performs plan old new (Err ending)
+  ends_at_one new ending s = ends_as plan (sets name content next) old now leads new (Err ending) (ends_at_save name content next now new ending s)

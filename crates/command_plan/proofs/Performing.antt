@@ -16,7 +16,7 @@ use Rattle.command_plan.specs.declared.stop.Stop.{Stop}
 use Rattle.command_plan.specs.declared.stop.Stop.TheVariants as stop
 use Rattle.command_plan.specs.Plan.{Plan, LoadsBytes, answers, talks, needs, sets, follow, outcome, talk_of, asked, files_after, IsSettled}
 use Rattle.command_plan.specs.Endings.{Completes, Stops, Fails, failure_of}
-use Rattle.command_plan.specs.Performs.{Answers, Faults, Performs, Speaks, WantsMemory}
+use Rattle.command_plan.specs.Performs.{Answers, Performs, Speaks}
 use Rattle.command_plan.specs.Steps.{PlanEnding, EndsAs, Fetches, IsRefusal, LeadsOn, Saves, Says, concluding, talking, faulting, wanting}
 
 -- a fact that holds where the shelf tells, on a shelf that tells
@@ -401,12 +401,16 @@ save_leads name content next old = record {
   files = λ told count. rw told refl;
 }
 
+pub leads_after_save : (name content : List ℕ) (next : Plan) (old mid : ShelfState) (done : Unit {0}) → Saves name content old mid (Ok done) → (final : ShelfState) (ending : PlanEnding)
+    → EndsAs next mid final ending → EndsAs (sets name content next) old final ending
+leads_after_save name content next old mid done s final ending e =
+    let here : ShelfState = after_call (Save name content) (after_setting name content old) in
+    let P : ShelfState → Type 0 = λ shelf. EndsAs next shelf final ending in
+    goes_on (sets name content next) old next here final ending (save_leads name content next old) (subst P s.by_result e)
+
 pub goes_on_after_save : (name content : List ℕ) (next : Plan) (old mid new : ShelfState) (done : Unit {0}) (result : Result Answer Stop) → Saves name content old mid (Ok done) → Performs next mid new result → Performs (sets name content next) old new result
 goes_on_after_save name content next old mid new done result s p =
-    let here : ShelfState = after_call (Save name content) (after_setting name content old) in
-    let P : ShelfState → Type 0 = λ shelf. Performs next shelf new result in
-    led_to {A = Unit {0}} (λ n. sets name content (n tt)) (λ n. n tt) old here (λ n final ending e. goes_on (sets name content (n tt)) old (n tt) here final ending (save_leads name content (n tt) old) e)
-    (λ _. next) new result (subst P s.by_result p)
+    led_to {A = Unit {0}} (λ n. sets name content (n tt)) (λ n. n tt) old mid (λ n final ending e. leads_after_save name content (n tt) old mid done s final ending e) (λ _. next) new result p
 
 -- an answer after a save
 pub answers_after_save : (name content : List ℕ) (old new : ShelfState) (done : Unit {0}) (answer : Answer) → Saves name content old new (Ok done) → Performs (sets name content (answers answer.status answer.text)) old new (Ok answer)

@@ -42,15 +42,16 @@ stream_line which bytes = line (codes "stream" ∷ decimal which ∷ length_and_
 unfoldable pub left_line : List ℕ × List ℕ → List ℕ
 left_line file = line (codes "left" ∷ encode_lower file.0 ∷ length_and_digest file.1)
 
--- an exit: its status and step, both streams (the first is the program's first output), and every file that is left, by the bytes of
--- its name
+-- both streams (the first is the program's first output), and every file that is left, by the bytes of its name
+unfoldable pub world_text : World → List ℕ
+world_text world = stream_line 1 (unwrap_or (out world FirstStream) []) ++ (stream_line 2 world.stream2 ++ flat_map left_line (left world))
+
+-- an exit: its status and step, and what it leaves
 unfoldable pub exited_line : ℕ → ℕ → List ℕ
 exited_line status step = line (codes "exited" ∷ decimal status ∷ step_words step)
 
 unfoldable pub exited_text : ℕ → ℕ → World → List ℕ
-exited_text status step world =
-    exited_line status step
-    ++ (stream_line 1 (unwrap_or (out world FirstStream) []) ++ (stream_line 2 world.stream2 ++ flat_map left_line (left world)))
+exited_text status step world = exited_line status step ++ world_text world
 
 -- what is said of a run of at most `most` steps, by its first end and the state that this leaves; the end's own step is counted too
 abbrev pub status_of : ℕ → Status

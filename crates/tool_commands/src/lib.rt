@@ -7,5 +7,5 @@ pub mod asm;
 pub mod hex0;
 pub mod list;
 pub mod run;
-mod run_texts;
+pub mod run_texts;
 mod words;

@@ -8,7 +8,7 @@ ghost use Rattle.mem_files.specs.Names.{is_stripped_name};
 ghost use Rattle.mem_files.specs.Outputs.{left};
 ghost use Rattle.mem_files.specs.Sound.{IsSound};
 ghost use Rattle.command_plan.specs.Causes.Texts.{trap_text, call_text, elf_text, args_text, box_text, spent_text};
-ghost use Rattle.tool_commands.specs.RunProgram.{failed_line, stream_line, left_line, exited_line, exited_text};
+ghost use Rattle.tool_commands.specs.RunProgram.{failed_line, stream_line, left_line, exited_line, exited_text, world_text};
 
 use ddc_base::{Bytes, OutOfMemory, digest};
 use elf_load::ElfRefusal;
@@ -131,8 +131,16 @@ pub(crate) fn exit_text(
     ensures { IfOk result (λ text. text ≡ exited_text status step files.now) }
 {
     let mut text = exited(alloc, status, step)?;
+    put_world(alloc, &mut text, files)?;
+    Ok(text)
+}
+
+/// The lines of both streams, and those of all files that are left.
+#[tactic(auto, unfolding(crate::specs::RunProgram::world_text))]
+pub fn put_world(alloc: Global, text: &mut Bytes, files: &Files) -> Result<(), OutOfMemory>
+    ensures { OnOk result (text.new ≡ text.old ++ world_text files.now) }
+{
     text.extend(stream(alloc, 1, files.stream(1))?.as_slice())?;
     text.extend(stream(alloc, 2, files.stream(2))?.as_slice())?;
-    put_left(alloc, &mut text, files)?;
-    Ok(text)
+    put_left(alloc, text, files)
 }

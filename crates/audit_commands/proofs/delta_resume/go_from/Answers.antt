@@ -1,0 +1,18 @@
+use Rattle.std.proofs.Common.{refl}
+use Rattle.audit_run.specs.Delta.Deltas.{delta_text_of}
+use Rattle.audit_commands.proofs.Beside.{resume_refused, resumes}
+use Rattle.audit_commands.proofs.delta_resume.go_from.Goals as goal
+
+pub go_on-requires-clause-keeps : goal.go_on-requires-clause-keeps
+go_on-requires-clause-keeps g c =
+    let found = c.in-Ok.ensures.found in
+    rw found.1 (delta_text_of c.args.recipe c.args.inputs found.3.0, (found.3.0, found.3.1, λ p. refl))
+
+pub returns-in-Ok : goal.returns-in-Ok
+returns-in-Ok g c =
+    resumes c.args.recipe c.args.inputs c.args.save c.args.patch.now c.args.report.now c.args.steps c.args.delta c.in-Ok.audit _ _ _ c.in-Ok.ensures.kept c.requires.given
+    c.in-Ok.ensures.exact c.in-Ok.ensures.found c.go_on.ensures
+
+pub returns-in-Err : goal.returns-in-Err
+returns-in-Err g c =
+    resume_refused c.args.recipe c.args.inputs c.args.save c.args.patch.now c.args.report.now c.args.steps c.args.delta c.in-Err.refusal _ _ c.in-Err.ensures.exact c.refuse.ensures

@@ -1,0 +1,89 @@
+-- `delta-start RECIPE BASE PATCH REPORT STEPS` and `delta-resume RECIPE BASE PATCH REPORT STEPS`: an audit goes on by at most so many steps, from
+-- where a whole save says that it stands, or from where that save and a delta say it, and what differs from the whole save is kept.
+-- docs/reference/command-line.md and docs/reference/delta.md say the same for people.
+use Rattle.std.specs.Prelude.{ℕ, Bool, ◌&&◌, Result, List, [], ◌∷◌, if◌then◌else◌}
+use Rattle.recipe.specs.declared.contents.Said.{Said}
+use Rattle.wheeler.specs.Positions.{Position, forward}
+use Rattle.audit_run.specs.Delta.Deltas.{delta_text_of}
+use Rattle.audit_run.specs.Delta.Judged.{judged_from}
+use Rattle.audit_run.specs.Save.Saves.{save_of}
+use Rattle.audit_run.specs.declared.delta.reading.DeltaRefusal.{DeltaRefusal}
+use Rattle.command_plan.specs.declared.status.Status.TheVariants.{SaveRefused}
+use Rattle.command_plan.specs.Words.{are_two_files, as_steps, or_usage, usage}
+use Rattle.command_plan.specs.Plan.{Plan, answers, needs, unless_refused}
+use Rattle.recipe_plan.specs.Recipes.{needs_apart, needs_inputs, needs_recipe}
+use Rattle.audit_commands.specs.Pause.{are_three_files, came_to, needs_position}
+use Rattle.audit_commands.specs.PauseTexts.{delta_refused_line}
+
+-- ---- `delta-start`
+
+-- the position that BASE says, and then the audit from there: what differs from that position is kept
+abbrev pub starts_beside : Said → List (List ℕ) → List ℕ → List ℕ → List ℕ → ℕ → Plan
+starts_beside recipe inputs text patch report steps =
+    needs_position recipe inputs text (λ base.
+    came_to recipe (delta_text_of recipe inputs base) patch report (forward recipe inputs base steps))
+
+-- the recipe, a report, a base and a patch that are none of its inputs, the base, of at most 4,294,967,296 bytes, the inputs, and then the audit
+-- from the position that the base says
+unfoldable pub delta_start_files : List ℕ → List ℕ → List ℕ → List ℕ → ℕ → Plan
+delta_start_files recipe base patch report steps =
+    needs_recipe recipe (λ said.
+    needs_apart said report (λ _.
+    needs_apart said base (λ _.
+    needs_apart said patch (λ _.
+    needs base 4_294_967_296 (λ text.
+    needs_inputs said (λ inputs.
+    starts_beside said inputs text patch report steps))))))
+
+-- ---- `delta-resume`
+
+-- what a text is as a delta against a base: the one result that the rules of deltas allow, which is never want of memory
+unfoldable pub read_beside : Said → List (List ℕ) → Position → List ℕ → Result Position DeltaRefusal
+read_beside recipe inputs base text = judged_from recipe (save_of recipe inputs base) text
+
+-- the position that a delta says, reached or not; or the delta is refused
+abbrev pub needs_position_beside : Said → List (List ℕ) → Position → List ℕ → (Position → Plan) → Plan
+needs_position_beside recipe inputs base text next =
+    unless_refused (read_beside recipe inputs base text) (λ refusal. answers SaveRefused (delta_refused_line refusal)) next
+
+-- the position that BASE and PATCH say, and then the audit from there: what differs from the position of BASE is kept
+abbrev pub resumes_beside : Said → List (List ℕ) → List ℕ → List ℕ → List ℕ → List ℕ → ℕ → Plan
+resumes_beside recipe inputs text delta patch report steps =
+    needs_position recipe inputs text (λ base.
+    needs_position_beside recipe inputs base delta (λ p.
+    came_to recipe (delta_text_of recipe inputs base) patch report (forward recipe inputs p steps)))
+
+-- the same, with the patch loaded behind the base, of as many bytes at most
+unfoldable pub delta_resume_files : List ℕ → List ℕ → List ℕ → List ℕ → ℕ → Plan
+delta_resume_files recipe base patch report steps =
+    needs_recipe recipe (λ said.
+    needs_apart said report (λ _.
+    needs_apart said base (λ _.
+    needs_apart said patch (λ _.
+    needs base 4_294_967_296 (λ text.
+    needs patch 4_294_967_296 (λ delta.
+    needs_inputs said (λ inputs.
+    resumes_beside said inputs text delta patch report steps)))))))
+
+-- ---- the words
+
+-- four words that can name four files
+unfoldable pub are_four_files : List ℕ → List ℕ → List ℕ → List ℕ → Bool
+are_four_files recipe base patch report = are_three_files recipe base report && are_three_files recipe patch report && are_two_files base patch
+
+-- the words after either command
+abbrev pub delta_start_words : List ℕ → List ℕ → List ℕ → List ℕ → List ℕ → Plan
+delta_start_words recipe base patch report steps =
+    or_usage (as_steps steps) (λ count. if are_four_files recipe base patch report then delta_start_files recipe base patch report count else usage)
+
+abbrev pub delta_start_plan : List (List ℕ) → Plan
+delta_start_plan (recipe ∷ base ∷ patch ∷ report ∷ steps ∷ []) = delta_start_words recipe base patch report steps
+delta_start_plan _ = usage
+
+abbrev pub delta_resume_words : List ℕ → List ℕ → List ℕ → List ℕ → List ℕ → Plan
+delta_resume_words recipe base patch report steps =
+    or_usage (as_steps steps) (λ count. if are_four_files recipe base patch report then delta_resume_files recipe base patch report count else usage)
+
+abbrev pub delta_resume_plan : List (List ℕ) → Plan
+delta_resume_plan (recipe ∷ base ∷ patch ∷ report ∷ steps ∷ []) = delta_resume_words recipe base patch report steps
+delta_resume_plan _ = usage

@@ -1,0 +1,167 @@
+//! `delta-resume RECIPE BASE PATCH REPORT STEPS`: another piece of an audit, from where a save and what differs from it say that the audit stands;
+//! what differs from the save then is kept.
+
+ghost use Rattle.std.specs.Prelude.{◌≤◌, IfOk, map};
+ghost use Rattle.ddc_base.specs.Outside.{IsFileName};
+ghost use Rattle.recipe.specs.Kept.{IsRecipe};
+ghost use Rattle.wheeler.specs.Valid.{IsInputs};
+ghost use Rattle.command_plan.specs.declared.status.Status.TheVariants.{SaveRefused};
+ghost use Rattle.command_plan.specs.Performs.{Performs};
+ghost use Rattle.command_plan.specs.Plan.{answers};
+ghost use Rattle.command_plan.specs.Steps.{Says};
+ghost use Rattle.audit_run.specs.Delta.Audits.{IsResumedBeside, ResumesAuditBeside};
+ghost use Rattle.audit_commands.specs.Delta.{delta_resume_files, delta_resume_plan, delta_resume_words, resumes_beside};
+ghost use Rattle.audit_commands.specs.Inside.Refusing.{RefusesDelta};
+ghost use Rattle.audit_commands.specs.PauseTexts.{delta_refused_line};
+
+use crate::going::{Kept, go_on};
+use crate::pause_texts;
+use crate::resume::SAVE_LIMIT;
+use crate::words::are_four_files;
+use audit_run::{Audit, DeltaRefusal};
+use command_plan::words::steps_of;
+use command_plan::{Answer, Status, Stop, fetch, usage};
+use ddc_base::{Bytes, Shelf};
+use recipe::{Inputs, Recipe};
+use recipe_plan::{apart, fetch_inputs, fetch_recipe};
+use std::alloc::Global;
+
+/// Performs the command on the words after its name.
+#[tactic(auto, using(command_plan::proofs::Performing::performing))]
+pub fn perform<S: Shelf>(alloc: Global, words: &[&str], shelf: &mut S) -> Result<Answer, Stop>
+    ensures { Performs (delta_resume_plan (map (λ w. w.now) words.now)) (S.state shelf.old) (S.state shelf.new) result }
+{
+    match words {
+        [recipe, base, patch, report, steps] => {
+            on_words(alloc, shelf, recipe, base, patch, report, steps)
+        }
+        _ => usage(alloc),
+    }
+}
+
+/// The command on five words.
+#[tactic(auto, using(command_plan::proofs::Performing::performing))]
+fn on_words<S: Shelf>(
+    alloc: Global,
+    shelf: &mut S,
+    recipe: &str,
+    base: &str,
+    patch: &str,
+    report: &str,
+    steps: &str,
+) -> Result<Answer, Stop>
+    ensures { Performs (delta_resume_words recipe.now base.now patch.now report.now steps.now) (S.state shelf.old) (S.state shelf.new) result }
+{
+    match steps_of(steps) {
+        Some(steps) if are_four_files(recipe, base, patch, report) => {
+            delta_resume(alloc, shelf, recipe, base, patch, report, steps)
+        }
+        _ => usage(alloc),
+    }
+}
+
+/// The command on four files and a number of steps.
+#[tactic(auto, using(command_plan::proofs::Obtaining::obtaining), unfolding(crate::specs::Delta::delta_resume_files))]
+fn delta_resume<S: Shelf>(
+    alloc: Global,
+    shelf: &mut S,
+    recipe: &str,
+    base: &str,
+    patch: &str,
+    report: &str,
+    steps: u64,
+) -> Result<Answer, Stop>
+    requires some { 1 ≤ steps }
+    requires recipe { IsFileName recipe.now }
+    requires base { IsFileName base.now }
+    requires patch { IsFileName patch.now }
+    requires report { IsFileName report.now }
+    ensures { Performs (delta_resume_files recipe.now base.now patch.now report.now steps) (S.state shelf.old) (S.state shelf.new) result }
+{
+    let recipe = fetch_recipe(alloc, shelf, recipe)?;
+    apart(alloc, &recipe, report)?;
+    apart(alloc, &recipe, base)?;
+    apart(alloc, &recipe, patch)?;
+    let save = fetch(alloc, shelf, base, SAVE_LIMIT)?;
+    let delta = fetch(alloc, shelf, patch, SAVE_LIMIT)?;
+    let inputs = fetch_inputs(alloc, shelf, &recipe)?;
+    go_from(
+        alloc,
+        recipe,
+        inputs,
+        save.as_slice(),
+        delta,
+        steps,
+        patch,
+        report,
+        shelf,
+    )
+}
+
+/// Goes on from where a save and a delta say that the audit stands.
+fn go_from<S: Shelf>(
+    alloc: Global,
+    recipe: Recipe,
+    inputs: Inputs,
+    save: &[u8],
+    delta: Bytes,
+    steps: u64,
+    patch: &str,
+    report: &str,
+    shelf: &mut S,
+) -> Result<Answer, Stop>
+    requires given { IsInputs recipe inputs }
+    requires some { 1 ≤ steps }
+    requires patch { IsFileName patch.now }
+    requires report { IsFileName report.now }
+    ensures { Performs (resumes_beside recipe inputs save.now delta patch.now report.now steps) (S.state shelf.old) (S.state shelf.new) result }
+{
+    match read(alloc, recipe, inputs, save, delta) {
+        Ok(audit) => go_on(
+            alloc,
+            audit,
+            steps,
+            Kept::Beside(save),
+            patch,
+            report,
+            shelf,
+        ),
+        Err(refusal) => refuse(alloc, refusal),
+    }
+}
+
+/// Reads a delta beside its base, and lets its text go.
+fn read(
+    alloc: Global,
+    recipe: Recipe,
+    inputs: Inputs,
+    save: &[u8],
+    delta: Bytes,
+) -> Result<Audit, DeltaRefusal>
+    requires { IsInputs recipe inputs }
+    ensures exact { ResumesAuditBeside recipe inputs save.now delta result }
+    ensures found { IfOk result (λ audit. IsResumedBeside recipe inputs save.now delta audit) }
+    ensures kept { IsRecipe recipe }
+{
+    Audit::resume_delta(alloc, recipe, inputs, save, delta.as_slice())
+}
+
+/// The answer to files that are no save and no delta against it, or want of memory.
+fn refuse(alloc: Global, refusal: DeltaRefusal) -> Result<Answer, Stop>
+    ensures { RefusesDelta refusal result }
+{
+    match refusal {
+        DeltaRefusal::OutOfMemory => Err(Stop::OutOfMemory),
+        refusal => refused(alloc, refusal),
+    }
+}
+
+/// The answer to files that are no save and no delta against it.
+fn refused(alloc: Global, refusal: DeltaRefusal) -> Result<Answer, Stop>
+    ensures { Says (answers SaveRefused (delta_refused_line refusal)) result }
+{
+    Ok(Answer {
+        status: Status::SaveRefused,
+        text: pause_texts::delta_refused(alloc, refusal)?,
+    })
+}

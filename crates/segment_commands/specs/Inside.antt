@@ -1,0 +1,3 @@
+-- No promise rests on this file being read.
+pub mod Going
+pub mod Kept

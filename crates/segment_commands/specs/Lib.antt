@@ -1,0 +1,10 @@
+pub mod Texts
+pub mod Names
+pub mod Ready
+pub mod Exits
+pub mod States
+pub mod Cut
+pub mod Segment
+pub mod Ends
+pub mod Cutting
+pub mod Inside
