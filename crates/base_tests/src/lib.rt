@@ -1,10 +1,11 @@
-//! Tests of `ddc_base` and `prompt`, by their public calls.
+//! Tests of `ddc_base`, `prompt` and the languages, by their public calls.
 #![tactic(auto)]
 
 ghost use Rattle.std.specs.Prelude.{◌≡◌, ◌%◌};
 
 #[cfg(test)]
 mod hosts;
+pub mod languages;
 #[cfg(test)]
 mod outside;
 #[cfg(test)]

@@ -1,5 +1,4 @@
 //! Tests of the languages: rows of the reference pages, and sources whose bytes Debian's hex2 gives (tests/languages).
-#![tactic(auto)]
 
 ghost use Rattle.std.specs.Prelude.{◌≡◌, IfOk, codes, string_bytes};
 ghost use Rattle.std.specs.List.{repeat};

@@ -1,6 +1,6 @@
 //! M1 sources with what the reference page says of them: the text of their items, or the refusal.
 
-use crate::m1::blanks;
+use crate::languages::m1::blanks;
 use ddc_base::Bytes;
 use m1_lang::{M1Refusal, expand, laws, write_items};
 use std::alloc::Global;

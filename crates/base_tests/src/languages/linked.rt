@@ -1,6 +1,6 @@
 //! hex2 sources and what Debian's hex2 makes of them, as tests/languages/make-cases prints it.
 
-use crate::zeros;
+use crate::languages::zeros;
 use ddc_base::Bytes;
 use hex_langs::link::{HexLanguage, value};
 use std::alloc::Global;
