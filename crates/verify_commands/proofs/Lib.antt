@@ -1,0 +1,3 @@
+pub mod Demonstrating
+pub mod Judging
+mod Written

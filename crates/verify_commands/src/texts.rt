@@ -1,0 +1,183 @@
+//! What the command prints.
+
+ghost use Rattle.recipe_plan.specs.Texts.{compared_lines};
+ghost use Rattle.ddc_base.specs.Lines.{line};
+ghost use Rattle.std.specs.Prelude.{◌≡◌, ◌++◌, [], ◌∷◌, IfOk, IfSome, OnOk, codes, flat_map, length, ◌<◌, ◌≤◌};
+ghost use Rattle.verify_commands.specs.Texts.{assumed_text, assumption_line, headline, refuted_line, route_text, true_text, yes_line};
+ghost use Rattle.meaning.specs.Routes.{assumed_named};
+ghost use Rattle.recipe.specs.Lookups.{stage_at};
+
+use ddc_base::{Bytes, Name, OutOfMemory};
+use meaning::{Assumption, Assumptions, assumptions, assumptions_for};
+use recipe::Recipe;
+use recipe_plan::texts::compared_lines;
+use report::CompareLine;
+use std::alloc::Global;
+use verifier::Part;
+use wheeler::all_equal;
+
+/// The first part of a report that is not true.
+#[tactic(auto, unfolding(crate::specs::Texts::refuted_line))]
+pub fn refuted(alloc: Global, part: Part, place: u32) -> Result<Bytes, OutOfMemory>
+    ensures { IfOk result (λ text. text ≡ refuted_line part place) }
+{
+    let part = part.word();
+    Ok(Bytes::from_vec(format!(in alloc; "refuted {part} {place}\n")?.into_bytes()))
+}
+
+/// A report is true: how the artefacts and the binary compare, after a yes where all are the same, and what is assumed of the recipe's
+/// programs.
+pub fn accepted(alloc: Global, recipe: &Recipe, lines: &[CompareLine]) -> Result<Bytes, OutOfMemory>
+    ensures { IfOk result (λ text. text ≡ true_text recipe.now lines.now) }
+{
+    let mut text = verdict(alloc, lines)?;
+    put_assumed(alloc, &mut text, recipe)?;
+    Ok(text)
+}
+
+/// How the artefacts and the binary compare, after a yes where all are the same.
+fn verdict(alloc: Global, lines: &[CompareLine]) -> Result<Bytes, OutOfMemory>
+    ensures { IfOk result (λ text. text ≡ headline lines.now ++ compared_lines lines.now) }
+{
+    let text = compared_lines(alloc, lines)?;
+    if all_equal(lines) {
+        yes(alloc, &text)
+    } else {
+        Ok(text)
+    }
+}
+
+/// A yes, and then the comparisons.
+#[tactic(auto, unfolding(crate::specs::Texts::yes_line))]
+fn yes(alloc: Global, compared: &Bytes) -> Result<Bytes, OutOfMemory>
+    ensures { IfOk result (λ text. text ≡ yes_line ++ compared.now) }
+{
+    let mut text = Bytes::from_slice(alloc, b"yes\n")?;
+    text.extend(compared.as_slice())?;
+    Ok(text)
+}
+
+/// Adds what is assumed: in format 1 of all unchecked stages, in format 2 for each compared stage.
+fn put_assumed(alloc: Global, text: &mut Bytes, recipe: &Recipe) -> Result<(), OutOfMemory>
+    ensures { OnOk result (text.new ≡ text.old ++ assumed_text recipe.now) }
+{
+    if recipe.format() == 1 {
+        let lines = assumptions(alloc, recipe)?;
+        put_assumptions(alloc, text, lines.as_slice())
+    } else {
+        put_routes(alloc, text, recipe, recipe.compare().stages.as_slice())
+    }
+}
+
+/// Adds the routes of these stages.
+fn put_routes(
+    alloc: Global,
+    text: &mut Bytes,
+    recipe: &Recipe,
+    stages: &[Name],
+) -> Result<(), OutOfMemory>
+    ensures { OnOk result (text.new ≡ text.old ++ flat_map (route_text recipe.now) stages.now) }
+{
+    for stage in stages {
+        text.extend(route(alloc, recipe, stage)?.as_slice())?;
+    }
+    Ok(())
+}
+
+/// The route of a stage: a line with its name, and what is assumed for it.
+#[tactic(auto, using(crate::proofs::Written::written), unfolding(crate::specs::Texts::route_line))]
+fn route(alloc: Global, recipe: &Recipe, stage: &Name) -> Result<Bytes, OutOfMemory>
+    ensures { IfOk result (λ text. text ≡ route_text recipe.now stage.now) }
+{
+    let mut text = Bytes::from_slice(alloc, b"route ")?;
+    text.extend(stage.bytes())?;
+    text.push(b'\n')?;
+    let lines = assumptions_of(alloc, recipe, stage)?;
+    put_assumptions(alloc, &mut text, lines.as_slice())?;
+    Ok(text)
+}
+
+/// What is assumed for the stage of a name.
+fn assumptions_of(alloc: Global, recipe: &Recipe, name: &Name) -> Result<Assumptions, OutOfMemory>
+    ensures { IfOk result (λ lines. lines ≡ assumed_named recipe.now name.now) }
+{
+    match place_of(recipe, name) {
+        Some(index) => assumptions_for(alloc, recipe, index as u32 + 1),
+        None => Ok(Assumptions::new(alloc)),
+    }
+}
+
+/// The index of the stage of a name.
+fn place_of(recipe: &Recipe, name: &Name) -> Option<usize>
+    ensures place { result ≡ stage_at recipe.now.stages name.now }
+    ensures bound { IfSome result (λ index. index < length recipe.now.stages) }
+    ensures few { length recipe.now.stages ≤ 256 }
+{
+    recipe
+        .stages()
+        .as_slice()
+        .iter()
+        .position(|stage| stage.name == *name)
+}
+
+/// Adds a line for each assumption.
+fn put_assumptions(
+    alloc: Global,
+    text: &mut Bytes,
+    assumptions: &[Assumption],
+) -> Result<(), OutOfMemory>
+    ensures { OnOk result (text.new ≡ text.old ++ flat_map assumption_line assumptions.now) }
+{
+    for assumption in assumptions {
+        text.extend(assumed(alloc, assumption)?.as_slice())?;
+    }
+    Ok(())
+}
+
+/// What has to be believed of a program.
+#[tactic(auto, unfolding(crate::specs::Texts::assumption_line))]
+fn assumed(alloc: Global, assumption: &Assumption) -> Result<Bytes, OutOfMemory>
+    ensures { IfOk result (λ text. text ≡ assumption_line assumption.now) }
+{
+    match assumption {
+        Assumption::Implements { made, source } => implements(alloc, made, source),
+        Assumption::Compiles {
+            source,
+            stage,
+            becomes,
+        } => compiles(alloc, source, stage, becomes),
+    }
+}
+
+/// That it is one of its source.
+#[tactic(auto, using(crate::proofs::Written::written))]
+fn implements(alloc: Global, made: &Name, source: &Name) -> Result<Bytes, OutOfMemory>
+    ensures { IfOk result (λ text. text ≡ line (codes "assumes" ∷ codes "implements" ∷ made.now ∷ source.now ∷ [])) }
+{
+    let mut text = Bytes::from_slice(alloc, b"assumes implements ")?;
+    text.extend(made.bytes())?;
+    text.push(b' ')?;
+    text.extend(source.bytes())?;
+    text.push(b'\n')?;
+    Ok(text)
+}
+
+/// That a source compiles another in a stage.
+#[tactic(auto, using(crate::proofs::Written::written))]
+fn compiles(
+    alloc: Global,
+    source: &Name,
+    stage: &Name,
+    becomes: &Name,
+) -> Result<Bytes, OutOfMemory>
+    ensures { IfOk result (λ text. text ≡ line (codes "assumes" ∷ codes "compiles" ∷ source.now ∷ stage.now ∷ becomes.now ∷ [])) }
+{
+    let mut text = Bytes::from_slice(alloc, b"assumes compiles ")?;
+    text.extend(source.bytes())?;
+    text.push(b' ')?;
+    text.extend(stage.bytes())?;
+    text.push(b' ')?;
+    text.extend(becomes.bytes())?;
+    text.push(b'\n')?;
+    Ok(text)
+}

@@ -1,0 +1,96 @@
+//! `verify RECIPE REPORT`: a report is judged by a replay.
+
+ghost use Rattle.std.specs.Prelude.{map, None};
+ghost use Rattle.ddc_base.specs.Outside.{IsFileName};
+ghost use Rattle.wheeler.specs.Valid.{IsInputs};
+ghost use Rattle.command_plan.specs.declared.status.Status.TheVariants.{Refuted};
+ghost use Rattle.command_plan.specs.Performs.{Performs};
+ghost use Rattle.command_plan.specs.Plan.{answers};
+ghost use Rattle.command_plan.specs.Steps.{Says};
+ghost use Rattle.verify_commands.specs.Verify.{judged_report, verified, verify_files, verify_plan};
+ghost use Rattle.verify_commands.specs.Texts.{refuted_line};
+
+use crate::texts;
+use command_plan::words::are_two_files;
+use command_plan::{Answer, Status, Stop, usage};
+use ddc_base::Shelf;
+use meaning::Meaning;
+use recipe::{Inputs, Recipe};
+use recipe_plan::{apart, compared_status, fetch_inputs, fetch_recipe, fetch_report};
+use report::{CompareLine, Report};
+use std::alloc::Global;
+use verifier::{Part, Verdict};
+
+/// Performs the command on the words after its name. It does the same whatever sources mean.
+#[tactic(auto, using(command_plan::proofs::Performing::performing))]
+pub fn perform<M: Meaning, S: Shelf>(
+    alloc: Global,
+    words: &[&str],
+    shelf: &mut S,
+) -> Result<Answer, Stop>
+    ensures { Performs (verify_plan (map (λ w. w.now) words.now)) (S.state shelf.old) (S.state shelf.new) result }
+{
+    match words {
+        [recipe, report] if are_two_files(recipe, report) => {
+            verify::<M, S>(alloc, shelf, recipe, report)
+        }
+        _ => usage(alloc),
+    }
+}
+
+/// The command on two files.
+#[tactic(auto, using(command_plan::proofs::Obtaining::obtaining), unfolding(crate::specs::Verify::verify_files))]
+fn verify<M: Meaning, S: Shelf>(
+    alloc: Global,
+    shelf: &mut S,
+    recipe: &str,
+    report: &str,
+) -> Result<Answer, Stop>
+    requires recipe { IsFileName recipe.now }
+    requires report { IsFileName report.now }
+    ensures { Performs (verify_files recipe.now report.now) (S.state shelf.old) (S.state shelf.new) result }
+{
+    let recipe = fetch_recipe(alloc, shelf, recipe)?;
+    apart(alloc, &recipe, report)?;
+    let report = fetch_report(alloc, shelf, report)?;
+    let inputs = fetch_inputs(alloc, shelf, &recipe)?;
+    answer::<M>(alloc, &recipe, &inputs, &report)
+}
+
+/// Replays the report, and says what it comes to.
+fn answer<M: Meaning>(
+    alloc: Global,
+    recipe: &Recipe,
+    inputs: &Inputs,
+    report: &Report,
+) -> Result<Answer, Stop>
+    requires { IsInputs recipe.now inputs.now }
+    ensures { Says (verified recipe.now inputs.now report.now) result }
+{
+    match verifier::conclusion::verify::<M>(alloc, recipe, inputs, report) {
+        Verdict::Yes => accepted(alloc, recipe, report.compare.as_slice()),
+        Verdict::TrueButDiffers => accepted(alloc, recipe, report.compare.as_slice()),
+        Verdict::Refuted { part, place } => refuted(alloc, part, place),
+        Verdict::OutOfMemory { .. } => Err(Stop::OutOfMemory),
+    }
+}
+
+/// The answer to a report that is true.
+fn accepted(alloc: Global, recipe: &Recipe, lines: &[CompareLine]) -> Result<Answer, Stop>
+    ensures { Says (judged_report recipe.now lines.now None) result }
+{
+    Ok(Answer {
+        status: compared_status(lines),
+        text: texts::accepted(alloc, recipe, lines)?,
+    })
+}
+
+/// The answer to a report of which this part is not true.
+fn refuted(alloc: Global, part: Part, place: u32) -> Result<Answer, Stop>
+    ensures { Says (answers Refuted (refuted_line part place)) result }
+{
+    Ok(Answer {
+        status: Status::Refuted,
+        text: texts::refuted(alloc, part, place)?,
+    })
+}
