@@ -194,7 +194,7 @@ fn a_failed_save_of_an_audit_passes(rt: HostRuntime) -> Result<(), Fail> {
 }
 
 /// A call of each command, its status and its text.
-static GOOD: [(&[&str], Status, &str); 11] = [
+static GOOD: [(&[&str], Status, &str); 12] = [
     (
         &["hex0", "copy.hex0", "copy.elf"],
         Status::Yes,
@@ -234,6 +234,11 @@ static GOOD: [(&[&str], Status, &str); 11] = [
         &["step", "a.toml", "two"],
         Status::Yes,
         "at 0 0000000000010078 addi x10, x0, -100\n",
+    ),
+    (
+        &["left", "a.toml", "two", "out", "o"],
+        Status::Yes,
+        "left two out 3 status 0 step 32\n",
     ),
     (&["demo", "5"], Status::Yes, "demo 5 steps 64 equal yes\n"),
 ];

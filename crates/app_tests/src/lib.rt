@@ -9,9 +9,15 @@ mod audits;
 mod causes;
 pub mod copying;
 #[cfg(test)]
+mod differences;
+#[cfg(test)]
 mod faults;
 #[cfg(test)]
+mod left_files;
+#[cfg(test)]
 mod pauses;
+#[cfg(test)]
+mod pieces;
 #[cfg(test)]
 mod routes;
 #[cfg(test)]

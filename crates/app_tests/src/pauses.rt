@@ -13,7 +13,7 @@ use std::test::Fail;
 type Piece = (&'static str, &'static str, Status, &'static str);
 
 /// Runs words, and compares their status and text.
-fn says(
+pub(crate) fn says(
     rt: &impl Abort,
     alloc: Global,
     shelf: &mut MemShelf,
@@ -189,7 +189,7 @@ static CHANGES: [Change; 6] = [
 ];
 
 /// How many of the calls are saves.
-fn saves(shelf: &MemShelf) -> usize {
+pub(crate) fn saves(shelf: &MemShelf) -> usize {
     shelf.calls().iter().filter(|call| is_save(call)).count()
 }
 
@@ -604,7 +604,7 @@ fn a_failed_put_leaves_what_was_saved(rt: HostRuntime) -> Result<(), Fail> {
 }
 
 /// A call by its name, and the limit of a load; a save has none.
-type Wanted = (&'static str, Option<u64>);
+pub(crate) type Wanted = (&'static str, Option<u64>);
 
 static CALLS: [Wanted; 13] = [
     ("a.toml", Some(1_048_576)),
@@ -622,7 +622,7 @@ static CALLS: [Wanted; 13] = [
     ("r", None),
 ];
 
-fn is_call(call: &Call, wanted: Wanted) -> bool {
+pub(crate) fn is_call(call: &Call, wanted: Wanted) -> bool {
     match call {
         Call::Load { name, limit } => {
             name.as_slice() == wanted.0.as_bytes() && Some(*limit) == wanted.1

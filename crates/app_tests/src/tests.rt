@@ -267,7 +267,7 @@ fn faults_of_the_outside(rt: HostRuntime) -> Result<(), Fail> {
 
 #[test]
 fn statuses_have_their_numbers(rt: HostRuntime) {
-    let table: [(Status, u8); 8] = [
+    let table: [(Status, u8); 9] = [
         (Status::Yes, 0),
         (Status::Usage, 2),
         (Status::Differs, 3),
@@ -276,6 +276,7 @@ fn statuses_have_their_numbers(rt: HostRuntime) {
         (Status::ShelfFault, 11),
         (Status::OutFault, 12),
         (Status::OutOfMemory, 13),
+        (Status::TooManySegments, 14),
     ];
     for (status, number) in table {
         assert_eq!(rt; status.number(), number);

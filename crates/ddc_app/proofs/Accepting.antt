@@ -26,7 +26,7 @@ use Rattle.recipe_plan.specs.Recipes.{is_input, needs_apart, needs_inputs}
 use Rattle.recipe_plan.specs.Reports.{needs_report}
 use Rattle.recipe_plan.specs.Texts.{report_line}
 use Rattle.audit_commands.specs.Audit.{audit_files, audited, completed}
-use Rattle.verify_command.specs.Verify.{judged_report, verified, verify_files}
+use Rattle.verify_commands.specs.Verify.{judged_report, verified, verify_files}
 use Rattle.ddc_app.specs.Accepting.{HoldBytes, audit, is_compared, verify}
 use Rattle.ddc_app.proofs.Loads.{follows, is_loaded, set_held, two_apart}
 use Rattle.ddc_app.proofs.Openings.{Holds, apart_opens, are_inputs, holds_again, inputs_open, is_recipe, recipe_opens}

@@ -1,5 +1,5 @@
 -- How a piece of an audit begins beside the undivided audit: both are refused alike, or a recipe and its inputs are found.
-use Rattle.std.proofs.Common.{◌≡◌, ℕ, true, false, cond, IsTrue, ◌&&◌, ◌⊎◌, inl, inr, Ok, List, decimal, refl, sym, ap, ◌∙◌, subst}
+use Rattle.std.proofs.Common.{◌≡◌, ℕ, Bool, true, false, cond, IsTrue, ◌&&◌, ◌⊎◌, inl, inr, Ok, List, decimal, refl, sym, ap, ◌∙◌, subst}
 use Rattle.std.proofs.lemmas.Bool.{and_parts}
 use Rattle.ddc_base.specs.declared.outside.Loaded.TheVariants.{Bytes}
 use Rattle.ddc_base.specs.Outside.{NamedFiles, loaded}
@@ -14,7 +14,8 @@ use Rattle.command_plan.specs.Plan.{Plan, Outcome, outcome}
 use Rattle.command_plan.specs.Words.{are_two_files, as_steps, is_one_file, or_usage, usage}
 use Rattle.recipe_plan.specs.Recipes.{is_input, needs_apart, needs_inputs}
 use Rattle.audit_commands.specs.Audit.{audit_files, audited}
-use Rattle.audit_commands.specs.Pause.{are_three_files, came_to, part_files}
+use Rattle.audit_commands.specs.Delta.{are_four_files}
+use Rattle.audit_commands.specs.Pause.{are_three_files, came_to, part_files, whole_save}
 use Rattle.ddc_app.specs.Accepting.{audit}
 use Rattle.ddc_app.specs.Pausing.{AreWords, IsStepCount, part}
 use Rattle.ddc_app.proofs.CountWords.{count-again}
@@ -44,12 +45,39 @@ three_apart recipe save report three =
       save_report = two_apart save report last.1;
     }
 
--- the words of either command lead to its plan
-pub with_words : (recipe save report : List ℕ) (steps : ℕ) (next : ℕ → Plan) (files : NamedFiles) → IsTrue (are_three_files recipe save report) → IsStepCount steps
-    → outcome (or_usage (as_steps (decimal steps)) (λ count. cond (are_three_files recipe save report) (next count) usage)) files ≡ outcome (next steps) files
-with_words recipe save report steps next files three count =
-    ap (λ n. outcome (or_usage n (λ count. cond (are_three_files recipe save report) (next count) usage)) files) (count-again steps count)
-    ∙ ap (λ t. outcome (cond t (next steps) usage) files) three
+-- of four words that name four files: the three with the patch, the three with the base, and these two apart
+pub record FourApart (recipe base patch report : List ℕ) : Type 0 where
+  pub with_base : IsTrue (are_three_files recipe base report)
+  pub with_patch : IsTrue (are_three_files recipe patch report)
+  pub apart : IsTrue (are_two_files base patch)
+
+pub four_apart : (recipe base patch report : List ℕ) → IsTrue (are_four_files recipe base patch report) → FourApart recipe base patch report
+unfolding are_four_files
+four_apart recipe base patch report four =
+    let last = and_parts (are_three_files recipe base report && are_three_files recipe patch report) (are_two_files base patch) four in
+    let both = and_parts (are_three_files recipe base report) (are_three_files recipe patch report) last.0 in
+    record { with_base = both.0; with_patch = both.1; apart = last.1 }
+
+pub four_of : (recipe base patch report : List ℕ) → IsTrue (are_three_files recipe base report) → IsTrue (are_three_files recipe patch report) → IsTrue (are_two_files base patch)
+    → IsTrue (are_four_files recipe base patch report)
+unfolding are_four_files
+four_of recipe base patch report with_base with_patch apart =
+    by (are_three_files recipe base report) (are_three_files recipe patch report) (are_two_files base patch) with_base with_patch apart where
+      by : (first second third : Bool) → IsTrue first → IsTrue second → IsTrue third → IsTrue (first && second && third)
+      by true true true a b c = refl
+      by true true false a b c = c
+      by true false third a b c = absurd cc
+      by false second third a b c = absurd cc
+
+pub three_of_four : (recipe base patch report : List ℕ) → IsTrue (are_four_files recipe base patch report) → IsTrue (are_three_files recipe patch report)
+three_of_four recipe base patch report four = (four_apart recipe base patch report four).with_patch
+
+-- words that are good lead to a command's plan
+pub with_words : (good : Bool) (steps : ℕ) (next : ℕ → Plan) (files : NamedFiles) → IsTrue good → IsStepCount steps
+    → outcome (or_usage (as_steps (decimal steps)) (λ count. cond good (next count) usage)) files ≡ outcome (next steps) files
+with_words good steps next files is count =
+    ap (λ n. outcome (or_usage n (λ count. cond good (next count) usage)) files) (count-again steps count)
+    ∙ ap (λ g. outcome (cond g (next steps) usage) files) is
 
 -- ---- the first piece
 
@@ -69,7 +97,7 @@ pub record Refused (piece whole : Outcome) : Type 0 where
 pub record Begun (recipe save report : List ℕ) (files : NamedFiles) (steps : ℕ) (piece whole : Outcome) : Type 0 where
   pub c : Case recipe save report
   pub holds : Holds recipe c.said c.inputs files
-  pub comes : piece ≡ outcome (came_to c.said c.inputs save report (position c.said c.inputs steps)) files
+  pub comes : piece ≡ outcome (came_to c.said (whole_save c.said c.inputs) save report (position c.said c.inputs steps)) files
   pub answers : whole ≡ outcome (audited c.said report (bench c.said c.inputs)) files
 
 module _ (recipe save report : List ℕ) (steps : ℕ) (files : NamedFiles) where
@@ -80,7 +108,7 @@ module _ (recipe save report : List ℕ) (steps : ℕ) (files : NamedFiles) wher
   refused status text refusal = inl (record { same = refl; refusal = refusal })
 
   piece_from : Said → List (List ℕ) → Plan
-  piece_from said inputs = came_to said inputs save report (position said inputs steps)
+  piece_from said inputs = came_to said (whole_save said inputs) save report (position said inputs steps)
 
   whole_from : Said → List (List ℕ) → Plan
   whole_from said inputs = audited said report (bench said inputs)
@@ -111,5 +139,5 @@ module _ (recipe save report : List ℕ) (steps : ℕ) (files : NamedFiles) wher
   begins words count =
       let two : outcome (cond (are_two_files recipe report) (audit_files recipe report) usage) files ≡ outcome (audit_files recipe report) files =
       ap (λ two. outcome (cond two (audit_files recipe report) usage) files) (three_apart recipe save report words.three).two in
-      subst (λ (p : Outcome). Begins p (audit recipe report files)) (sym (with_words recipe save report steps (part_files recipe save report) files words.three count))
+      subst (λ (p : Outcome). Begins p (audit recipe report files)) (sym (with_words (are_three_files recipe save report) steps (part_files recipe save report) files words.three count))
       (subst (λ (w : Outcome). Begins (outcome (part_files recipe save report steps) files) w) (sym two) (begins_files words))

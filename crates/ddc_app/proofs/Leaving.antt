@@ -1,5 +1,5 @@
--- What the commands of an audit in pieces leave as it was: every name but that of the save and that of the report, and of these two the one that is
--- not written.
+-- What the commands of an audit in pieces leave as it was: every name but that of the save or the patch and that of the report, and of these two the
+-- one that is not written.
 use Rattle.std.proofs.Common.{◌≡◌, ◌≢◌, ℕ, Bool, true, false, cond, IsTrue, Option, Some, None, List, [], ◌∷◌, decimal, refl, sym, ap, ◌∙◌}
 use Rattle.std.specs.FinMap as finite
 use Rattle.ddc_base.specs.Outside.{NamedFiles}
@@ -7,8 +7,7 @@ use Rattle.ddc_base.proofs.StoredFiles.{others-insert}
 use Rattle.recipe.specs.declared.contents.Said.{Said}
 use Rattle.report.specs.Reports.{report_text}
 use Rattle.report.specs.declared.types.CompareLine.{CompareLine}
-use Rattle.save_text.specs.Spelled.{text_of_save}
-use Rattle.audit_run.specs.Save.Saves.{save_of}
+use Rattle.audit_run.specs.Delta.Deltas.{delta_text_of}
 use Rattle.wheeler.specs.Positions.{Position, Standing, On, Over, forward, position}
 use Rattle.wheeler.specs.declared.answer.Answer.TheVariants.{Completes, Fails}
 use Rattle.wheeler.specs.declared.answer.Fault.TheVariants.{Runs, Checks}
@@ -20,10 +19,12 @@ use Rattle.command_plan.specs.Words.{as_steps, or_usage, usage}
 use Rattle.recipe_plan.specs.Recipes.{needs_apart, needs_inputs, needs_recipe}
 use Rattle.recipe_plan.specs.Reports.{compared_status}
 use Rattle.audit_commands.specs.Audit.{completed}
-use Rattle.audit_commands.specs.Pause.{are_three_files, came_to, needs_position, part_files, paused, read_as, resume_files}
-use Rattle.audit_commands.specs.PauseTexts.{save_refused_line}
+use Rattle.audit_commands.specs.Delta.{are_four_files, delta_resume_files, delta_start_files, needs_position_beside, read_beside}
+use Rattle.audit_commands.specs.Pause.{are_three_files, came_to, needs_position, part_files, paused, read_as, resume_files, whole_save}
+use Rattle.audit_commands.specs.PauseTexts.{delta_refused_line, save_refused_line}
+use Rattle.ddc_app.specs.Differences.{LeavesAllBut, behind_save, delta_resume, delta_start, differing_in_turn, in_differences}
 use Rattle.ddc_app.specs.Pausing.{LeavesOthers, LeavesUnwritten, in_pieces, is_paused, part, resume, resumed_in_turn}
-use Rattle.ddc_app.proofs.Beginnings.{three_apart}
+use Rattle.ddc_app.proofs.Beginnings.{three_apart, three_of_four}
 use Rattle.ddc_app.proofs.Loads.{not_equal}
 use Rattle.ddc_app.proofs.Pieces.{never_paused}
 use Rattle.ddc_app.proofs.Walks.{IsRefusal, both_need, both_need_apart, both_need_inputs, both_need_recipe, both_read, told}
@@ -42,7 +43,7 @@ module _ (recipe save report : List ℕ) (files : NamedFiles) (P : Outcome → T
   Keeps plan = P (outcome plan files)
 
   abbrev Comes : Type 0
-  Comes = (said : Said) (inputs : List (List ℕ)) (stands : Standing) → Keeps (came_to said inputs save report stands)
+  Comes = (said : Said) (kept : Position → List ℕ) (stands : Standing) → Keeps (came_to said kept save report stands)
 
   recipe_keeps : (next : Said → Plan) → ((said : Said) → Keeps (next said)) → Keeps (needs_recipe recipe next)
   recipe_keeps next keeps = both_need_recipe First files refused recipe next next (λ bytes said held reads. keeps said)
@@ -53,38 +54,73 @@ module _ (recipe save report : List ℕ) (files : NamedFiles) (P : Outcome → T
   inputs_keep : (said : Said) (next : List (List ℕ) → Plan) → ((inputs : List (List ℕ)) → Keeps (next inputs)) → Keeps (needs_inputs said next)
   inputs_keep said next keeps = both_need_inputs First files refused said next next (λ inputs held. keeps inputs)
 
-  load_keeps : (next : List ℕ → Plan) → ((text : List ℕ) → Keeps (next text)) → Keeps (needs save 4_294_967_296 next)
-  load_keeps next keeps = both_need First files refused save 4_294_967_296 next next (λ text held. keeps text)
+  load_keeps : (name : List ℕ) (next : List ℕ → Plan) → ((text : List ℕ) → Keeps (next text)) → Keeps (needs name 4_294_967_296 next)
+  load_keeps name next keeps = both_need First files refused name 4_294_967_296 next next (λ text held. keeps text)
 
   position_keeps : (said : Said) (inputs : List (List ℕ)) (text : List ℕ) (next : Position → Plan) → ((p : Position) → Keeps (next p)) → Keeps (needs_position said inputs text next)
   position_keeps said inputs text next keeps = both_read First files refused (read_as said inputs text) SaveRefused save_refused_line next next (refl, refl) (λ p reads. keeps p)
 
+  beside_keeps : (said : Said) (inputs : List (List ℕ)) (base : Position) (text : List ℕ) (next : Position → Plan) → ((p : Position) → Keeps (next p))
+      → Keeps (needs_position_beside said inputs base text next)
+  beside_keeps said inputs base text next keeps =
+      both_read First files refused (read_beside said inputs base text) SaveRefused delta_refused_line next next (refl, refl) (λ p reads. keeps p)
+
   part_keeps : Comes → (n : ℕ) → Keeps (part_files recipe save report n)
   unfolding part_files
-  part_keeps came n = recipe_keeps _ (λ said. apart_keeps said report _ (apart_keeps said save _ (inputs_keep said _ (λ inputs. came said inputs (position said inputs n)))))
+  part_keeps came n = recipe_keeps _ (λ said. apart_keeps said report _ (apart_keeps said save _ (inputs_keep said _ (λ inputs. came said (whole_save said inputs) (position said inputs n)))))
 
   resume_keeps : Comes → (n : ℕ) → Keeps (resume_files recipe save report n)
   unfolding resume_files
   resume_keeps came n =
-      let last : Said → List (List ℕ) → Position → Plan = λ said inputs p. came_to said inputs save report (forward said inputs p n) in
+      let last : Said → List (List ℕ) → Position → Plan = λ said inputs p. came_to said (whole_save said inputs) save report (forward said inputs p n) in
       let placed : Said → List ℕ → List (List ℕ) → Plan = λ said text inputs. needs_position said inputs text (last said inputs) in
       let found : Said → List ℕ → Plan = λ said text. needs_inputs said (placed said text) in
-      recipe_keeps _ (λ said. apart_keeps said report _ (apart_keeps said save _ (load_keeps (found said) (λ text. inputs_keep said (placed said text) (λ inputs.
-      position_keeps said inputs text (last said inputs) (λ p. came said inputs (forward said inputs p n)))))))
+      recipe_keeps _ (λ said. apart_keeps said report _ (apart_keeps said save _ (load_keeps save (found said) (λ text. inputs_keep said (placed said text) (λ inputs.
+      position_keeps said inputs text (last said inputs) (λ p. came said (whole_save said inputs) (forward said inputs p n)))))))
 
-  worded : (next : ℕ → Plan) (word : Option ℕ) (three : Bool) → are_three_files recipe save report ≡ three → (IsTrue (are_three_files recipe save report) → (n : ℕ) → Keeps (next n))
-      → Keeps (or_usage word (λ n. cond three (next n) usage))
-  worded next None three is keeps = unwritten Usage usage_line
-  worded next (Some n) false is keeps = unwritten Usage usage_line
-  worded next (Some n) true is keeps = keeps is n
+  worded : (next : ℕ → Plan) (word : Option ℕ) (good : Bool) → (IsTrue good → (n : ℕ) → Keeps (next n)) → Keeps (or_usage word (λ n. cond good (next n) usage))
+  worded next None good keeps = unwritten Usage usage_line
+  worded next (Some n) false keeps = unwritten Usage usage_line
+  worded next (Some n) true keeps = keeps refl n
 
   part_leaves : (IsTrue (are_three_files recipe save report) → Comes) → (steps : ℕ) → P (part recipe save report steps files)
   part_leaves came steps =
-      worded (part_files recipe save report) (as_steps (decimal steps)) (are_three_files recipe save report) refl (λ three. part_keeps (came three))
+      worded (part_files recipe save report) (as_steps (decimal steps)) (are_three_files recipe save report) (λ three. part_keeps (came three))
 
   resume_leaves : (IsTrue (are_three_files recipe save report) → Comes) → (steps : ℕ) → P (resume recipe save report steps files)
   resume_leaves came steps =
-      worded (resume_files recipe save report) (as_steps (decimal steps)) (are_three_files recipe save report) refl (λ three. resume_keeps (came three))
+      worded (resume_files recipe save report) (as_steps (decimal steps)) (are_three_files recipe save report) (λ three. resume_keeps (came three))
+
+  module _ (base : List ℕ) where
+    delta_start_keeps : Comes → (n : ℕ) → Keeps (delta_start_files recipe base save report n)
+    unfolding delta_start_files
+    delta_start_keeps came n =
+        let last : Said → List (List ℕ) → Position → Plan = λ said inputs b. came_to said (delta_text_of said inputs b) save report (forward said inputs b n) in
+        let placed : Said → List ℕ → List (List ℕ) → Plan = λ said text inputs. needs_position said inputs text (last said inputs) in
+        let found : Said → List ℕ → Plan = λ said text. needs_inputs said (placed said text) in
+        recipe_keeps _ (λ said. apart_keeps said report _ (apart_keeps said base _ (apart_keeps said save _ (load_keeps base (found said) (λ text.
+        inputs_keep said (placed said text) (λ inputs. position_keeps said inputs text (last said inputs) (λ b.
+        came said (delta_text_of said inputs b) (forward said inputs b n))))))))
+
+    delta_resume_keeps : Comes → (n : ℕ) → Keeps (delta_resume_files recipe base save report n)
+    unfolding delta_resume_files
+    delta_resume_keeps came n =
+        let last : Said → List (List ℕ) → Position → Position → Plan = λ said inputs b p. came_to said (delta_text_of said inputs b) save report (forward said inputs p n) in
+        let beside : Said → List ℕ → List (List ℕ) → Position → Plan = λ said delta inputs b. needs_position_beside said inputs b delta (last said inputs b) in
+        let placed : Said → List ℕ → List ℕ → List (List ℕ) → Plan = λ said text delta inputs. needs_position said inputs text (beside said delta inputs) in
+        let found : Said → List ℕ → List ℕ → Plan = λ said text delta. needs_inputs said (placed said text delta) in
+        recipe_keeps _ (λ said. apart_keeps said report _ (apart_keeps said base _ (apart_keeps said save _
+        (load_keeps base (λ text. needs save 4_294_967_296 (found said text)) (λ text. load_keeps save (found said text) (λ delta.
+        inputs_keep said (placed said text delta) (λ inputs. position_keeps said inputs text (beside said delta inputs) (λ b.
+        beside_keeps said inputs b delta (last said inputs b) (λ p. came said (delta_text_of said inputs b) (forward said inputs p n))))))))))
+
+    delta_start_leaves : (IsTrue (are_four_files recipe base save report) → Comes) → (steps : ℕ) → P (delta_start recipe base save report steps files)
+    delta_start_leaves came steps =
+        worded (delta_start_files recipe base save report) (as_steps (decimal steps)) (are_four_files recipe base save report) (λ four. delta_start_keeps (came four))
+
+    delta_resume_leaves : (IsTrue (are_four_files recipe base save report) → Comes) → (steps : ℕ) → P (delta_resume recipe base save report steps files)
+    delta_resume_leaves came steps =
+        worded (delta_resume_files recipe base save report) (as_steps (decimal steps)) (are_four_files recipe base save report) (λ four. delta_resume_keeps (came four))
 
 -- ---- other names
 
@@ -92,12 +128,12 @@ module _ (recipe save report : List ℕ) (files : NamedFiles) (name : List ℕ) 
   abbrev Stays : Outcome → Type 0
   Stays o = finite.get o.files name ≡ finite.get files name
 
-  stays : (said : Said) (inputs : List (List ℕ)) (stands : Standing) → Stays (outcome (came_to said inputs save report stands) files)
+  stays : (said : Said) (kept : Position → List ℕ) (stands : Standing) → Stays (outcome (came_to said kept save report stands) files)
   unfolding paused completed
-  stays said inputs (On p) = (others-insert files save (text_of_save (save_of said inputs p))).others name no_save
-  stays said inputs (Over (Completes made)) = (others-insert files report (report_text made)).others name no_report
-  stays said inputs (Over (Fails number (Runs cause step))) = refl
-  stays said inputs (Over (Fails number (Checks cause))) = refl
+  stays said kept (On p) = (others-insert files save (kept p)).others name no_save
+  stays said kept (Over (Completes made)) = (others-insert files report (report_text made)).others name no_report
+  stays said kept (Over (Fails number (Runs cause step))) = refl
+  stays said kept (Over (Fails number (Checks cause))) = refl
 
 pub part_stays : (recipe save report : List ℕ) (steps : ℕ) (files : NamedFiles) → LeavesOthers save report files (part recipe save report steps files)
 part_stays recipe save report steps files name no_save no_report =
@@ -108,6 +144,16 @@ pub resume_stays : (recipe save report : List ℕ) (steps : ℕ) (files : NamedF
 resume_stays recipe save report steps files name no_save no_report =
     resume_leaves recipe save report files (Stays recipe save report files name no_save no_report) (λ status text. refl)
     (λ three. stays recipe save report files name no_save no_report) steps
+
+pub delta_start_stays : (recipe base patch report : List ℕ) (steps : ℕ) (files : NamedFiles) → LeavesOthers patch report files (delta_start recipe base patch report steps files)
+delta_start_stays recipe base patch report steps files name no_patch no_report =
+    delta_start_leaves recipe patch report files (Stays recipe patch report files name no_patch no_report) (λ status text. refl) base
+    (λ four. stays recipe patch report files name no_patch no_report) steps
+
+pub delta_resume_stays : (recipe base patch report : List ℕ) (steps : ℕ) (files : NamedFiles) → LeavesOthers patch report files (delta_resume recipe base patch report steps files)
+delta_resume_stays recipe base patch report steps files name no_patch no_report =
+    delta_resume_leaves recipe patch report files (Stays recipe patch report files name no_patch no_report) (λ status text. refl) base
+    (λ four. stays recipe patch report files name no_patch no_report) steps
 
 resumed_stay : (recipe save report : List ℕ) (files : NamedFiles) (counts : List ℕ) (piece : Outcome) → LeavesOthers save report files piece
     → LeavesOthers save report files (resumed_in_turn recipe save report piece counts)
@@ -124,6 +170,35 @@ pub pieces_stay : (recipe save report : List ℕ) (steps : ℕ) (counts : List �
 pieces_stay recipe save report steps counts files =
     resumed_stay recipe save report files counts (part recipe save report steps files) (part_stays recipe save report steps files)
 
+-- by differences also the base is changed, by the first piece
+differing_stay : (recipe base patch report : List ℕ) (files : NamedFiles) (counts : List ℕ) (piece : Outcome) → LeavesAllBut base patch report files piece
+    → LeavesAllBut base patch report files (differing_in_turn recipe base patch report piece counts)
+differing_stay recipe base patch report files [] piece leaves = leaves
+differing_stay recipe base patch report files (steps ∷ counts) piece leaves =
+    by (is_paused piece.status) (differing_stay recipe base patch report files counts (delta_resume recipe base patch report steps piece.files)
+    (λ name no_base no_patch no_report. delta_resume_stays recipe base patch report steps piece.files name no_patch no_report ∙ leaves name no_base no_patch no_report)) where
+      by : (b : Bool) → LeavesAllBut base patch report files (differing_in_turn recipe base patch report (delta_resume recipe base patch report steps piece.files) counts)
+          → LeavesAllBut base patch report files (cond b (differing_in_turn recipe base patch report (delta_resume recipe base patch report steps piece.files) counts) piece)
+      by true later = later
+      by false later = leaves
+
+behind_stay : (recipe base patch report : List ℕ) (files : NamedFiles) (counts : List ℕ) (piece : Outcome) → LeavesAllBut base patch report files piece
+    → LeavesAllBut base patch report files (behind_save recipe base patch report piece counts)
+behind_stay recipe base patch report files [] piece leaves = leaves
+behind_stay recipe base patch report files (steps ∷ counts) piece leaves =
+    by (is_paused piece.status) (differing_stay recipe base patch report files counts (delta_start recipe base patch report steps piece.files)
+    (λ name no_base no_patch no_report. delta_start_stays recipe base patch report steps piece.files name no_patch no_report ∙ leaves name no_base no_patch no_report)) where
+      by : (b : Bool) → LeavesAllBut base patch report files (differing_in_turn recipe base patch report (delta_start recipe base patch report steps piece.files) counts)
+          → LeavesAllBut base patch report files (cond b (differing_in_turn recipe base patch report (delta_start recipe base patch report steps piece.files) counts) piece)
+      by true later = later
+      by false later = leaves
+
+pub differences_stay : (recipe base patch report : List ℕ) (steps : ℕ) (counts : List ℕ) (files : NamedFiles)
+    → LeavesAllBut base patch report files (in_differences recipe base patch report steps counts files)
+differences_stay recipe base patch report steps counts files =
+    behind_stay recipe base patch report files counts (part recipe base report steps files)
+    (λ name no_base no_patch no_report. part_stays recipe base report steps files name no_base no_report)
+
 -- ---- the one that is not written
 
 no_pause : (lines : List CompareLine) → compared_status lines ≢ Paused
@@ -133,29 +208,38 @@ module _ (recipe save report : List ℕ) (files : NamedFiles) where
   unwritten : (status : Status) (text : List ℕ) → LeavesUnwritten save report files (told files status text)
   unwritten status text = record { report_stays = λ _. refl; save_stays = λ _. refl }
 
-  comes : IsTrue (are_three_files recipe save report) → (said : Said) (inputs : List (List ℕ)) (stands : Standing)
-      → LeavesUnwritten save report files (outcome (came_to said inputs save report stands) files)
+  comes : IsTrue (are_three_files recipe save report) → (said : Said) (kept : Position → List ℕ) (stands : Standing)
+      → LeavesUnwritten save report files (outcome (came_to said kept save report stands) files)
   unfolding paused completed
-  comes three said inputs (On p) =
+  comes three said kept (On p) =
       let apart = not_equal save report (three_apart recipe save report three).save_report in
       record {
-        report_stays = λ _. (others-insert files save (text_of_save (save_of said inputs p))).others report (λ same. apart (sym same));
+        report_stays = λ _. (others-insert files save (kept p)).others report (λ same. apart (sym same));
         save_stays = λ no. absurd (no refl);
       }
-  comes three said inputs (Over (Completes made)) =
+  comes three said kept (Over (Completes made)) =
       let apart = not_equal save report (three_apart recipe save report three).save_report in
       record {
         report_stays = λ is. absurd (no_pause made.compare is);
         save_stays = λ _. (others-insert files report (report_text made)).others save apart;
       }
-  comes three said inputs (Over (Fails number (Runs cause step))) = record { report_stays = λ _. refl; save_stays = λ _. refl }
-  comes three said inputs (Over (Fails number (Checks cause))) = record { report_stays = λ _. refl; save_stays = λ _. refl }
+  comes three said kept (Over (Fails number (Runs cause step))) = record { report_stays = λ _. refl; save_stays = λ _. refl }
+  comes three said kept (Over (Fails number (Checks cause))) = record { report_stays = λ _. refl; save_stays = λ _. refl }
 
   pub part_writes : (steps : ℕ) → LeavesUnwritten save report files (part recipe save report steps files)
   part_writes steps = part_leaves recipe save report files (LeavesUnwritten save report files) unwritten comes steps
 
   pub resume_writes : (steps : ℕ) → LeavesUnwritten save report files (resume recipe save report steps files)
   resume_writes steps = resume_leaves recipe save report files (LeavesUnwritten save report files) unwritten comes steps
+
+  module _ (base : List ℕ) where
+    pub delta_start_writes : (steps : ℕ) → LeavesUnwritten save report files (delta_start recipe base save report steps files)
+    delta_start_writes steps =
+        delta_start_leaves recipe save report files (LeavesUnwritten save report files) unwritten base (λ four. comes (three_of_four recipe base save report four)) steps
+
+    pub delta_resume_writes : (steps : ℕ) → LeavesUnwritten save report files (delta_resume recipe base save report steps files)
+    delta_resume_writes steps =
+        delta_resume_leaves recipe save report files (LeavesUnwritten save report files) unwritten base (λ four. comes (three_of_four recipe base save report four)) steps
 
 is_pause : (status : Status) → is_paused status ≡ true → status ≡ Paused
 is_pause Paused is = refl

@@ -11,3 +11,5 @@ pub mod Pieces
 pub mod Resuming
 pub mod Pausing
 pub mod Leaving
+pub mod Beside
+pub mod Differing

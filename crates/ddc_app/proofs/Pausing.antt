@@ -5,7 +5,7 @@ use Rattle.std.proofs.lemmas.List.Elements.{All-head, All-tail}
 use Rattle.ddc_base.specs.Outside.{NamedFiles}
 use Rattle.report.specs.Reports.{report_text}
 use Rattle.wheeler.specs.Bench.{bench}
-use Rattle.wheeler.specs.Positions.{position}
+use Rattle.wheeler.specs.Positions.{Position, position}
 use Rattle.wheeler.specs.Valid.{IsInputs}
 use Rattle.wheeler.specs.declared.answer.Answer.{Answer}
 use Rattle.wheeler.specs.declared.answer.Answer.TheVariants.{Completes, Fails}
@@ -13,6 +13,7 @@ use Rattle.wheeler.specs.declared.answer.Fault.TheVariants.{Runs, Checks}
 use Rattle.command_plan.specs.declared.status.Status.{Status}
 use Rattle.command_plan.specs.Plan.{Outcome, outcome}
 use Rattle.audit_commands.specs.Audit.{audited, completed}
+use Rattle.audit_commands.specs.Pause.{whole_save}
 use Rattle.ddc_app.specs.Accepting.{HoldBytes, audit, is_compared, verify}
 use Rattle.ddc_app.specs.Pausing.{AreSame, AreWords, IsStepCount, Pieces, in_pieces, is_paused, part, resume, resumed_in_turn}
 use Rattle.ddc_app.proofs.Accepting.{judges}
@@ -24,11 +25,11 @@ use Rattle.ddc_app.proofs.Resuming.{resumes_at}
 
 -- ---- the first piece
 
-first_settles : (recipe save report : List ℕ) (steps : ℕ) (files : NamedFiles) (piece whole : Outcome) (b : Begun recipe save report files steps piece whole)
-    → Settles recipe save report b.c files steps piece
+pub first_settles : (recipe save report : List ℕ) (steps : ℕ) (files : NamedFiles) (piece whole : Outcome) (b : Begun recipe save report files steps piece whole)
+    → Settles recipe save report b.c (whole_save b.c.said b.c.inputs) files steps piece
 first_settles recipe save report steps files piece whole b =
-    subst (Settles recipe save report b.c files steps) (sym b.comes)
-    (settles recipe save report b.c files files b.holds refl steps (position b.c.said b.c.inputs steps) refl)
+    subst (Settles recipe save report b.c (whole_save b.c.said b.c.inputs) files steps) (sym b.comes)
+    (settles recipe save report b.c files files b.holds refl (whole_save b.c.said b.c.inputs) steps (position b.c.said b.c.inputs steps) refl)
 
 pub parts : (recipe save report : List ℕ) (steps : ℕ) (files : NamedFiles) → AreWords recipe save report files → IsStepCount steps
     → Pieces recipe save report files steps (part recipe save report steps files)
@@ -50,27 +51,30 @@ stays_over recipe save report piece (steps ∷ counts) over =
     ap (λ b. cond b (resumed_in_turn recipe save report (resume recipe save report steps piece.files) counts) piece) over
 
 module _ (recipe save report : List ℕ) (c : Case recipe save report) (first : NamedFiles) (given : IsInputs c.said c.inputs) where
-  further : (counts : List ℕ) → All IsStepCount counts → (total : ℕ) (piece : Outcome) → Settles recipe save report c first total piece
-      → Settles recipe save report c first (fold (λ a x. a + x) total counts) (resumed_in_turn recipe save report piece counts)
+  abbrev kept : Position → List ℕ
+  kept = whole_save c.said c.inputs
+
+  further : (counts : List ℕ) → All IsStepCount counts → (total : ℕ) (piece : Outcome) → Settles recipe save report c kept first total piece
+      → Settles recipe save report c kept first (fold (λ a x. a + x) total counts) (resumed_in_turn recipe save report piece counts)
   further [] are total piece settled = settled
   further (steps ∷ counts) are total piece (inr e) =
-      subst (Settles recipe save report c first (fold (λ a x. a + x) (total + steps) counts)) (sym (stays_over recipe save report piece (steps ∷ counts) e.not_paused)) (inr e)
+      subst (Settles recipe save report c kept first (fold (λ a x. a + x) (total + steps) counts)) (sym (stays_over recipe save report piece (steps ∷ counts) e.not_paused)) (inr e)
   further (steps ∷ counts) are total piece (inl p) =
       let next : Outcome = resume recipe save report steps piece.files in
       let counted = All-head IsStepCount steps counts are in
-      let comes = resumes_at recipe save report c piece.files given p.holds total p.place p.stands p.save_held steps counted in
-      subst (λ (s : Status). Settles recipe save report c first (fold (λ a x. a + x) (total + steps) counts) (cond (is_paused s) (resumed_in_turn recipe save report next counts) piece)) (sym p.status)
+      let comes = resumes_at recipe save report c piece.files given p.holds total p.place p.stands p.kept_held steps counted in
+      subst (λ (s : Status). Settles recipe save report c kept first (fold (λ a x. a + x) (total + steps) counts) (cond (is_paused s) (resumed_in_turn recipe save report next counts) piece)) (sym p.status)
       (further counts (All-tail IsStepCount steps counts are) (total + steps) next
-      (subst (Settles recipe save report c first (total + steps)) (sym comes)
-      (settles recipe save report c first piece.files p.holds p.same_report (total + steps) (position c.said c.inputs (total + steps)) refl)))
+      (subst (Settles recipe save report c kept first (total + steps)) (sym comes)
+      (settles recipe save report c first piece.files p.holds p.same_report kept (total + steps) (position c.said c.inputs (total + steps)) refl)))
 
 all_settle : (recipe save report : List ℕ) (steps : ℕ) (counts : List ℕ) (files : NamedFiles) (piece whole : Outcome) → All IsStepCount (steps ∷ counts)
     → HoldBytes files → (b : Begun recipe save report files steps piece whole)
-    → Settles recipe save report b.c files (sum (steps ∷ counts)) (resumed_in_turn recipe save report piece counts)
+    → Settles recipe save report b.c (whole_save b.c.said b.c.inputs) files (sum (steps ∷ counts)) (resumed_in_turn recipe save report piece counts)
 all_settle recipe save report steps counts files piece whole are bytes b =
     let none : steps ≡ 0 + steps = omega arith in
     further recipe save report b.c files (are_inputs recipe b.c.said b.c.inputs files b.holds bytes) counts (All-tail IsStepCount steps counts are) (0 + steps) piece
-    (subst (λ n. Settles recipe save report b.c files n piece) none (first_settles recipe save report steps files piece whole b))
+    (subst (λ n. Settles recipe save report b.c (whole_save b.c.said b.c.inputs) files n piece) none (first_settles recipe save report steps files piece whole b))
 
 pub same : (recipe save report : List ℕ) (steps : ℕ) (counts : List ℕ) (files : NamedFiles) → AreWords recipe save report files → All IsStepCount (steps ∷ counts) → HoldBytes files
     → Pieces recipe save report files (sum (steps ∷ counts)) (in_pieces recipe save report steps counts files)
@@ -90,7 +94,7 @@ same recipe save report steps counts files words are bytes = by (begins recipe s
 -- ---- its report
 
 -- a piece that compares leaves the bench's report
-compared : (recipe save report : List ℕ) (c : Case recipe save report) (first : NamedFiles) (piece : Outcome) → IsInputs c.said c.inputs → Ends recipe save report c first (bench c.said c.inputs) piece
+pub compared : (recipe save report : List ℕ) (c : Case recipe save report) (first : NamedFiles) (piece : Outcome) → IsInputs c.said c.inputs → Ends recipe save report c first (bench c.said c.inputs) piece
     → IsTrue (is_compared piece.status) → (verify recipe report piece.files).status ≡ piece.status
 unfolding completed
 compared recipe save report c first piece given e over = by (bench c.said c.inputs) refl e.same where
@@ -126,7 +130,7 @@ accepted recipe save report steps counts files words are bytes over = by (begins
   last = resumed_in_turn recipe save report piece counts
 
   settled : (b : Begun recipe save report files steps piece whole)
-      → Settles recipe save report b.c files (sum (steps ∷ counts)) last → (verify recipe report last.files).status ≡ last.status
+      → Settles recipe save report b.c (whole_save b.c.said b.c.inputs) files (sum (steps ∷ counts)) last → (verify recipe report last.files).status ≡ last.status
   settled b (inl p) = let never = sym (ap is_compared p.status) ∙ over in absurd cc
   settled b (inr e) =
       compared recipe save report b.c files last (are_inputs recipe b.c.said b.c.inputs files b.holds bytes) e over

@@ -5,8 +5,6 @@ use Rattle.ddc_base.specs.Outside.{NamedFiles}
 use Rattle.ddc_base.proofs.StoredFiles.{others-insert}
 use Rattle.report.specs.Reports.{report_text}
 use Rattle.report.specs.declared.types.CompareLine.{CompareLine}
-use Rattle.save_text.specs.Spelled.{text_of_save}
-use Rattle.audit_run.specs.Save.Saves.{save_of}
 use Rattle.wheeler.specs.Bench.{all_equal, bench}
 use Rattle.wheeler.specs.Positions.{Position, Standing, On, Over, finish, position}
 use Rattle.wheeler.specs.declared.answer.Answer.{Answer}
@@ -20,21 +18,21 @@ use Rattle.command_plan.specs.Plan.{Outcome, outcome}
 use Rattle.command_plan.specs.Words.{is_one_file}
 use Rattle.recipe_plan.specs.Reports.{compared_status}
 use Rattle.audit_commands.specs.Audit.{audited, completed}
-use Rattle.audit_commands.specs.Pause.{came_to, paused}
+use Rattle.audit_commands.specs.Pause.{came_to, paused, whole_save}
 use Rattle.ddc_app.specs.Accepting.{audit}
-use Rattle.ddc_app.specs.Pausing.{AreSame, Pieces, is_paused}
+use Rattle.ddc_app.specs.Pausing.{AreSame, IsSavedAt, Pieces, is_paused}
 use Rattle.ddc_app.proofs.Beginnings.{Case}
 use Rattle.ddc_app.proofs.Loads.{not_equal, set_held}
 use Rattle.ddc_app.proofs.Openings.{Holds, holds_again}
 
--- a piece pauses behind so many steps
-pub record Pauses (recipe save report : List ℕ) (c : Case recipe save report) (first : NamedFiles) (total : ℕ) (piece : Outcome) : Type 0 where
+-- a piece pauses behind so many steps, and leaves what is kept of that position
+pub record Pauses (recipe save report : List ℕ) (c : Case recipe save report) (kept : Position → List ℕ) (first : NamedFiles) (total : ℕ) (piece : Outcome) : Type 0 where
   pub status : piece.status ≡ Paused
   pub holds : Holds recipe c.said c.inputs piece.files
   pub same_report : finite.get piece.files report ≡ finite.get first report
   pub place : Position
   pub stands : position c.said c.inputs total ≡ On place
-  pub save_held : finite.get piece.files save ≡ Some (text_of_save (save_of c.said c.inputs place))
+  pub kept_held : finite.get piece.files save ≡ Some (kept place)
 
 -- a piece comes to an answer
 pub record Ends (recipe save report : List ℕ) (c : Case recipe save report) (first : NamedFiles) (answer : Answer) (piece : Outcome) : Type 0 where
@@ -42,9 +40,9 @@ pub record Ends (recipe save report : List ℕ) (c : Case recipe save report) (f
   pub holds : Holds recipe c.said c.inputs piece.files
   pub same : AreSame report piece (outcome (audited c.said report answer) first)
 
-abbrev pub Settles : (recipe save report : List ℕ) → Case recipe save report → NamedFiles → ℕ → Outcome → Type 0
-Settles recipe save report c first total piece =
-    Pauses recipe save report c first total piece ⊎ Ends recipe save report c first (bench c.said c.inputs) piece
+abbrev pub Settles : (recipe save report : List ℕ) → Case recipe save report → (Position → List ℕ) → NamedFiles → ℕ → Outcome → Type 0
+Settles recipe save report c kept first total piece =
+    Pauses recipe save report c kept first total piece ⊎ Ends recipe save report c first (bench c.said c.inputs) piece
 
 pub never_paused : (lines : List CompareLine) → is_paused (compared_status lines) ≡ false
 never_paused lines = by (all_equal lines) where
@@ -70,20 +68,20 @@ module _ (recipe save report : List ℕ) (c : Case recipe save report) (first no
   ends (Fails number (Runs cause step)) = record { not_paused = refl; holds = h; same = record { status = refl; text = refl; held = same } }
   ends (Fails number (Checks cause)) = record { not_paused = refl; holds = h; same = record { status = refl; text = refl; held = same } }
 
-  pub settles : (total : ℕ) (stands : Standing) → position c.said c.inputs total ≡ stands
-      → Settles recipe save report c first total (outcome (came_to c.said c.inputs save report stands) now)
+  pub settles : (kept : Position → List ℕ) (total : ℕ) (stands : Standing) → position c.said c.inputs total ≡ stands
+      → Settles recipe save report c kept first total (outcome (came_to c.said kept save report stands) now)
   unfolding paused
-  settles total (On place) stands =
-      let text : List ℕ = text_of_save (save_of c.said c.inputs place) in
+  settles kept total (On place) stands =
+      let text : List ℕ = kept place in
       inl (record {
         status = refl;
         holds = holds_again recipe c.said c.inputs now h save text c.words.recipe_save c.no_save;
         same_report = other_stays now save report text c.words.save_report ∙ same;
         place = place;
         stands = stands;
-        save_held = set_held now save text;
+        kept_held = set_held now save text;
       })
-  settles total (Over answer) stands =
+  settles kept total (Over answer) stands =
       let benched : bench c.said c.inputs ≡ answer =
       sym (position-bench c.said (may-step c.said (rules c.said c.is)) c.inputs total) ∙ ap (finish c.said c.inputs) stands in
       inr (subst (λ (a : Answer). Ends recipe save report c first a (outcome (audited c.said report answer) now)) (sym benched) (ends answer))
@@ -93,23 +91,23 @@ pub alike : (report : List ℕ) (piece whole : Outcome) → piece ≡ whole → 
 alike report piece whole same =
     record { status = ap (λ (o : Outcome). o.status) same; text = ap (λ (o : Outcome). o.text) same; held = ap (λ (o : Outcome). finite.get o.files report) same }
 
--- what was settled, in the words of the laws
+-- what pauses and what was settled, in the words of the laws
+pub saved_of : (recipe save report : List ℕ) (c : Case recipe save report) (first : NamedFiles) (total : ℕ) (piece : Outcome)
+    → Pauses recipe save report c (whole_save c.said c.inputs) first total piece → IsSavedAt recipe save piece.files total
+saved_of recipe save report c first total piece p = record {
+  bytes = p.holds.bytes;
+  recipe_held = p.holds.recipe_held;
+  said = c.said;
+  recipe_reads = p.holds.reads;
+  inputs = c.inputs;
+  inputs_held = p.holds.inputs_held;
+  position = p.place;
+  stands = p.stands;
+  save_held = p.kept_held;
+}
+
 pub piece_of : (recipe save report : List ℕ) (c : Case recipe save report) (first : NamedFiles) (total : ℕ) (piece : Outcome)
-    → audit recipe report first ≡ outcome (audited c.said report (bench c.said c.inputs)) first → Settles recipe save report c first total piece
-    → Pieces recipe save report first total piece
-piece_of recipe save report c first total piece answers (inl p) =
-    inl (
-      p.status,
-      record {
-        bytes = p.holds.bytes;
-        recipe_held = p.holds.recipe_held;
-        said = c.said;
-        recipe_reads = p.holds.reads;
-        inputs = c.inputs;
-        inputs_held = p.holds.inputs_held;
-        position = p.place;
-        stands = p.stands;
-        save_held = p.save_held;
-      },
-    )
+    → audit recipe report first ≡ outcome (audited c.said report (bench c.said c.inputs)) first
+    → Settles recipe save report c (whole_save c.said c.inputs) first total piece → Pieces recipe save report first total piece
+piece_of recipe save report c first total piece answers (inl p) = inl (p.status, saved_of recipe save report c first total piece p)
 piece_of recipe save report c first total piece answers (inr e) = inr (subst (AreSame report piece) (sym answers) e.same)

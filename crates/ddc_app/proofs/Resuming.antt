@@ -22,7 +22,7 @@ use Rattle.command_plan.specs.Plan.{Plan, answers, needs, outcome, unless_refuse
 use Rattle.command_plan.specs.Words.{usage}
 use Rattle.recipe_plan.specs.Recipes.{is_input, needs_apart, needs_inputs}
 use Rattle.audit_commands.specs.Audit.{audit_files, audited}
-use Rattle.audit_commands.specs.Pause.{are_three_files, came_to, needs_position, read_as, resume_files}
+use Rattle.audit_commands.specs.Pause.{are_three_files, came_to, needs_position, read_as, resume_files, whole_save}
 use Rattle.audit_commands.specs.PauseTexts.{save_refused_line}
 use Rattle.ddc_app.specs.Accepting.{HoldBytes, audit}
 use Rattle.ddc_app.specs.Pausing.{AreWords, IsStepCount, Pieces, IsSavedAt, resume}
@@ -33,13 +33,13 @@ use Rattle.ddc_app.proofs.Pieces.{Settles, alike, piece_of, settles}
 
 -- ---- the save
 
-is_place : (said : Said) (inputs : List (List ℕ)) (count : ℕ) (p : Position) → IsRecipe said → IsInputs said inputs → position said inputs count ≡ On p → IsPosition said p
+pub is_place : (said : Said) (inputs : List (List ℕ)) (count : ℕ) (p : Position) → IsRecipe said → IsInputs said inputs → position said inputs count ≡ On p → IsPosition said p
 is_place said inputs count p is given stands =
     let kept = rules said is in
     subst (IsStanding said) stands (from-standing said kept inputs given (beginning said inputs) (beginning-standing said kept inputs given) count)
 
 -- the text of a position is read as it
-reads_again : (said : Said) (inputs : List (List ℕ)) (p : Position) → IsRecipe said → IsInputs said inputs → IsPosition said p
+pub reads_again : (said : Said) (inputs : List (List ℕ)) (p : Position) → IsRecipe said → IsInputs said inputs → IsPosition said p
     → read_as said inputs (text_of_save (save_of said inputs p)) ≡ Ok p
 unfolding read_as
 reads_again said inputs p is given place =
@@ -52,6 +52,12 @@ reads_again said inputs p is given place =
       by (Err OtherRecipe) same settled = absurd same
       by (Err State) same settled = absurd same
 
+-- from the position behind so many steps the audit goes on to the one behind more
+pub goes_on : (said : Said) (inputs : List (List ℕ)) (count steps : ℕ) (p : Position) → position said inputs count ≡ On p
+    → forward said inputs p steps ≡ position said inputs (count + steps)
+goes_on said inputs count steps p stands =
+    sym (ap (λ (o : Standing). forward_from said inputs o steps) stands) ∙ forward_from-sum said inputs (beginning said inputs) count steps (count + steps) refl
+
 -- ---- the words
 
 module _ (recipe save report : List ℕ) (files : NamedFiles) (three : IsTrue (are_three_files recipe save report)) (said : Said) (inputs : List (List ℕ))
@@ -59,10 +65,10 @@ module _ (recipe save report : List ℕ) (files : NamedFiles) (three : IsTrue (a
   -- both commands go on from the recipe, and end alike where the report is one of its inputs
   pub resume_opens : (steps : ℕ) → IsStepCount steps
       → resume recipe save report steps files ≡ outcome (cond clash usage (needs_apart said save (λ _. needs save 4_294_967_296 (λ text. needs_inputs said (λ contents.
-      needs_position said contents text (λ p. came_to said contents save report (forward said contents p steps))))))) files
+      needs_position said contents text (λ p. came_to said (whole_save said contents) save report (forward said contents p steps))))))) files
   unfolding resume_files
   resume_opens steps count =
-      with_words recipe save report steps (resume_files recipe save report) files three count
+      with_words (are_three_files recipe save report) steps (resume_files recipe save report) files three count
       ∙ recipe_opens recipe said inputs files h _
       ∙ apart_opens said report _ files clash is
 
@@ -79,14 +85,11 @@ module _ (recipe save report : List ℕ) (files : NamedFiles) (three : IsTrue (a
 pub resumes_at : (recipe save report : List ℕ) (c : Case recipe save report) (files : NamedFiles) → IsInputs c.said c.inputs
     → Holds recipe c.said c.inputs files → (count : ℕ) (p : Position) → position c.said c.inputs count ≡ On p
     → finite.get files save ≡ Some (text_of_save (save_of c.said c.inputs p)) → (steps : ℕ) → IsStepCount steps
-    → resume recipe save report steps files ≡ outcome (came_to c.said c.inputs save report (position c.said c.inputs (count + steps))) files
+    → resume recipe save report steps files ≡ outcome (came_to c.said (whole_save c.said c.inputs) save report (position c.said c.inputs (count + steps))) files
 resumes_at recipe save report c files given h count p stands held steps counted =
     let text : List ℕ = text_of_save (save_of c.said c.inputs p) in
     let place = is_place c.said c.inputs count p c.is given stands in
-    let goes_on : forward c.said c.inputs p steps ≡ position c.said c.inputs (count + steps) =
-    sym (ap (λ (o : Standing). forward_from c.said c.inputs o steps) stands)
-    ∙ forward_from-sum c.said c.inputs (beginning c.said c.inputs) count steps (count + steps) refl in
-    let last : List (List ℕ) → Position → Plan = λ contents p. came_to c.said contents save report (forward c.said contents p steps) in
+    let last : List (List ℕ) → Position → Plan = λ contents p. came_to c.said (whole_save c.said contents) save report (forward c.said contents p steps) in
     let at : List ℕ → List (List ℕ) → Plan = λ text contents. needs_position c.said contents text (last contents) in
     let loads : List ℕ → Plan = λ text. needs_inputs c.said (at text) in
     let refuse : SaveRefusal → Plan = λ refusal. answers SaveRefused (save_refused_line refusal) in
@@ -95,7 +98,7 @@ resumes_at recipe save report c files given h count p stands held steps counted 
     ∙ follows save 4_294_967_296 loads files text (is_loaded files save text 4_294_967_296 held (short c.said c.inputs p c.is given place))
     ∙ inputs_open recipe c.said c.inputs files h (at text)
     ∙ ap (λ reading. outcome (unless_refused reading refuse (last c.inputs)) files) (reads_again c.said c.inputs p c.is given place)
-    ∙ ap (λ o. outcome (came_to c.said c.inputs save report o) files) goes_on
+    ∙ ap (λ o. outcome (came_to c.said (whole_save c.said c.inputs) save report o) files) (goes_on c.said c.inputs count steps p stands)
 
 pub resumes : (recipe save report : List ℕ) (count steps : ℕ) (files : NamedFiles) → AreWords recipe save report files → IsStepCount steps → HoldBytes files
     → IsSavedAt recipe save files count → Pieces recipe save report files (count + steps) (resume recipe save report steps files)
@@ -121,4 +124,5 @@ resumes recipe save report count steps files words counted bytes at = by (is_inp
       piece_of recipe save report c files (count + steps) (resume recipe save report steps files)
       (audit_opens recipe save report files words.three at.said at.inputs h false clash
       ∙ inputs_open recipe at.said at.inputs files h (λ inputs. audited at.said report (bench at.said inputs)))
-      (subst (Settles recipe save report c files (count + steps)) (sym comes) (settles recipe save report c files files h refl (count + steps) (position at.said at.inputs (count + steps)) refl))
+      (subst (Settles recipe save report c (whole_save at.said at.inputs) files (count + steps)) (sym comes)
+      (settles recipe save report c files files h refl (whole_save at.said at.inputs) (count + steps) (position at.said at.inputs (count + steps)) refl))

@@ -28,7 +28,7 @@ use Rattle.command_plan.specs.Words.{are_two_files, usage}
 use Rattle.recipe_plan.specs.Recipes.{is_input, needs_apart, needs_inputs, paths}
 use Rattle.recipe_plan.specs.Reports.{compared_status, needs_report}
 use Rattle.recipe_plan.specs.Texts.{recipe_line, report_line}
-use Rattle.verify_command.specs.Verify.{judged_report, verified, verify_files}
+use Rattle.verify_commands.specs.Verify.{judged_report, verified, verify_files}
 use Rattle.ddc_app.specs.Accepting.{HoldBytes, is_compared, verify}
 use Rattle.ddc_app.specs.Commands.{plan_of}
 use Rattle.ddc_app.specs.Verified.{ShownBy, Verified}

@@ -3,15 +3,20 @@ use Rattle.std.specs.Prelude.{ℕ, Bool, false, List, [], ◌∷◌, bytes_eq, c
 use Rattle.command_plan.specs.Plan.{Plan}
 use Rattle.command_plan.specs.Words.{usage}
 use Rattle.audit_commands.specs.Audit.{audit_plan}
+use Rattle.audit_commands.specs.Left.{left_plan}
 use Rattle.audit_commands.specs.Show.{show_plan}
 use Rattle.tool_commands.specs.Asm.{asm_plan}
 use Rattle.tool_commands.specs.Hex0.{hex0_plan}
 use Rattle.tool_commands.specs.List.{list_plan}
 use Rattle.tool_commands.specs.RunProgram.{run_plan}
 use Rattle.audit_commands.specs.Pause.{part_plan, resume_plan}
+use Rattle.audit_commands.specs.Delta.{delta_resume_plan, delta_start_plan}
 use Rattle.audit_commands.specs.Step.{step_plan}
-use Rattle.demo_command.specs.Demo.{demo_plan}
-use Rattle.verify_command.specs.Verify.{verify_plan}
+use Rattle.verify_commands.specs.Demo.{demo_plan}
+use Rattle.segment_commands.specs.Cut.{cut_plan}
+use Rattle.segment_commands.specs.Ends.{ends_plan}
+use Rattle.segment_commands.specs.Segment.{segment_plan}
+use Rattle.verify_commands.specs.Verify.{verify_plan}
 
 -- what the commands do that say one text
 abbrev pub text_plan : List (List ℕ) → Plan
@@ -24,10 +29,16 @@ text_plan (command ∷ words) =
     else (if bytes_eq command (codes "audit") then audit_plan words
     else (if bytes_eq command (codes "part") then part_plan words
     else (if bytes_eq command (codes "resume") then resume_plan words
+    else (if bytes_eq command (codes "delta-start") then delta_start_plan words
+    else (if bytes_eq command (codes "delta-resume") then delta_resume_plan words
     else (if bytes_eq command (codes "show") then show_plan words
     else (if bytes_eq command (codes "verify") then verify_plan words
     else (if bytes_eq command (codes "demo") then demo_plan words
-    else usage)))))))))
+    else (if bytes_eq command (codes "left") then left_plan words
+    else (if bytes_eq command (codes "cut") then cut_plan words
+    else (if bytes_eq command (codes "segment") then segment_plan words
+    else (if bytes_eq command (codes "ends") then ends_plan words
+    else usage)))))))))))))))
 
 -- whether a command line is one of `step`, the command that may begin a session
 abbrev pub is_step : List (List ℕ) → Bool

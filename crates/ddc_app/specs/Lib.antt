@@ -4,4 +4,5 @@ pub mod Inside
 pub mod Accepting
 pub mod Holding
 pub mod Pausing
+pub mod Differences
 pub mod Verified

@@ -19,7 +19,7 @@ use Rattle.command_plan.specs.declared.status.Status.TheVariants.{Yes, Differs}
 use Rattle.command_plan.specs.Plan.{Outcome}
 use Rattle.recipe_plan.specs.Recipes.{paths}
 use Rattle.recipe_plan.specs.Reports.{compared_status}
-use Rattle.verify_command.specs.Texts.{true_text}
+use Rattle.verify_commands.specs.Texts.{true_text}
 
 -- what a status shows of a recipe and its inputs, by a report with these compare lines
 abbrev pub ShownBy : Prescribes → Compiles → Said → List (List ℕ) → List CompareLine → Status → Type 0

@@ -2,6 +2,7 @@
 
 ghost use Rattle.ddc_app.specs.Accepting.{HoldBytes, audit, is_compared, verify};
 ghost use Rattle.ddc_app.specs.Commands.{plan_of};
+ghost use Rattle.ddc_app.specs.Differences.{AreDeltaWords, DeltaPieces, Differences, IsSavedBeside, LeavesAllBut, delta_resume, delta_start, in_differences};
 ghost use Rattle.ddc_app.specs.Pausing.{AreWords, IsStepCount, LeavesOthers, LeavesUnwritten, Pieces, IsSavedAt, in_pieces, part, resume};
 ghost use Rattle.ddc_app.specs.Verified.{Verified};
 ghost use Rattle.command_plan.specs.Plan.{LoadsBytes};
@@ -86,6 +87,55 @@ pub fn pauses()
         → All IsStepCount (steps ∷ counts) → HoldBytes files → IsTrue (is_compared (in_pieces recipe save report steps counts files).status)
         → (verify recipe report (in_pieces recipe save report steps counts files).files).status
         ≡ (in_pieces recipe save report steps counts files).status }
+{}
+
+/// A piece behind a whole save: over files of bytes whose BASE holds the save of the position behind `first` steps, `delta-start` by some steps
+/// pauses behind as many more and leaves their delta against that save, or it comes to the same as `audit` over these files.
+pub fn delta_starts()
+    ensures { (recipe base patch report : List ℕ) (first steps : ℕ) (files : NamedFiles) → AreDeltaWords recipe base patch report files
+        → IsStepCount steps → HoldBytes files → IsSavedAt recipe base files first
+        → DeltaPieces recipe base patch report files first (first + steps) (delta_start recipe base patch report steps files) }
+{}
+
+/// A further piece: over files of bytes whose BASE holds such a save, and PATCH the delta of the position behind `count` steps against it,
+/// `delta-resume` by some steps pauses behind as many more and leaves their delta, or it comes to the same as `audit` over these files.
+pub fn delta_resumes()
+    ensures { (recipe base patch report : List ℕ) (first count steps : ℕ) (files : NamedFiles) → AreDeltaWords recipe base patch report files
+        → IsStepCount steps → HoldBytes files → IsSavedBeside recipe base patch files first count
+        → DeltaPieces recipe base patch report files first (count + steps) (delta_resume recipe base patch report steps files) }
+{}
+
+/// Neither `delta-start` nor `delta-resume` changes a name but PATCH and REPORT, whatever the files hold; so BASE stays, and an audit by differences
+/// changes BASE, PATCH and REPORT alone.
+pub fn deltas_leave_others()
+    ensures start { (recipe base patch report : List ℕ) (steps : ℕ) (files : NamedFiles)
+        → LeavesOthers patch report files (delta_start recipe base patch report steps files) }
+    ensures resume { (recipe base patch report : List ℕ) (steps : ℕ) (files : NamedFiles)
+        → LeavesOthers patch report files (delta_resume recipe base patch report steps files) }
+    ensures pieces { (recipe base patch report : List ℕ) (steps : ℕ) (counts : List ℕ) (files : NamedFiles)
+        → LeavesAllBut base patch report files (in_differences recipe base patch report steps counts files) }
+{}
+
+/// Of PATCH and REPORT the one that such a piece does not write is as before, whatever the files hold: REPORT where it pauses, and PATCH where
+/// the audit is over or the piece is refused.
+pub fn deltas_leave_unwritten()
+    ensures start { (recipe base patch report : List ℕ) (steps : ℕ) (files : NamedFiles)
+        → LeavesUnwritten patch report files (delta_start recipe base patch report steps files) }
+    ensures resume { (recipe base patch report : List ℕ) (steps : ℕ) (files : NamedFiles)
+        → LeavesUnwritten patch report files (delta_resume recipe base patch report steps files) }
+{}
+
+/// An audit by differences, in any pieces over files of bytes, comes to the same as the undivided audit, or pauses behind all the steps that were
+/// asked for. Its report is accepted: where it comes to 0 or 3, so does `verify` over the files afterwards.
+pub fn differences()
+    ensures same { (recipe base patch report : List ℕ) (steps : ℕ) (counts : List ℕ) (files : NamedFiles)
+        → AreDeltaWords recipe base patch report files → All IsStepCount (steps ∷ counts) → HoldBytes files
+        → Differences recipe base patch report files steps counts (in_differences recipe base patch report steps counts files) }
+    ensures accepted { (recipe base patch report : List ℕ) (steps : ℕ) (counts : List ℕ) (files : NamedFiles)
+        → AreDeltaWords recipe base patch report files → All IsStepCount (steps ∷ counts) → HoldBytes files
+        → IsTrue (is_compared (in_differences recipe base patch report steps counts files).status)
+        → (verify recipe report (in_differences recipe base patch report steps counts files).files).status
+        ≡ (in_differences recipe base patch report steps counts files).status }
 {}
 
 /// What `run` prints of a stream or of a file that is left is the line of a report, with the mark of its content.

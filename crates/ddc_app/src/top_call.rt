@@ -14,15 +14,16 @@ ghost use Rattle.ddc_app.specs.Run.{plan_for, due, IsDue, IsOneText, LosesText, 
 ghost use Rattle.ddc_app.specs.Inside.Concluding.{Closes, Leaves, PutEnds, SaysEnding, unless_lost};
 
 use crate::laws::verified_as_loaded;
-use audit_commands::{audit, part, resume, show, step};
+use audit_commands::{audit, delta_resume, delta_start, left, part, resume, show, step};
 use command_plan::{Answer, Status, Stop, usage};
 use ddc_base::{PutFail, Shelf, Sink};
-use demo_command::demo;
+use verify_commands::demo;
 use meaning::Meaning;
 use prompt::Prompt;
+use segment_commands::{cut, ends, segment};
 use std::alloc::Global;
 use tool_commands::{asm, hex0, list, run};
-use verify_command::verify;
+use verify_commands::verify;
 
 /// Everything that the program does: it takes the words of the command line, without the program's own name, and answers the
 /// status that the program ends with. docs/reference/command-line.md has the commands and the statuses.
@@ -154,9 +155,15 @@ fn perform<M: Meaning, S: Shelf>(
         "audit" => audit::perform(alloc, words, shelf),
         "part" => part::perform(alloc, words, shelf),
         "resume" => resume::perform(alloc, words, shelf),
+        "delta-start" => delta_start::perform(alloc, words, shelf),
+        "delta-resume" => delta_resume::perform(alloc, words, shelf),
         "show" => show::perform(alloc, words, shelf),
         "verify" => verify::perform::<M, S>(alloc, words, shelf),
         "demo" => demo::perform::<M, S>(alloc, words, shelf),
+        "left" => left::perform(alloc, words, shelf),
+        "cut" => cut::perform(alloc, words, shelf),
+        "segment" => segment::perform(alloc, words, shelf),
+        "ends" => ends::perform(alloc, words, shelf),
         _ => usage(alloc),
     }
 }

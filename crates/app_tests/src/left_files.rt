@@ -1,0 +1,365 @@
+//! What a stage's program left, by `left` over the worked recipe, whose two stages take 32 steps each. What is printed was written down from
+//! docs/reference/command-line.md, and what stands after so many steps from the listing of copy.elf.
+
+use crate::audits::audit_shelf;
+use crate::worked::{program_of, run};
+use ddc_app::Status;
+use ddc_base::{Call, MemShelf, MemSink, OutOfMemory};
+use std::alloc::Global;
+use std::process::Abort;
+use std::test::Fail;
+
+/// It writes the three bytes behind its first one to stream 2, and exits with 12 in its step 9.
+const FAILS: &str = "13052000b7050100938515001306300093080004730000001305c0009308d00573000000";
+
+/// What is changed in the recipe, STAGE, FILE, the status and the text, and what is saved then.
+type Row = (
+    (&'static str, &'static str),
+    (&'static str, &'static str),
+    Status,
+    &'static str,
+    Option<&'static [u8]>,
+);
+
+const SAME: (&str, &str) = ("", "");
+
+const FAILING: (&str, &str) = ("\"copy.elf\"", "\"fails.elf\"");
+
+static ROWS: [Row; 26] = [
+    (
+        SAME,
+        ("two", "out"),
+        Status::Yes,
+        "left two out 3 status 0 step 32\n",
+        Some(b"abc"),
+    ),
+    (
+        SAME,
+        ("two", "in"),
+        Status::Yes,
+        "left two in 3 status 0 step 32\n",
+        Some(b"abc"),
+    ),
+    // a name with leading `./` is the same file, and is printed as it was given
+    (
+        SAME,
+        ("two", "././out"),
+        Status::Yes,
+        "left two ././out 3 status 0 step 32\n",
+        Some(b"abc"),
+    ),
+    (
+        SAME,
+        ("two", "1"),
+        Status::Yes,
+        "left two 1 0 status 0 step 32\n",
+        Some(b""),
+    ),
+    (
+        SAME,
+        ("two", "2"),
+        Status::Yes,
+        "left two 2 0 status 0 step 32\n",
+        Some(b""),
+    ),
+    // a file that has a stream's name, and others that are not there
+    (
+        SAME,
+        ("two", "./1"),
+        Status::FileRefused,
+        "not left two ./1 status 0 step 32\n",
+        None,
+    ),
+    (
+        SAME,
+        ("two", "3"),
+        Status::FileRefused,
+        "not left two 3 status 0 step 32\n",
+        None,
+    ),
+    (
+        SAME,
+        ("two", "ou"),
+        Status::FileRefused,
+        "not left two ou status 0 step 32\n",
+        None,
+    ),
+    (
+        SAME,
+        ("one", "out/"),
+        Status::FileRefused,
+        "not left one out/ status 0 step 32\n",
+        None,
+    ),
+    // a program that fails, and what it wrote to its standard error
+    (
+        FAILING,
+        ("one", "2"),
+        Status::Yes,
+        "left one 2 3 status 12 step 9\n",
+        Some(b"ELF"),
+    ),
+    (
+        FAILING,
+        ("one", "1"),
+        Status::Yes,
+        "left one 1 0 status 12 step 9\n",
+        Some(b""),
+    ),
+    (
+        FAILING,
+        ("one", "out"),
+        Status::FileRefused,
+        "not left one out status 12 step 9\n",
+        None,
+    ),
+    (
+        FAILING,
+        ("two", "2"),
+        Status::RunFailed,
+        "run failed one status 12 step 9\n",
+        None,
+    ),
+    // the limit: `out` is made in step 11, and written before step 31
+    (
+        ("steps = 100000", "steps = 10"),
+        ("one", "out"),
+        Status::RunFailed,
+        "not left one out spent step 10\n",
+        None,
+    ),
+    (
+        ("steps = 100000", "steps = 11"),
+        ("one", "out"),
+        Status::RunFailed,
+        "left one out 0 spent step 11\n",
+        Some(b""),
+    ),
+    (
+        ("steps = 100000", "steps = 31"),
+        ("one", "2"),
+        Status::RunFailed,
+        "left one 2 0 spent step 31\n",
+        Some(b""),
+    ),
+    (
+        ("steps = 100000", "steps = 31"),
+        ("two", "out"),
+        Status::RunFailed,
+        "run failed one spent step 31\n",
+        None,
+    ),
+    // a trap, and a call that is not in the table
+    (
+        ("\"copy.elf\"", "\"breaks.elf\""),
+        ("one", "1"),
+        Status::RunFailed,
+        "left one 1 0 trap break step 1\n",
+        Some(b""),
+    ),
+    (
+        ("\"copy.elf\"", "\"breaks.elf\""),
+        ("one", "out"),
+        Status::RunFailed,
+        "not left one out trap break step 1\n",
+        None,
+    ),
+    (
+        ("\"copy.elf\"", "\"calls.elf\""),
+        ("one", "2"),
+        Status::RunFailed,
+        "left one 2 0 call 0 step 1\n",
+        Some(b""),
+    ),
+    // no start
+    (
+        ("\"copy.elf\"", "\"copy.hex0\""),
+        ("one", "out"),
+        Status::RunFailed,
+        "run failed one start elf 2 step 0\n",
+        None,
+    ),
+    // the check of a stage before, and none of its own
+    (
+        ("\"copy.hex0\"", "\"altered.hex0\""),
+        ("two", "out"),
+        Status::CheckFailed,
+        "check failed one differs 0\n",
+        None,
+    ),
+    (
+        ("\"copy.hex0\"", "\"altered.hex0\""),
+        ("one", "2"),
+        Status::Yes,
+        "left one 2 0 status 0 step 32\n",
+        Some(b""),
+    ),
+    // no such stage, no recipe, an OUT that is an input
+    (SAME, ("three", "out"), Status::Usage, "usage\n", None),
+    (
+        ("\"hex0\"", "\"m1\""),
+        ("two", "out"),
+        Status::RecipeRefused,
+        "recipe refused 2 stage 1 becomes\n",
+        None,
+    ),
+    (
+        ("\"b.bin\"", "\"././o\""),
+        ("two", "out"),
+        Status::Usage,
+        "usage\n",
+        None,
+    ),
+];
+
+/// The worked files with one change, and three programs more.
+fn shelf_of(alloc: Global, change: (&str, &str)) -> Result<MemShelf, OutOfMemory> {
+    let mut shelf = audit_shelf(alloc, change.0, change.1)?;
+    shelf.set("fails.elf", program_of(alloc, FAILS)?.as_slice())?;
+    shelf.set("breaks.elf", program_of(alloc, "73001000")?.as_slice())?;
+    shelf.set("calls.elf", program_of(alloc, "73000000")?.as_slice())?;
+    Ok(shelf)
+}
+
+/// One command, and what is held under OUT behind it.
+fn leaves(
+    rt: &impl Abort,
+    alloc: Global,
+    shelf: &mut MemShelf,
+    words: &[&str],
+    status: Status,
+    text: &str,
+) -> Result<(), OutOfMemory> {
+    let mut out = MemSink::new(alloc);
+    assert_eq!(rt; run(alloc, words, shelf, &mut out)?, status);
+    assert_eq!(rt; out.written(), text.as_bytes(), "{words:?}");
+    Ok(())
+}
+
+#[test]
+fn what_a_stage_left_is_saved(rt: HostRuntime) -> Result<(), Fail> {
+    let alloc = rt.alloc();
+    for &(change, (stage, file), status, text, saved) in &ROWS {
+        let mut shelf = shelf_of(alloc, change)?;
+        let words = ["left", "a.toml", stage, file, "o"];
+        leaves(&rt, alloc, &mut shelf, &words, status, text)?;
+        assert!(&rt; shelf.get("o") == saved, "{text}");
+    }
+    Ok(())
+}
+
+/// The artefact of the first stage is the program that it copied.
+#[test]
+fn a_whole_artefact_is_saved(rt: HostRuntime) -> Result<(), Fail> {
+    let alloc = rt.alloc();
+    let mut shelf = shelf_of(alloc, SAME)?;
+    let words = ["left", "a.toml", "one", "out", "./o"];
+    let text = "left one out 232 status 0 step 32\n";
+    leaves(&rt, alloc, &mut shelf, &words, Status::Yes, text)?;
+    assert!(&rt; shelf.get("./o").is_some());
+    assert!(&rt; shelf.get("./o") == shelf.get("copy.elf"));
+    assert!(&rt; shelf.get("o").is_none());
+    Ok(())
+}
+
+/// `1` is a stream, and a file of that name is given as `./1`.
+#[test]
+fn a_file_may_have_the_name_of_a_stream(rt: HostRuntime) -> Result<(), Fail> {
+    let alloc = rt.alloc();
+    let given = "path = \"in\", from = \"prog\"";
+    let mut shelf = shelf_of(alloc, (given, "path = \"1\", from = \"src\""))?;
+    shelf.set("copy.elf", program_of(alloc, FAILS)?.as_slice())?;
+    let words = ["left", "a.toml", "one", "./1", "o"];
+    let text = "left one ./1 3 status 12 step 9\n";
+    leaves(&rt, alloc, &mut shelf, &words, Status::Yes, text)?;
+    assert!(&rt; shelf.get("o") == Some(b"abc".as_slice()));
+    let words = ["left", "a.toml", "one", "1", "o"];
+    let text = "left one 1 0 status 12 step 9\n";
+    leaves(&rt, alloc, &mut shelf, &words, Status::Yes, text)?;
+    assert!(&rt; shelf.get("o") == Some(b"".as_slice()));
+    Ok(())
+}
+
+/// Where nothing is left, what OUT held stays.
+#[test]
+fn a_refusal_leaves_out_as_it_was(rt: HostRuntime) -> Result<(), Fail> {
+    let alloc = rt.alloc();
+    for &(change, (stage, file), status, text, saved) in &ROWS {
+        if saved.is_none() {
+            let mut shelf = shelf_of(alloc, change)?;
+            shelf.set("o", b"as before")?;
+            let words = ["left", "a.toml", stage, file, "o"];
+            leaves(&rt, alloc, &mut shelf, &words, status, text)?;
+            assert!(&rt; shelf.get("o") == Some(b"as before".as_slice()), "{text}");
+        }
+    }
+    Ok(())
+}
+
+#[test]
+fn the_words_of_left_are_judged(rt: HostRuntime) -> Result<(), Fail> {
+    let alloc = rt.alloc();
+    let mut shelf = shelf_of(alloc, SAME)?;
+    let long = [b'n'; 256];
+    let long = str::from_utf8(&long).ok().ok_or("text")?;
+    let lines: [&[&str]; 16] = [
+        &["left"],
+        &["left", "a.toml"],
+        &["left", "a.toml", "two"],
+        &["left", "a.toml", "two", "out"],
+        &["left", "a.toml", "two", "out", "o", "o"],
+        &["left", "", "two", "out", "o"],
+        &["left", "a.toml", "two", "out", ""],
+        &["left", "a.toml", "two\0", "out", "o"],
+        // FILE is no guest's name
+        &["left", "a.toml", "two", "", "o"],
+        &["left", "a.toml", "two", "././", "o"],
+        &["left", "a.toml", "two", "o\0", "o"],
+        &["left", "a.toml", "two", long, "o"],
+        // OUT clashes with RECIPE
+        &["left", "a.toml", "two", "out", "a.toml"],
+        &["left", "a.toml", "two", "out", "./a.toml"],
+        &["left", "././a.toml", "two", "out", "a.toml"],
+        &["lefts", "a.toml", "two", "out", "o"],
+    ];
+    for words in lines {
+        leaves(&rt, alloc, &mut shelf, words, Status::Usage, "usage\n")?;
+    }
+    assert_eq!(&rt; shelf.calls().len(), 0);
+    // OUT clashes with an input: the recipe is loaded, and nothing more
+    let words = ["left", "a.toml", "two", "out", "./b.bin"];
+    leaves(&rt, alloc, &mut shelf, &words, Status::Usage, "usage\n")?;
+    assert_eq!(&rt; shelf.calls().len(), 1);
+    Ok(())
+}
+
+/// The last call is the one save; where it fails, what stood under OUT is open, and the fault is said.
+#[test]
+fn a_failed_save_is_a_fault(rt: HostRuntime) -> Result<(), Fail> {
+    let alloc = rt.alloc();
+    let mut shelf = shelf_of(alloc, SAME)?;
+    shelf.fail_save(1)?;
+    let words = ["left", "a.toml", "two", "out", "o"];
+    let text = "shelf fault o\n";
+    leaves(&rt, alloc, &mut shelf, &words, Status::ShelfFault, text)?;
+    for (load, name) in [(1, "a.toml"), (2, "copy.elf"), (5, "b.bin")] {
+        let mut shelf = shelf_of(alloc, SAME)?;
+        shelf.fail_load(load)?;
+        let text = format!(in alloc; "shelf fault {name}\n")?;
+        leaves(
+            &rt,
+            alloc,
+            &mut shelf,
+            &words,
+            Status::ShelfFault,
+            text.as_str(),
+        )?;
+        assert!(&rt; shelf.get("o").is_none());
+    }
+    let mut shelf = shelf_of(alloc, SAME)?;
+    let text = "left two out 3 status 0 step 32\n";
+    leaves(&rt, alloc, &mut shelf, &words, Status::Yes, text)?;
+    assert_eq!(&rt; shelf.calls().len(), 6);
+    assert!(&rt; matches!(shelf.calls().last(), Some(Call::Save { .. })));
+    Ok(())
+}

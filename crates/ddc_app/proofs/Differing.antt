@@ -1,0 +1,167 @@
+-- An audit by differences comes to the same as the undivided audit, and its report is accepted.
+use Rattle.std.proofs.Common.{◌≡◌, ℕ, ◌+◌, Bool, false, cond, IsTrue, ◌⊎◌, inl, inr, List, [], ◌∷◌, refl, sym, ap, ◌∙◌, subst, arith, All}
+use Rattle.std.specs.List.{fold, sum}
+use Rattle.std.proofs.lemmas.List.Elements.{All-head, All-tail}
+use Rattle.ddc_base.specs.Outside.{NamedFiles}
+use Rattle.wheeler.specs.Bench.{bench}
+use Rattle.wheeler.specs.Positions.{Position, On, position}
+use Rattle.wheeler.specs.Valid.{IsInputs}
+use Rattle.command_plan.specs.declared.status.Status.{Status}
+use Rattle.command_plan.specs.declared.status.Status.TheVariants.{Paused}
+use Rattle.command_plan.specs.Plan.{Outcome, outcome}
+use Rattle.audit_commands.specs.Audit.{audited}
+use Rattle.audit_commands.specs.Pause.{whole_save}
+use Rattle.ddc_app.specs.Accepting.{HoldBytes, audit, is_compared, verify}
+use Rattle.ddc_app.specs.Differences.{AreDeltaWords, AreKept, Differences, IsSavedBeside, behind_save, delta_resume, delta_start, differing_in_turn, in_differences}
+use Rattle.ddc_app.specs.Pausing.{AreSame, IsStepCount, IsSavedAt, is_paused, part}
+use Rattle.ddc_app.proofs.Accepting.{accepts}
+use Rattle.ddc_app.proofs.Beginnings.{Begun, Case, Refused, begins, four_of, three_apart}
+use Rattle.ddc_app.proofs.Beside.{Behind, IsBaseHeld, kept_beside, kept_of, resume_leaves_base, resumes_at, start_leaves_base, starts_at}
+use Rattle.ddc_app.proofs.Openings.{are_inputs}
+use Rattle.ddc_app.proofs.Pausing.{compared, first_settles}
+use Rattle.ddc_app.proofs.Pieces.{Ends, Pauses, Settles, alike, saved_of, settles}
+
+-- ---- the pieces behind the whole save
+
+-- an audit that is over goes on by no difference
+stays_over : (recipe base patch report : List ℕ) (piece : Outcome) (counts : List ℕ) → is_paused piece.status ≡ false → differing_in_turn recipe base patch report piece counts ≡ piece
+stays_over recipe base patch report piece [] over = refl
+stays_over recipe base patch report piece (steps ∷ counts) over =
+    ap (λ b. cond b (differing_in_turn recipe base patch report (delta_resume recipe base patch report steps piece.files) counts) piece) over
+
+module _ (recipe base patch report : List ℕ) (b : Behind recipe base patch report) (first : NamedFiles) where
+  -- so many steps in all are behind a piece, and the base is held
+  abbrev Stood : ℕ → Outcome → Type 0
+  Stood total piece = Settles recipe patch report b.c (kept_beside recipe base patch report b) first total piece × IsBaseHeld recipe base patch report b piece.files
+
+  further : (counts : List ℕ) → All IsStepCount counts → (total : ℕ) (piece : Outcome) → Stood total piece
+      → Stood (fold (λ a x. a + x) total counts) (differing_in_turn recipe base patch report piece counts)
+  further [] are total piece stood = stood
+  further (steps ∷ counts) are total piece (inr e, held) =
+      subst (Stood (fold (λ a x. a + x) (total + steps) counts)) (sym (stays_over recipe base patch report piece (steps ∷ counts) e.not_paused)) (inr e, held)
+  further (steps ∷ counts) are total piece (inl p, held) =
+      let next : Outcome = delta_resume recipe base patch report steps piece.files in
+      let counted = All-head IsStepCount steps counts are in
+      let comes = resumes_at recipe base patch report b piece.files p.holds held steps counted total p.place p.stands p.kept_held in
+      subst (λ (s : Status). Stood (fold (λ a x. a + x) (total + steps) counts) (cond (is_paused s) (differing_in_turn recipe base patch report next counts) piece)) (sym p.status)
+      (further counts (All-tail IsStepCount steps counts are) (total + steps) next (
+        subst (Settles recipe patch report b.c (kept_beside recipe base patch report b) first (total + steps)) (sym comes)
+            (settles recipe patch report b.c first piece.files p.holds p.same_report (kept_beside recipe base patch report b) (total + steps)
+            (position b.c.said b.c.inputs (total + steps)) refl),
+        resume_leaves_base recipe base patch report b steps piece.files held,
+      ))
+
+-- ---- all of them
+
+module _ (recipe base patch report : List ℕ) (steps : ℕ) (files : NamedFiles) (words : AreDeltaWords recipe base patch report files) (bytes : HoldBytes files) where
+  abbrev piece : Outcome
+  piece = part recipe base report steps files
+
+  abbrev whole : Outcome
+  whole = audit recipe report files
+
+  -- the audit is over, and nothing is kept under this name any more
+  record Finished (last : Outcome) : Type 0 where
+    name : List ℕ
+    c : Case recipe name report
+    given : IsInputs c.said c.inputs
+    answers : whole ≡ outcome (audited c.said report (bench c.said c.inputs)) files
+    ends : Ends recipe name report c files (bench c.said c.inputs) last
+
+  abbrev Stands : List ℕ → Outcome → Type 0
+  Stands counts last = ((last.status ≡ Paused) × AreKept recipe base patch last.files steps counts) ⊎ Finished last
+
+  abbrev Begins : Type 0
+  Begins = Begun recipe base report files steps piece whole
+
+  finished : (b : Begins) (last : Outcome) → Ends recipe base report b.c files (bench b.c.said b.c.inputs) last → Finished last
+  finished b last e = record { name = base; c = b.c; given = are_inputs recipe b.c.said b.c.inputs files b.holds bytes; answers = b.answers; ends = e }
+
+  abbrev behind : (b : Begins) (place : Position) → position b.c.said b.c.inputs steps ≡ On place → Behind recipe base patch report
+  behind b place stands = record {
+    four = four_of recipe base patch report words.with_base.three words.with_patch.three words.apart;
+    c = record {
+      words = three_apart recipe patch report words.with_patch.three;
+      said = b.c.said;
+      inputs = b.c.inputs;
+      is = b.c.is;
+      no_report = b.c.no_report;
+      no_save = words.with_patch.apart b.holds.bytes b.c.said b.holds.recipe_held b.holds.reads;
+    };
+    no_base = b.c.no_save;
+    given = are_inputs recipe b.c.said b.c.inputs files b.holds bytes;
+    first = steps;
+    place = place;
+    stands = stands;
+  }
+
+  -- what was settled by differences
+  told : (b : Begins) (place : Position) (stands : position b.c.said b.c.inputs steps ≡ On place) (second : ℕ) (counts : List ℕ) (last : Outcome)
+      → Stood recipe base patch report (behind b place stands) files (fold (λ a x. a + x) (steps + second) counts) last → Stands (second ∷ counts) last
+  told b place stands second counts last (inl p, held) =
+      let none : steps ≡ 0 + steps = omega arith in
+      inl (p.status, subst (λ n. AreKeptBehind n) none (kept_of recipe base patch report (behind b place stands) files (fold (λ a x. a + x) (steps + second) counts) last held p)) where
+        AreKeptBehind : ℕ → Type 0
+        AreKeptBehind n = IsSavedBeside recipe base patch last.files steps (fold (λ a x. a + x) (n + second) counts)
+  told b place stands second counts last (inr e, held) =
+      inr (record { name = patch; c = (behind b place stands).c; given = (behind b place stands).given; answers = b.answers; ends = e })
+
+  by_pieces : (b : Begins) (counts : List ℕ) → All IsStepCount counts → Settles recipe base report b.c (whole_save b.c.said b.c.inputs) files steps piece
+      → Stands counts (behind_save recipe base patch report piece counts)
+  by_pieces b [] are (inl p) = inl (p.status, saved_of recipe base report b.c files steps piece p)
+  by_pieces b [] are (inr e) = inr (finished b piece e)
+  by_pieces b (second ∷ counts) are (inr e) =
+      subst (λ paused. Stands (second ∷ counts) (cond paused (differing_in_turn recipe base patch report (delta_start recipe base patch report second piece.files) counts) piece))
+      (sym e.not_paused) (inr (finished b piece e))
+  by_pieces b (second ∷ counts) are (inl p) =
+      let from : Behind recipe base patch report = behind b p.place p.stands in
+      let next : Outcome = delta_start recipe base patch report second piece.files in
+      let comes = starts_at recipe base patch report from piece.files p.holds p.kept_held second (All-head IsStepCount second counts are) in
+      let settled : Settles recipe patch report from.c (kept_beside recipe base patch report from) files (steps + second) next =
+      subst (Settles recipe patch report from.c (kept_beside recipe base patch report from) files (steps + second)) (sym comes)
+      (settles recipe patch report from.c files piece.files p.holds p.same_report (kept_beside recipe base patch report from) (steps + second)
+      (position b.c.said b.c.inputs (steps + second)) refl) in
+      let stood = further recipe base patch report from files counts (All-tail IsStepCount second counts are) (steps + second) next
+      (settled, start_leaves_base recipe base patch report from second piece.files p.kept_held) in
+      subst (λ (s : Status). Stands (second ∷ counts) (cond (is_paused s) (differing_in_turn recipe base patch report next counts) piece)) (sym p.status)
+      (told b p.place p.stands second counts (differing_in_turn recipe base patch report next counts) stood)
+
+  -- a piece that is refused is not followed
+  refused_stays : (counts : List ℕ) → is_paused piece.status ≡ false → behind_save recipe base patch report piece counts ≡ piece
+  refused_stays [] over = refl
+  refused_stays (second ∷ counts) over =
+      ap (λ b. cond b (differing_in_turn recipe base patch report (delta_start recipe base patch report second piece.files) counts) piece) over
+
+  stands : (counts : List ℕ) → All IsStepCount (steps ∷ counts) → Refused piece whole ⊎ Begins
+      → (behind_save recipe base patch report piece counts ≡ whole) ⊎ Stands counts (behind_save recipe base patch report piece counts)
+  stands counts are (inl r) = inl (refused_stays counts r.refusal.0 ∙ r.same)
+  stands counts are (inr b) = inr (by_pieces b counts (All-tail IsStepCount steps counts are) (first_settles recipe base report steps files piece whole b))
+
+  came : (counts : List ℕ) → All IsStepCount (steps ∷ counts)
+      → (behind_save recipe base patch report piece counts ≡ whole) ⊎ Stands counts (behind_save recipe base patch report piece counts)
+  came counts are = stands counts are (begins recipe base report steps files words.with_base (All-head IsStepCount steps counts are))
+
+  pub same : (counts : List ℕ) → All IsStepCount (steps ∷ counts)
+      → Differences recipe base patch report files steps counts (in_differences recipe base patch report steps counts files)
+  same counts are = by (came counts are) where
+    last : Outcome
+    last = behind_save recipe base patch report piece counts
+
+    by : (last ≡ whole) ⊎ Stands counts last → Differences recipe base patch report files steps counts last
+    by (inl is) = inr (alike report last whole is)
+    by (inr (inl kept)) = inl kept
+    by (inr (inr f)) = inr (subst (AreSame report last) (sym f.answers) f.ends.same)
+
+  -- the report of one that is over is accepted
+  pub accepted : (counts : List ℕ) → All IsStepCount (steps ∷ counts) → IsTrue (is_compared (in_differences recipe base patch report steps counts files).status)
+      → (verify recipe report (in_differences recipe base patch report steps counts files).files).status ≡ (in_differences recipe base patch report steps counts files).status
+  accepted counts are over = by (came counts are) where
+    last : Outcome
+    last = behind_save recipe base patch report piece counts
+
+    by : (last ≡ whole) ⊎ Stands counts last → (verify recipe report last.files).status ≡ last.status
+    by (inl is) =
+        subst (λ (o : Outcome). (verify recipe report o.files).status ≡ o.status) (sym is)
+        (accepts recipe report files bytes (subst (λ (o : Outcome). IsTrue (is_compared o.status)) is over))
+    by (inr (inl kept)) = let never = sym (ap is_compared kept.0) ∙ over in absurd cc
+    by (inr (inr f)) = compared recipe f.name report f.c files last f.given f.ends over

@@ -1,0 +1,5 @@
+use Rattle.ddc_app.proofs.Beside.{delta_resumes}
+use Rattle.ddc_app.proofs.laws.delta_resumes.Goals as goal
+
+pub returns : goal.returns
+returns c = delta_resumes

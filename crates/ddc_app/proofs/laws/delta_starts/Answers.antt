@@ -1,0 +1,5 @@
+use Rattle.ddc_app.proofs.Beside.{delta_starts}
+use Rattle.ddc_app.proofs.laws.delta_starts.Goals as goal
+
+pub returns : goal.returns
+returns c = delta_starts

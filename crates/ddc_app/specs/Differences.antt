@@ -1,0 +1,76 @@
+-- An audit in pieces behind one whole save, of which only what differs from that save is kept: what `delta-start` and `delta-resume` come to over
+-- files, beside what the undivided `audit` comes to. docs/reference/command-line.md says the same for people.
+use Rattle.std.specs.Prelude.{◌≡◌, ◌≢◌, ℕ, ◌⊎◌, IsTrue, List, [], ◌∷◌, Some, codes, decimal, sum, if◌then◌else◌}
+use Rattle.std.specs.FinMap as map
+use Rattle.ddc_base.specs.Outside.{NamedFiles}
+use Rattle.audit_run.specs.Delta.Deltas.{delta_text_of}
+use Rattle.wheeler.specs.Positions as positions
+use Rattle.wheeler.specs.Positions.{Position, On}
+use Rattle.command_plan.specs.declared.status.Status.TheVariants.{Paused}
+use Rattle.command_plan.specs.Plan.{Outcome, outcome}
+use Rattle.command_plan.specs.Words.{are_two_files}
+use Rattle.ddc_app.specs.Accepting.{audit}
+use Rattle.ddc_app.specs.Commands.{plan_of}
+use Rattle.ddc_app.specs.Pausing.{AreSame, AreWords, IsSavedAt, is_paused, part}
+
+-- what `delta-start RECIPE BASE PATCH REPORT STEPS` and `delta-resume RECIPE BASE PATCH REPORT STEPS` come to over files
+abbrev pub delta_start : List ℕ → List ℕ → List ℕ → List ℕ → ℕ → NamedFiles → Outcome
+delta_start recipe base patch report steps files =
+    outcome (plan_of (codes "delta-start" ∷ recipe ∷ base ∷ patch ∷ report ∷ decimal steps ∷ [])) files
+
+abbrev pub delta_resume : List ℕ → List ℕ → List ℕ → List ℕ → ℕ → NamedFiles → Outcome
+delta_resume recipe base patch report steps files =
+    outcome (plan_of (codes "delta-resume" ∷ recipe ∷ base ∷ patch ∷ report ∷ decimal steps ∷ [])) files
+
+-- ---- what is asked of words and files
+
+-- words that are no usage: with the base and with the patch they can name three files, of which these are no input of a recipe that the files
+-- hold, and the base and the patch do not clash
+pub record AreDeltaWords (recipe base patch report : List ℕ) (files : NamedFiles) : Type 0 where
+  pub with_base : AreWords recipe base report files
+  pub with_patch : AreWords recipe patch report files
+  pub apart : IsTrue (are_two_files base patch)
+
+-- the files hold what `IsSavedAt` says of the base, and as the patch the delta of the position behind so many steps against that of the base
+pub record IsSavedBeside (recipe base patch : List ℕ) (files : NamedFiles) (first count : ℕ) : Type 0 where
+  pub whole : IsSavedAt recipe base files first
+  pub position : Position
+  pub stands : positions.position whole.said whole.inputs count ≡ On position
+  pub delta_held : map.get files patch ≡ Some (delta_text_of whole.said whole.inputs whole.position position)
+
+-- ---- what the pieces come to
+
+-- a piece of the audit over files pauses behind so many steps in all, or comes to the same as the undivided audit
+abbrev pub DeltaPieces : List ℕ → List ℕ → List ℕ → List ℕ → NamedFiles → ℕ → ℕ → Outcome → Type 0
+DeltaPieces recipe base patch report files first count piece =
+    ((piece.status ≡ Paused) × IsSavedBeside recipe base patch piece.files first count) ⊎ AreSame report piece (audit recipe report files)
+
+-- one `delta-resume` after the other, as long as the audit pauses, each over the files that the command before it left
+abbrev pub differing_in_turn : List ℕ → List ℕ → List ℕ → List ℕ → Outcome → List ℕ → Outcome
+differing_in_turn recipe base patch report piece [] = piece
+differing_in_turn recipe base patch report piece (steps ∷ counts) =
+    if is_paused piece.status then differing_in_turn recipe base patch report (delta_resume recipe base patch report steps piece.files) counts else piece
+
+-- behind a whole save `delta-start`, and then `delta-resume`
+abbrev pub behind_save : List ℕ → List ℕ → List ℕ → List ℕ → Outcome → List ℕ → Outcome
+behind_save recipe base patch report piece [] = piece
+behind_save recipe base patch report piece (steps ∷ counts) =
+    if is_paused piece.status then differing_in_turn recipe base patch report (delta_start recipe base patch report steps piece.files) counts else piece
+
+-- an audit by differences: `part`, whose save is the base, then `delta-start`, and then `delta-resume`
+abbrev pub in_differences : List ℕ → List ℕ → List ℕ → List ℕ → ℕ → List ℕ → NamedFiles → Outcome
+in_differences recipe base patch report steps counts files = behind_save recipe base patch report (part recipe base report steps files) counts
+
+-- what such an audit has kept: behind its first piece the whole save, and behind further ones that save and a delta
+abbrev pub AreKept : List ℕ → List ℕ → List ℕ → NamedFiles → ℕ → List ℕ → Type 0
+AreKept recipe base patch files first [] = IsSavedAt recipe base files first
+AreKept recipe base patch files first (steps ∷ counts) = IsSavedBeside recipe base patch files first (sum (first ∷ steps ∷ counts))
+
+-- it pauses behind all its steps, or comes to the same as the undivided audit
+abbrev pub Differences : List ℕ → List ℕ → List ℕ → List ℕ → NamedFiles → ℕ → List ℕ → Outcome → Type 0
+Differences recipe base patch report files first counts piece =
+    ((piece.status ≡ Paused) × AreKept recipe base patch piece.files first counts) ⊎ AreSame report piece (audit recipe report files)
+
+-- no name but these three is changed
+abbrev pub LeavesAllBut : List ℕ → List ℕ → List ℕ → NamedFiles → Outcome → Type 0
+LeavesAllBut base patch report files piece = (name : List ℕ) → name ≢ base → name ≢ patch → name ≢ report → map.get piece.files name ≡ map.get files name
