@@ -1,4 +1,4 @@
-// The loop of loop.s on the plain machine, beside the crate step_bench.
+// The loop of loop.s on the plain machine, beside the crate part_bench.
 #[path = "../machine.rs"]
 #[allow(dead_code)]
 mod machine;
