@@ -4,7 +4,7 @@ ghost use Rattle.std.specs.Prelude.{◌≡◌, ℕ, ◌+◌, ◌-◌, ◌*◌, �
 ghost use Rattle.paged_mem.specs.Memory.{bytes_at, maps, reads};
 ghost use Rattle.paged_mem.specs.Ram.{count_of, RunsFrom, shown_bytes, Stores, StoresNear, Writes};
 ghost use Rattle.paged_mem.specs.Inside.Entries.{AreFull, ArePages, AreRowsOf, IsHeldPage, flat, held_pages};
-ghost use Rattle.paged_mem.specs.Inside.Flat.{memory_of, number_at, Rises};
+ghost use Rattle.paged_mem.specs.Inside.Flat.{AreLow, Rises, Spans, memory_of, number_at};
 ghost use Rattle.paged_mem.specs.Paged.{pages_touched, TouchesUnheld};
 
 use crate::entries::{Entry, number_held, number_in, put_into, read, take_memory, write};
@@ -174,13 +174,32 @@ pub fn load_at(pages: &[u64], entries: &[Entry], rows: &Rows, at: u64, width: Wi
     }
 }
 
+/// Where the bytes of `count` addresses from `at` on begin, if all of them are on these pages. On one page of a row they are found at once.
+#[inline(always)]
+fn start_of(pages: &[u64], rows: &Rows, at: u64, count: u64) -> Option<usize>
+    requires rising { Rises pages.now }
+    requires low { AreLow pages.now }
+    requires few { 4096 * length pages.now < 2 ^ 64 }
+    requires rows { AreRowsOf pages.now rows.now }
+    ensures { Spans pages.now at count result }
+{
+    let low = at % PAGE;
+    if count != 0 && count <= PAGE - low {
+        if let Some(index) = rows.find(at) {
+            return Some(PAGE_LEN * index + low as usize);
+        }
+    }
+    span(pages, at, count)
+}
+
 /// Fills `out` from an address on; `false`, with `out` as it was, where a byte is unmapped.
-pub fn read_at(pages: &[u64], entries: &[Entry], at: u64, out: &mut [u8]) -> bool
-    requires { ArePages pages.now entries.now }
+pub fn read_at(pages: &[u64], entries: &[Entry], rows: &Rows, at: u64, out: &mut [u8]) -> bool
+    requires pages { ArePages pages.now entries.now }
+    requires rows { AreRowsOf pages.now rows.now }
     ensures answer { result ≡ maps (memory_of pages.now (flat entries.now)) at (length out.old) }
     ensures moved { out.new ≡ unwrap_or (bytes_at (memory_of pages.now (flat entries.now)) at (length out.old)) out.old }
 {
-    match span(pages, at, out.len() as u64) {
+    match start_of(pages, rows, at, out.len() as u64) {
         None => false,
         Some(start) => {
             read(entries, start, out);
@@ -194,10 +213,12 @@ pub fn write_at(
     alloc: Global,
     pages: &[u64],
     entries: &mut [Entry],
+    rows: &Rows,
     at: u64,
     source: &[u8],
 ) -> Result<(), StoreRefusal>
-    requires { ArePages pages.now entries.old }
+    requires pages { ArePages pages.now entries.old }
+    requires rows { AreRowsOf pages.now rows.now }
     ensures pages { ArePages pages.now entries.new }
     ensures writes { Writes (memory_of pages.now (flat entries.old)) at source.now result (memory_of pages.now (flat entries.new)) }
     ensures raises { length (held_pages pages.now entries.new)
@@ -211,7 +232,7 @@ pub fn write_at(
     if source.is_empty() {
         return Ok(());
     }
-    let Some(start) = span(pages, at, source.len() as u64) else {
+    let Some(start) = start_of(pages, rows, at, source.len() as u64) else {
         return Err(StoreRefusal::Unmapped);
     };
     let end = start + source.len();
@@ -287,6 +308,7 @@ pub fn store_at(
         alloc,
         pages,
         entries,
+        rows,
         at,
         &value.to_le_bytes()[..width.count() as usize],
     )
@@ -308,11 +330,12 @@ pub fn page_at<'a>(pages: &[u64], entries: &'a [Entry], first: u64) -> PageView<
 }
 
 /// Whether `count` bytes from an address on are all mapped.
-pub fn mapped_at(pages: &[u64], entries: &[Entry], at: u64, count: u64) -> bool
-    requires { ArePages pages.now entries.now }
+pub fn mapped_at(pages: &[u64], entries: &[Entry], rows: &Rows, at: u64, count: u64) -> bool
+    requires pages { ArePages pages.now entries.now }
+    requires rows { AreRowsOf pages.now rows.now }
     ensures { result ≡ maps (memory_of pages.now (flat entries.now)) at count }
 {
-    span(pages, at, count).is_some()
+    start_of(pages, rows, at, count).is_some()
 }
 
 /// The first run of mapped pages from the page of an address on.

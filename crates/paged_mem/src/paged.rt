@@ -21,8 +21,8 @@ use std::marker::Model;
 /// A guest's memory that costs what is written: each mapped page has an entry, which holds the page's 4,096 bytes, or nothing as long as
 /// all of them are zero since the page was mapped.
 ///
-/// An address in the row of pages from the first one on, or in the one up to the last one, is found at once, any other by a search. The page
-/// of the last fetch is remembered, where it holds bytes.
+/// An address in the row of pages from the first one on, in the row after it, or in the one up to the last one, is found at once, any other
+/// by a search. The page of the last fetch is remembered, where it holds bytes.
 /// Contracts see the map, and the numbers of the pages that are held.
 #[derive(Debug, Drop)]
 pub struct PagedRam {
@@ -132,11 +132,11 @@ impl Ram for PagedRam {
     }
 
     fn mapped(&self, at: u64, count: u64) -> bool {
-        mapped_at(&self.pages, &self.entries, at, count)
+        mapped_at(&self.pages, &self.entries, &self.rows, at, count)
     }
 
     fn read_into(&self, at: u64, out: &mut [u8]) -> bool {
-        read_at(&self.pages, &self.entries, at, out)
+        read_at(&self.pages, &self.entries, &self.rows, at, out)
     }
 
     /// Takes the memory of each page that it touches and that holds no bytes yet, before it writes.
@@ -147,7 +147,14 @@ impl Ram for PagedRam {
         ensures unmapped { result ≡ Err StoreRefusal.Unmapped → self.new.held ≡ self.old.held }
         ensures wants { result ≡ Err StoreRefusal.OutOfMemory → TouchesUnheld self.old.held at (length source.now) }
     {
-        let written = write_at(self.alloc, &self.pages, &mut self.entries, at, source);
+        let written = write_at(
+            self.alloc,
+            &self.pages,
+            &mut self.entries,
+            &self.rows,
+            at,
+            source,
+        );
         self.code = Row::none();
         written
     }

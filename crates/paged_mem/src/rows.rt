@@ -43,22 +43,22 @@ pub fn find_in(row: Row, at: u64) -> Option<usize>
     }
 }
 
-/// The pages in a row from the first one on.
-pub fn first_row(pages: &[u64]) -> Row
+/// The pages in a row from the one at an index on; none where no page stands there.
+pub fn row_at(pages: &[u64], start: usize) -> Row
     requires rising { Rises pages.now }
     requires low { AreLow pages.now }
     ensures row { IsRowOf pages.now result }
-    ensures start { result.index ≡ 0 }
+    ensures start { start ≡ 0 → result.index ≡ 0 }
 {
-    if pages.is_empty() {
+    if start >= pages.len() {
         return Row::none();
     }
-    let first = pages[0];
-    let mut known = 0;
+    let first = pages[start];
+    let mut known = start;
     let mut end = pages.len();
     while end - known > 1 {
         let middle = known + (end - known) / 2;
-        if pages[middle] == first + middle as u64 {
+        if pages[middle] == first + (middle - start) as u64 {
             known = middle;
         } else {
             end = middle;
@@ -66,8 +66,8 @@ pub fn first_row(pages: &[u64]) -> Row
     }
     Row {
         base: PAGE * first,
-        size: PAGE * (known as u64 + 1),
-        index: 0,
+        size: PAGE * ((known - start) as u64 + 1),
+        index: start,
     }
 }
 
@@ -98,10 +98,12 @@ pub fn last_row(pages: &[u64]) -> Row
     }
 }
 
-/// The row from the first page on, and the one up to the last page.
+/// The row from the first page on, the row after it, and the one up to the last page: a program's, its data's where they lie apart, and its
+/// stack's.
 #[derive(Clone, Copy, Debug, PartialEq, Eq)]
 pub struct Rows {
     pub first: Row,
+    pub second: Row,
     pub last: Row,
 }
 
@@ -112,6 +114,7 @@ impl Rows {
     {
         Rows {
             first: Row::none(),
+            second: Row::none(),
             last: Row::none(),
         }
     }
@@ -122,8 +125,10 @@ impl Rows {
         requires low { AreLow pages.now }
         ensures { AreRowsOf pages.now result }
     {
+        let first = row_at(pages, 0);
         Rows {
-            first: first_row(pages),
+            first,
+            second: row_at(pages, (first.size / PAGE) as usize),
             last: last_row(pages),
         }
     }
@@ -132,6 +137,7 @@ impl Rows {
     #[inline(always)]
     pub fn find(&self, at: u64) -> Option<usize>
         requires first { self.now.first.index + self.now.first.size < 2 ^ 64 }
+        requires second { self.now.second.index + self.now.second.size < 2 ^ 64 }
         requires last { self.now.last.index + self.now.last.size < 2 ^ 64 }
         ensures { (pages : List ℕ) → Rises pages → AreRowsOf pages self.now → IfSome result (λ index. place pages (at / 4096) ≡ Some index) }
     {
@@ -142,7 +148,10 @@ impl Rows {
         };
         match find_in(first, at) {
             Some(index) => Some(index),
-            None => find_in(self.last, at),
+            None => match find_in(self.last, at) {
+                Some(index) => Some(index),
+                None => find_in(self.second, at),
+            },
         }
     }
 }

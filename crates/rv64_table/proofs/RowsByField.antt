@@ -1,6 +1,6 @@
 -- The row of a word, by its opcode and then by its fields.
 use Rattle.std.proofs.Common.{◌≡◌, ℕ, ◌+◌, ◌*◌, ◌/◌, ◌%◌, ◌^◌, ◌<◌, Bool, true, false, ◌&&◌, ◌||◌, cond, List, [], ◌∷◌, refl, sym, ap, ◌∙◌, subst, arith, Option, None, Some, IfSome}
-use Rattle.std.specs.Prelude.{◌==◌, bit_and, find, option_map}
+use Rattle.std.specs.Prelude.{◌==◌, bit_and, find, if◌then◌else◌, option_map}
 use Rattle.std.specs.List.{list_all}
 use Rattle.std.proofs.lemmas.Nat.{and_mask, shr_below}
 use Rattle.std.proofs.lemmas.Bool.{and_parts, eqb-true}
@@ -10,7 +10,7 @@ use Rattle.rv64_table.specs.declared.Form.{Form}
 use Rattle.rv64_table.specs.declared.Op.{Op}
 use Rattle.rv64_table.specs.declared.Form.TheVariants.{R, I, H, K, S, B, U, J, E, L, A}
 use Rattle.rv64_table.specs.Table.{mask_of, matches, row_for, table}
-use Rattle.rv64_table.specs.Inside.Lookup.{rows_of, has_fields, fits_fields, pick}
+use Rattle.rv64_table.specs.Inside.Lookup.{rows_of, found_at, has_fields, fits_fields, pick}
 use Rattle.rv64_table.proofs.Masks.{test-parts, test-fields, test-high, and-fixed, test-free}
 
 -- a word matches a row with fields where its opcode, funct3 and funct7 do
@@ -101,11 +101,10 @@ told (Some op) x is = sym is
 pub word-opcode : (w key : ℕ) → w % 4 ≡ 3 → 8 * (w / 4 % 32) + w / 4096 % 8 ≡ key → bit_and w 127 ≡ 4 * (key / 8) + 3
 word-opcode w key low is = and_mask w 7 ∙ omega (arith, low, is)
 
-pub picked : (key literal funct7 registers : ℕ) (found : Option Op) → key ≡ literal → found ≡ pick (rows_of (4 * (literal / 8) + 3) table) (literal % 8) funct7 registers
-    → IfSome found (λ op. pick (rows_of (4 * (key / 8) + 3) table) (key % 8) funct7 registers ≡ Some op)
-picked key literal funct7 registers found is there =
-    subst (λ k. IfSome found (λ op. pick (rows_of (4 * (k / 8) + 3) table) (k % 8) funct7 registers ≡ Some op)) (sym is)
-    (told found (pick (rows_of (4 * (literal / 8) + 3) table) (literal % 8) funct7 registers) there)
+pub picked : (key literal word registers : ℕ) (found : Option Op) → key ≡ literal → found ≡ found_at literal word registers
+    → IfSome found (λ op. found_at key word registers ≡ Some op)
+picked key literal word registers found is there =
+    subst (λ k. IfSome found (λ op. found_at k word registers ≡ Some op)) (sym is) (told found (found_at literal word registers) there)
 
 -- a row that has no fields is one of that opcode
 abbrev has_fields_but : Row → Bool
@@ -132,17 +131,26 @@ all_plain opcode (r ∷ rows) other all =
         plain_row has is = grind (arith, nat_tests)
     by_opcode false same has rest = rest
 
--- the operation that is picked by this number is the word's, where the rows of its opcode have fields
+-- the operation that is found by this number is the word's
 pub by_key : (w key : ℕ) (found : Option Op) → w < 2 ^ 32 → w % 4 ≡ 3 → 8 * (w / 4 % 32) + w / 4096 % 8 ≡ key
-    → ((registers : ℕ) → IfSome found (λ op. pick (rows_of (4 * (key / 8) + 3) table) (key % 8) (w / 2 ^ 25) registers ≡ Some op))
-    → IfSome found (λ op. (key / 8 == 28) ≡ false)
+    → ((registers : ℕ) → IfSome found (λ op. found_at key w registers ≡ Some op))
+    → IfSome found (λ op. (key / 8 == 28) ≡ (key == 224))
     → IfSome found (λ op. option_map (λ r. r.op) (row_for w) ≡ Some op)
 unfolding table
 by_key w key None fits low is there fields = tt
-by_key w key (Some op) fits low is there fields =
-    let other : (4 * (key / 8) + 3 == 115) ≡ false = (grind (arith, nat_tests)) in
-    let opcode = word-opcode w key low is in
-    let funct3 : bit_and (w / 2 ^ 12) 7 ≡ key % 8 = and_mask (w / 2 ^ 12) 3 ∙ omega (arith, is) in
-    sym (by_fields w (4 * (key / 8) + 3) fits opcode (all_plain (4 * (key / 8) + 3) table other refl))
-    ∙ ap (λ f. pick (rows_of (4 * (key / 8) + 3) table) f (w / 2 ^ 25) (bit_and (w / 2 ^ 15) 1023)) funct3
-    ∙ there (bit_and (w / 2 ^ 15) 1023)
+by_key w key (Some op) fits low is there fields = by_test (key == 224) refl
+  where
+    at_test : (registers : ℕ) (test : Bool) → (key == 224) ≡ test
+        → (if test then option_map (λ r. r.op) (find (λ r. matches r w) (rows_of 115 table)) else pick (rows_of (4 * (key / 8) + 3) table) (key % 8) (w / 2 ^ 25) registers) ≡ Some op
+    at_test registers test is = ap (λ t. if t then option_map (λ r. r.op) (find (λ r. matches r w) (rows_of 115 table)) else pick (rows_of (4 * (key / 8) + 3) table) (key % 8) (w / 2 ^ 25) registers) (sym is) ∙ there registers
+
+    by_test : (test : Bool) → (key == 224) ≡ test → option_map (λ r. r.op) (row_for w) ≡ Some op
+    by_test true system = ap (option_map (λ r. r.op)) (row-rows_of w 115 (word-opcode w 224 low (is ∙ eqb-true _ _ system))) ∙ at_test 0 true system
+    by_test false plain =
+        let one : (key / 8 == 28) ≡ false = fields ∙ plain in
+        let other : (4 * (key / 8) + 3 == 115) ≡ false = (grind (arith, nat_tests)) in
+        let opcode = word-opcode w key low is in
+        let funct3 : bit_and (w / 2 ^ 12) 7 ≡ key % 8 = and_mask (w / 2 ^ 12) 3 ∙ omega (arith, is) in
+        sym (by_fields w (4 * (key / 8) + 3) fits opcode (all_plain (4 * (key / 8) + 3) table other refl))
+        ∙ ap (λ f. pick (rows_of (4 * (key / 8) + 3) table) f (w / 2 ^ 25) (bit_and (w / 2 ^ 15) 1023)) funct3
+        ∙ at_test (bit_and (w / 2 ^ 15) 1023) false plain

@@ -1,8 +1,8 @@
 //! The row of a word, by its opcode and its fields funct3, funct7 and, of a load-reserved, rs2.
 
-ghost use Rattle.std.specs.Prelude.{◌≡◌, ◌==◌, ℕ, ◌+◌, ◌*◌, ◌/◌, ◌%◌, ◌^◌, false, IfSome, Some, option_map, find};
+ghost use Rattle.std.specs.Prelude.{◌≡◌, ◌==◌, ℕ, ◌+◌, ◌*◌, ◌/◌, ◌%◌, ◌^◌, IfSome, Some, option_map, find};
 ghost use Rattle.rv64_table.specs.Table.{matches, row_for, table};
-ghost use Rattle.rv64_table.specs.Inside.Lookup.{pick, rows_of};
+ghost use Rattle.rv64_table.specs.Inside.Lookup.{found_at, pick, rows_of};
 
 use crate::Op;
 
@@ -70,12 +70,12 @@ macro_rules! by_key {
 }
 
 /// The operation of a word's row by its opcode and funct3, which are one number: in octal, two digits for bits 6 to 2 of the word, and one
-/// for funct3. Only the arms that need funct7 take it. `None` says nothing: atomic rows and those of `SYSTEM` are not looked for.
+/// for funct3. Only the arms that need funct7 take it. `None` says nothing: atomic rows are not looked for.
 #[inline(always)]
 #[tactic(auto, unfolding(crate::specs::Table::table))]
 fn at_key(key: u32, word: u32) -> Option<Op>
-    ensures row { (registers : ℕ) → IfSome result (λ op. pick (rows_of (4 * (key / 8) + 3) table) (key % 8) (word / 2 ^ 25) registers ≡ Some op) }
-    ensures fields { IfSome result (λ op. key / 8 == 28 ≡ false) }
+    ensures row { (registers : ℕ) → IfSome result (λ op. found_at key word registers ≡ Some op) }
+    ensures fields { IfSome result (λ op. key / 8 == 28 ≡ (key == 224)) }
 {
     by_key! { key;
         0o00_0 Some(Op::Lb); 0o00_1 Some(Op::Lh); 0o00_2 Some(Op::Lw); 0o00_3 Some(Op::Ld);
@@ -98,6 +98,7 @@ fn at_key(key: u32, word: u32) -> Option<Op>
         0o31_0 Some(Op::Jalr);
         0o33_0 Some(Op::Jal); 0o33_1 Some(Op::Jal); 0o33_2 Some(Op::Jal); 0o33_3 Some(Op::Jal);
         0o33_4 Some(Op::Jal); 0o33_5 Some(Op::Jal); 0o33_6 Some(Op::Jal); 0o33_7 Some(Op::Jal);
+        0o34_0 system(word);
     }
 }
 
@@ -109,10 +110,7 @@ pub fn row_at_once(word: u32) -> Option<Op>
     if word % 4 != 3 {
         return None;
     }
-    match 8 * (word / 4 % 32) + word / 0x1000 % 8 {
-        0o34_0 => system(word),
-        key => at_key(key, word),
-    }
+    at_key(8 * (word / 4 % 32) + word / 0x1000 % 8, word)
 }
 
 #[tactic(auto, unfolding(crate::specs::Table::table))]

@@ -1,4 +1,4 @@
--- How a `PagedRam` keeps its memory: page numbers rise, each page has an entry, and two rows of pages are found at once.
+-- How a `PagedRam` keeps its memory: page numbers rise, each page has an entry, and three rows of pages are found at once.
 use Rattle.std.specs.Prelude.{◌≡◌, ℕ, ◌+◌, ◌*◌, ◌/◌, ◌%◌, ◌^◌, ◌<◌, ◌≤◌, Option, None, Some, IsSome, List, [], ◌∷◌, ◌++◌, length, slice_index, slice_index_or}
 use Rattle.std.specs.Global.{Box}
 use Rattle.paged_mem.specs.Memory.{zeros}
@@ -43,10 +43,11 @@ pub record IsRowOf (pages : List ℕ) (row : Row) : Type 0 where
   pub within : 4096 * row.index + row.size ≤ 4096 * length pages
   pub numbers : (k : ℕ) → 4096 * k < row.size → slice_index pages (row.index + k) ≡ row.base / 4096 + k
 
--- both rows are, and the first one stands first
+-- all three rows are, and the first one stands first
 pub record AreRowsOf (pages : List ℕ) (rows : Rows) : Type 0 where
   pub first : IsRowOf pages rows.first
   pub start : rows.first.index ≡ 0
+  pub second : IsRowOf pages rows.second
   pub last : IsRowOf pages rows.last
 
 -- a row of one page, whose entry holds bytes, or of none

@@ -1,5 +1,6 @@
 -- How the code finds a row: by the opcode, and then by funct3, funct7 and, in form L, rs2 alone. No promise rests on its being read.
-use Rattle.std.specs.Prelude.{ℕ, ◌/◌, ◌%◌, ◌^◌, Bool, true, false, ◌&&◌, ◌==◌, List, Option, option_map, find, filter}
+use Rattle.std.specs.Prelude.{ℕ, ◌/◌, ◌%◌, ◌^◌, ◌+◌, ◌*◌, Bool, true, false, if◌then◌else◌, ◌&&◌, ◌==◌, List, Option, option_map, find, filter}
+use Rattle.rv64_table.specs.Table.{matches, table}
 use Rattle.rv64_table.specs.declared.Row.{Row}
 use Rattle.rv64_table.specs.declared.Form.{Form}
 use Rattle.rv64_table.specs.declared.Form.TheVariants.{R, H, K, U, J, E, L, A}
@@ -45,3 +46,10 @@ fits_fields form want funct3 funct7 registers =
 -- the operation of the row among these that has these fields
 abbrev pub pick : List Row → ℕ → ℕ → ℕ → Option Op
 pick rows funct3 funct7 registers = option_map (λ r. r.op) (find (λ r. fits_fields r.form r.want funct3 funct7 registers) rows)
+
+-- the operation of a word whose opcode and funct3 make this number, two octal digits and one: by its fields, or by the whole word where
+-- the rows have none
+abbrev pub found_at : ℕ → ℕ → ℕ → Option Op
+found_at key word registers =
+    if key == 224 then option_map (λ r. r.op) (find (λ r. matches r word) (rows_of 115 table))
+    else pick (rows_of (4 * (key / 8) + 3) table) (key % 8) (word / 2 ^ 25) registers

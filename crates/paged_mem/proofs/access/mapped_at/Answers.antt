@@ -5,11 +5,11 @@ use Rattle.paged_mem.proofs.Accessed.{few}
 use Rattle.paged_mem.proofs.Seen.{maps_seen}
 use Rattle.paged_mem.proofs.access.mapped_at.Goals as goal
 
-pub span-requires-clause-few : goal.span-requires-clause-few
-span-requires-clause-few c = few c.args.pages.now c.args.entries.now c.requires
+pub start_of-requires-clause-few : goal.start_of-requires-clause-few
+start_of-requires-clause-few c = few c.args.pages.now c.args.entries.now c.requires.pages
 
 pub returns : goal.returns
 returns c =
     c.is_some.ensures
-    ∙ sym (maps_seen c.args.pages.now (flat c.args.entries.now) c.args.pages.now (memory_of c.args.pages.now (flat c.args.entries.now)) c.requires.sound refl refl
-    c.args.at c.args.count c.span.result c.span.ensures)
+    ∙ sym (maps_seen c.args.pages.now (flat c.args.entries.now) c.args.pages.now (memory_of c.args.pages.now (flat c.args.entries.now)) c.requires.pages.sound refl refl
+    c.args.at c.args.count c.start_of.result c.start_of.ensures)

@@ -1,4 +1,10 @@
+use Rattle.std.proofs.Common.{refl}
 use Rattle.paged_mem.proofs.rows.Rows.of.Goals as goal
 
 pub returns : goal.returns
-returns c = record { first = c.first_row.ensures.row; start = c.first_row.ensures.start; last = c.last_row.ensures }
+returns c = record {
+  first = c.row_at-first.ensures.row;
+  start = c.row_at-first.ensures.start refl;
+  second = c.row_at.ensures.row;
+  last = c.last_row.ensures;
+}
