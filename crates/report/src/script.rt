@@ -2,7 +2,15 @@
 //!
 //! Its rules for people: docs/reference/kaem-report.md.
 
+pub mod laws;
 mod line;
+mod reading;
+mod refusal;
+mod state;
 mod types;
+mod writing;
 
+pub use reading::read;
+pub use refusal::ScriptReportRefusal;
 pub use types::{CommandLine, CommandLines, ScriptReport};
+pub use writing::write;
