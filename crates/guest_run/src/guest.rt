@@ -235,3 +235,34 @@ fn started<R: Ram>(
         alloc,
     })
 }
+
+impl<R: Ram> Guest<R> {
+    /// The guest with these files in the place of its own.
+    pub fn with_files(self, files: Files) -> Guest<R>
+        ensures { result ≡ record self { world = files } }
+    {
+        // What files keep is told by a call of theirs.
+        files.stream(1);
+        let Guest {
+            hart,
+            files: _,
+            heap,
+            steps,
+            alloc,
+        } = self;
+        Guest {
+            hart,
+            files,
+            heap,
+            steps,
+            alloc,
+        }
+    }
+
+    /// Its files alone.
+    pub fn into_files(self) -> Files
+        ensures { result ≡ self.world }
+    {
+        self.files
+    }
+}

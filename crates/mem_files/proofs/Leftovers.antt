@@ -1,8 +1,8 @@
 -- What files that keep their rules leave.
-use Rattle.std.proofs.Common.{◌≡◌, ℕ, ◌<◌, ◌≤◌, Bool, true, false, cond, not, ◌&&◌, eqb, T, IsTrue, List, [], ◌∷◌, length, map, Some, None, unwrap_or, refl, sym, ap, ◌∙◌, subst, arith, zero, suc}
+use Rattle.std.proofs.Common.{◌≡◌, ℕ, ◌<◌, ◌≤◌, Bool, true, false, cond, not, ◌&&◌, eqb, T, IsTrue, ◌==◌, List, [], ◌∷◌, length, map, get_or, sum_by, Some, None, unwrap_or, refl, sym, ap, ◌∙◌, subst, arith, zero, suc}
 use Rattle.std.specs.Prelude.{All, nat_le}
 use Rattle.std.specs.List.{Contains}
-use Rattle.std.specs.Ordering.{eq_by_cmp, is_eq, is_lt}
+use Rattle.std.specs.Ordering.{eq_by_cmp, is_eq, is_lt, nat_cmp}
 use Rattle.std.specs.declared.cmp.Ordering.{Ordering}
 use Rattle.std.specs.declared.cmp.Ordering.TheVariants.{Less, Equal, Greater}
 use Rattle.std.specs.Cmp.{tied_itself}
@@ -10,11 +10,13 @@ use Rattle.std.specs.Cmp.Lexicographic.{nat_list_cmp_total}
 use Rattle.std.specs.FinMap as fin
 use Rattle.std.specs.FinMap.Entries.{below_all}
 use Rattle.std.proofs.lemmas.List.{length-map}
-use Rattle.std.proofs.lemmas.List.Elements.{All-map, All-nil, All-weaker}
+use Rattle.std.proofs.lemmas.List.Elements.{All-head, All-map, All-nil, All-tail, All-weaker}
+use Rattle.std.proofs.lemmas.List.Sums.{sum_by-cons}
+use Rattle.std.proofs.lemmas.Bool.{ne_eqb}
 use Rattle.std.proofs.lemmas.Option.{none-some, same_Some}
 use Rattle.std.proofs.lemmas.Bool.Decides.{nat_tests}
 use Rattle.std.specs.List.{list_any}
-use Rattle.mem_files.specs.Limits.{most_name}
+use Rattle.mem_files.specs.Limits.{most_name, most_total}
 use Rattle.mem_files.specs.Names.{begins_with_dot_slash, bytes_cmp, is_file_name, is_stripped_name}
 use Rattle.mem_files.specs.World.{World, content_of}
 use Rattle.mem_files.specs.Calls.{content_at}
@@ -22,6 +24,8 @@ use Rattle.mem_files.specs.Sound.{IsSound}
 use Rattle.mem_files.specs.Outputs.{named_content, left, OutputPlace, FirstStream, AtPath, out, IsContent, IsLeftFile, AreLeft}
 use Rattle.mem_files.proofs.Directory.{equal, bytes_cmp-IsAntisymmetric}
 use Rattle.mem_files.proofs.Entries.{some_of}
+use Rattle.mem_files.proofs.Maps.{get-remove_nat, size_at, sum_by-remove}
+use Rattle.mem_files.proofs.Totals.{size_content}
 
 both : (a b : Bool) → T (a && b) → T a × T b
 both true b h = (tt, h)
@@ -156,3 +160,66 @@ long name is =
 pub names-long : (w : World) → IsSound w → All (λ file. (1 ≤ length file.0) × (length file.0 ≤ most_name)) (left w)
 names-long w sound =
     All-weaker IsLeftFile (λ file. (1 ≤ length file.0) × (length file.0 ≤ most_name)) (λ file is. long file.0 is.named) (left w) (left-are w sound).each
+
+-- ---- what names hold is no more than all files have
+
+-- files of which no two have one number
+abbrev AreApart : List (List ℕ × ℕ) → Type 0
+AreApart [] = Unit {0}
+AreApart (e ∷ es) = All (λ f. f.1 ≡ e.1 → ⊥) es × AreApart es
+
+above : (name : List ℕ) (es : List (List ℕ × ℕ)) → T (below_all bytes_cmp name es) → All (λ f. T (is_lt (bytes_cmp name f.0))) es
+above name [] below = All-nil (λ f. T (is_lt (bytes_cmp name f.0)))
+above name (e ∷ es) below =
+    let parts = both (is_lt (bytes_cmp name e.0)) (below_all bytes_cmp name es) below in
+    onto (λ f. T (is_lt (bytes_cmp name f.0))) e es parts.0 (above name es parts.1)
+
+not-below-itself : (name : List ℕ) → T (is_lt (bytes_cmp name name)) → ⊥
+not-below-itself name less = subst (λ o. T (is_lt o)) (tied_itself nat_list_cmp_total name) less
+
+apart : (w : World) → IsSound w → (es : List (List ℕ × ℕ)) → T (fin.is_sorted bytes_cmp es) → All (λ e. fin.get w.names e.0 ≡ Some e.1) es → AreApart es
+apart w sound [] sorted each = tt
+apart w sound (e ∷ es) sorted each =
+    let parts = both (below_all bytes_cmp e.0 es) (fin.is_sorted bytes_cmp es) sorted in
+    let here = All-head (λ f. fin.get w.names f.0 ≡ Some f.1) e es each in
+    let others = All-tail (λ f. fin.get w.names f.0 ≡ Some f.1) e es each in
+    let higher = above e.0 es parts.0 in (
+      (λ k d less same.
+          let f = get_or es k d in
+          let one : e.0 ≡ f.0 = sound.joined.named_once e.0 f.0 e.1 here (others k d less ∙ ap Some same) in
+          not-below-itself f.0 (subst (λ name. T (is_lt (bytes_cmp name f.0))) one (higher k d less))),
+      apart w sound es parts.1 others,
+    )
+
+abbrev size_in : fin.FinMap nat_cmp (List ℕ) → List ℕ × ℕ → ℕ
+size_in files e = size_at length (fin.get files e.1)
+
+size-apart : (files : fin.FinMap nat_cmp (List ℕ)) (number : ℕ) (es : List (List ℕ × ℕ)) → All (λ f. f.1 ≡ number → ⊥) es
+    → sum_by (size_in (fin.remove files number)) es ≡ sum_by (size_in files) es
+size-apart files number [] others = refl
+size-apart files number (e ∷ es) others =
+    let other : (e.1 == number) ≡ false = ne_eqb _ _ (All-head (λ f. f.1 ≡ number → ⊥) e es others) in
+    let same : fin.get (fin.remove files number) e.1 ≡ fin.get files e.1 = get-remove_nat files number e.1 ∙ ap (λ b. cond b None (fin.get files e.1)) other in
+    let size : size_in (fin.remove files number) e ≡ size_in files e = ap (size_at length) same in
+    let rest = size-apart files number es (All-tail (λ f. f.1 ≡ number → ⊥) e es others) in
+    omega (arith, size, rest, sum_by-cons (size_in (fin.remove files number)) e es, sum_by-cons (size_in files) e es)
+
+size-within : (files : fin.FinMap nat_cmp (List ℕ)) (es : List (List ℕ × ℕ)) → AreApart es → sum_by (size_in files) es ≤ sum_by length (fin.values files)
+size-within files [] separate = omega arith
+size-within files (e ∷ es) separate =
+    let rest = size-within (fin.remove files e.1) es separate.1 in
+    let same = size-apart files e.1 es separate.0 in
+    omega (arith, rest, same, sum_by-cons (size_in files) e es, sum_by-remove length files e.1)
+
+size-named : (w : World) (es : List (List ℕ × ℕ)) → sum_by (λ file. length file.1) (map (named_content w) es) ≡ sum_by (size_in w.files) es
+size-named w [] = refl
+size-named w (e ∷ es) =
+    omega (arith, size-named w es, sum_by-cons (λ (file : List ℕ × List ℕ). length file.1) (named_content w e) (map (named_content w) es), sum_by-cons (size_in w.files) e es, size_content (fin.get w.files e.1))
+
+-- all bytes that files leave are no more than the limit
+pub left-small : (w : World) → IsSound w → sum_by (λ file. length file.1) (left w) ≤ most_total
+unfolding left
+left-small w sound =
+    let each = all_names (λ e. fin.get w.names e.0 ≡ Some e.1) w (λ name number is. is) in
+    let within = size-within w.files (fin.entries w.names) (apart w sound (fin.entries w.names) (fin.entries_sorted w.names) each) in
+    omega (arith, within, size-named w (fin.entries w.names), sound.within.small_total)

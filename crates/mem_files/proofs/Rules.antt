@@ -13,12 +13,12 @@ use Rattle.mem_files.specs.Linux.{o_accmode, o_creat, o_excl, o_trunc, einval, e
 use Rattle.mem_files.specs.Limits.{most_descriptors, most_names}
 use Rattle.mem_files.specs.Names.{is_stripped_name, is_file_name, stripped}
 use Rattle.mem_files.specs.World.{World, content_of, is_named, is_open, lowest_unused}
-use Rattle.mem_files.specs.Calls.{first_world, with_file, with_descriptor, has, written_over, opened, opened_at, emptied_if, with_cursor, sought, sought_at, ready, skipped, skipped_at, fits, write_cursor, filled, written, written_if, placed, is_full, without_unused, closed, closed_at, removed, removed_at}
+use Rattle.mem_files.specs.Calls.{first_world, with_file, with_descriptor, has, written_over, opened, opened_at, emptied_if, with_cursor, sought, sought_at, ready, skipped, skipped_at, fits, write_cursor, filled, written, written_if, placed, is_full, without_unused, closed, closed_at, removed, removed_at, drained, drained_at}
 use Rattle.mem_files.specs.Sound.{AreBytes, IsSlotAt, IsSound}
 use Rattle.mem_files.specs.Inside.Kept.{IsHeldSlot, IsKept, HasBytes}
 use Rattle.mem_files.proofs.Entries.{insert_cases, name_insert_cases, remove_cases, name_remove_cases}
 use Rattle.mem_files.proofs.Keeping.{closed-kept, removed-kept}
-use Rattle.mem_files.proofs.KeepingCalls.{first-kept, opened-kept, placed-kept, skipped-kept, sought-kept, written-kept}
+use Rattle.mem_files.proofs.KeepingCalls.{first-kept, opened-kept, placed-kept, set_content-kept, skipped-kept, sought-kept, written-kept}
 
 pub kept_of : (w : World) → IsSound w → IsKept w
 kept_of w s = record {
@@ -290,3 +290,12 @@ skipped-sound w fd count s read = sound_of _ (skipped-kept w fd count (kept_of w
 
 pub written-sound : (w : World) (fd : ℕ) (bytes : List ℕ) → IsSound w → AreBytes bytes → IsSound (written w fd bytes).1
 written-sound w fd bytes s new = sound_of _ (written-kept w fd bytes (kept_of w s)) (written-bytes w fd bytes (bytes_of w s) new)
+
+pub drained-sound : (w : World) (name : List ℕ) → IsSound w → IsSound (drained w name)
+drained-sound w name s = at_name (fin.get w.names name) refl
+  where
+    at_name : (o : Option ℕ) → fin.get w.names name ≡ o → IsSound (drained_at w o)
+    at_name None is = s
+    at_name (Some number) is =
+        sound_of _ (set_content-kept w number [] (kept_of w s) (s.joined.held name number is) (omega arith) (omega (arith, s.within.small_total)))
+        (set_file-bytes w number [] (bytes_of w s) no_bytes_at_all)

@@ -4,7 +4,7 @@ use Rattle.std.specs.FinMap as fin
 use Rattle.mem_files.specs.World.{World, total, content_of}
 use Rattle.mem_files.proofs.Maps.{size_at, sum_by-insert, sum_by-remove}
 
-size_content : (o : Option (List ℕ)) → size_at length o ≡ length (unwrap_or o [])
+pub size_content : (o : Option (List ℕ)) → size_at length o ≡ length (unwrap_or o [])
 size_content None = refl
 size_content (Some content) = refl
 

@@ -250,3 +250,12 @@ is_after (Some given) name = is_lt (bytes_cmp given name)
 -- `name_after`: the first name, in their order, that comes after the given one; without one, the first of all
 abbrev pub name_after : World → Option (List ℕ) → Option (List ℕ)
 name_after w given = find (is_after given) (map.keys w.names)
+
+-- `take_content`, by the number that has the name: the file loses its bytes
+abbrev pub drained_at : World → Option ℕ → World
+drained_at w None = w
+drained_at w (Some number) = record w { files = map.insert w.files number [] }
+
+-- `take_content`
+abbrev pub drained : World → List ℕ → World
+drained w name = drained_at w (map.get w.names name)

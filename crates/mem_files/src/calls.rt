@@ -1,9 +1,9 @@
 //! The calls, over a table: the first rule that fits.
 
-ghost use Rattle.std.specs.Prelude.{◌≡◌, ◌+◌, ◌-◌, ◌<◌, ◌≤◌, ◌≢◌, ◌^◌, pos, ◌+ℤ◌, IfOk, IsOkAnd, IsSome, OnOk, OnErr, MatchResult, Ok, Err, Some, None, length, take, drop, []};
+ghost use Rattle.std.specs.Prelude.{◌≡◌, ◌+◌, ◌-◌, ◌<◌, ◌≤◌, ◌≢◌, ◌^◌, pos, ◌+ℤ◌, IfOk, IsOkAnd, IsSome, OnOk, OnErr, MatchResult, Ok, Err, Some, None, length, take, drop, [], unwrap_or};
 ghost use Rattle.std.specs.Option.{option_copied};
 ghost use Rattle.std.specs.FinMap as map;
-ghost use Rattle.mem_files.specs.Calls.{placed, is_full, opened, opened_at, access_of, has, closed, released, without_unused, sought, seek_base, as_cursor, ready, skipped, fits, write_place, write_cursor, filled, written, removed, content_at};
+ghost use Rattle.mem_files.specs.Calls.{placed, is_full, opened, opened_at, access_of, has, closed, released, without_unused, sought, seek_base, as_cursor, ready, skipped, fits, write_place, write_cursor, filled, written, removed, content_at, drained};
 ghost use Rattle.mem_files.specs.Replies.{Replies, Places, Grows};
 ghost use Rattle.mem_files.specs.Sound.{IsSound};
 ghost use Rattle.mem_files.specs.Inside.Kept.{HasFile};
@@ -16,7 +16,7 @@ use crate::{
     O_RDONLY, O_TRUNC, O_WRONLY, PlaceRefusal, SEEK_CUR, SEEK_END, SEEK_SET, Slot,
 };
 use ddc_base::OutOfMemory;
-use std::alloc::AllocError;
+use std::alloc::{AllocError, Global};
 
 /// Is this bit of the flags set?
 fn has(flags: u32, bit: u32) -> bool
@@ -75,6 +75,24 @@ impl Table {
             return Err(PlaceRefusal::Full);
         }
         self.add_file(name, content)?;
+        Ok(())
+    }
+
+    pub fn place_moved(&mut self, name: &[u8], content: Vec<u8>) -> Result<(), PlaceRefusal>
+        requires { IsSound self.old }
+        ensures { Places result self.old self.new (placed self.old name.now content.items) }
+    {
+        let name = strip(name);
+        if !is_file_name(name) {
+            return Err(PlaceRefusal::BadName);
+        }
+        if self.number(name).is_some() {
+            return Err(PlaceRefusal::Twice);
+        }
+        if self.is_full(content.len() as u64) {
+            return Err(PlaceRefusal::Full);
+        }
+        self.add_moved(name, content)?;
         Ok(())
     }
 
@@ -367,6 +385,17 @@ impl Table {
             _ => {}
         }
         Ok(())
+    }
+
+    pub fn take_content(&mut self, alloc: Global, name: &[u8]) -> Vec<u8>
+        requires { IsSound self.old }
+        ensures value { result.items ≡ unwrap_or (content_at self.old name.now) [] }
+        ensures left { self.new ≡ drained self.old name.now }
+    {
+        match self.number(name) {
+            Some(number) => self.take(number),
+            None => Vec::new(alloc),
+        }
     }
 
     /// The bytes of the file of this name.

@@ -1,13 +1,13 @@
 //! The files of a guest, with what each call answers.
 
-ghost use Rattle.std.specs.Prelude.{◌≡◌, ◌⊎◌, IsTrue, IfOk, IsOkAnd, MatchResult, OnErr, OnOk, Ok, Err, is_some, length, option_map};
+ghost use Rattle.std.specs.Prelude.{◌≡◌, ◌⊎◌, IsTrue, IfOk, IsOkAnd, MatchResult, OnErr, OnOk, Ok, Err, is_some, length, option_map, unwrap_or, []};
 ghost use Rattle.std.specs.Option.{option_copied};
 ghost use Rattle.std.specs.FinMap as map;
 ghost use Rattle.mem_files.specs.Names.{is_stripped_name};
-ghost use Rattle.mem_files.specs.Calls.{first_world, placed, opened, closed, sought, ready, skipped, fits, write_place, written, removed, content_at, stream, name_after};
+ghost use Rattle.mem_files.specs.Calls.{first_world, placed, opened, closed, sought, ready, skipped, fits, write_place, written, removed, content_at, stream, name_after, drained};
 ghost use Rattle.mem_files.specs.Lists.{listed, file_from, slot_from, lists_from, world_of, AreOrdered, AreInRange, AreJoined};
 ghost use Rattle.mem_files.specs.Replies.{Replies, Places, Grows};
-ghost use Rattle.mem_files.specs.Sound.{IsSound};
+ghost use Rattle.mem_files.specs.Sound.{AreBytes, IsSound};
 
 use crate::table::Table;
 use crate::{FileRefusal, FileView, PlaceRefusal, Slot};
@@ -199,3 +199,27 @@ impl Files {
         self.table.slot(fd).is_some()
     }
 }
+
+impl Files {
+    /// Adds a named file as `place` does, which takes the bytes over.
+    pub fn place_moved(&mut self, name: &[u8], content: Vec<u8>) -> Result<(), PlaceRefusal>
+        ensures { Places result self.old self.new (placed self.old name.now content.items) }
+    {
+        are_bytes(content.as_slice());
+        self.table.place_moved(name, content)
+    }
+
+    /// The bytes of the file of this name, which stays and has none then; no bytes where no file has it.
+    pub fn take_content(&mut self, alloc: Global, name: &[u8]) -> Vec<u8>
+        requires { IsTrue (is_stripped_name name.now) }
+        ensures value { result.items ≡ unwrap_or (content_at self.old name.now) [] }
+        ensures left { self.new ≡ drained self.old name.now }
+    {
+        self.table.take_content(alloc, name)
+    }
+}
+
+/// Bytes are numbers below 256.
+fn are_bytes(content: &[u8])
+    ensures { AreBytes content.now }
+{}

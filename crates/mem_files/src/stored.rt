@@ -6,6 +6,7 @@ ghost use Rattle.mem_files.specs.Calls.{written_over};
 
 use crate::FileView;
 use std::alloc::{AllocError, Global};
+use std::mem;
 
 /// A file: its name, if it still has one, and its bytes.
 #[derive(Debug, Drop)]
@@ -137,4 +138,28 @@ fn copy_at(content: &mut [u8], place: usize, bytes: &[u8])
     ensures { content.new ≡ take place content.old ++ bytes.now ++ drop (place + length bytes.now) content.old }
 {
     content[place..place + bytes.len()].copy_from_slice(bytes);
+}
+
+impl Stored {
+    /// A file of this name, which takes the bytes over.
+    pub fn moved(alloc: Global, name: &[u8], content: Vec<u8>) -> Result<Stored, AllocError>
+        ensures name { IfOk result (λ file. name_in (Some file) ≡ Some name.now) }
+        ensures content { IfOk result (λ file. content_in (Some file) ≡ Some content.items) }
+    {
+        let name = Some(Vec::from_slice(alloc, name)?);
+        Ok(Stored { name, content })
+    }
+}
+
+/// The bytes of a file, which it loses.
+pub fn take(alloc: Global, cell: &mut Option<Stored>) -> Vec<u8>
+    requires { IsSome cell.old }
+    ensures name { name_in cell.new ≡ name_in cell.old }
+    ensures content { content_in cell.new ≡ Some [] }
+    ensures value { Some result.items ≡ content_in cell.old }
+{
+    match cell {
+        Some(file) => mem::replace(&mut file.content, Vec::new(alloc)),
+        None => Vec::new(alloc),
+    }
 }

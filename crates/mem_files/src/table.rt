@@ -385,3 +385,55 @@ fn start_after(name: Option<&[u8]>) -> Bound<Key>
         None => Bound::Unbounded,
     }
 }
+
+impl Table {
+    /// A new file under the lowest unused number, which takes the bytes over.
+    pub fn add_moved(&mut self, name: &[u8], content: Vec<u8>) -> Result<(), AllocError>
+        requires absent { map.get self.old.names name.now ≡ None }
+        requires short { length name.now ≤ MAX_NAME }
+        requires few { lowest_unused self.old.files < MAX_NAMES + MAX_SLOTS }
+        requires small { total self.old + length content.items < 2 ^ 64 }
+        ensures ok { OnOk result (self.new ≡ with_file self.old name.now content.items) }
+        ensures err { OnErr result (self.new ≡ self.old) }
+    {
+        let number = self.free_number();
+        self.put_moved(number, name, content)
+    }
+
+    /// A new file under an unused number, which takes the bytes over.
+    fn put_moved(&mut self, number: u32, name: &[u8], content: Vec<u8>) -> Result<(), AllocError>
+        requires absent { map.get self.old.names name.now ≡ None }
+        requires short { length name.now ≤ MAX_NAME }
+        requires unused { map.get self.old.files number ≡ None }
+        requires low { number < MAX_NAMES + MAX_SLOTS }
+        requires small { total self.old + length content.items < 2 ^ 64 }
+        ensures ok { OnOk result (self.new ≡ record self.old { names = map.insert self.old.names name.now number; files = map.insert self.old.files number content.items }) }
+        ensures err { OnErr result (self.new ≡ self.old) }
+    {
+        let added = byte_count(&content);
+        let file = Stored::moved(self.alloc, name, content)?;
+        reach(&mut self.files, number as usize)?;
+        self.names.insert(key(name), number)?;
+        self.files[number as usize] = Some(file);
+        self.used_files.insert(number);
+        self.total += added;
+        Ok(())
+    }
+
+    /// The bytes of a file, which it loses.
+    pub fn take(&mut self, number: u32) -> Vec<u8>
+        requires { IsSome (map.get self.old.files number) }
+        ensures value { result.items ≡ content_of self.old number }
+        ensures left { self.new ≡ record self.old { files = map.insert self.old.files number [] } }
+    {
+        self.total -= stored::len(&self.files[number as usize]) as u64;
+        stored::take(self.alloc, &mut self.files[number as usize])
+    }
+}
+
+/// How many bytes there are.
+fn byte_count(content: &Vec<u8>) -> u64
+    ensures { result ≡ length content.now.items }
+{
+    content.len() as u64
+}

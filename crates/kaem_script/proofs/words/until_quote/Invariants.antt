@@ -1,0 +1,7 @@
+use Rattle.std.proofs.Common.{◌≡◌, ◌+◌, drop}
+use Rattle.std.specs.List.{position_or_len}
+use Rattle.kaem_script.specs.Script.{ends_quoted}
+use Rattle.kaem_script.proofs.words.until_quote.Given as goal
+
+abbrev pub invariant-loop-index : goal.invariant-loop-index
+invariant-loop-index l = position_or_len ends_quoted l.rest ≡ l.index + position_or_len ends_quoted (drop l.index l.rest)

@@ -1,0 +1,83 @@
+//! The commands of a script.
+ghost use Rattle.std.specs.Prelude.{◌≡◌, ◌+◌, ◌≤◌, ◌<◌, ◌∷◌, [], ◌++◌, false, length, drop, Err, OnOk, IfOk, IfErr};
+ghost use Rattle.kaem_script.specs.Script.{Reads, commands_from, commands_of, ends_or_begins, ends_word, next_word, with_line};
+
+use crate::refusal::{ScriptFault, ScriptRefusal};
+use crate::words::{Word, is_blank, until_line_end, word_at};
+use ddc_base::{Bytes, ListOf, OutOfMemory};
+use std::alloc::Global;
+use std::mem;
+
+/// The most words of a line.
+const MAX_WORDS: usize = 64;
+/// The most commands of a script.
+const MAX_COMMANDS: usize = 4_096;
+
+/// The words of a command, in order: there is at least one, and the first names the program.
+pub type Command = ListOf<Bytes>;
+
+/// The commands of a script, or its first fault from left to right.
+pub fn commands_of(alloc: Global, script: &[u8]) -> Result<ListOf<Command>, ScriptRefusal>
+    ensures { Reads (commands_of script.now) result }
+{
+    let mut commands = ListOf::new(alloc);
+    let mut words = ListOf::new(alloc);
+    let mut at = 0;
+    while at < script.len() {
+        let here = &script[at..];
+        let byte = here[0];
+        if byte == b'\n' {
+            end_line(alloc, &mut commands, &mut words)?;
+            at += 1;
+        } else if is_blank(byte) {
+            at += 1;
+        } else if byte == b'#' {
+            at += 1 + until_line_end(&here[1..]);
+        } else {
+            match next_word(&commands, &words, here) {
+                Ok(word) => {
+                    words.push(Bytes::from_slice(alloc, word.text)?)?;
+                    at += word.size;
+                }
+                Err(fault) => return Err(ScriptRefusal::At(fault, at as u64)),
+            }
+        }
+    }
+    end_line(alloc, &mut commands, &mut words)?;
+    Ok(commands)
+}
+
+/// The next word, after so many commands and so many words of its line.
+#[tactic(auto, unfolding(crate::specs::Script::next_word))]
+fn next_word<'s>(
+    commands: &ListOf<Command>,
+    words: &Command,
+    here: &'s [u8],
+) -> Result<Word<'s>, ScriptFault>
+    requires { ends_or_begins ends_word here.now ≡ false }
+    ensures value { result ≡ next_word (length commands.now) (length words.now) here.now }
+    ensures within { IfOk result (λ word. (1 ≤ word.size) × (word.size ≤ length here.now)) }
+{
+    if words.len() == MAX_WORDS {
+        return Err(ScriptFault::TooManyWords);
+    }
+    if words.is_empty() && commands.len() == MAX_COMMANDS {
+        return Err(ScriptFault::TooMany);
+    }
+    word_at(words.is_empty(), here)
+}
+
+/// Makes the words of a line a command, if there are any.
+fn end_line(
+    alloc: Global,
+    commands: &mut ListOf<Command>,
+    words: &mut Command,
+) -> Result<(), OutOfMemory>
+    ensures commands { OnOk result (commands.new ≡ with_line commands.old words.old) }
+    ensures words { OnOk result (words.new ≡ []) }
+{
+    if !words.is_empty() {
+        commands.push(mem::replace(words, ListOf::new(alloc)))?;
+    }
+    Ok(())
+}

@@ -1,0 +1,35 @@
+ghost use Rattle.std.specs.Prelude.{◌≡◌};
+ghost use Rattle.kaem_script.specs.declared.refusal.ScriptRefusal.TheVariants.{OutOfMemory};
+
+use ddc_base;
+
+/// What is wrong with a script.
+#[derive(Clone, Copy, Debug, PartialEq, Eq)]
+pub enum ScriptFault {
+    /// A quote is not closed in its line.
+    OpenQuote = 1,
+    /// A word of no form, or the first word of a line that names no program.
+    BadWord = 2,
+    /// A word of more than 255 bytes.
+    LongWord = 3,
+    /// The 65th word of a line.
+    TooManyWords = 4,
+    /// The first word of the 4,097th command.
+    TooMany = 5,
+}
+
+/// Why a script was not read.
+#[derive(Clone, Copy, Debug, PartialEq, Eq)]
+pub enum ScriptRefusal {
+    /// The first fault, with the offset of its word's first byte.
+    At(ScriptFault, u64),
+    OutOfMemory,
+}
+
+impl From<ddc_base::OutOfMemory> for ScriptRefusal {
+    ghost from_gives = { λ _ refusal. refusal ≡ OutOfMemory };
+
+    fn from(_error: ddc_base::OutOfMemory) -> ScriptRefusal {
+        ScriptRefusal::OutOfMemory
+    }
+}
