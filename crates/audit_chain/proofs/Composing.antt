@@ -138,7 +138,7 @@ module _ (prescribes : Prescribes) (compiles : Compiling) where
     by_source (Some name) implements is = by_text name (text_named other name) refl is implements
 
   input-there : (o : Option ℕ) → IsSome o → is_some o ≡ true
-  input-there None some = absurd some
+  input-there None some = absurd cc
   input-there (Some index) some = refl
 
   pair-given : (other : Link) (bytes : List ℕ) (text : SourceText) → Audited other → gives bytes text other ≡ true → IsProgram prescribes bytes text

@@ -1,6 +1,7 @@
 //! What an audit gives to later ones, and which of their lines it shows.
 
 ghost use Rattle.audit_chain.specs.Chain.{bytes_of, given_contents, gives, is_input, is_struck, is_text, same_files, same_text, stage_text, text_named};
+ghost use Rattle.recipe.specs.Lookups.{input_at};
 ghost use Rattle.std.specs.List.{list_all, list_any};
 ghost use Rattle.std.specs.Prelude.{◌≡◌, [], get_or, map, option_map};
 ghost use Rattle.verifier.specs.Faults.{same_language};
@@ -10,7 +11,7 @@ use crate::link::Link;
 use ddc_base::languages::Language;
 use ddc_base::{Bytes, Name};
 use meaning::Assumption;
-use recipe::{Content, Recipe, Source, SourceLanguage};
+use recipe::{Content, Input, Recipe, Source, SourceLanguage};
 
 /// Whether one of the earlier audits shows a line of an audit.
 #[tactic(auto, unfolding(crate::specs::Chain::is_struck))]
@@ -112,12 +113,14 @@ fn are_inputs(recipe: &Recipe, names: &[Name]) -> bool
 fn is_input(recipe: &Recipe, name: &Name) -> bool
     ensures { result ≡ is_input recipe.now name.now }
 {
-    recipe
-        .inputs()
-        .as_slice()
-        .iter()
-        .position(|input| input.name == *name)
-        .is_some()
+    place_of(recipe.inputs().as_slice(), name).is_some()
+}
+
+/// The index of the input of a name.
+fn place_of(inputs: &[Input], name: &Name) -> Option<usize>
+    ensures { result ≡ input_at inputs.now name.now }
+{
+    inputs.iter().position(|input| input.name == *name)
 }
 
 /// The bytes of the input of a name; none where it is no input's.

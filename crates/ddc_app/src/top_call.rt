@@ -17,13 +17,12 @@ use crate::laws::verified_as_loaded;
 use audit_commands::{audit, delta_resume, delta_start, left, part, resume, show, step};
 use command_plan::{Answer, Status, Stop, usage};
 use ddc_base::{PutFail, Shelf, Sink};
-use verify_commands::demo;
 use meaning::Meaning;
 use prompt::Prompt;
 use segment_commands::{cut, ends, segment};
 use std::alloc::Global;
 use tool_commands::{asm, hex0, list, run};
-use verify_commands::verify;
+use verify_commands::{chain, demo, verify};
 
 /// Everything that the program does: it takes the words of the command line, without the program's own name, and answers the
 /// status that the program ends with. docs/reference/command-line.md has the commands and the statuses.
@@ -164,6 +163,7 @@ fn perform<M: Meaning, S: Shelf>(
         "cut" => cut::perform(alloc, words, shelf),
         "segment" => segment::perform(alloc, words, shelf),
         "ends" => ends::perform(alloc, words, shelf),
+        "chain" => chain::perform(alloc, words, shelf),
         _ => usage(alloc),
     }
 }

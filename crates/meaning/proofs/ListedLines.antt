@@ -17,9 +17,9 @@ use Rattle.wheeler.specs.Contents.{Contents, content}
 use Rattle.wheeler.specs.Valid.{IsInputs}
 use Rattle.meaning.specs.declared.assumption.Assumption.{Assumption}
 use Rattle.meaning.specs.AllContents.{all_contents, text_named}
-use Rattle.meaning.specs.Assumptions.{Holds, LinesHold, assumed, is_trusted}
+use Rattle.meaning.specs.Assumptions.{Holds, LinesHold, is_trusted}
 use Rattle.meaning.specs.Follows.{HasCompared, audited_binary}
-use Rattle.meaning.specs.Listed.{BinaryImplements, ConcludesListed, ListedHold, counts, listed}
+use Rattle.meaning.specs.Listed.{ConcludesListed, ListedHold, counts, listed}
 use Rattle.meaning.specs.Meaning.{Compiles, Implements, Prescribes}
 use Rattle.meaning.specs.Routes.{about}
 use Rattle.meaning.proofs.Argument.{IsClosed, follows-law, needed-each, sound-law}

@@ -22,7 +22,7 @@ use audit_chain::{Link, Links};
 use command_plan::lists::{self, fetch_list};
 use command_plan::words::{is_file_word, is_one_file};
 use command_plan::{Answer, Status, Stop, fetch, usage};
-use ddc_base::{Bytes, Shelf};
+use ddc_base::{Bytes, ListOf, Shelf};
 use recipe::{Inputs, Recipe, RecipeRefusal};
 use recipe_plan::texts::{compared_lines, recipe_line, report_line};
 use recipe_plan::{INPUTS_LIMIT, apart, fetch_inputs_within};
@@ -56,6 +56,18 @@ fn chain<S: Shelf>(alloc: Global, shelf: &mut S, list: &str) -> Result<Answer, S
     ensures { Performs (chain_files list.now) (S.state shelf.old) (S.state shelf.new) result }
 {
     let pairs = fetch_list::<Pair, S>(alloc, shelf, list, MOST_AUDITS)?;
+    verify_listed(alloc, shelf, &pairs)
+}
+
+/// Verifies the audits of a list.
+fn verify_listed<S: Shelf>(
+    alloc: Global,
+    shelf: &mut S,
+    pairs: &ListOf<Pair>,
+) -> Result<Answer, Stop>
+    requires { length pairs.now ≤ 64 }
+    ensures { Performs (chained_lines pairs.now) (S.state shelf.old) (S.state shelf.new) result }
+{
     verify_lines(alloc, shelf, pairs.as_slice())
 }
 
