@@ -9,11 +9,12 @@ ghost use Rattle.command_plan.specs.Performs.{HoldsTalk, Performs, WantsMemory};
 ghost use Rattle.command_plan.specs.Plan.{talk_of};
 ghost use Rattle.ddc_app.specs.Accepting.{is_compared};
 ghost use Rattle.ddc_app.specs.Commands.{is_step, text_plan};
+ghost use Rattle.ddc_app.specs.Chained.{Chained};
 ghost use Rattle.ddc_app.specs.Verified.{Verified};
 ghost use Rattle.ddc_app.specs.Run.{plan_for, due, IsDue, IsOneText, LosesText, NamesFault, TakesOne};
 ghost use Rattle.ddc_app.specs.Inside.Concluding.{Closes, Leaves, PutEnds, SaysEnding, unless_lost};
 
-use crate::laws::verified_as_loaded;
+use crate::laws::{chained, verified_as_loaded};
 use audit_commands::{audit, delta_resume, delta_start, left, part, resume, show, step};
 use command_plan::{Answer, Status, Stop, usage};
 use ddc_base::{PutFail, Shelf, Sink};
@@ -87,6 +88,11 @@ pub fn run<M: Meaning, S: Shelf, K: Sink, P: Prompt>(
         → map (λ word. word.now) words.now ≡ codes "verify" ∷ recipe ∷ report ∷ [] → IsTrue (is_compared result)
         → Verified M.prescribes M.compiles recipe report (S.state shelf.old).files (due words.now (S.state shelf.old)) }
 
+    // What a yes of `chain` shows.
+    ensures chained { IsDue words.now (S.state shelf.old) → (list : List ℕ) → map (λ word. word.now) words.now ≡ codes "chain" ∷ list ∷ []
+        → result ≡ Status.Yes
+        → Chained M.prescribes M.compiles list (S.state shelf.old).files (due words.now (S.state shelf.old)) }
+
     // The prompt is asked in a session alone.
     ensures prompt_stays { IsOneText words.now (S.state shelf.old) ⊎ (result ≡ Status.ShelfFault)
         → P.state prompt.new ≡ P.state prompt.old }
@@ -96,6 +102,7 @@ pub fn run<M: Meaning, S: Shelf, K: Sink, P: Prompt>(
     ensures prompt_tells { (P.state prompt.new).tells ≡ (P.state prompt.old).tells }
 {
     verified_as_loaded::<M>();
+    chained::<M>();
     act::<M, S, K, P>(alloc, words, shelf, out, prompt)
 }
 
