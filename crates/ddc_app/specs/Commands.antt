@@ -13,7 +13,7 @@ use Rattle.audit_commands.specs.Pause.{part_plan, resume_plan}
 use Rattle.audit_commands.specs.Delta.{delta_resume_plan, delta_start_plan}
 use Rattle.audit_commands.specs.Step.{step_plan}
 use Rattle.verify_commands.specs.Chain.{chain_plan}
-use Rattle.verify_commands.specs.Demo.{demo_plan}
+use Rattle.audit_commands.specs.Demo.{demo_plan}
 use Rattle.segment_commands.specs.Cut.{cut_plan}
 use Rattle.segment_commands.specs.Ends.{ends_plan}
 use Rattle.segment_commands.specs.Segment.{segment_plan}

@@ -15,7 +15,7 @@ ghost use Rattle.ddc_app.specs.Run.{plan_for, due, IsDue, IsOneText, LosesText, 
 ghost use Rattle.ddc_app.specs.Inside.Concluding.{Closes, Leaves, PutEnds, SaysEnding, unless_lost};
 
 use crate::laws::{chained, verified_as_loaded};
-use audit_commands::{audit, delta_resume, delta_start, left, part, resume, show, step};
+use audit_commands::{audit, delta_resume, delta_start, demo, left, part, resume, show, step};
 use command_plan::{Answer, Status, Stop, usage};
 use ddc_base::{PutFail, Shelf, Sink};
 use meaning::Meaning;
@@ -23,7 +23,7 @@ use prompt::Prompt;
 use segment_commands::{cut, ends, segment};
 use std::alloc::Global;
 use tool_commands::{asm, hex0, list, run};
-use verify_commands::{chain, demo, verify};
+use verify_commands::{chain, verify};
 
 /// Everything that the program does: it takes the words of the command line, without the program's own name, and answers the
 /// status that the program ends with. docs/reference/command-line.md has the commands and the statuses.

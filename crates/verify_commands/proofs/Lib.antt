@@ -1,4 +1,3 @@
 mod Chaining
-pub mod Demonstrating
 pub mod Judging
 mod Written

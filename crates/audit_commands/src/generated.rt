@@ -1,7 +1,7 @@
 //! What a demonstration audits: its recipe and its bytes.
 
 ghost use Rattle.std.specs.Prelude.{◌≡◌, ◌<◌, ◌≤◌, IfOk, length};
-ghost use Rattle.verify_commands.specs.Demo.{demo_recipe, generated_byte, generated_bytes};
+ghost use Rattle.audit_commands.specs.Demo.{demo_recipe, generated_byte, generated_bytes};
 
 use ddc_base::{Bytes, OutOfMemory};
 use std::alloc::Global;

@@ -1,5 +1,5 @@
 use Rattle.std.proofs.Common.{◌≡◌, ◌+◌, ◌*◌, ◌-◌, ◌^◌, ◌≤◌, drop, sum_by}
-use Rattle.verify_commands.proofs.demo.steps_of_all.Given as goal
+use Rattle.audit_commands.proofs.demo.steps_of_all.Given as goal
 
 abbrev pub invariant-loop-stage : goal.invariant-loop-stage
 invariant-loop-stage l =

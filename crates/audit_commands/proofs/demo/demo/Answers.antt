@@ -1,8 +1,8 @@
 use Rattle.command_plan.proofs.Obtaining.{ends_before, ends_with, goes_on_with}
 use Rattle.command_plan.proofs.Performing.{says}
-use Rattle.verify_commands.specs.Demo.{demo_files, generated_bytes}
-use Rattle.verify_commands.proofs.Demonstrating.{of_files}
-use Rattle.verify_commands.proofs.demo.demo.Goals as goal
+use Rattle.audit_commands.specs.Demo.{demo_files, generated_bytes}
+use Rattle.audit_commands.proofs.Demonstrating.{of_files}
+use Rattle.audit_commands.proofs.demo.demo.Goals as goal
 
 pub returns-in_err-program : goal.returns-in_err-program
 unfolding demo_files

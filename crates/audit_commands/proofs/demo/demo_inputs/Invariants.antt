@@ -1,7 +1,7 @@
 use Rattle.std.proofs.Common.{◌≡◌, All, map, take}
 use Rattle.mem_files.specs.Outputs.{IsContent}
-use Rattle.verify_commands.specs.Demo.{demo_input}
-use Rattle.verify_commands.proofs.demo.demo_inputs.Given as goal
+use Rattle.audit_commands.specs.Demo.{demo_input}
+use Rattle.audit_commands.proofs.demo.demo_inputs.Given as goal
 
 -- so many inputs were given, each within its limit
 abbrev pub invariant-loop-input : goal.invariant-loop-input
