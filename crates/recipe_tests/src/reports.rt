@@ -1,4 +1,4 @@
-//! Tests of `report`, by its public calls.
+//! Tests of `report` and of `report::script`, by their public calls.
 
 ghost use Rattle.std.specs.Prelude.{◌≡◌, ◌++◌, OnOk};
 ghost use Rattle.std.specs.List.{flat_map};
@@ -8,6 +8,8 @@ use ddc_base::{Bytes, OutOfMemory};
 
 #[cfg(test)]
 mod reports;
+#[cfg(test)]
+mod scripts;
 
 /// Adds a text in which `*` stands for the SHA-256 digest of no bytes.
 pub fn put_text(out: &mut Bytes, text: &[u8]) -> Result<(), OutOfMemory>

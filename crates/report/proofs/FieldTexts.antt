@@ -14,13 +14,14 @@ use Rattle.ddc_base.specs.declared.digests.Digest.{Digest}
 use Rattle.ddc_base.proofs.Decimals.{as_decimal-is}
 use Rattle.ddc_base.specs.Languages.Words.{language_named, language_word}
 use Rattle.ddc_base.proofs.LanguagesLemmas.Named.{named-word, word-named}
+use Rattle.report.specs.declared.types.LeftLine.{LeftLine}
 use Rattle.report.specs.declared.types.Mark.{Mark}
 use Rattle.report.specs.declared.types.Compared.{Compared}
 use Rattle.report.specs.declared.types.Compared.TheVariants.{Equal, Differs}
 use Rattle.report.specs.Inside.Cuts.{◌>>=◌, cut_at}
-use Rattle.report.specs.Inside.Fields.{hex_of, file_name_of, digest_of, mark_of, lengths_of, is_difference, difference_of, compared_of}
+use Rattle.report.specs.Inside.Fields.{hex_of, file_name_of, digest_of, mark_of, file_line_of, stream_line_of, lengths_of, is_difference, difference_of, compared_of}
 use Rattle.report.specs.Inside.LinesRead.{binary_of}
-use Rattle.report.specs.Reports.{AreBytes, IsCount, IsDigest, IsMark, IsDifference, IsCompared}
+use Rattle.report.specs.Reports.{AreBytes, IsCount, IsDigest, IsLeft, IsMark, IsDifference, IsCompared}
 use Rattle.report.proofs.Cuts.{Without, Without-append, cut_at-joined, cut_at-takes, bind_some, if_some, same_some}
 use Rattle.report.proofs.Hexes.{hex_of-is, hex_of-takes, digest_again, digest_takes}
 use Rattle.report.proofs.Plain.{no_blank, no_feed, decimal_plain, name_plain, hex_plain, language_plain}
@@ -88,10 +89,10 @@ pub record IsFileName (name : List ℕ) : Type 0 where
 twice : (bytes : List ℕ) → length (encode_lower bytes) ≡ 2 * length bytes
 twice bytes = length-encode_with lower_digits bytes
 
-at_most : (a b : ℕ) → nat_le a b ≡ true → a ≤ b
+pub at_most : (a b : ℕ) → nat_le a b ≡ true → a ≤ b
 at_most a b h = grind (arith, nat_tests)
 
-tested : (a b : ℕ) → a ≤ b → nat_le a b ≡ true
+pub tested : (a b : ℕ) → a ≤ b → nat_le a b ≡ true
 tested a b h = grind (arith, nat_tests)
 
 both_true : (a b : Bool) → a ≡ true → b ≡ true → (a && b) ≡ true
@@ -147,6 +148,17 @@ pub mark : Spells IsMark mark_text mark_of
 unfolding mark_of
 mark = two_spell number number_word digest IsMark (λ length digest. record { length = length; digest = digest }) (λ m. m.length) (λ m. m.digest)
     (λ m. refl) (λ a b. refl) (λ a b. refl) (λ a b is_a is_b. record { length = is_a; digest = is_b }) (λ m is. (is.length, is.digest))
+
+-- ---- a name and a mark, and the marks of streams
+
+abbrev pub file_text : LeftLine → List ℕ
+file_text file = encode_lower file.name ++ 32 ∷ mark_text file.mark
+
+pub file_line : Spells IsLeft file_text file_line_of
+unfolding file_line_of
+file_line = two_spell file_name file_name_word mark IsLeft (λ name mark. record { name = name; mark = mark }) (λ f. f.name) (λ f. f.mark)
+    (λ f. refl) (λ a b. refl) (λ a b. refl) (λ a b is_a is_b. record { count = is_a.count; bytes = is_a.bytes; mark = is_b })
+    (λ f is. (record { count = is.count; bytes = is.bytes }, is.mark))
 
 -- ---- what a comparison found
 
@@ -241,6 +253,29 @@ by_word {A} {P} word text this other a here there e = on (bytes_eq word text) re
     on : (b : Bool) → bytes_eq word text ≡ b → P
     on true is = here ((bytes_eq-Decides word text).0 is) (sym (rw is refl) ∙ e)
     on false is = there (sym (rw is refl) ∙ e)
+
+-- what reads as the line of a stream is one of both
+pub stream_line_takes : {Line : Type 0} (P : Line → Type 0) (first second : Mark → Line) (fields : List ℕ) (l : Line)
+    → ((m : Mark) → IsMark m → fields ≡ codes "1" ++ 32 ∷ mark_text m → P (first m))
+    → ((m : Mark) → IsMark m → fields ≡ codes "2" ++ 32 ∷ mark_text m → P (second m))
+    → stream_line_of first second fields ≡ Some l → P l
+stream_line_takes {Line} P first second fields l is_first is_second e =
+    let read = λ (make : Mark → Line) (t : List ℕ). mark_of t >>= λ m. Some (make m) in
+    let x = bind_some (cut_at 32 fields) (λ cut. cond (bytes_eq cut.0 (codes "1")) (read first cut.1) (cond (bytes_eq cut.0 (codes "2")) (read second cut.1) None)) l e in
+    let joined = cut_at-takes 32 fields x.0.0 x.0.1 x.1 in
+    let spelled = λ (word mark : List ℕ) (is : x.0.0 ≡ word) (text : x.0.1 ≡ mark).
+    joined ∙ ap (λ (t : List ℕ). t ++ 32 ∷ x.0.1) is ∙ ap (λ (t : List ℕ). word ++ 32 ∷ t) text in
+    by_word x.0.0 (codes "1") (read first x.0.1) _ l
+    (λ is here. (
+    let y = bind_some (mark_of x.0.1) (λ m. Some (first m)) l here in
+    let m = mark.takes x.0.1 y.0 y.1 in
+    subst P (same_some (first y.0) l y.2) (is_first y.0 m.0 (spelled (codes "1") (mark_text y.0) is m.1))))
+    (by_word x.0.0 (codes "2") (read second x.0.1) None l
+    (λ is here. (
+    let y = bind_some (mark_of x.0.1) (λ m. Some (second m)) l here in
+    let m = mark.takes x.0.1 y.0 y.1 in
+    subst P (same_some (second y.0) l y.2) (is_second y.0 m.0 (spelled (codes "2") (mark_text y.0) is m.1))))
+    (λ none. absurd cc)) x.2
 
 compared_takes : (text : List ℕ) (found : Compared) → compared_of text ≡ Some found → IsCompared found × (text ≡ compared_text found)
 unfolding compared_of

@@ -1,21 +1,15 @@
 -- What each state keeps of the rules of a report, and how it goes on to one.
-use Rattle.std.proofs.Common.{◌≡◌, ℕ, suc, ◌+◌, ◌-◌, ◌<◌, ◌≤◌, ◌^◌, Bool, true, false, cond, ltb, lit<, List, [], ◌∷◌, ◌++◌, length, map, Option, Some, None, refl, sym, ap, subst, ◌∙◌, append_assoc, arith, length-append, inl}
-use Rattle.std.specs.Prelude.{◌&&◌, ◌==◌, slice_get, All, replicate}
+use Rattle.std.proofs.Common.{◌≡◌, ℕ, suc, ◌<◌, ◌≤◌, ◌^◌, Bool, true, false, cond, ltb, lit<, List, [], ◌∷◌, ◌++◌, length, map, Some, None, refl, subst, arith, inl}
+use Rattle.std.specs.Prelude.{◌==◌, All}
 use Rattle.std.specs.List.{flat_map}
-use Rattle.std.specs.Ordering.{nat_cmp, is_lt}
-use Rattle.std.specs.Cmp.Lexicographic.{slice_cmp}
-use Rattle.std.proofs.lemmas.Bool.{and_parts}
 use Rattle.std.proofs.lemmas.Bool.Decides.{Decides-ltb}
-use Rattle.std.proofs.lemmas.List.{append-nil}
-use Rattle.std.proofs.lemmas.List.Elements.{All-append, All-cons, All-head, All-map, All-nil, All-push, All-replicate, All-tail}
-use Rattle.std.specs.Prelude.{replicate}
+use Rattle.std.proofs.lemmas.List.Elements.{All-append, All-cons, All-head, All-map, All-nil, All-push, All-tail}
 use Rattle.ddc_base.specs.Names.{is_name, IsName}
 use Rattle.ddc_base.specs.declared.digests.Digest.{Digest}
 use Rattle.report.specs.declared.line.Line.{Line}
 use Rattle.report.specs.declared.line.Line.TheVariants.{Header, Recipe, Input, Stage, Stream1, Stream2, Left, Made, Checked, Compare, End}
 use Rattle.report.specs.declared.types.Mark.{Mark}
 use Rattle.report.specs.declared.types.InputLine.{InputLine}
-use Rattle.report.specs.declared.types.LeftLine.{LeftLine}
 use Rattle.report.specs.declared.types.StageLine.{StageLine}
 use Rattle.report.specs.declared.types.CompareLine.{CompareLine}
 use Rattle.report.specs.declared.types.Compared.TheVariants.{Equal}
@@ -24,9 +18,13 @@ use Rattle.report.specs.declared.state.Front.{Front}
 use Rattle.report.specs.declared.state.Opened.{Opened}
 use Rattle.report.specs.declared.state.State.{State}
 use Rattle.report.specs.declared.state.State.TheVariants.{Start, Titled, Inputs, Named, Heard, Leaving, Closing, Stages, Compared, Ended}
-use Rattle.report.specs.Inside.States.{step, follows, is_after, closed, with_stage}
+use Rattle.report.specs.Inside.States.{step, follows, closed, with_stage}
 use Rattle.report.specs.Reports.{stage_block, report_lines, ascend, most_comparisons, IsCount, IsForm, IsDigest, IsMark, IsInputLine, IsLeft, IsStageLine, IsCompare, IsReport}
+use Rattle.report.proofs.Ascending.{ascend_push}
+use Rattle.report.proofs.Counts.{grown, is_below}
 use Rattle.report.proofs.Cuts.{if_some, same_some}
+use Rattle.report.proofs.LineByLine.Rules.{Finishes, finishes_by, finished_by}
+use Rattle.report.proofs.Marks.{some_digest, some_digest_is, some_mark, some_mark_is}
 use Rattle.report.proofs.LineTexts.{IsLine}
 use Rattle.report.proofs.Takes.{so_far, step_takes}
 
@@ -64,26 +62,6 @@ Good (Closing front stage made) = HasRoom front × IsOpened stage × IsMark made
 Good (Stages front) = IsFront front × (1 ≤ length front.stages)
 Good (Compared report) = IsReport report
 Good (Ended report) = IsReport report
-
-is_below : (a b : ℕ) → ltb a b ≡ true → a < b
-is_below a b h = (Decides-ltb a b).0 h
-
-and_both : (a b : Bool) → a ≡ true → b ≡ true → (a && b) ≡ true
-and_both a b h k = rw (h, k) refl
-
-ascend_push : (left : List LeftLine) (file : LeftLine) → ascend left ≡ true → follows left file.name ≡ true → ascend (left ++ file ∷ []) ≡ true
-ascend_push [] file h k = refl
-ascend_push (first ∷ []) file h k = and_both _ _ k refl
-ascend_push (first ∷ next ∷ left) file h k =
-    let parts = and_parts (is_lt (slice_cmp nat_cmp first.name next.name)) (ascend (next ∷ left)) h in
-    let at_last : slice_get (first ∷ next ∷ left) (length (first ∷ next ∷ left) - 1) ≡ slice_get (next ∷ left) (length (next ∷ left) - 1) =
-    (let a : suc (suc (length left)) - 1 ≡ suc (length left) = omega arith in
-    let b : suc (length left) - 1 ≡ length left = omega arith in
-    rw (a, b) refl) in
-    and_both _ _ parts.0 (ascend_push (next ∷ left) file parts.1 (ap (λ (o : Option LeftLine). is_after o file.name) (sym at_last) ∙ k))
-
-grown : {X : Type 0} (xs : List X) (x : X) → length (xs ++ x ∷ []) ≡ length xs + 1
-grown xs x = length-append xs (x ∷ [])
 
 with_room : (front : Front) (stage : StageLine) → HasRoom front → IsStageLine stage → Good (Stages (with_stage front stage))
 with_room front stage has is = (
@@ -186,22 +164,12 @@ step_keeps _ _ t good is e = absurd cc
 
 -- ---- each state goes on to a report
 
-pub record Finishes (s : State) : Type 0 where
-  pub report : Report
-  pub is : IsReport report
-  pub more : List Line
-  pub lines : report_lines report ≡ so_far s ++ more
+abbrev pub Finished : State → Type 0
+Finished s = Finishes IsReport report_lines (so_far s)
 
 -- by one more line
-by : (s : State) (l : Line) (t : State) → IsLine l → step s l ≡ Some t → Good s → (Good t → Finishes t) → Finishes s
-by s l t fits stepped good later =
-    let f = later (step_keeps s l t good fits stepped) in
-    record {
-      report = f.report;
-      is = f.is;
-      more = l ∷ f.more;
-      lines = f.lines ∙ ap (λ (ls : List Line). ls ++ f.more) (step_takes s l t stepped) ∙ append_assoc (so_far s) (l ∷ []) f.more;
-    }
+by : (s : State) (l : Line) (t : State) → IsLine l → step s l ≡ Some t → Good s → (Good t → Finished t) → Finished s
+by s l t fits stepped good later = finishes_by (so_far s) l (so_far t) (step_takes s l t stepped) (later (step_keeps s l t good fits stepped))
 
 some_name : List ℕ
 some_name = 97 ∷ []
@@ -210,20 +178,6 @@ some_name_is : IsName some_name
 unfolding is_name some_name
 some_name_is = refl
 
-some_digest : Digest
-some_digest = record { 0 = replicate 32 0 }
-
-some_digest_is : IsDigest some_digest
-unfolding some_digest
-some_digest_is = record { count = refl; bytes = All-replicate (λ byte. byte < 256) 32 0 (lit< tt) }
-
-some_mark : Mark
-some_mark = record { length = 0; digest = some_digest }
-
-some_mark_is : IsMark some_mark
-unfolding some_mark
-some_mark_is = record { length = lit< tt; digest = some_digest_is }
-
 some_compare : CompareLine
 some_compare = record { stage = some_name; binary = some_name; result = Equal 0 }
 
@@ -231,38 +185,35 @@ some_compare_is : IsCompare some_compare
 unfolding some_compare
 some_compare_is = record { stage = some_name_is; binary = some_name_is; result = lit< tt }
 
-done : (s : State) (report : Report) → IsReport report → report_lines report ≡ so_far s → Finishes s
-done s report is lines = record { report = report; is = is; more = []; lines = lines ∙ sym (append-nil (so_far s)) }
+from_ended : (report : Report) → Good (Ended report) → Finished (Ended report)
+from_ended report good = finished_by (so_far (Ended report)) report good refl
 
-from_ended : (report : Report) → Good (Ended report) → Finishes (Ended report)
-from_ended report good = done (Ended report) report good refl
-
-from_compared : (report : Report) → Good (Compared report) → Finishes (Compared report)
+from_compared : (report : Report) → Good (Compared report) → Finished (Compared report)
 unfolding step
 from_compared report good = by (Compared report) End (Ended report) tt refl good (from_ended report)
 
-from_stages : (front : Front) → Good (Stages front) → Finishes (Stages front)
+from_stages : (front : Front) → Good (Stages front) → Finished (Stages front)
 unfolding step
 from_stages front good = by (Stages front) (Compare some_compare) _ some_compare_is refl good (from_compared _)
 
-from_closing : (front : Front) (stage : Opened) (made : Mark) → Good (Closing front stage made) → Finishes (Closing front stage made)
+from_closing : (front : Front) (stage : Opened) (made : Mark) → Good (Closing front stage made) → Finished (Closing front stage made)
 unfolding step
 from_closing front stage made good = by (Closing front stage made) (Checked None) _ tt refl good (from_stages _)
 
-from_leaving : (front : Front) (stage : Opened) → Good (Leaving front stage) → Finishes (Leaving front stage)
+from_leaving : (front : Front) (stage : Opened) → Good (Leaving front stage) → Finished (Leaving front stage)
 unfolding step
 from_leaving front stage good = by (Leaving front stage) (Made some_mark) _ some_mark_is refl good (from_closing front stage some_mark)
 
-from_heard : (front : Front) (name : List ℕ) (steps : ℕ) (mark : Mark) → Good (Heard front name steps mark) → Finishes (Heard front name steps mark)
+from_heard : (front : Front) (name : List ℕ) (steps : ℕ) (mark : Mark) → Good (Heard front name steps mark) → Finished (Heard front name steps mark)
 unfolding step
 from_heard front name steps mark good = by (Heard front name steps mark) (Stream2 some_mark) _ some_mark_is refl good (from_leaving front _)
 
-from_named : (front : Front) (name : List ℕ) (steps : ℕ) → Good (Named front name steps) → Finishes (Named front name steps)
+from_named : (front : Front) (name : List ℕ) (steps : ℕ) → Good (Named front name steps) → Finished (Named front name steps)
 unfolding step
 from_named front name steps good = by (Named front name steps) (Stream1 some_mark) _ some_mark_is refl good (from_heard front name steps some_mark)
 
 from_inputs : (form : ℕ) (recipe : Digest) (input : InputLine) (inputs : List InputLine) → Good (Inputs form recipe (input ∷ inputs))
-    → Finishes (Inputs form recipe (input ∷ inputs))
+    → Finished (Inputs form recipe (input ∷ inputs))
 unfolding step
 from_inputs form recipe input inputs good =
     let front : Front = record { form = form; recipe = recipe; inputs = input ∷ inputs; stages = [] } in
@@ -270,17 +221,17 @@ from_inputs form recipe input inputs good =
     let opens : step (Inputs form recipe (input ∷ inputs)) (Stage some_name 0) ≡ Some (Named front some_name 0) = rw some refl in
     by (Inputs form recipe (input ∷ inputs)) (Stage some_name 0) (Named front some_name 0) (some_name_is, lit< tt) opens good (from_named front some_name 0)
 
-from_no_input : (form : ℕ) (recipe : Digest) → Good (Inputs form recipe []) → Finishes (Inputs form recipe [])
+from_no_input : (form : ℕ) (recipe : Digest) → Good (Inputs form recipe []) → Finished (Inputs form recipe [])
 unfolding step
 from_no_input form recipe good =
     let input : InputLine = record { name = some_name; mark = some_mark } in
     by (Inputs form recipe []) (Input input) _ (record { name = some_name_is; mark = some_mark_is }) refl good (from_inputs form recipe input [])
 
-from_titled : (form : ℕ) → Good (Titled form) → Finishes (Titled form)
+from_titled : (form : ℕ) → Good (Titled form) → Finished (Titled form)
 unfolding step
 from_titled form good = by (Titled form) (Recipe some_digest) _ some_digest_is refl good (from_no_input form some_digest)
 
-pub finished : (s : State) → Good s → Finishes s
+pub finished : (s : State) → Good s → Finished s
 unfolding step
 finished Start good = by Start (Header 1) (Titled 1) (inl refl) refl tt (from_titled 1)
 finished (Titled form) good = from_titled form good

@@ -1,5 +1,5 @@
 -- The text of a report is short.
-use Rattle.std.proofs.Common.{◌≡◌, ℕ, suc, ◌*◌, ◌<◌, ◌≤◌, ◌^◌, List, [], ◌∷◌, ◌++◌, length, map, codes, decimal, Some, None, Result, Ok, Err, refl, ap, arith, length-append, lit<, Bool, true, false, cond, inl, inr}
+use Rattle.std.proofs.Common.{◌≡◌, ℕ, ◌*◌, ◌<◌, ◌≤◌, ◌^◌, List, [], ◌∷◌, ◌++◌, length, map, codes, decimal, Some, None, Result, Ok, Err, arith, length-append, lit<, Bool, true, false, cond, inl, inr}
 use Rattle.std.specs.Prelude.{All, IfOk, ◌==◌}
 use Rattle.std.specs.List.{flat_map}
 use Rattle.std.proofs.lemmas.Fmt.{length-decimal-le}
@@ -20,15 +20,16 @@ use Rattle.report.specs.declared.types.Compared.TheVariants.{Equal, Differs}
 use Rattle.report.specs.declared.types.Report.{Report}
 use Rattle.report.specs.Lines.{line_words, mark_words, compared_words, lines_text}
 use Rattle.report.specs.Reports.{stage_block, report_lines, report_text, most_comparisons, IsMark, IsStageLine, IsCompared, IsReport}
+use Rattle.report.proofs.Counts.{mapped}
 use Rattle.report.proofs.LineTexts.{IsLine}
 use Rattle.report.proofs.Keeps.{lines_are}
 
-number_short : (n : ℕ) → n < 2 ^ 64 → length (decimal n) ≤ 20
+pub number_short : (n : ℕ) → n < 2 ^ 64 → length (decimal n) ≤ 20
 number_short n small =
     let wide : n < 10 ^ 20 = omega arith in
     length-decimal-le 20 n (lit< tt) wide small
 
-hex_long : (bytes : List ℕ) → length (encode_lower bytes) ≡ 2 * length bytes
+pub hex_long : (bytes : List ℕ) → length (encode_lower bytes) ≡ 2 * length bytes
 hex_long bytes = length-encode_with lower_digits bytes
 
 word_short : (language : Language) → length (language_word language) ≤ 4
@@ -38,7 +39,7 @@ word_short Hex1 = omega arith
 word_short Hex2 = omega arith
 word_short M1 = omega arith
 
-mark_short : (mark : Mark) → IsMark mark → length (line_text (mark_words mark)) ≤ 86
+pub mark_short : (mark : Mark) → IsMark mark → length (line_text (mark_words mark)) ≤ 86
 mark_short mark is =
     let hex = encode_lower mark.digest.0 in
     omega (arith, length-append (decimal mark.length) (32 ∷ (hex ++ 10 ∷ [])), length-append hex (10 ∷ []), number_short mark.length is.length, hex_long mark.digest.0, is.digest.count)
@@ -84,10 +85,6 @@ lines_short (l ∷ ls) each =
 
 -- ---- how many lines there are
 
-mapped : {X : Type 0} (make : X → Line) (xs : List X) → length (map make xs) ≡ length xs
-mapped make [] = refl
-mapped make (x ∷ xs) = ap suc (mapped make xs)
-
 block_few : (stage : StageLine) → IsStageLine stage → length (stage_block stage) ≤ 4101
 block_few stage is = omega (arith, length-append (map Left stage.left) (Made stage.made ∷ Checked stage.checked ∷ []), mapped Left stage.left, is.count)
 
@@ -125,7 +122,7 @@ lines_few report is =
 pub short : (report : Report) → IsReport report → length (report_text report) < 1073741824
 short report is = omega (arith, lines_short (report_lines report) (lines_are report is), lines_few report is)
 
-pub short_result : {E : Type 0} (report : Report) (result : Result (List ℕ) E) → IsReport report → IfOk result (λ text. text ≡ report_text report)
-    → IfOk result (λ text. length text < 1073741824)
-short_result report (Ok text) is gives = rw gives (short report is)
-short_result report (Err e) is gives = tt
+pub short_result : {E : Type 0} (text : List ℕ) (result : Result (List ℕ) E) → length text < 1073741824 → IfOk result (λ found. found ≡ text)
+    → IfOk result (λ found. length found < 1073741824)
+short_result text (Ok found) short gives = rw gives short
+short_result text (Err e) short gives = tt

@@ -1,25 +1,24 @@
 -- A line's text is read as that line, and what reads as a line is its text.
 use Rattle.std.proofs.Common.{◌≡◌, ℕ, ◌<◌, ◌^◌, cond, List, [], ◌∷◌, ◌++◌, codes, decimal, Some, None, refl, sym, ap, subst, ◌∙◌, append_assoc, inl, inr}
 use Rattle.std.specs.Str.{bytes_eq}
-use Rattle.hex.specs.Hex.{encode_lower}
 use Rattle.ddc_base.specs.Lines.{line as line_text}
 use Rattle.ddc_base.specs.Names.{IsName}
 use Rattle.ddc_base.specs.Languages.Words.{language_named, language_word}
 use Rattle.report.specs.declared.line.Line.{Line}
 use Rattle.report.specs.declared.line.Line.TheVariants.{Header, Recipe, Input, Stage, Stream1, Stream2, Left, Made, Checked, Compare, End}
-use Rattle.report.specs.declared.types.Mark.{Mark}
 use Rattle.report.specs.declared.types.Compared.{Compared}
 use Rattle.report.specs.declared.types.Compared.TheVariants.{Equal, Differs}
-use Rattle.report.specs.Inside.Cuts.{◌>>=◌, cut_at}
-use Rattle.report.specs.Inside.Fields.{digest_of, mark_of}
+use Rattle.report.specs.Inside.Cuts.{cut_at}
+use Rattle.report.specs.Inside.Fields.{digest_of, mark_of, file_line_of}
 use Rattle.report.specs.Inside.LinesRead.{header_of, recipe_of, input_of, stage_of, stream_of, left_of, made_of, checked_of, compare_of, line_of_kind, longer_line_of, line_of}
-use Rattle.report.specs.Inside.Reading.{next_line}
+use Rattle.report.specs.Inside.LineByLine.{next_line}
 use Rattle.report.specs.Lines.{form_word, line_words, compared_words}
 use Rattle.report.specs.Reports.{IsForm, IsDigest, IsMark, IsInputLine, IsLeft, IsCompare}
 use Rattle.report.proofs.Cuts.{Without, Without-append, cut_at-joined, cut_at-takes, bind_some, same_some}
 use Rattle.report.proofs.Plain.{no_blank, no_feed}
+use Rattle.report.proofs.LineByLine.Rules.{line_is_next, next_is_line}
 use Rattle.report.proofs.Spelled.{two_again, two_takes}
-use Rattle.report.proofs.FieldTexts.{by_word, number, name, name_word, language, file_name, file_name_word, digest, digest_text, mark, mark_text, binary, binary_text, compared_text}
+use Rattle.report.proofs.FieldTexts.{by_word, number, name, name_word, language, digest, digest_text, mark, mark_text, file_line, file_text, stream_line_takes, binary, binary_text, compared_text}
 
 -- a line that is spelled one way
 abbrev pub IsLine : Line → Type 0
@@ -43,7 +42,7 @@ fields_text (Input input) = input.name ++ 32 ∷ mark_text input.mark
 fields_text (Stage name steps) = name ++ 32 ∷ decimal steps
 fields_text (Stream1 mark) = codes "1" ++ 32 ∷ mark_text mark
 fields_text (Stream2 mark) = codes "2" ++ 32 ∷ mark_text mark
-fields_text (Left file) = encode_lower file.name ++ 32 ∷ mark_text file.mark
+fields_text (Left file) = file_text file
 fields_text (Made mark) = mark_text mark
 fields_text (Checked (Some language)) = language_word language
 fields_text (Checked None) = []
@@ -85,8 +84,7 @@ line_again (Stream1 m) is = kind_again (codes "stream") (fields_text (Stream1 m)
     (rw (cut_at-joined 32 (codes "1") (mark_text m) (no_blank (codes "1") refl), mark.again m is) refl)
 line_again (Stream2 m) is = kind_again (codes "stream") (fields_text (Stream2 m)) (Stream2 m) (no_blank (codes "stream") refl)
     (rw (cut_at-joined 32 (codes "2") (mark_text m) (no_blank (codes "2") refl), mark.again m is) refl)
-line_again (Left f) is = kind_again (codes "left") (fields_text (Left f)) (Left f) (no_blank (codes "left") refl)
-    (two_again file_name file_name_word mark (λ n m. Left (record { name = n; mark = m })) f.name f.mark (record { count = is.count; bytes = is.bytes }) is.mark)
+line_again (Left f) is = kind_again (codes "left") (file_text f) (Left f) (no_blank (codes "left") refl) (rw (file_line.again f is) refl)
 line_again (Made m) is = kind_again (codes "made") (mark_text m) (Made m) (no_blank (codes "made") refl) (rw (mark.again m is) refl)
 line_again (Checked (Some l)) is = kind_again (codes "checked") (language_word l) (Checked (Some l)) (no_blank (codes "checked") refl) (rw (language.again l tt) refl)
 line_again (Checked None) is = refl
@@ -107,9 +105,7 @@ line_no_feed (Input i) is = two_no_feed (codes "input") (fields_text (Input i)) 
 line_no_feed (Stage n steps) is = two_no_feed (codes "stage") (fields_text (Stage n steps)) (no_feed (codes "stage") refl) (two_no_feed n (decimal steps) (name.no_feed n is.0) (number.no_feed steps is.1))
 line_no_feed (Stream1 m) is = two_no_feed (codes "stream") (fields_text (Stream1 m)) (no_feed (codes "stream") refl) (two_no_feed (codes "1") (mark_text m) (no_feed (codes "1") refl) (mark.no_feed m is))
 line_no_feed (Stream2 m) is = two_no_feed (codes "stream") (fields_text (Stream2 m)) (no_feed (codes "stream") refl) (two_no_feed (codes "2") (mark_text m) (no_feed (codes "2") refl) (mark.no_feed m is))
-line_no_feed (Left f) is =
-    two_no_feed (codes "left") (fields_text (Left f)) (no_feed (codes "left") refl)
-    (two_no_feed (encode_lower f.name) (mark_text f.mark) (file_name.no_feed f.name (record { count = is.count; bytes = is.bytes })) (mark.no_feed f.mark is.mark))
+line_no_feed (Left f) is = two_no_feed (codes "left") (file_text f) (no_feed (codes "left") refl) (file_line.no_feed f is)
 line_no_feed (Made m) is = two_no_feed (codes "made") (mark_text m) (no_feed (codes "made") refl) (mark.no_feed m is)
 line_no_feed (Checked (Some l)) is = two_no_feed (codes "checked") (language_word l) (no_feed (codes "checked") refl) (language.no_feed l tt)
 line_no_feed (Checked None) is = no_feed (codes "unchecked") refl
@@ -155,31 +151,15 @@ stage_takes fields l e =
 stream_takes : (fields : List ℕ) (l : Line) → stream_of fields ≡ Some l → Is (codes "stream" ++ 32 ∷ fields) l
 unfolding stream_of
 stream_takes fields l e =
-    let read = λ (make : Mark → Line) (t : List ℕ). mark_of t >>= λ m. Some (make m) in
-    let first : Mark → Line = λ m. Stream1 m in
-    let second : Mark → Line = λ m. Stream2 m in
-    let x = bind_some (cut_at 32 fields) (λ cut. cond (bytes_eq cut.0 (codes "1")) (read first cut.1) (cond (bytes_eq cut.0 (codes "2")) (read second cut.1) None)) l e in
-    let joined = cut_at-takes 32 fields x.0.0 x.0.1 x.1 in
-    let starts = λ (word mark : List ℕ) (is : x.0.0 ≡ word) (spelled : x.0.1 ≡ mark).
-    ap (λ (t : List ℕ). codes "stream" ++ 32 ∷ t) (joined ∙ ap (λ (t : List ℕ). t ++ 32 ∷ x.0.1) is ∙ ap (λ (t : List ℕ). word ++ 32 ∷ t) spelled) in
-    by_word x.0.0 (codes "1") (read first x.0.1) _ l
-    (λ is here. (
-    let y = bind_some (mark_of x.0.1) (λ m. Some (Stream1 m)) l here in
-    let m = mark.takes x.0.1 y.0 y.1 in
-    subst (Is (codes "stream" ++ 32 ∷ fields)) (same_some (Stream1 y.0) l y.2) (m.0, starts (codes "1") (mark_text y.0) is m.1)))
-    (by_word x.0.0 (codes "2") (read second x.0.1) None l
-    (λ is here. (
-    let y = bind_some (mark_of x.0.1) (λ m. Some (Stream2 m)) l here in
-    let m = mark.takes x.0.1 y.0 y.1 in
-    subst (Is (codes "stream" ++ 32 ∷ fields)) (same_some (Stream2 y.0) l y.2) (m.0, starts (codes "2") (mark_text y.0) is m.1)))
-    (λ none. absurd cc)) x.2
+    let starts = λ (text : List ℕ) (is : fields ≡ text). ap (λ (t : List ℕ). codes "stream" ++ 32 ∷ t) is in
+    stream_line_takes (Is (codes "stream" ++ 32 ∷ fields)) Stream1 Stream2 fields l (λ m is text. (is, starts (codes "1" ++ 32 ∷ mark_text m) text)) (λ m is text. (is, starts (codes "2" ++ 32 ∷ mark_text m) text)) e
 
 left_takes : (fields : List ℕ) (l : Line) → left_of fields ≡ Some l → Is (codes "left" ++ 32 ∷ fields) l
 unfolding left_of
 left_takes fields l e =
-    let two = two_takes file_name mark (λ n m. Left (record { name = n; mark = m })) fields l e in
-    subst (Is (codes "left" ++ 32 ∷ fields)) two.is
-    (record { count = two.is_first.count; bytes = two.is_first.bytes; mark = two.is_second }, ap (λ (t : List ℕ). codes "left" ++ 32 ∷ t) two.spelled)
+    let x = bind_some (file_line_of fields) (λ f. Some (Left f)) l e in
+    let f = file_line.takes fields x.0 x.1 in
+    subst (Is (codes "left" ++ 32 ∷ fields)) (same_some (Left x.0) l x.2) (f.0, ap (λ (t : List ℕ). codes "left" ++ 32 ∷ t) f.1)
 
 made_takes : (fields : List ℕ) (l : Line) → made_of fields ≡ Some l → Is (codes "made" ++ 32 ∷ fields) l
 unfolding made_of
@@ -246,19 +226,8 @@ spelled (Compare c) = on c.result
     on (Differs o a b) = simp append_assoc
 spelled End = refl
 
-feed : (l : Line) (rest : List ℕ) → line_text (line_words l) ++ rest ≡ text_of l ++ 10 ∷ rest
-feed l rest = ap (λ (t : List ℕ). t ++ rest) (spelled l) ∙ append_assoc (text_of l) (10 ∷ []) rest
+pub next_again : (l : Line) (rest : List ℕ) → IsLine l → next_line line_of (line_text (line_words l) ++ rest) ≡ Some (l, rest)
+next_again l rest is = line_is_next line_of (line_words l) (text_of l) rest l (spelled l) (line_no_feed l is) (line_again l is)
 
-pub next_again : (l : Line) (rest : List ℕ) → IsLine l → next_line (line_text (line_words l) ++ rest) ≡ Some (l, rest)
-unfolding next_line
-next_again l rest is = rw (feed l rest, cut_at-joined 10 (text_of l) rest (line_no_feed l is), line_again l is) refl
-
-pub next_takes : (bytes : List ℕ) (l : Line) (rest : List ℕ) → next_line bytes ≡ Some (l, rest) → IsLine l × (bytes ≡ line_text (line_words l) ++ rest)
-unfolding next_line
-next_takes bytes l rest e =
-    let x = bind_some (cut_at 10 bytes) (λ cut. line_of cut.0 >>= λ line. Some (line, cut.1)) (l, rest) e in
-    let y = bind_some (line_of x.0.0) (λ line. Some (line, x.0.1)) (l, rest) x.2 in
-    let found = line_takes x.0.0 y.0 y.1 in
-    let P = λ (z : Line × List ℕ). IsLine z.0 × (bytes ≡ line_text (line_words z.0) ++ z.1) in
-    subst P (same_some (y.0, x.0.1) (l, rest) y.2)
-    (found.0, cut_at-takes 10 bytes x.0.0 x.0.1 x.1 ∙ ap (λ (t : List ℕ). t ++ 10 ∷ x.0.1) found.1 ∙ sym (feed y.0 x.0.1))
+pub next_takes : (bytes : List ℕ) (l : Line) (rest : List ℕ) → next_line line_of bytes ≡ Some (l, rest) → IsLine l × (bytes ≡ line_text (line_words l) ++ rest)
+next_takes = next_is_line line_of line_words IsLine (λ text l e. (let found = line_takes text l e in (found.0, spelled l ∙ ap (λ (t : List ℕ). t ++ 10 ∷ []) (sym found.1))))

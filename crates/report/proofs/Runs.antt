@@ -1,11 +1,7 @@
 -- The lines of a report, taken one after the other, lead to its end.
-use Rattle.std.proofs.Common.{◌≡◌, ℕ, suc, ◌+◌, ◌-◌, ◌<◌, ◌≤◌, true, ltb, List, [], ◌∷◌, ◌++◌, length, map, Option, Some, None, refl, sym, ap, ◌∙◌, append_assoc, arith, length-append}
-use Rattle.std.specs.Prelude.{slice_get, All}
+use Rattle.std.proofs.Common.{◌≡◌, ℕ, ◌+◌, ◌≤◌, true, List, [], ◌∷◌, ◌++◌, length, map, Option, Some, sym, ap, ◌∙◌, append_assoc, arith, length-append}
+use Rattle.std.specs.Prelude.{All}
 use Rattle.std.specs.List.{flat_map}
-use Rattle.std.specs.Ordering.{nat_cmp, is_lt}
-use Rattle.std.specs.Cmp.Lexicographic.{slice_cmp}
-use Rattle.std.proofs.lemmas.Bool.{and_parts}
-use Rattle.std.proofs.lemmas.Bool.Decides.{Decides-ltb}
 use Rattle.std.proofs.lemmas.List.{append-nil}
 use Rattle.std.proofs.lemmas.List.Elements.{All-head, All-tail}
 use Rattle.ddc_base.specs.declared.digests.Digest.{Digest}
@@ -20,29 +16,19 @@ use Rattle.report.specs.declared.state.Front.{Front}
 use Rattle.report.specs.declared.state.Opened.{Opened}
 use Rattle.report.specs.declared.state.State.{State}
 use Rattle.report.specs.declared.state.State.TheVariants.{Start, Inputs, Named, Leaving, Stages, Compared, Ended}
-use Rattle.report.specs.Inside.Cuts.{◌>>=◌}
-use Rattle.report.specs.Inside.States.{step, follows, is_after, with_stage}
+use Rattle.report.specs.Inside.States.{step, with_stage}
+use Rattle.report.proofs.Ascending.{follows_last}
+use Rattle.report.proofs.Counts.{below}
+use Rattle.report.proofs.LineByLine.Rules.{runs, runs_then}
 use Rattle.report.specs.Reports.{stage_block, report_lines, ascend, most_comparisons, IsCount, IsStageLine, IsReport}
 
 -- the state after the lines
-abbrev pub run : State → List Line → Option State
-run state [] = Some state
-run state (line ∷ lines) = step state line >>= λ next. run next lines
-
-pub run-append : (state : State) (front more : List Line) → run state (front ++ more) ≡ (run state front >>= λ next. run next more)
-run-append state [] more = refl
-run-append state (line ∷ front) more = on (step state line) (λ s. run-append s front more)
-  where
-    on : (next : Option State) → ((s : State) → run s (front ++ more) ≡ (run s front >>= λ t. run t more)) → (next >>= λ s. run s (front ++ more)) ≡ ((next >>= λ s. run s front) >>= λ t. run t more)
-    on None h = refl
-    on (Some s) h = h s
+abbrev run : State → List Line → Option State
+run state lines = runs step state lines
 
 -- two runs, one after the other
 then : (s t : State) (front more : List Line) → run s front ≡ Some t → run s (front ++ more) ≡ run t more
-then s t front more first = run-append s front more ∙ ap (λ (next : Option State). next >>= λ u. run u more) first
-
-below : (a b : ℕ) → a < b → ltb a b ≡ true
-below a b h = (Decides-ltb a b).1 h
+then s t front more first = runs_then step s t front more first
 
 run_inputs : (form : ℕ) (recipe : Digest) (front more : List InputLine) → length front + length more ≤ 256 → run (Inputs form recipe front) (map Input more) ≡ Some (Inputs form recipe (front ++ more))
 unfolding step
@@ -50,18 +36,6 @@ run_inputs form recipe front [] few = ap (λ (inputs : List InputLine). Some (In
 run_inputs form recipe front (input ∷ more) few =
     rw (below (length front) 256 (omega arith)) (run_inputs form recipe (front ++ input ∷ []) more (omega (arith, length-append front (input ∷ [])))
     ∙ ap (λ (inputs : List InputLine). Some (Inputs form recipe inputs)) (append_assoc front (input ∷ []) more))
-
--- what the neighbours say: a name is after the last one before it
-follows_last : (front : List LeftLine) (file : LeftLine) (more : List LeftLine) → ascend (front ++ file ∷ more) ≡ true → follows front file.name ≡ true
-follows_last [] file more h = refl
-follows_last (first ∷ []) file more h = (and_parts (is_lt (slice_cmp nat_cmp first.name file.name)) (ascend (file ∷ more)) h).0
-follows_last (first ∷ next ∷ front) file more h =
-    let rest = (and_parts (is_lt (slice_cmp nat_cmp first.name next.name)) (ascend (next ∷ (front ++ file ∷ more))) h).1 in
-    let at_last : slice_get (first ∷ next ∷ front) (length (first ∷ next ∷ front) - 1) ≡ slice_get (next ∷ front) (length (next ∷ front) - 1) =
-    (let a : suc (suc (length front)) - 1 ≡ suc (length front) = omega arith in
-    let b : suc (length front) - 1 ≡ length front = omega arith in
-    rw (a, b) refl) in
-    ap (λ (o : Option LeftLine). is_after o file.name) at_last ∙ follows_last (next ∷ front) file more rest
 
 run_left : (front : Front) (stage : Opened) (more : List LeftLine) → length stage.left + length more ≤ 4096 → ascend (stage.left ++ more) ≡ true
     → run (Leaving front stage) (map Left more) ≡ Some (Leaving front (record stage { left = stage.left ++ more }))

@@ -4,11 +4,12 @@ use Rattle.std.specs.Prelude.{◌≡◌, ℕ, List, Result, Ok, Err}
 use Rattle.report.specs.declared.types.Report.{Report}
 use Rattle.report.specs.declared.refusal.ReportRefusal.{ReportRefusal}
 use Rattle.report.specs.declared.refusal.ReportRefusal.TheVariants.{Form, OutOfMemory}
-use Rattle.report.specs.Inside.Reading.{read_all}
+use Rattle.report.specs.Inside.LineByLine.{read_all}
+use Rattle.report.specs.Inside.Reading.{report_reader}
 
 -- the report whose text the bytes are, or else the least number of lines that begin no report
 unfoldable pub report_of : List ℕ → Result Report ℕ
-report_of bytes = read_all bytes
+report_of bytes = read_all report_reader bytes
 
 -- a refusal of a text which reads so
 abbrev pub Refuses : Result Report ℕ → ReportRefusal → Type 0

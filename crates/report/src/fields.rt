@@ -4,9 +4,9 @@ ghost use Rattle.std.specs.Prelude.{◌≡◌, ◌<◌, IsTrue, ◌+◌, ◌==�
 ghost use Rattle.std.specs.List.{position, list_all};
 ghost use Rattle.ddc_base.specs.Inside.HexTests as test;
 ghost use Rattle.report.specs.Inside.Cuts.{cut_at};
-ghost use Rattle.report.specs.Inside.Fields.{file_name_of, hex_of, digit_value, pairs_of, digest_of, mark_of, lengths_of, is_difference, difference_of, compared_of};
+ghost use Rattle.report.specs.Inside.Fields.{file_name_of, hex_of, digit_value, pairs_of, digest_of, mark_of, file_line_of, lengths_of, is_difference, difference_of, compared_of};
 
-use crate::types::{Compared, Mark};
+use crate::types::{Compared, LeftLine, Mark};
 use ddc_base::digests::Digest;
 use ddc_base::{Bytes, HexFail, OutOfMemory, read_decimal, read_hex};
 use std::alloc::Global;
@@ -40,7 +40,7 @@ fn after(text: &[u8], at: usize) -> &[u8]
 
 /// The 1 to 255 bytes whose hexadecimal text a word is.
 #[tactic(auto, unfolding(crate::specs::Inside::Fields::file_name_of))]
-pub(crate) fn file_name_of(alloc: Global, word: &[u8]) -> Result<Option<Bytes>, OutOfMemory>
+fn file_name_of(alloc: Global, word: &[u8]) -> Result<Option<Bytes>, OutOfMemory>
     ensures { IfOk result (λ name. name ≡ file_name_of word.now) }
 {
     if 1 <= word.len() && word.len() <= 510 {
@@ -121,6 +121,23 @@ pub(crate) fn mark_of(text: &[u8]) -> Option<Mark>
     let length = read_decimal(length)?;
     let digest = digest_of(digest)?;
     Some(Mark { length, digest })
+}
+
+/// The name of a file and its mark.
+#[tactic(auto, unfolding(crate::specs::Inside::Fields::file_line_of))]
+pub(crate) fn file_line_of(alloc: Global, text: &[u8]) -> Result<Option<LeftLine>, OutOfMemory>
+    ensures { IfOk result (λ file. file ≡ file_line_of text.now) }
+{
+    let Some((name, mark)) = cut_at(b' ', text) else {
+        return Ok(None);
+    };
+    let Some(name) = file_name_of(alloc, name)? else {
+        return Ok(None);
+    };
+    let Some(mark) = mark_of(mark) else {
+        return Ok(None);
+    };
+    Ok(Some(LeftLine { name, mark }))
 }
 
 /// What a comparison found.

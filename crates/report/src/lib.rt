@@ -1,6 +1,6 @@
-//! The report of an audit: its type, and its one text.
+//! The report of an audit, and in `script` that of a script of commands: the type of each, and its one text.
 //!
-//! Its rules for people: docs/reference/report.md.
+//! The rules for people: docs/reference/report.md and docs/reference/kaem-report.md.
 #![tactic(auto)]
 
 mod fields;
@@ -8,6 +8,7 @@ pub mod laws;
 mod line;
 mod reading;
 mod refusal;
+pub mod script;
 mod state;
 mod types;
 mod writing;

@@ -3,7 +3,7 @@
 ghost use Rattle.std.specs.Prelude.{◌≡◌, IfOk};
 ghost use Rattle.report.specs.Inside.LinesRead.{line_of, longer_line_of, line_of_kind, header_of, recipe_of, input_of, stage_of, stream_of, left_of, made_of, checked_of, binary_of, compare_of};
 
-use crate::fields::{compared_of, cut_at, digest_of, file_name_of, mark_of};
+use crate::fields::{compared_of, cut_at, digest_of, file_line_of, mark_of};
 use crate::types::{CompareLine, Compared, InputLine, LeftLine, Mark};
 use ddc_base::digests::Digest;
 use ddc_base::languages::Language;
@@ -140,16 +140,10 @@ fn stream_of(fields: &[u8]) -> Option<Line>
 fn left_of(alloc: Global, fields: &[u8]) -> Result<Option<Line>, OutOfMemory>
     ensures { IfOk result (λ line. line ≡ left_of fields.now) }
 {
-    let Some((name, mark)) = cut_at(b' ', fields) else {
-        return Ok(None);
-    };
-    let Some(name) = file_name_of(alloc, name)? else {
-        return Ok(None);
-    };
-    let Some(mark) = mark_of(mark) else {
-        return Ok(None);
-    };
-    Ok(Some(Line::Left(LeftLine { name, mark })))
+    match file_line_of(alloc, fields)? {
+        Some(file) => Ok(Some(Line::Left(file))),
+        None => Ok(None),
+    }
 }
 
 #[tactic(auto, unfolding(crate::specs::Inside::LinesRead::made_of))]

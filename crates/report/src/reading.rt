@@ -3,7 +3,8 @@
 ghost use Rattle.std.specs.Prelude.{◌≡◌, ◌<◌, length, IfOk, IfErr, IfSome, option_map};
 ghost use Rattle.report.specs.Reading.{report_of, ReadsReport};
 ghost use Rattle.report.specs.Inside.Loops.{ReadsLines};
-ghost use Rattle.report.specs.Inside.Reading.{next_line};
+ghost use Rattle.report.specs.Inside.LineByLine.{next_line};
+ghost use Rattle.report.specs.Inside.LinesRead.{line_of};
 ghost use Rattle.report.specs.Reports.{IsReport, report_text, IsRead, IsFault};
 ghost use Rattle.report.specs.declared.types.Report.{Report as ReportValue};
 
@@ -61,9 +62,9 @@ fn read_lines(alloc: Global, bytes: &[u8]) -> Result<(State, u64), ReportRefusal
 }
 
 /// The line at the front of some bytes, and what follows its LF.
-#[tactic(auto, unfolding(crate::specs::Inside::Reading::next_line))]
+#[tactic(auto, unfolding(crate::specs::Inside::LineByLine::next_line))]
 fn next_line(alloc: Global, bytes: &[u8]) -> Result<Option<(Line, &[u8])>, OutOfMemory>
-    ensures value { IfOk result (λ found. option_map (λ next. (next.0, next.1.now)) found ≡ next_line bytes.now) }
+    ensures value { IfOk result (λ found. option_map (λ next. (next.0, next.1.now)) found ≡ next_line line_of bytes.now) }
     ensures shorter { IfOk result (λ found. IfSome found (λ next. length next.1.now < length bytes.now)) }
 {
     match cut_at(b'\n', bytes) {

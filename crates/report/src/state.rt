@@ -303,7 +303,7 @@ fn most_comparisons(form: u32) -> usize
 }
 
 /// Whether a name comes after those of these files, which ascend.
-fn follows(left: &[LeftLine], name: &[u8]) -> bool
+pub(crate) fn follows(left: &[LeftLine], name: &[u8]) -> bool
     ensures { result ≡ follows left.now name.now }
 {
     match left.last() {

@@ -6,7 +6,7 @@ use ddc_base::{Bytes, ListOf, Name};
 pub type InputLines = ListOf<InputLine>;
 /// The lines of the comparisons, in the recipe's order.
 pub type CompareLines = ListOf<CompareLine>;
-/// The lines of the files that a stage left, strictly ascending by the bytes of their names.
+/// The lines of files. Those of the files that a stage or a script left ascend strictly by the bytes of their names.
 pub type LeftLines = ListOf<LeftLine>;
 /// The stages' blocks, in the recipe's order.
 pub type StageLines = ListOf<StageLine>;
@@ -25,7 +25,7 @@ pub struct InputLine {
     pub mark: Mark,
 }
 
-/// A file that was there when a stage's program had exited: its name, of 1 to 255 bytes, and what it held.
+/// A file that a program left, or was given: its name, of 1 to 255 bytes, and what it held.
 #[derive(Debug, Drop)]
 pub struct LeftLine {
     pub name: Bytes,

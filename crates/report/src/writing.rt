@@ -106,7 +106,7 @@ fn put_input(out: &mut Bytes, input: &InputLine) -> Result<(), OutOfMemory>
 
 /// A length and a digest, at the end of a line.
 #[tactic(auto, using(crate::proofs::Written::written))]
-fn put_mark(out: &mut Bytes, mark: &Mark) -> Result<(), OutOfMemory>
+pub(crate) fn put_mark(out: &mut Bytes, mark: &Mark) -> Result<(), OutOfMemory>
     ensures { OnOk result (out.new ≡ out.old ++ line_text (mark_words mark.now)) }
 {
     put_decimal(out, mark.length)?;
@@ -129,7 +129,7 @@ fn put_stage(out: &mut Bytes, stage: &StageLine) -> Result<(), OutOfMemory>
     ensures { OnOk result (out.new ≡ out.old ++ lines_text (stage_block stage.now)) }
 {
     put_name(out, stage)?;
-    put_streams(out, stage)?;
+    put_streams(out, &stage.stream1, &stage.stream2)?;
     put_left_files(out, stage.left.as_slice())?;
     put_made(out, &stage.made)?;
     put_checked(out, stage.checked)
@@ -147,13 +147,17 @@ fn put_name(out: &mut Bytes, stage: &StageLine) -> Result<(), OutOfMemory>
 }
 
 #[tactic(auto, using(crate::proofs::Written::written))]
-fn put_streams(out: &mut Bytes, stage: &StageLine) -> Result<(), OutOfMemory>
-    ensures { OnOk result (out.new ≡ out.old ++ line_text (line_words (line.Stream1 stage.now.stream1)) ++ line_text (line_words (line.Stream2 stage.now.stream2))) }
+pub(crate) fn put_streams(
+    out: &mut Bytes,
+    stream1: &Mark,
+    stream2: &Mark,
+) -> Result<(), OutOfMemory>
+    ensures { OnOk result (out.new ≡ out.old ++ line_text (line_words (line.Stream1 stream1.now)) ++ line_text (line_words (line.Stream2 stream2.now))) }
 {
     out.extend(b"stream 1 ")?;
-    put_mark(out, &stage.stream1)?;
+    put_mark(out, stream1)?;
     out.extend(b"stream 2 ")?;
-    put_mark(out, &stage.stream2)
+    put_mark(out, stream2)
 }
 
 fn put_left_files(out: &mut Bytes, files: &[LeftLine]) -> Result<(), OutOfMemory>
@@ -166,7 +170,7 @@ fn put_left_files(out: &mut Bytes, files: &[LeftLine]) -> Result<(), OutOfMemory
 }
 
 #[tactic(auto, using(crate::proofs::Written::written))]
-fn put_left(out: &mut Bytes, file: &LeftLine) -> Result<(), OutOfMemory>
+pub(crate) fn put_left(out: &mut Bytes, file: &LeftLine) -> Result<(), OutOfMemory>
     ensures { OnOk result (out.new ≡ out.old ++ line_text (line_words (line.Left file.now))) }
 {
     out.extend(b"left ")?;

@@ -6,6 +6,7 @@ use Rattle.hex.specs.Hex.{decode_of}
 use Rattle.ddc_base.specs.Decimals.{as_decimal}
 use Rattle.ddc_base.specs.Inside.HexTests.{is_lower_digit, is_lower_hex}
 use Rattle.ddc_base.specs.declared.digests.Digest.{Digest}
+use Rattle.report.specs.declared.types.LeftLine.{LeftLine}
 use Rattle.report.specs.declared.types.Mark.{Mark}
 use Rattle.report.specs.declared.types.Compared.{Compared}
 use Rattle.report.specs.declared.types.Compared.TheVariants.{Equal, Differs}
@@ -40,6 +41,21 @@ mark_of text = do
   length ← as_decimal cut.0
   digest ← digest_of cut.1
   Some (record { length = length; digest = digest })
+
+-- a file's name and its mark
+unfoldable pub file_line_of : List ℕ → Option LeftLine
+file_line_of text = do
+  cut ← cut_at 32 text
+  name ← file_name_of cut.0
+  mark ← mark_of cut.1
+  Some (record { name = name; mark = mark })
+
+-- the line that a stream's number and mark are
+abbrev pub stream_line_of : {Line : Type 0} → (Mark → Line) → (Mark → Line) → List ℕ → Option Line
+stream_line_of first second text = do
+  cut ← cut_at 32 text
+  if bytes_eq cut.0 (codes "1") then (mark_of cut.1 >>= λ mark. Some (first mark))
+      else (if bytes_eq cut.0 (codes "2") then (mark_of cut.1 >>= λ mark. Some (second mark)) else None)
 
 -- two lengths
 unfoldable pub lengths_of : List ℕ → Option (ℕ × ℕ)

@@ -7,7 +7,7 @@ use Rattle.report.specs.declared.line.Line.{Line}
 use Rattle.report.specs.declared.line.Line.TheVariants.{Header, Recipe, Input, Stage, Stream1, Stream2, Left, Made, Checked, Compare, End}
 use Rattle.report.specs.declared.types.Compared.{Compared}
 use Rattle.report.specs.Inside.Cuts.{◌>>=◌, cut_at}
-use Rattle.report.specs.Inside.Fields.{file_name_of, digest_of, mark_of, compared_of}
+use Rattle.report.specs.Inside.Fields.{file_line_of, digest_of, mark_of, stream_line_of, compared_of}
 
 unfoldable pub header_of : List ℕ → Option Line
 header_of fields = if bytes_eq fields (codes "1") then Some (Header 1) else (if bytes_eq fields (codes "2") then Some (Header 2) else None)
@@ -32,17 +32,12 @@ stage_of fields = do
   Some (Stage name steps)
 
 unfoldable pub stream_of : List ℕ → Option Line
-stream_of fields = do
-  cut ← cut_at 32 fields
-  if bytes_eq cut.0 (codes "1") then (mark_of cut.1 >>= λ mark. Some (Stream1 mark))
-      else (if bytes_eq cut.0 (codes "2") then (mark_of cut.1 >>= λ mark. Some (Stream2 mark)) else None)
+stream_of fields = stream_line_of Stream1 Stream2 fields
 
 unfoldable pub left_of : List ℕ → Option Line
 left_of fields = do
-  cut ← cut_at 32 fields
-  name ← file_name_of cut.0
-  mark ← mark_of cut.1
-  Some (Left (record { name = name; mark = mark }))
+  file ← file_line_of fields
+  Some (Left file)
 
 unfoldable pub made_of : List ℕ → Option Line
 made_of fields = do

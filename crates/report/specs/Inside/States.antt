@@ -1,5 +1,5 @@
 -- No promise rests on this file being read: which line may follow which.
-use Rattle.std.specs.Prelude.{◌≡◌, ℕ, Bool, true, false, ◌-◌, nat_lt, List, [], ◌∷◌, ◌++◌, length, slice_get, Option, Some, None, if◌then◌else◌}
+use Rattle.std.specs.Prelude.{ℕ, Bool, true, ◌-◌, nat_lt, List, [], ◌∷◌, ◌++◌, length, slice_get, Option, Some, None, if◌then◌else◌}
 use Rattle.std.specs.Ordering.{nat_cmp, is_lt}
 use Rattle.std.specs.Cmp.Lexicographic.{slice_cmp}
 use Rattle.ddc_base.specs.declared.languages.Language.{Language}
@@ -11,6 +11,7 @@ use Rattle.report.specs.declared.types.StageLine.{StageLine}
 use Rattle.report.specs.declared.state.Front.{Front}
 use Rattle.report.specs.Reports.{most_comparisons}
 use Rattle.report.specs.declared.state.Opened.{Opened}
+use Rattle.report.specs.Inside.LineByLine.{TakesBy}
 use Rattle.report.specs.declared.state.State.{State}
 use Rattle.report.specs.declared.state.State.TheVariants.{Start, Titled, Inputs, Named, Heard, Leaving, Closing, Stages, Compared, Ended}
 
@@ -67,5 +68,4 @@ step _ _ = None
 
 -- what taking a line answers
 abbrev pub Takes : State → Line → State → Bool → Type 0
-Takes old line new true = step old line ≡ Some new
-Takes old line new false = step old line ≡ None
+Takes old line new taken = TakesBy step old line new taken

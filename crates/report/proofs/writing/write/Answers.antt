@@ -1,5 +1,6 @@
-use Rattle.report.proofs.Lengths.{short_result}
+use Rattle.report.specs.Reports.{report_text}
+use Rattle.report.proofs.Lengths.{short, short_result}
 use Rattle.report.proofs.writing.write.Goals as goal
 
 pub returns-clause-short : goal.returns-clause-short
-returns-clause-short c = short_result c.args.report.now c.text_of.result c.requires c.text_of.ensures
+returns-clause-short c = short_result (report_text c.args.report.now) c.text_of.result (short c.args.report.now c.requires) c.text_of.ensures

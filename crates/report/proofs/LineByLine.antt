@@ -1,0 +1,4 @@
+pub mod Turns
+pub mod Rules
+pub mod Faults
+pub mod Readings

@@ -1,0 +1,26 @@
+use Rattle.std.proofs.Common.{arith}
+use Rattle.report.specs.Inside.Script.Reading.{script_reader}
+use Rattle.report.proofs.ScriptLemmas.Readings.{reads_no_further}
+use Rattle.report.proofs.LineByLine.Turns.{stands_first, stands_more, stops_at_line, stops_at_step}
+use Rattle.report.proofs.script.reading.read_lines.Goals as goal
+
+pub loop-rest-init : goal.loop-rest-init
+loop-rest-init c = record { stands = stands_first script_reader c.args.bytes.now; few = omega arith }
+
+pub loop-rest-preserved : goal.loop-rest-preserved
+loop-rest-preserved c = record {
+  stands = stands_more script_reader c.args.bytes.now c.loop-rest.number c.loop-rest.state c.loop-rest.rest.now c.in-Some.line c.in-Some.after.now c.take.new.self
+      c.in_ok-take-in-Some.field-0 c.loop-rest.invariant.stands (rw c.in-Some.is at c.in_ok-line.ensures.value) c.in_ok-take-in-Some.ensures c.if-not-branch.false;
+  few = let shorter = rw c.in-Some.is at c.in_ok-line.ensures.shorter in omega (arith, shorter, c.loop-rest.invariant.few);
+}
+
+pub returns-then-not-branch : goal.returns-then-not-branch
+returns-then-not-branch c =
+    reads_no_further _ _ (stops_at_step script_reader c.args.bytes.now c.loop-rest.number c.loop-rest.state c.loop-rest.rest.now c.is_empty.result c.in-Some.line c.in-Some.after.now c.take.new.self
+    c.in_ok-take-in-Some.field-0 c.is_empty.ensures c.loop-rest-test.true c.loop-rest.invariant.stands (rw c.in-Some.is at c.in_ok-line.ensures.value)
+    c.in_ok-take-in-Some.ensures c.if-not-branch.true)
+
+pub returns-in-None : goal.returns-in-None
+returns-in-None c =
+    reads_no_further _ _ (stops_at_line script_reader c.args.bytes.now c.loop-rest.number c.loop-rest.state c.loop-rest.rest.now c.is_empty.result c.is_empty.ensures c.loop-rest-test.true
+    c.loop-rest.invariant.stands (rw c.in-None.is at c.in_ok-line.ensures.value))

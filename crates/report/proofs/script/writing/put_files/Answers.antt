@@ -1,0 +1,14 @@
+use Rattle.std.proofs.Common.{[], ◌++◌, ◌∷◌, map, refl, sym, ◌∙◌, ap}
+use Rattle.std.proofs.lemmas.List.{drop_all}
+use Rattle.report.specs.declared.script.line.ScriptLine.TheVariants.{File}
+use Rattle.report.specs.Script.Lines.{script_line_words}
+use Rattle.report.proofs.Written.{one_line, writes_more, writes_all}
+use Rattle.report.proofs.script.writing.put_files.Goals as goal
+
+pub loop-file-preserved : goal.loop-file-preserved
+loop-file-preserved c =
+    writes_more script_line_words (map File) (λ x. File x ∷ []) (λ x xs. refl) c.args.out.now c.args.files.now c.loop-file.file-index c.file-item.result c.loop-file.out c.put_file.new.out
+    c.loop-file-test.true c.file-item.is c.loop-file.invariant (c.in_ok-put_file.ensures ∙ ap (λ t. c.loop-file.out ++ t) (sym (one_line script_line_words (File c.file-item.result))))
+
+pub returns : goal.returns
+returns c = writes_all script_line_words (map File) refl c.args.out.now c.args.files.now c.loop-file.file-index c.loop-file.out (drop_all c.loop-file.file-index c.args.files.now c.loop-file-test.false) c.loop-file.invariant

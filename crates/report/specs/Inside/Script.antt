@@ -1,0 +1,4 @@
+pub mod Lines
+pub mod States
+pub mod Reading
+pub mod Loops
