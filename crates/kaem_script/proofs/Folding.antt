@@ -1,10 +1,10 @@
 -- One command more.
-use Rattle.std.proofs.Common.{◌≡◌, ℕ, ◌+◌, ◌<◌, ◌≤◌, List, [], ◌∷◌, ◌++◌, length, drop, get_or, map, Ok, Err, refl, sym, ap, ◌∙◌, subst, arith, length-append}
+use Rattle.std.proofs.Common.{◌≡◌, ℕ, ◌+◌, ◌<◌, ◌≤◌, List, [], ◌∷◌, ◌++◌, length, drop, get_or, map, Err, refl, sym, ap, ◌∙◌, length-append}
 use Rattle.std.proofs.lemmas.List.{at_drop_more, drop_all, map_push}
 use Rattle.mem_files.specs.World.{World}
 use Rattle.kaem_script.specs.declared.cause.CommandCause.{CommandCause}
-use Rattle.kaem_script.specs.declared.script_report.CommandLine.{CommandLine}
-use Rattle.kaem_script.specs.Fold.{Finished, Folded, Ran, Stopped, after_command, command, fold_from, folded}
+use Rattle.report.specs.declared.script.types.CommandLine.{CommandLine}
+use Rattle.kaem_script.specs.Fold.{Folded, Ran, Stopped, after_command, command, fold_from, folded}
 use Rattle.kaem_script.specs.Inside.Commands.{Finishes, IsRun, ran_with}
 use Rattle.kaem_script.specs.Reported.{command_line}
 

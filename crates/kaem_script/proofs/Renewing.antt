@@ -1,13 +1,12 @@
 -- Files of names in turn, placed where none are.
-use Rattle.std.proofs.Common.{◌≡◌, ℕ, ◌+◌, ◌≤◌, Bool, true, false, cond, T, IsTrue, Option, None, Some, List, [], ◌∷◌, ◌++◌, length, map, filter, find, unwrap_or, sum_by, append_assoc, refl, sym, ap, ◌∙◌, subst, arith, Ok, All}
+use Rattle.std.proofs.Common.{◌≡◌, ℕ, Option, None, Some, List, [], ◌∷◌, ◌++◌, length, map, filter, unwrap_or, sum_by, append_assoc, refl, sym, ap, ◌∙◌, subst, Ok, All}
 use Rattle.std.specs.List.{fold}
 use Rattle.std.specs.FinMap as fin
 use Rattle.std.proofs.lemmas.List.{append-nil}
 use Rattle.std.proofs.lemmas.List.Elements.{All-weaker}
 use Rattle.mem_files.specs.World.{World}
 use Rattle.mem_files.specs.Calls.{content_at, first_world, is_after, name_after, placed, with_file}
-use Rattle.mem_files.specs.Names.{bytes_cmp}
-use Rattle.mem_files.specs.Outputs.{AreLeft, IsLeftFile, left}
+use Rattle.mem_files.specs.Outputs.{IsLeftFile, left}
 use Rattle.mem_files.specs.Sound.{IsSound}
 use Rattle.mem_files.proofs.Leftovers.{left-are, left-small}
 use Rattle.mem_files.proofs.Walks.{names-left, names-rise, walk-end, walk-start, walk-turn}

@@ -1,10 +1,10 @@
 -- A command that ran is a run of its program.
-use Rattle.std.proofs.Common.{◌≡◌, ℕ, ◌+◌, ◌≤◌, ◌==◌, Bool, true, false, cond, Option, None, Some, List, Result, Ok, Err, refl, sym, ap, ◌∙◌, subst, arith}
+use Rattle.std.proofs.Common.{◌≡◌, ℕ, ◌+◌, ◌==◌, Bool, true, false, cond, Option, None, Some, List, Result, Ok, Err, refl, ap, ◌∙◌, subst, arith}
 use Rattle.std.proofs.lemmas.Bool.{eqb-true}
 use Rattle.mem_files.specs.World.{World}
 use Rattle.mem_files.specs.Calls.{content_at}
 use Rattle.guest_run.specs.Program.{ProgramRun}
-use Rattle.guest_run.specs.Run.{End, Exited, Trapped, UnknownCall, end_at, first_end}
+use Rattle.guest_run.specs.Run.{End, Exited, Trapped, UnknownCall, first_end}
 use Rattle.guest_run.specs.Start.{Refusal, start_of}
 use Rattle.guest_run.specs.State.{GuestState}
 use Rattle.guest_run.proofs.Endings.{end-counted}

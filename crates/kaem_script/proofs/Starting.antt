@@ -1,7 +1,7 @@
 -- A command's start: its files are put in afterwards, and it is refused only where its file is no program.
-use Rattle.std.proofs.Common.{◌≡◌, ℕ, ◌+◌, ◌*◌, ◌<◌, ◌≤◌, Bool, true, false, cond, List, [], ◌∷◌, ◌++◌, length, sum_by, Option, None, Some, Result, Ok, Err, refl, sym, ap, ◌∙◌, subst, arith, All, T, IsTrue, length-append}
+use Rattle.std.proofs.Common.{◌≡◌, ℕ, ◌*◌, ◌≤◌, false, List, [], ◌∷◌, length, sum_by, None, Some, Result, Ok, Err, refl, sym, ap, ◌∙◌, subst, arith, All, IsTrue, length-append}
 use Rattle.std.specs.Prelude.{nat_lt}
-use Rattle.std.specs.List.{flat_map, fold}
+use Rattle.std.specs.List.{fold}
 use Rattle.std.specs.FinMap as fin
 use Rattle.std.specs.Cmp.Lexicographic.{nat_list_cmp_total}
 use Rattle.std.proofs.lemmas.Bool.Decides.{nat_tests}
@@ -20,7 +20,7 @@ use Rattle.mem_files.proofs.Leftovers.{left-are, left-small}
 use Rattle.mem_files.proofs.ListRules.{entries_risen}
 use Rattle.guest_run.specs.Setting.{Setting, file_size, files_size}
 use Rattle.guest_run.specs.Stack.{ended_texts, start_size, zero_ended}
-use Rattle.guest_run.specs.Start.{ArgsTooLong, BoxTooLarge, Elf, Refusal, start_of, start_state, start_world, started, with_given}
+use Rattle.guest_run.specs.Start.{Elf, Refusal, start_of, start_state, start_world, started, with_given}
 use Rattle.guest_run.specs.State.{GuestState}
 use Rattle.guest_run.specs.Run.{first_end}
 use Rattle.guest_run.proofs.GivenLists.{good_name}

@@ -6,8 +6,8 @@ use Rattle.mem_files.specs.World.{World}
 use Rattle.mem_files.specs.Outputs.{left}
 use Rattle.report.specs.declared.types.LeftLine.{LeftLine}
 use Rattle.report.specs.declared.types.Mark.{Mark}
-use Rattle.kaem_script.specs.declared.script_report.CommandLine.{CommandLine}
-use Rattle.kaem_script.specs.declared.script_report.ScriptReport.{ScriptReport}
+use Rattle.report.specs.declared.script.types.CommandLine.{CommandLine}
+use Rattle.report.specs.declared.script.types.ScriptReport.{ScriptReport}
 use Rattle.kaem_script.specs.declared.auditing.ScriptEnd.{ScriptEnd}
 use Rattle.kaem_script.specs.declared.auditing.ScriptEnd.TheVariants.{Done, Failed, OutOfMemory}
 use Rattle.kaem_script.specs.Script.{Said}

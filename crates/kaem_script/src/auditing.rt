@@ -9,8 +9,8 @@ use crate::fold::{Folding, fold};
 use crate::marks::{left_lines, listed_lines};
 use crate::present::files_in;
 use crate::script::Script;
-use crate::script_report::ScriptReport;
 use ddc_base::OutOfMemory;
+use report::script::ScriptReport;
 use std::alloc::Global;
 
 /// How the audit of a script ended.

@@ -12,11 +12,11 @@ use crate::cause::CommandCause;
 use crate::marks::mark_of;
 use crate::present::{Present, files_in, renewed};
 use crate::reading::Command;
-use crate::script_report::CommandLine;
 use ddc_base::OutOfMemory;
 use elf_load::ElfRefusal;
 use guest_run::{Guest, RunBox, RunEnd, RunRam, StartRefusal};
 use mem_files::{Files, strip};
+use report::script::CommandLine;
 use std::alloc::Global;
 
 /// The most bytes of a program's heap.

@@ -8,9 +8,9 @@ ghost use Rattle.std.specs.Prelude.{◌≡◌, ◌≤◌, ◌^◌, IfOk};
 use crate::command::{Stop, run_command};
 use crate::present::Present;
 use crate::reading::Command;
-use crate::script_report::CommandLines;
 use ddc_base::OutOfMemory;
 use mem_files::Files;
+use report::script::CommandLines;
 use std::alloc::Global;
 
 /// How a script's commands ended.

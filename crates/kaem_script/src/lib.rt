@@ -14,7 +14,6 @@ mod present;
 mod reading;
 mod refusal;
 mod script;
-mod script_report;
 mod words;
 
 pub use auditing::{ScriptEnd, audit};
@@ -23,4 +22,3 @@ pub use files::FileList;
 pub use reading::Command;
 pub use refusal::{ScriptFault, ScriptRefusal};
 pub use script::{Script, read};
-pub use script_report::{CommandLine, CommandLines, ScriptReport};

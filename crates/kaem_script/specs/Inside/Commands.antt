@@ -10,7 +10,7 @@ use Rattle.guest_run.specs.Setting.{Setting}
 use Rattle.guest_run.specs.Start.{Elf, Refusal, with_given}
 use Rattle.guest_run.specs.State.{GuestState}
 use Rattle.kaem_script.specs.declared.cause.CommandCause.{CommandCause}
-use Rattle.kaem_script.specs.declared.script_report.CommandLine.{CommandLine}
+use Rattle.report.specs.declared.script.types.CommandLine.{CommandLine}
 use Rattle.kaem_script.specs.declared.present.Present.{Present}
 use Rattle.kaem_script.specs.declared.present.Present.TheVariants.{Given, Left}
 use Rattle.kaem_script.specs.declared.fold.Folding.{Folding}

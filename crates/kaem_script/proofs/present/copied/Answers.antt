@@ -1,4 +1,4 @@
-use Rattle.std.proofs.Common.{sym, ap, ◌∙◌, unwrap_or, []}
+use Rattle.std.proofs.Common.{sym, ◌∙◌}
 use Rattle.mem_files.proofs.Walks.{walk-name, walk-shorter}
 use Rattle.kaem_script.proofs.Renewing.{placing-begins, placing-ends, placing-fits, placing-goes-on}
 use Rattle.kaem_script.proofs.present.copied.Goals as goal

@@ -1,5 +1,5 @@
-use Rattle.std.proofs.Common.{◌≡◌, ℕ, List, Option, Some, None, refl, sym, ap, ◌∙◌, subst, unwrap_or, []}
-use Rattle.mem_files.specs.Calls.{content_at, drained, name_after, with_file}
+use Rattle.std.proofs.Common.{◌≡◌, ℕ, List, Option, Some, None, refl, ap, ◌∙◌, unwrap_or, []}
+use Rattle.mem_files.specs.Calls.{content_at, drained, with_file}
 use Rattle.mem_files.proofs.Walks.{walk-name, walk-shorter}
 use Rattle.kaem_script.proofs.Moving.{moving-begins, moving-content, moving-goes-on, moving-name}
 use Rattle.kaem_script.proofs.Renewing.{placing-begins, placing-ends, placing-fits, placing-goes-on}

@@ -1,4 +1,4 @@
-use Rattle.std.proofs.Common.{◌≡◌, Ok, Err, [], ◌∷◌, ◌++◌, ap, sym, ◌∙◌, subst}
+use Rattle.std.proofs.Common.{Err, [], ◌∷◌, ◌++◌, sym, ◌∙◌, subst}
 use Rattle.kaem_script.specs.Listed.{AreNames, Pushes}
 use Rattle.kaem_script.proofs.Names.{names-more, refused}
 use Rattle.kaem_script.proofs.files.FileList.push.Goals as goal
