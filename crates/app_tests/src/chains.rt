@@ -106,6 +106,7 @@ const IN_ORDER: &str = "k.toml k.rep\nb.toml b.rep\n";
 
 /// Nothing remains, or the line of the second audit does.
 const NONE: &str = "chain 2 yes\n";
+
 const SECOND: &str = "chain 2 yes\nassumes 2 implements prog copy_src\n";
 
 #[test]
@@ -308,7 +309,8 @@ fn a_source_of_what_a_stage_made_gives_and_takes_nothing(rt: HostRuntime) -> Res
     let mut shelf = both(&rt, alloc, &[], &MADE_TEXT)?;
     chains(&rt, alloc, &mut shelf, IN_ORDER, Status::Yes, SECOND)?;
     let mut shelf = both(&rt, alloc, &GIVES_MADE_TEXT, &[])?;
-    let text = "chain 2 yes\nassumes 1 implements prog copy_src\nassumes 2 implements prog copy_src\n";
+    let text =
+        "chain 2 yes\nassumes 1 implements prog copy_src\nassumes 2 implements prog copy_src\n";
     chains(&rt, alloc, &mut shelf, IN_ORDER, Status::Yes, text)?;
     Ok(())
 }
@@ -435,8 +437,16 @@ static LISTS: [(&str, Status, &str); 25] = [
     ("k.toml k.rep b\n", Status::ListRefused, "list refused 1\n"),
     ("k.toml\tk.rep\n", Status::ListRefused, "list refused 1\n"),
     ("k.toml k.rep\r\n", Status::ListRefused, "list refused 1\n"),
-    ("k.toml k.re\u{7f}\n", Status::ListRefused, "list refused 1\n"),
-    ("k.t\u{f6}ml k.rep\n", Status::ListRefused, "list refused 1\n"),
+    (
+        "k.toml k.re\u{7f}\n",
+        Status::ListRefused,
+        "list refused 1\n",
+    ),
+    (
+        "k.t\u{f6}ml k.rep\n",
+        Status::ListRefused,
+        "list refused 1\n",
+    ),
     (
         "k.toml k.rep\nb.toml b.rep",
         Status::ListRefused,
@@ -448,11 +458,7 @@ static LISTS: [(&str, Status, &str); 25] = [
         "list refused 3\n",
     ),
     // bytes at both ends of what a word may have
-    (
-        "! ~\n",
-        Status::FileRefused,
-        "file refused ! absent\n",
-    ),
+    ("! ~\n", Status::FileRefused, "file refused ! absent\n"),
 ];
 
 #[test]
@@ -467,10 +473,24 @@ fn lists_are_judged_before_their_audits(rt: HostRuntime) -> Result<(), Fail> {
         longest.push_str("a")?;
     }
     let words = format!(in alloc; "{longest} {longest}b\n")?;
-    chains(&rt, alloc, &mut shelf, words.as_str(), Status::ListRefused, "list refused 1\n")?;
+    chains(
+        &rt,
+        alloc,
+        &mut shelf,
+        words.as_str(),
+        Status::ListRefused,
+        "list refused 1\n",
+    )?;
     let words = format!(in alloc; "{longest} b\n")?;
     let absent = format!(in alloc; "file refused {longest} absent\n")?;
-    chains(&rt, alloc, &mut shelf, words.as_str(), Status::FileRefused, absent.as_str())?;
+    chains(
+        &rt,
+        alloc,
+        &mut shelf,
+        words.as_str(),
+        Status::FileRefused,
+        absent.as_str(),
+    )?;
     Ok(())
 }
 
@@ -492,15 +512,43 @@ fn a_chain_has_at_most_sixty_four_audits(rt: HostRuntime) -> Result<(), Fail> {
         text.push_str(format!(in alloc; "assumes {number} implements prog copy_src\n")?.as_str())?;
     }
     let list = many(alloc, 64)?;
-    chains(&rt, alloc, &mut shelf, list.as_str(), Status::Yes, text.as_str())?;
+    chains(
+        &rt,
+        alloc,
+        &mut shelf,
+        list.as_str(),
+        Status::Yes,
+        text.as_str(),
+    )?;
     let list = many(alloc, 65)?;
-    chains(&rt, alloc, &mut shelf, list.as_str(), Status::ListRefused, "list refused 65\n")?;
+    chains(
+        &rt,
+        alloc,
+        &mut shelf,
+        list.as_str(),
+        Status::ListRefused,
+        "list refused 65\n",
+    )?;
     // The 65th line is one too many whatever it says, and a line before it comes first.
     let whole = many(alloc, 64)?;
     let list = format!(in alloc; "{whole}k")?;
-    chains(&rt, alloc, &mut shelf, list.as_str(), Status::ListRefused, "list refused 65\n")?;
+    chains(
+        &rt,
+        alloc,
+        &mut shelf,
+        list.as_str(),
+        Status::ListRefused,
+        "list refused 65\n",
+    )?;
     let list = format!(in alloc; "k\n{whole}{whole}")?;
-    chains(&rt, alloc, &mut shelf, list.as_str(), Status::ListRefused, "list refused 1\n")?;
+    chains(
+        &rt,
+        alloc,
+        &mut shelf,
+        list.as_str(),
+        Status::ListRefused,
+        "list refused 1\n",
+    )?;
     Ok(())
 }
 
@@ -509,14 +557,32 @@ fn a_chain_has_at_most_sixty_four_audits(rt: HostRuntime) -> Result<(), Fail> {
 fn loads_that_fail_are_named(rt: HostRuntime) -> Result<(), Fail> {
     let alloc = rt.alloc();
     let names = [
-        "list", "k.toml", "k.rep", "copy.elf", "copy.hex0", "a.bin", "copy.elf", "b.toml", "b.rep",
-        "copy.elf", "copy.hex0", "a.bin", "b.bin",
+        "list",
+        "k.toml",
+        "k.rep",
+        "copy.elf",
+        "copy.hex0",
+        "a.bin",
+        "copy.elf",
+        "b.toml",
+        "b.rep",
+        "copy.elf",
+        "copy.hex0",
+        "a.bin",
+        "b.bin",
     ];
     for (index, name) in names.iter().enumerate() {
         let mut shelf = both(&rt, alloc, &[], &[])?;
         shelf.fail_load(11 + index as u64)?;
         let text = format!(in alloc; "shelf fault {name}\n")?;
-        chains(&rt, alloc, &mut shelf, IN_ORDER, Status::ShelfFault, text.as_str())?;
+        chains(
+            &rt,
+            alloc,
+            &mut shelf,
+            IN_ORDER,
+            Status::ShelfFault,
+            text.as_str(),
+        )?;
     }
     Ok(())
 }
@@ -529,7 +595,10 @@ fn a_put_that_fails_loses_the_text(rt: HostRuntime) -> Result<(), Fail> {
     shelf.set("list", IN_ORDER.as_bytes())?;
     let mut out = MemSink::new(alloc);
     out.fail_put(1)?;
-    assert_eq!(&rt; run(alloc, &["chain", "list"], &mut shelf, &mut out)?, Status::OutFault);
+    assert_eq!(&rt;
+        run(alloc, &["chain", "list"], &mut shelf, &mut out)?,
+        Status::OutFault
+    );
     assert!(&rt; NONE.as_bytes().starts_with(out.written()));
     Ok(())
 }
@@ -538,14 +607,22 @@ fn a_put_that_fails_loses_the_text(rt: HostRuntime) -> Result<(), Fail> {
 fn words_that_are_no_list(rt: HostRuntime) -> Result<(), Fail> {
     let alloc = rt.alloc();
     let mut shelf = files(alloc)?;
-    let table: [&[&str]; 4] = [&["chain"], &["chain", ""], &["chain", "list", "list"], &["chain", "a\0"]];
+    let table: [&[&str]; 4] = [
+        &["chain"],
+        &["chain", ""],
+        &["chain", "list", "list"],
+        &["chain", "a\0"],
+    ];
     for words in &table {
         let mut out = MemSink::new(alloc);
         assert_eq!(&rt; run(alloc, words, &mut shelf, &mut out)?, Status::Usage);
         assert_eq!(&rt; out.written(), b"usage\n");
     }
     let mut out = MemSink::new(alloc);
-    assert_eq!(&rt; run(alloc, &["chain", "none"], &mut shelf, &mut out)?, Status::FileRefused);
+    assert_eq!(&rt;
+        run(alloc, &["chain", "none"], &mut shelf, &mut out)?,
+        Status::FileRefused
+    );
     assert_eq!(&rt; out.written(), b"file refused none absent\n");
     Ok(())
 }

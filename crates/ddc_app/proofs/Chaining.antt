@@ -84,7 +84,7 @@ module _ (files : NamedFiles) (P : Outcome → Type 0) where
         held = (one.0, found.held);
         count = ap suc found.count;
         each = All-cons IsContent content contents (record { bytes = bytes; small = omega (arith, one.1, min-le_left 268_435_456 room) }) found.each;
-        small = more (length content) (sum_by length contents) room found.small (omega (arith, one.1, min-le_right 268_435_456 room)) ;
+        small = more (length content) (sum_by length contents) room found.small (omega (arith, one.1, min-le_right 268_435_456 room));
       })))
     where
       more : (a b c : ℕ) → b ≤ c - a → a ≤ c → a + b ≤ c

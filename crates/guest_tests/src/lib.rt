@@ -1,4 +1,4 @@
-//! Tests of the files, the calls, the loader, the runner and sessions, by their public calls alone: a crate of their own, so that none
+//! Tests of the files, the calls, the loader, the runner, sessions and scripts, by their public calls alone: a crate of their own, so that none
 //! of those crates is proved twice for its tests.
 #![tactic(auto)]
 
@@ -14,6 +14,8 @@ mod files;
 mod loader;
 #[cfg(test)]
 mod programs;
+#[cfg(test)]
+mod scripts;
 #[cfg(test)]
 mod sessions;
 

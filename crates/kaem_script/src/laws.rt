@@ -1,10 +1,31 @@
 //! Laws of scripts. Each law is the contract of a function that does nothing.
-ghost use Rattle.std.specs.Prelude.{◌≡◌, ℕ, List, Ok};
-ghost use Rattle.kaem_script.specs.Kept.{AreCommands};
+ghost use Rattle.std.specs.Prelude.{◌≡◌, ℕ, List, Ok, Err};
+ghost use Rattle.elf_load.specs.declared.refusal.ElfRefusal.{ElfRefusal};
+ghost use Rattle.guest_run.specs.Start.{Elf, Refusal, start_of};
+ghost use Rattle.mem_files.specs.Sound.{IsSound};
+ghost use Rattle.mem_files.specs.World.{World};
+ghost use Rattle.kaem_script.specs.Fold.{Ran, box_of, command};
+ghost use Rattle.kaem_script.specs.Kept.{AreCommands, IsCommand};
+ghost use Rattle.kaem_script.specs.Runs.{IsCommandRun};
 ghost use Rattle.kaem_script.specs.Script.{commands_of};
 
 /// A script that is read has at most 4,096 commands of 1 to 64 words; each word has at most 255 bytes, none of them zero, and the first
 /// names a file of a guest.
 pub fn scripts_keep_the_rules()
     ensures { (script : List ℕ) (commands : List (List (List ℕ))) → commands_of script ≡ Ok commands → AreCommands commands }
+{}
+
+/// A command's start is refused where its file is no program, and for no other cause: the words of a script and the files of a world keep the
+/// limits of a start.
+pub fn no_other_refusal()
+    ensures { (program : List ℕ) (world : World) (words : List (List ℕ)) (refusal : Refusal) → IsSound world → IsCommand words
+        → start_of program (box_of world words) ≡ Err refusal → (fault : ElfRefusal) × (refusal ≡ Elf fault) }
+{}
+
+/// A command that ran is a run of the program at its name with the box of all files that are there, and the other way round.
+pub fn a_command_is_a_run()
+    ensures runs { (most : ℕ) (world : World) (words : List (List ℕ)) (ran : Ran) → command most world words ≡ Ok ran
+        → IsCommandRun most world words ran }
+    ensures found { (most : ℕ) (world : World) (words : List (List ℕ)) (ran : Ran) → IsCommandRun most world words ran
+        → command most world words ≡ Ok ran }
 {}

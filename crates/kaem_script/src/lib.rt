@@ -3,12 +3,22 @@
 //! docs/reference/kaem.md has the rules for a reader, and specs/Script.antt and specs/Fold.antt the same for the prover.
 #![tactic(auto)]
 
+mod auditing;
+mod cause;
+mod command;
+mod files;
+mod fold;
 pub mod laws;
+mod marks;
+mod present;
 mod reading;
 mod refusal;
 mod script;
 mod words;
 
+pub use auditing::{ScriptEnd, audit};
+pub use cause::CommandCause;
+pub use files::FileList;
 pub use reading::Command;
 pub use refusal::{ScriptFault, ScriptRefusal};
 pub use script::{Script, read};

@@ -43,10 +43,7 @@ pub fn assumptions_for(
 
 /// What has to be believed where later audits may run the audited binary: the lines of `assumptions`, with each compared stage counted as the
 /// program of an unchecked stage. A compared stage without a source has no line.
-pub fn assumptions_with_compared(
-    alloc: Global,
-    recipe: &Recipe,
-) -> Result<Assumptions, OutOfMemory>
+pub fn assumptions_with_compared(alloc: Global, recipe: &Recipe) -> Result<Assumptions, OutOfMemory>
     ensures { IfOk result (λ lines. lines ≡ listed recipe.now) }
 {
     trust_lines(alloc, recipe, &Trusted::WithCompared)

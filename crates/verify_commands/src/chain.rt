@@ -15,9 +15,8 @@ ghost use Rattle.verify_commands.specs.Chain.{chain_files, chain_plan, chained, 
 ghost use Rattle.verify_commands.specs.ChainTexts.{audit_line, chain_text};
 ghost use Rattle.verify_commands.specs.Texts.{refuted_line};
 
-use crate::chain_texts;
 use crate::pair::Pair;
-use crate::texts;
+use crate::{chain_texts, texts};
 use audit_chain::{Link, Links};
 use command_plan::lists::{self, fetch_list};
 use command_plan::words::{is_file_word, is_one_file};
@@ -235,8 +234,14 @@ fn judge(
 {
     match verifier::verify(alloc, recipe, inputs, report) {
         Verdict::Yes => Ok(()),
-        Verdict::TrueButDiffers => Err(Stop::Answered(differs(alloc, number, report.compare.as_slice())?)),
-        Verdict::Refuted { part, place } => Err(Stop::Answered(refuted(alloc, number, part, place)?)),
+        Verdict::TrueButDiffers => Err(Stop::Answered(differs(
+            alloc,
+            number,
+            report.compare.as_slice(),
+        )?)),
+        Verdict::Refuted { part, place } => Err(Stop::Answered(refuted(
+            alloc, number, part, place,
+        )?)),
         Verdict::OutOfMemory { .. } => Err(Stop::OutOfMemory),
     }
 }
@@ -257,6 +262,10 @@ fn refuted(alloc: Global, number: u32, part: Part, place: u32) -> Result<Answer,
 {
     Ok(Answer {
         status: Status::Refuted,
-        text: chain_texts::of_audit(alloc, number, texts::refuted(alloc, part, place)?.as_slice())?,
+        text: chain_texts::of_audit(
+            alloc,
+            number,
+            texts::refuted(alloc, part, place)?.as_slice(),
+        )?,
     })
 }

@@ -41,11 +41,7 @@ fn count(alloc: Global, count: usize) -> Result<Bytes, OutOfMemory>
 }
 
 /// Adds a line for each that remains.
-fn put_remaining(
-    alloc: Global,
-    text: &mut Bytes,
-    lines: &[ChainLine],
-) -> Result<(), OutOfMemory>
+fn put_remaining(alloc: Global, text: &mut Bytes, lines: &[ChainLine]) -> Result<(), OutOfMemory>
     ensures { OnOk result (text.new ≡ text.old ++ flat_map remaining_line lines.now) }
 {
     for line in lines {
@@ -71,12 +67,7 @@ fn remains(alloc: Global, remains: &ChainLine) -> Result<Bytes, OutOfMemory>
 
 /// That it is one of its source.
 #[tactic(auto, using(crate::proofs::Written::written))]
-fn implements(
-    alloc: Global,
-    audit: u32,
-    made: &Name,
-    source: &Name,
-) -> Result<Bytes, OutOfMemory>
+fn implements(alloc: Global, audit: u32, made: &Name, source: &Name) -> Result<Bytes, OutOfMemory>
     ensures { IfOk result (λ text. text ≡ line (codes "assumes" ∷ decimal audit ∷ codes "implements" ∷ made.now ∷ source.now ∷ [])) }
 {
     let mut text = Bytes::from_vec(format!(in alloc; "assumes {audit} implements ")?.into_bytes());

@@ -21,11 +21,7 @@ impl Listed for Pair {
     ghost form = { pair_of };
 
     #[tactic(auto, unfolding(crate::specs::Chain::pair_of))]
-    fn read(
-        alloc: Global,
-        _earlier: &[Pair],
-        line: &[u8],
-    ) -> Result<Option<Pair>, OutOfMemory> {
+    fn read(alloc: Global, _earlier: &[Pair], line: &[u8]) -> Result<Option<Pair>, OutOfMemory> {
         let (recipe, report) = cut_at_blank(line);
         match ListedWord::read(alloc, recipe)? {
             Some(recipe) => match ListedWord::read(alloc, report)? {

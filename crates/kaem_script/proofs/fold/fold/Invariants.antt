@@ -1,0 +1,8 @@
+use Rattle.std.proofs.Common.{drop}
+use Rattle.kaem_script.specs.Fold.{folded}
+use Rattle.kaem_script.specs.Inside.Commands.{world_in}
+use Rattle.kaem_script.proofs.Folding.{Going}
+use Rattle.kaem_script.proofs.fold.fold.Given as goal
+
+abbrev pub invariant-loop-index : goal.invariant-loop-index
+invariant-loop-index l = Going l.most l.lines (world_in l.present) (drop l.index l.commands) l.index (folded l.most l.fn.files l.commands)

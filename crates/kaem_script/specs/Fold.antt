@@ -1,0 +1,83 @@
+-- The commands of a script, one after the other over one world of files. docs/reference/kaem.md says the same for people.
+use Rattle.std.specs.Prelude.{ℕ, ◌+◌, ◌==◌, if◌then◌else◌, Option, None, Some, Result, Ok, Err, List, [], ◌∷◌, ◌++◌, length}
+use Rattle.std.specs.FinMap as files
+use Rattle.mem_files.specs.World.{World}
+use Rattle.mem_files.specs.Calls.{content_at}
+use Rattle.mem_files.specs.Names.{stripped}
+use Rattle.mem_files.specs.Outputs.{left}
+use Rattle.guest_run.specs.Run.{End, Exited, Trapped, UnknownCall, first_end}
+use Rattle.guest_run.specs.Setting.{Setting}
+use Rattle.guest_run.specs.Start.{ArgsTooLong, BoxTooLarge, Elf, Refusal, start_of}
+use Rattle.guest_run.specs.State.{GuestState}
+use Rattle.kaem_script.specs.declared.cause.CommandCause.{CommandCause}
+use Rattle.kaem_script.specs.declared.cause.CommandCause.TheVariants as cause
+
+-- ---- one command
+
+-- what a command's program is given: all words as they are written, no environment, and all files that are there
+unfoldable pub box_of : World → List (List ℕ) → Setting
+box_of world words = record { args = words; env = []; files = files.from_entries (left world); heap = 536_870_912 }
+
+-- the first word names the program
+abbrev pub program_name : List (List ℕ) → List ℕ
+program_name [] = []
+program_name (word ∷ words) = stripped word
+
+-- a command whose program exited with 0: at which step, counted from 1, and the files that it left
+pub record Ran : Type 0 where
+  pub steps : ℕ
+  pub world : World
+
+-- what a command comes to: it ran, or it stops the script for a cause, at a step
+abbrev pub CommandResult : Type 0
+CommandResult = Result Ran (CommandCause × ℕ)
+
+-- a start is refused where the file is no program. The law `no_other_refusal` says that the other two causes do not come: words and files
+-- of a script keep their limits.
+abbrev pub start_cause : Refusal → CommandCause
+start_cause (Elf refusal) = cause.Elf refusal
+start_cause ArgsTooLong = cause.NoProgram
+start_cause BoxTooLarge = cause.NoProgram
+
+abbrev pub by_status : ℕ → ℕ → World → CommandResult
+by_status status step world = if status == 0 then Ok (record { steps = step; world = world }) else Err (cause.Status status, step)
+
+-- an end comes in the step that follows the state, so its own step is counted too
+abbrev pub by_end : ℕ → Option (End × GuestState) → CommandResult
+by_end most None = Err (cause.Spent, most)
+by_end most (Some (Exited status, guest)) = by_status status (guest.steps + 1) guest.world
+by_end most (Some (Trapped why, guest)) = Err (cause.Trap why, guest.steps + 1)
+by_end most (Some (UnknownCall number, guest)) = Err (cause.Call number, guest.steps + 1)
+
+abbrev pub by_start : ℕ → Result GuestState Refusal → CommandResult
+by_start most (Err refusal) = Err (start_cause refusal, 0)
+by_start most (Ok guest) = by_end most (first_end guest most)
+
+abbrev pub by_program : ℕ → World → List (List ℕ) → Option (List ℕ) → CommandResult
+by_program most world words None = Err (cause.NoProgram, 0)
+by_program most world words (Some program) = by_start most (start_of program (box_of world words))
+
+-- a command over the files that are there, within so many steps: its program is what stands at the program's name now
+unfoldable pub command : ℕ → World → List (List ℕ) → CommandResult
+command most world words = by_program most world words (content_at world (program_name words))
+
+-- ---- all commands
+
+-- all commands ran, the last of which left these files; or the command of this number, from 1, stopped the script
+pub data Folded : Type 0 where
+  Finished : (ran : List Ran) → (world : World) → Folded
+  Stopped : (number : ℕ) → CommandCause → (step : ℕ) → Folded
+
+abbrev pub after_command : ℕ → CommandResult → (Ran → Folded) → Folded
+after_command number (Err why) next = Stopped number why.0 why.1
+after_command number (Ok ran) next = next ran
+
+-- the commands that are left, after those that ran, over the files that are there now
+abbrev pub fold_from : ℕ → List Ran → World → List (List (List ℕ)) → Folded
+fold_from most done world [] = Finished done world
+fold_from most done world (words ∷ commands) =
+    after_command (length done + 1) (command most world words) (λ ran. fold_from most (done ++ ran ∷ []) ran.world commands)
+
+-- a script's commands over these files, each within so many steps
+unfoldable pub folded : ℕ → World → List (List (List ℕ)) → Folded
+folded most world commands = fold_from most [] world commands

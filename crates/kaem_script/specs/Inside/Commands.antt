@@ -1,0 +1,62 @@
+-- What a command and all commands come to, as the code has it.
+use Rattle.std.specs.Prelude.{◌≡◌, ℕ, Result, Ok, Err, List, [], map}
+use Rattle.std.specs.List.{fold}
+use Rattle.std.specs.FinMap as files
+use Rattle.elf_load.specs.declared.refusal.ElfRefusal.{ElfRefusal}
+use Rattle.mem_files.specs.World.{World}
+use Rattle.mem_files.specs.Calls.{first_world}
+use Rattle.mem_files.specs.Outputs.{left}
+use Rattle.guest_run.specs.Setting.{Setting}
+use Rattle.guest_run.specs.Start.{Elf, Refusal, with_given}
+use Rattle.guest_run.specs.State.{GuestState}
+use Rattle.kaem_script.specs.declared.cause.CommandCause.{CommandCause}
+use Rattle.report.specs.declared.script.types.CommandLine.{CommandLine}
+use Rattle.kaem_script.specs.declared.present.Present.{Present}
+use Rattle.kaem_script.specs.declared.present.Present.TheVariants.{Given, Left}
+use Rattle.kaem_script.specs.declared.fold.Folding.{Folding}
+use Rattle.kaem_script.specs.declared.fold.Folding.TheVariants as fold
+use Rattle.kaem_script.specs.Fold.{CommandResult, Finished, Folded, Ran, Stopped}
+use Rattle.kaem_script.specs.Reported.{command_line}
+
+-- the files that are there
+abbrev pub world_in : Present → World
+world_in (Given files) = files.now
+world_in (Left files) = files
+
+-- the files with which a program starts that is given what these leave
+unfoldable pub renewed : World → World
+renewed world = fold with_given first_world (left world)
+
+-- what a command's program is given, but for the files
+abbrev pub texts_of : List (List ℕ) → Setting
+texts_of words = record { args = words; env = []; files = files.empty; heap = 536_870_912 }
+
+-- a start that only a file which is no program refuses
+abbrev pub StartsWith : Result GuestState Refusal → Result GuestState ElfRefusal → Type 0
+StartsWith meant (Ok guest) = meant ≡ Ok guest
+StartsWith meant (Err refusal) = meant ≡ Err (Elf refusal)
+
+-- a command that ran, by its line and by the files that it left
+abbrev pub ran_with : CommandLine → World → Ran
+ran_with line world = record { steps = line.steps; world = world }
+
+abbrev pub IsRun : CommandResult → CommandLine → World → Type 0
+IsRun meant line world = (meant ≡ Ok (ran_with line world)) × (line ≡ command_line (ran_with line world))
+
+abbrev pub Exits : CommandResult → World → Result CommandLine (CommandCause × ℕ) → Type 0
+Exits meant world (Ok line) = IsRun meant line world
+Exits meant world (Err why) = meant ≡ Err why
+
+abbrev pub Comes : CommandResult → Result (CommandLine × World) (CommandCause × ℕ) → Type 0
+Comes meant (Ok exited) = IsRun meant exited.0 exited.1
+Comes meant (Err why) = meant ≡ Err why
+
+-- all commands ran, with these lines, and these files are left
+pub record Finishes (meant : Folded) (lines : List CommandLine) (world : World) : Type 0 where
+  pub done : List Ran
+  pub is : meant ≡ Finished done world
+  pub lines_are : lines ≡ map command_line done
+
+abbrev pub Folds : Folded → Folding → Type 0
+Folds meant (fold.Finished lines present) = Finishes meant lines (world_in present)
+Folds meant (fold.Stopped number why) = meant ≡ Stopped number why.0 why.1

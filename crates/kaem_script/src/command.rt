@@ -1,0 +1,130 @@
+//! One command of a script.
+
+ghost use Rattle.guest_run.specs.Run.{first_end};
+ghost use Rattle.guest_run.specs.Start.{start_of};
+ghost use Rattle.kaem_script.specs.Fold.{by_end, command, program_name};
+ghost use Rattle.kaem_script.specs.Inside.Commands.{Comes, Exits, StartsWith, texts_of, world_in};
+ghost use Rattle.kaem_script.specs.Kept.{IsCommand};
+ghost use Rattle.kaem_script.specs.Reported.{command_line};
+ghost use Rattle.std.specs.Prelude.{◌≡◌, ◌+◌, ◌<◌, ◌≤◌, ◌^◌, IfOk};
+
+use crate::cause::CommandCause;
+use crate::marks::mark_of;
+use crate::present::{Present, files_in, renewed};
+use crate::reading::Command;
+use ddc_base::OutOfMemory;
+use elf_load::ElfRefusal;
+use guest_run::{Guest, RunBox, RunEnd, RunRam, StartRefusal};
+use mem_files::{Files, strip};
+use report::script::CommandLine;
+use std::alloc::Global;
+
+/// The most bytes of a program's heap.
+const HEAP: u64 = 536_870_912;
+
+/// A command that ran: what is reported of it, and the files that it left.
+pub(crate) type Exited = (CommandLine, Files);
+
+/// A command that stopped its script: why, and at which step.
+pub(crate) type Stop = (CommandCause, u64);
+
+/// Runs a command over the files that are there, within so many steps.
+#[tactic(auto, unfolding(crate::specs::Fold::command))]
+pub(crate) fn run_command(
+    alloc: Global,
+    present: Present<'_>,
+    words: &Command,
+    most: u64,
+) -> Result<Result<Exited, Stop>, OutOfMemory>
+    requires words { IsCommand words.now }
+    requires some { 1 ≤ most }
+    requires few { most ≤ 2 ^ 48 }
+    ensures { IfOk result (Comes (command most (world_in present.entry) words.now)) }
+{
+    let files = files_in(&present);
+    // What files keep is told by a call of theirs.
+    files.stream(1);
+    let Some(program) = files.content(program_name(words)) else {
+        return Ok(Err((CommandCause::NoProgram, 0)));
+    };
+    match start(alloc, program, words)? {
+        Ok(guest) => run(guest.with_files(renewed(alloc, present)?), most),
+        Err(refusal) => Ok(Err((CommandCause::Elf(refusal), 0))),
+    }
+}
+
+/// The name of a command's program.
+fn program_name(words: &Command) -> &[u8]
+    ensures { result.now ≡ program_name words.now }
+{
+    match words.as_slice() {
+        [] => &[],
+        [first, ..] => strip(first.as_slice()),
+    }
+}
+
+/// Starts a command's program, without files.
+fn start(
+    alloc: Global,
+    program: &[u8],
+    words: &Command,
+) -> Result<Result<Guest<RunRam>, ElfRefusal>, OutOfMemory>
+    requires { IsCommand words.now }
+    ensures meant { IfOk result (StartsWith (start_of program.now (texts_of words.now))) }
+    ensures fresh { IfOk result (λ started. IfOk started (λ guest. guest.steps ≡ 0)) }
+{
+    let mut given = RunBox::new(alloc, HEAP);
+    for word in words.as_slice() {
+        given.push_arg(word.as_slice())?;
+    }
+    match Guest::<RunRam>::start(alloc, program, &given) {
+        Ok(guest) => Ok(Ok(guest)),
+        Err(StartRefusal::Elf(refusal)) => Ok(Err(refusal)),
+        Err(StartRefusal::ArgsTooLong) => unreachable!(),
+        Err(StartRefusal::BoxTooLarge) => unreachable!(),
+        Err(StartRefusal::OutOfMemory) => Err(OutOfMemory),
+    }
+}
+
+/// Runs a guest to its exit with 0, within so many steps.
+fn run(guest: Guest<RunRam>, most: u64) -> Result<Result<Exited, Stop>, OutOfMemory>
+    requires fresh { guest.steps ≡ 0 }
+    requires some { 1 ≤ most }
+    requires few { most ≤ 2 ^ 48 }
+    ensures { IfOk result (Comes (by_end most (first_end guest most))) }
+{
+    let mut guest = guest;
+    match exit(&mut guest, most)? {
+        Ok(line) => Ok(Ok((line, guest.into_files()))),
+        Err(stop) => Ok(Err(stop)),
+    }
+}
+
+/// Runs a guest up to its exit with 0, within so many steps: the line of the command.
+fn exit(guest: &mut Guest<RunRam>, most: u64) -> Result<Result<CommandLine, Stop>, OutOfMemory>
+    requires fresh { guest.old.steps ≡ 0 }
+    requires some { 1 ≤ most }
+    requires few { most ≤ 2 ^ 48 }
+    ensures { IfOk result (Exits (by_end most (first_end guest.old most)) guest.new.world) }
+{
+    match guest.run(most) {
+        RunEnd::Exited(0) => Ok(Ok(line_of(guest))),
+        RunEnd::Exited(status) => Ok(Err((CommandCause::Status(status), guest.steps() + 1))),
+        RunEnd::Trapped(cause) => Ok(Err((CommandCause::Trap(cause), guest.steps() + 1))),
+        RunEnd::UnknownCall(number) => Ok(Err((CommandCause::Call(number), guest.steps() + 1))),
+        RunEnd::Spent => Ok(Err((CommandCause::Spent, most))),
+        RunEnd::OutOfMemory => Err(OutOfMemory),
+    }
+}
+
+/// The line of a command whose guest stands before its exit.
+fn line_of(guest: &Guest<RunRam>) -> CommandLine
+    requires { guest.now.steps < 2 ^ 63 }
+    ensures { result ≡ command_line (record { steps = guest.now.steps + 1; world = guest.now.world }) }
+{
+    CommandLine {
+        steps: guest.steps() + 1,
+        stream1: mark_of(guest.files().stream(1)),
+        stream2: mark_of(guest.files().stream(2)),
+    }
+}

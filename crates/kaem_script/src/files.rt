@@ -1,0 +1,88 @@
+//! The files that a script is given.
+
+ghost use Rattle.kaem_script.specs.Listed.{AreNames, Pushes, no_files};
+ghost use Rattle.std.specs.Prelude.{◌≡◌, ◌<◌, [], ◌∷◌, ◌++◌, IfOk, vec_capacity, vec_len};
+
+use ddc_base::{Bytes, OutOfMemory};
+use mem_files::{Files, PlaceRefusal, strip};
+use std::alloc::Global;
+use std::marker::Model;
+
+/// Files in a list, each under a name of its own: at most 4,096 files of 268,435,456 bytes each, and 536,870,912 bytes in all.
+#[derive(Debug, Drop)]
+pub struct FileList {
+    names: Vec<Bytes>,
+    files: Files,
+    alloc: Global,
+}
+
+impl Model for FileList {
+    ghost use Rattle.kaem_script.specs.Listed.{AreNames, Listed};
+    ghost use Rattle.kaem_script.specs.Inside.Codes.{listed_code};
+
+    ghost Value = { Listed };
+
+    ghost coded = { listed_code };
+
+    ghost view = { λ list. record { names = list.names.items; world = list.files } };
+
+    ghost invariant = { λ list. AreNames list.names.items };
+}
+
+impl FileList {
+    /// No files.
+    pub fn new(alloc: Global) -> Result<FileList, OutOfMemory>
+        ensures { IfOk result (λ list. list ≡ no_files) }
+    {
+        Ok(FileList {
+            names: Vec::new(alloc),
+            files: Files::new(alloc)?,
+            alloc,
+        })
+    }
+
+    /// Adds a file under its name without the `./` that it begins with.
+    ///
+    /// Refuses as placing a file in a guest does; a refusal leaves the list as it was.
+    pub fn push(&mut self, name: &[u8], content: &[u8]) -> Result<(), PlaceRefusal>
+        ensures { Pushes self.old name.now content.now result self.new }
+    {
+        let Ok(kept) = Bytes::from_slice(self.alloc, strip(name)) else {
+            return Err(PlaceRefusal::OutOfMemory);
+        };
+        let Ok(()) = self.names.reserve(1) else {
+            return Err(PlaceRefusal::OutOfMemory);
+        };
+        match self.files.place(name, content) {
+            Ok(()) => {
+                push_name(&mut self.names, kept);
+                Ok(())
+            }
+            Err(refusal) => Err(refusal),
+        }
+    }
+
+    /// The names without the `./` that they begin with, in the order of the list.
+    pub fn names(&self) -> &[Bytes]
+        ensures value { result.now ≡ self.now.names }
+        // Each is a name as files hold it.
+        ensures kept { AreNames self.now.names }
+    {
+        self.names.as_slice()
+    }
+
+    /// The files.
+    pub fn files(&self) -> &Files
+        ensures { result.now ≡ self.now.world }
+    {
+        &self.files
+    }
+}
+
+/// Adds a name for which there is room.
+fn push_name(names: &mut Vec<Bytes>, name: Bytes)
+    requires { vec_len names.old < vec_capacity names.old }
+    ensures { names.new.items ≡ names.old.items ++ name ∷ [] }
+{
+    names.push(name).unwrap();
+}

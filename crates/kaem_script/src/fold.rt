@@ -1,0 +1,49 @@
+//! All commands of a script, one after the other.
+
+ghost use Rattle.kaem_script.specs.Fold.{folded};
+ghost use Rattle.kaem_script.specs.Inside.Commands.{Folds};
+ghost use Rattle.kaem_script.specs.Kept.{AreCommands};
+ghost use Rattle.std.specs.Prelude.{◌≡◌, ◌≤◌, ◌^◌, IfOk};
+
+use crate::command::{Stop, run_command};
+use crate::present::Present;
+use crate::reading::Command;
+use ddc_base::OutOfMemory;
+use mem_files::Files;
+use report::script::CommandLines;
+use std::alloc::Global;
+
+/// How a script's commands ended.
+#[derive(Drop)]
+pub(crate) enum Folding<'a> {
+    /// All of them ran, with these lines; the files that are there then.
+    Finished(CommandLines, Present<'a>),
+    /// The command of this number, from 1, stopped the script.
+    Stopped(u32, Stop),
+}
+
+/// Runs commands over one world of files, each within so many steps.
+pub(crate) fn fold<'a>(
+    alloc: Global,
+    commands: &[Command],
+    files: &'a Files,
+    most: u64,
+) -> Result<Folding<'a>, OutOfMemory>
+    requires kept { AreCommands commands.now }
+    requires some { 1 ≤ most }
+    requires few { most ≤ 2 ^ 48 }
+    ensures { IfOk result (Folds (folded most files.now commands.now)) }
+{
+    let mut lines = CommandLines::new(alloc);
+    let mut present = Present::Given(files);
+    for (index, words) in commands.iter().enumerate() {
+        match run_command(alloc, present, words, most)? {
+            Ok((line, left)) => {
+                lines.push(line)?;
+                present = Present::Left(left);
+            }
+            Err(stop) => return Ok(Folding::Stopped(index as u32 + 1, stop)),
+        }
+    }
+    Ok(Folding::Finished(lines, present))
+}

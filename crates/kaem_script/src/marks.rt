@@ -1,0 +1,62 @@
+//! Marks, and the lines of files.
+
+ghost use Rattle.kaem_script.specs.Listed.{AreNames, listed_files, named_in};
+ghost use Rattle.kaem_script.specs.Reported.{mark_of, marked};
+ghost use Rattle.mem_files.specs.Names.{is_stripped_name};
+ghost use Rattle.mem_files.specs.Outputs.{left};
+ghost use Rattle.std.specs.Prelude.{◌≡◌, IfOk, IsTrue, map};
+
+use crate::files::FileList;
+use crate::present::bytes_of;
+use ddc_base::{Bytes, OutOfMemory, digest};
+use mem_files::Files;
+use report::{LeftLine, LeftLines, Mark};
+use std::alloc::Global;
+
+/// The mark of bytes. It takes no memory.
+pub(crate) fn mark_of(bytes: &[u8]) -> Mark
+    ensures { result ≡ mark_of bytes.now }
+{
+    Mark {
+        length: bytes.len() as u64,
+        digest: digest(bytes),
+    }
+}
+
+/// The lines of the files of a list, in its order.
+pub(crate) fn listed_lines(alloc: Global, list: &FileList) -> Result<LeftLines, OutOfMemory>
+    ensures { IfOk result (λ lines. lines ≡ map marked (listed_files list.now)) }
+{
+    let mut lines = LeftLines::new(alloc);
+    for name in list.names() {
+        lines.push(line_of(alloc, list.files(), name.as_slice())?)?;
+    }
+    Ok(lines)
+}
+
+/// The lines of all files that are left, by the bytes of their names.
+pub(crate) fn left_lines(alloc: Global, files: &Files) -> Result<LeftLines, OutOfMemory>
+    ensures { IfOk result (λ lines. lines ≡ map marked (left files.now)) }
+{
+    // What files keep is told by a call of theirs.
+    files.stream(1);
+    let mut lines = LeftLines::new(alloc);
+    let mut last: Option<&[u8]> = None;
+    while let Some(name) = files.name_after(last) {
+        lines.push(line_of(alloc, files, name)?)?;
+        last = Some(name);
+    }
+    Ok(lines)
+}
+
+/// The line of a file that is there.
+fn line_of(alloc: Global, files: &Files, name: &[u8]) -> Result<LeftLine, OutOfMemory>
+    requires { IsTrue (is_stripped_name name.now) }
+    ensures { IfOk result (λ line. line ≡ marked (named_in files.now name.now)) }
+{
+    let mark = mark_of(bytes_of(files, name));
+    Ok(LeftLine {
+        name: Bytes::from_slice(alloc, name)?,
+        mark,
+    })
+}
