@@ -19,14 +19,14 @@ use Rattle.meaning.specs.AllContents.{all_contents, text_by}
 use Rattle.meaning.specs.AllContents as full
 use Rattle.meaning.specs.Assumptions.{Holds}
 use Rattle.meaning.specs.Follows.{audited_binary}
-use Rattle.meaning.specs.Listed.{BinaryImplements, ConcludesListed, ListedHold, listed}
+use Rattle.meaning.specs.Listed.{BinaryImplements, ConcludesListed, ListedHold, lines_listed}
 use Rattle.meaning.specs.Meaning.{Compiles as Compiling, Implements as IsProgram, Prescribes}
 use Rattle.meaning.specs.declared.assumption.Assumption.{Assumption}
 use Rattle.meaning.specs.declared.assumption.Assumption.TheVariants.{Implements, Compiles}
 use Rattle.meaning.proofs.Argument.{All-back, All-front}
 use Rattle.meaning.proofs.Naming.{get-split}
 use Rattle.audit_chain.specs.declared.link.Link.{Link}
-use Rattle.audit_chain.specs.Chain.{bytes_of, given_contents, given_text, gives, is_given, is_input, is_struck, is_text, numbered, remaining_after, same_files, same_text, stage_text, text_named, unstruck}
+use Rattle.audit_chain.specs.Chain.{input_bytes, given_contents, given_text, gives, is_given, names_input, is_struck, is_same_text, chain_line, remaining_after, same_files, same_text, text_of_stage, given_text_named, unstruck}
 use Rattle.audit_chain.specs.Composed.{EachConcludes, HoldsIn, IsTrueAudit, RemainingHold}
 
 -- ---- equal texts
@@ -60,7 +60,7 @@ same-text a b is =
 -- ---- what inputs alone say is said with all contents
 
 -- an input stands for its own bytes, whatever was made
-input-content : (recipe : Said) (inputs some others : List (List ℕ)) (name : List ℕ) → is_input recipe name ≡ true
+input-content : (recipe : Said) (inputs some others : List (List ℕ)) (name : List ℕ) → names_input recipe name ≡ true
     → content recipe (record { inputs = inputs; artefacts = some }) name ≡ content recipe (record { inputs = inputs; artefacts = others }) name
 unfolding content content_named
 input-content recipe inputs some others name is = by (input_at recipe.inputs name) is where
@@ -70,15 +70,15 @@ input-content recipe inputs some others name is = by (input_at recipe.inputs nam
   by None there = absurd cc
   by (Some index) there = refl
 
-given-content : (link : Link) (name : List ℕ) → is_input link.recipe name ≡ true → bytes_of link name ≡ content link.recipe (all_contents link.recipe link.inputs) name
+given-content : (link : Link) (name : List ℕ) → names_input link.recipe name ≡ true → input_bytes link name ≡ content link.recipe (all_contents link.recipe link.inputs) name
 unfolding all_contents
 given-content link name is = input-content link.recipe link.inputs [] _ name is
 
-given-files : (link : Link) (names : List (List ℕ)) → list_all (is_input link.recipe) names ≡ true
+given-files : (link : Link) (names : List (List ℕ)) → list_all (names_input link.recipe) names ≡ true
     → map (content link.recipe (given_contents link)) names ≡ map (content link.recipe (all_contents link.recipe link.inputs)) names
 given-files link [] is = refl
 given-files link (name ∷ names) is =
-    let parts = and_parts (is_input link.recipe name) (list_all (is_input link.recipe) names) is in
+    let parts = and_parts (names_input link.recipe name) (list_all (names_input link.recipe) names) is in
     ap₂ (λ h t. h ∷ t) (given-content link name parts.0) (given-files link names parts.1)
 
 some-same : {A : Type 0} (b : Bool) (x y : A) → cond b (Some x) None ≡ Some y → (b ≡ true) × (x ≡ y)
@@ -89,15 +89,15 @@ given-source : (link : Link) (source : Source) (text : SourceText) → given_tex
     → text_of link.recipe (all_contents link.recipe link.inputs) source ≡ text
 unfolding given_text text_of
 given-source link source text is =
-    let parts = some-same (list_all (is_input link.recipe) source.files) (text_of link.recipe (given_contents link) source) text is in
+    let parts = some-same (list_all (names_input link.recipe) source.files) (text_of link.recipe (given_contents link) source) text is in
     let files = given-files link source.files parts.0 in
     let same : text_of link.recipe (given_contents link) source ≡ text_of link.recipe (all_contents link.recipe link.inputs) source =
     λ i. record { lang = source.lang; base = source.base; files = files i } in
     sym same ∙ parts.1
 
-given-named : (link : Link) (name : List ℕ) (text : SourceText) → text_named link name ≡ Some text
-    → full.text_named link.recipe (all_contents link.recipe link.inputs) name ≡ text
-unfolding full.text_named
+given-named : (link : Link) (name : List ℕ) (text : SourceText) → given_text_named link name ≡ Some text
+    → full.given_text_named link.recipe (all_contents link.recipe link.inputs) name ≡ text
+unfolding full.given_text_named
 given-named link name text is = by (source_named link.recipe.sources name) is where
   by : (o : Option Source) → option_and_then (given_text link) o ≡ Some text → text_by link.recipe (all_contents link.recipe link.inputs) o ≡ text
   by None is = absurd cc
@@ -120,22 +120,22 @@ module _ (prescribes : Prescribes) (compiles : Compiling) where
   Audited link = IsTrueAudit link × Concluded link
 
   -- a pair that an audit gives is a program of a source
-  stage-given : (other : Link) (stage : List ℕ) (text : SourceText) → BinaryImplements prescribes other.recipe other.inputs stage → is_text text (stage_text other stage) ≡ true
+  stage-given : (other : Link) (stage : List ℕ) (text : SourceText) → BinaryImplements prescribes other.recipe other.inputs stage → is_same_text text (text_of_stage other stage) ≡ true
       → IsProgram prescribes (audited_binary other.recipe other.inputs) text
-  unfolding stage_text
+  unfolding text_of_stage
   stage-given other stage text shown is = by_source (source_of other.recipe stage) shown is where
-    by_text : (name : List ℕ) (o : Option SourceText) → text_named other name ≡ o → is_text text o ≡ true
-        → IsProgram prescribes (audited_binary other.recipe other.inputs) (full.text_named other.recipe (all_contents other.recipe other.inputs) name)
+    by_text : (name : List ℕ) (o : Option SourceText) → given_text_named other name ≡ o → is_same_text text o ≡ true
+        → IsProgram prescribes (audited_binary other.recipe other.inputs) (full.given_text_named other.recipe (all_contents other.recipe other.inputs) name)
         → IsProgram prescribes (audited_binary other.recipe other.inputs) text
     by_text name None at is implements = absurd cc
     by_text name (Some given) at is implements =
         subst (IsProgram prescribes (audited_binary other.recipe other.inputs)) (given-named other name given at ∙ same-text given text is) implements
 
     by_source : (o : Option (List ℕ))
-        → IfSome o (λ name. IsProgram prescribes (audited_binary other.recipe other.inputs) (full.text_named other.recipe (all_contents other.recipe other.inputs) name))
-        → is_text text (option_and_then (text_named other) o) ≡ true → IsProgram prescribes (audited_binary other.recipe other.inputs) text
+        → IfSome o (λ name. IsProgram prescribes (audited_binary other.recipe other.inputs) (full.given_text_named other.recipe (all_contents other.recipe other.inputs) name))
+        → is_same_text text (option_and_then (given_text_named other) o) ≡ true → IsProgram prescribes (audited_binary other.recipe other.inputs) text
     by_source None implements is = absurd cc
-    by_source (Some name) implements is = by_text name (text_named other name) refl is implements
+    by_source (Some name) implements is = by_text name (given_text_named other name) refl is implements
 
   input-there : (o : Option ℕ) → IsSome o → is_some o ≡ true
   input-there None some = absurd cc
@@ -144,11 +144,11 @@ module _ (prescribes : Prescribes) (compiles : Compiling) where
   pair-given : (other : Link) (bytes : List ℕ) (text : SourceText) → Audited other → gives bytes text other ≡ true → IsProgram prescribes bytes text
   unfolding gives
   pair-given other bytes text audited is =
-      let parts = and_parts (bytes_eq (bytes_of other other.recipe.compare.binary) bytes) (list_any (λ stage. is_text text (stage_text other stage)) other.recipe.compare.stages) is in
-      let one = any-has (λ stage. is_text text (stage_text other stage)) (BinaryImplements prescribes other.recipe other.inputs) other.recipe.compare.stages parts.1 audited.1.implements in
+      let parts = and_parts (bytes_eq (input_bytes other other.recipe.compare.binary) bytes) (list_any (λ stage. is_same_text text (text_of_stage other stage)) other.recipe.compare.stages) is in
+      let one = any-has (λ stage. is_same_text text (text_of_stage other stage)) (BinaryImplements prescribes other.recipe other.inputs) other.recipe.compare.stages parts.1 audited.1.implements in
       let there = input-there (input_at other.recipe.inputs other.recipe.compare.binary) audited.0.rules.binary in
       let same : audited_binary other.recipe other.inputs ≡ bytes =
-      sym (given-content other other.recipe.compare.binary there) ∙ (bytes_eq-Decides (bytes_of other other.recipe.compare.binary) bytes).0 parts.0 in
+      sym (given-content other other.recipe.compare.binary there) ∙ (bytes_eq-Decides (input_bytes other other.recipe.compare.binary) bytes).0 parts.0 in
       subst (λ program. IsProgram prescribes program text) same (stage-given other one.0 text one.1 one.2)
 
   -- a struck line holds
@@ -157,20 +157,20 @@ module _ (prescribes : Prescribes) (compiles : Compiling) where
   unfolding is_struck
   struck-holds earlier link (Compiles source stage becomes) audited is = absurd cc
   struck-holds earlier link (Implements made source) audited is =
-      let parts = and_parts (is_input link.recipe made) (is_given earlier (bytes_of link made) (text_named link source)) is in
-      by parts.0 (text_named link source) refl parts.1
+      let parts = and_parts (names_input link.recipe made) (is_given earlier (input_bytes link made) (given_text_named link source)) is in
+      by parts.0 (given_text_named link source) refl parts.1
     where
-      by : is_input link.recipe made ≡ true → (o : Option SourceText) → text_named link source ≡ o → is_given earlier (bytes_of link made) o ≡ true
-          → IsProgram prescribes (content link.recipe (all_contents link.recipe link.inputs) made) (full.text_named link.recipe (all_contents link.recipe link.inputs) source)
+      by : names_input link.recipe made ≡ true → (o : Option SourceText) → given_text_named link source ≡ o → is_given earlier (input_bytes link made) o ≡ true
+          → IsProgram prescribes (content link.recipe (all_contents link.recipe link.inputs) made) (full.given_text_named link.recipe (all_contents link.recipe link.inputs) source)
       by there None at given = absurd cc
       by there (Some text) at given =
-          let one = any-has (gives (bytes_of link made) text) Audited earlier given audited in
+          let one = any-has (gives (input_bytes link made) text) Audited earlier given audited in
           subst (IsProgram prescribes (content link.recipe (all_contents link.recipe link.inputs) made)) (sym (given-named link source text at))
-          (subst (λ program. IsProgram prescribes program text) (given-content link made there) (pair-given one.0 (bytes_of link made) text one.1 one.2))
+          (subst (λ program. IsProgram prescribes program text) (given-content link made there) (pair-given one.0 (input_bytes link made) text one.1 one.2))
 
   -- lines of which each is struck or remains hold
   lines-hold : (links earlier : List Link) (link : Link) (number : ℕ) → slice_get links (number - 1) ≡ Some link → All Audited earlier → (lines : List Assumption)
-      → All (HoldsIn prescribes compiles links) (map (numbered number) (filter (λ line. not (is_struck earlier link line)) lines))
+      → All (HoldsIn prescribes compiles links) (map (chain_line number) (filter (λ line. not (is_struck earlier link line)) lines))
       → All (Holds prescribes compiles link.recipe (all_contents link.recipe link.inputs)) lines
   lines-hold links earlier link number at audited [] remain = All-nil (Holds prescribes compiles link.recipe (all_contents link.recipe link.inputs))
   lines-hold links earlier link number at audited (line ∷ lines) remain =
@@ -185,13 +185,13 @@ module _ (prescribes : Prescribes) (compiles : Compiling) where
       rest : List Assumption
       rest = filter (λ l. not (is_struck earlier link l)) lines
 
-      by : (b : Bool) → is_struck earlier link line ≡ b → All (HoldsIn prescribes compiles links) (map (numbered number) (cond (not b) (line ∷ rest) rest))
-          → (All (HoldsIn prescribes compiles links) (map (numbered number) rest) → All Own lines) → All Own (line ∷ lines)
+      by : (b : Bool) → is_struck earlier link line ≡ b → All (HoldsIn prescribes compiles links) (map (chain_line number) (cond (not b) (line ∷ rest) rest))
+          → (All (HoldsIn prescribes compiles links) (map (chain_line number) rest) → All Own lines) → All Own (line ∷ lines)
       by true was remain later = All-cons Own line lines (struck-holds earlier link line audited was) (later remain)
       by false was remain later =
-          let here : Line line = All-head (HoldsIn prescribes compiles links) (numbered number line) (map (numbered number) rest) remain in
+          let here : Line line = All-head (HoldsIn prescribes compiles links) (chain_line number line) (map (chain_line number) rest) remain in
           All-cons Own line lines (subst (λ (o : Option Link). IfSome o (λ (k : Link). Holds prescribes compiles k.recipe (all_contents k.recipe k.inputs) line)) at here)
-          (later (All-tail (HoldsIn prescribes compiles links) (numbered number line) (map (numbered number) rest) remain))
+          (later (All-tail (HoldsIn prescribes compiles links) (chain_line number line) (map (chain_line number) rest) remain))
 
   -- every audit, where those before it conclude
   each-concludes : (links : List Link) → ((link : Link) → IsTrueAudit link → ListedHold prescribes compiles link.recipe link.inputs → Concluded link)
@@ -205,7 +205,7 @@ module _ (prescribes : Prescribes) (compiles : Compiling) where
       let mine = All-head IsTrueAudit link rest true_audits in
       let number : (length earlier + 1) - 1 ≡ length earlier = omega arith in
       let at : slice_get links ((length earlier + 1) - 1) ≡ Some link = ap (slice_get links) number ∙ ap (λ ls. slice_get ls (length earlier)) split ∙ get-split earlier link rest in
-      let held = lines-hold links earlier link (length earlier + 1) at audited (listed link.recipe) (All-front (HoldsIn prescribes compiles links) own others remain) in
+      let held = lines-hold links earlier link (length earlier + 1) at audited (lines_listed link.recipe) (All-front (HoldsIn prescribes compiles links) own others remain) in
       let concluded = concludes link mine held in
       All-cons Concluded link rest concluded
       (each-concludes links concludes (earlier ++ link ∷ []) rest (split ∙ sym (append_assoc earlier (link ∷ []) rest)) (All-push Audited earlier link audited (mine, concluded))

@@ -5,16 +5,16 @@ use Rattle.std.proofs.lemmas.List.Elements.{filter-append}
 use Rattle.meaning.specs.declared.assumption.Assumption.{Assumption}
 use Rattle.audit_chain.specs.declared.link.Link.{Link}
 use Rattle.audit_chain.specs.declared.link.ChainLine.{ChainLine}
-use Rattle.audit_chain.specs.Chain.{is_struck, numbered, remaining, remaining_after, unstruck}
+use Rattle.audit_chain.specs.Chain.{is_struck, chain_line, remaining, remaining_after, unstruck}
 
 -- those of some lines that remain
 abbrev pub kept : List Link → Link → List Assumption → List ChainLine
-kept earlier link lines = map (numbered (length earlier + 1)) (filter (λ line. not (is_struck earlier link line)) lines)
+kept earlier link lines = map (chain_line (length earlier + 1)) (filter (λ line. not (is_struck earlier link line)) lines)
 
 kept-append : (earlier : List Link) (link : Link) (front more : List Assumption) → kept earlier link (front ++ more) ≡ kept earlier link front ++ kept earlier link more
 kept-append earlier link front more =
     let passes = λ (line : Assumption). not (is_struck earlier link line) in
-    ap (map (numbered (length earlier + 1))) (filter-append passes front more) ∙ map-append (numbered (length earlier + 1)) (filter passes front) (filter passes more)
+    ap (map (chain_line (length earlier + 1))) (filter-append passes front more) ∙ map-append (chain_line (length earlier + 1)) (filter passes front) (filter passes more)
 
 -- one line more
 pub line_more : (earlier : List Link) (link : Link) (old now new : List ChainLine) (listed : List Assumption) (i : ℕ) (line : Assumption)

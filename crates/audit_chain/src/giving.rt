@@ -1,6 +1,6 @@
 //! What an audit gives to later ones, and which of their lines it shows.
 
-ghost use Rattle.audit_chain.specs.Chain.{bytes_of, given_contents, gives, is_input, is_struck, is_text, same_files, same_text, stage_text, text_named};
+ghost use Rattle.audit_chain.specs.Chain.{input_bytes, given_contents, gives, names_input, is_struck, is_same_text, same_files, same_text, text_of_stage, given_text_named};
 ghost use Rattle.recipe.specs.Lookups.{input_at};
 ghost use Rattle.std.specs.List.{list_all, list_any};
 ghost use Rattle.std.specs.Prelude.{◌≡◌, [], get_or, map, option_map};
@@ -20,11 +20,11 @@ pub(crate) fn is_struck(earlier: &[Link], link: &Link, line: &Assumption) -> boo
 {
     match line {
         Assumption::Implements { made, source } => {
-            if !is_input(&link.recipe, made) {
+            if !names_input(&link.recipe, made) {
                 return false;
             }
             match source_named(link, source) {
-                Some(source) => is_given(earlier, bytes_of(link, made), link, source),
+                Some(source) => is_given(earlier, input_bytes(link, made), link, source),
                 None => false,
             }
         }
@@ -47,12 +47,12 @@ fn is_given(earlier: &[Link], bytes: &[u8], link: &Link, source: &Source) -> boo
 fn gives(other: &Link, bytes: &[u8], link: &Link, source: &Source) -> bool
     ensures { result ≡ gives bytes.now (text_of link.now.recipe (given_contents link.now) source.now) other.now }
 {
-    bytes_of(other, &other.recipe.compare().binary) == bytes && gives_text(other, link, source)
+    input_bytes(other, &other.recipe.compare().binary) == bytes && gives_text(other, link, source)
 }
 
 /// Whether the text is that of the source of one of its compared stages.
 fn gives_text(other: &Link, link: &Link, source: &Source) -> bool
-    ensures { result ≡ list_any (λ stage. is_text (text_of link.now.recipe (given_contents link.now) source.now) (stage_text other.now stage))
+    ensures { result ≡ list_any (λ stage. is_same_text (text_of link.now.recipe (given_contents link.now) source.now) (text_of_stage other.now stage))
         other.now.recipe.compare.stages }
 {
     other
@@ -66,7 +66,7 @@ fn gives_text(other: &Link, link: &Link, source: &Source) -> bool
 
 /// Whether the text is that of the source of a stage.
 fn is_of_stage(other: &Link, stage: &Name, link: &Link, source: &Source) -> bool
-    ensures { result ≡ is_text (text_of link.now.recipe (given_contents link.now) source.now) (stage_text other.now stage.now) }
+    ensures { result ≡ is_same_text (text_of link.now.recipe (given_contents link.now) source.now) (text_of_stage other.now stage.now) }
 {
     match source_of_stage(other, stage) {
         Some(own) => same_text(other, own, link, source),
@@ -75,9 +75,9 @@ fn is_of_stage(other: &Link, stage: &Name, link: &Link, source: &Source) -> bool
 }
 
 /// The source of a stage, where it has one and all its files are inputs.
-#[tactic(auto, unfolding(crate::specs::Chain::stage_text))]
+#[tactic(auto, unfolding(crate::specs::Chain::text_of_stage))]
 fn source_of_stage<'a>(link: &'a Link, stage: &Name) -> Option<&'a Source>
-    ensures { option_map (λ source. text_of link.now.recipe (given_contents link.now) source.now) result ≡ stage_text link.now stage.now }
+    ensures { option_map (λ source. text_of link.now.recipe (given_contents link.now) source.now) result ≡ text_of_stage link.now stage.now }
 {
     match link.recipe.source_of(stage) {
         Some(name) => source_named(link, name),
@@ -88,7 +88,7 @@ fn source_of_stage<'a>(link: &'a Link, stage: &Name) -> Option<&'a Source>
 /// The source of a name, where all its files are inputs.
 #[tactic(auto, unfolding(crate::specs::Chain::given_text))]
 fn source_named<'a>(link: &'a Link, name: &Name) -> Option<&'a Source>
-    ensures { option_map (λ source. text_of link.now.recipe (given_contents link.now) source.now) result ≡ text_named link.now name.now }
+    ensures { option_map (λ source. text_of link.now.recipe (given_contents link.now) source.now) result ≡ given_text_named link.now name.now }
 {
     match link.recipe.source(name) {
         Some(source) => {
@@ -104,14 +104,14 @@ fn source_named<'a>(link: &'a Link, name: &Name) -> Option<&'a Source>
 
 /// Whether all these names are inputs'.
 fn are_inputs(recipe: &Recipe, names: &[Name]) -> bool
-    ensures { result ≡ list_all (is_input recipe.now) names.now }
+    ensures { result ≡ list_all (names_input recipe.now) names.now }
 {
-    names.iter().all(|name| is_input(recipe, name))
+    names.iter().all(|name| names_input(recipe, name))
 }
 
 /// Whether a name is an input's.
-fn is_input(recipe: &Recipe, name: &Name) -> bool
-    ensures { result ≡ is_input recipe.now name.now }
+fn names_input(recipe: &Recipe, name: &Name) -> bool
+    ensures { result ≡ names_input recipe.now name.now }
 {
     place_of(recipe.inputs().as_slice(), name).is_some()
 }
@@ -125,8 +125,8 @@ fn place_of(inputs: &[Input], name: &Name) -> Option<usize>
 
 /// The bytes of the input of a name; none where it is no input's.
 #[tactic(auto, unfolding(wheeler::specs::Contents::content))]
-fn bytes_of<'a>(link: &'a Link, name: &Name) -> &'a [u8]
-    ensures { result.now ≡ bytes_of link.now name.now }
+fn input_bytes<'a>(link: &'a Link, name: &Name) -> &'a [u8]
+    ensures { result.now ≡ input_bytes link.now name.now }
 {
     match link.recipe.content(name) {
         Some(Content::Input(index)) => at(link.inputs.as_slice(), index),
@@ -175,14 +175,14 @@ fn same_language(one: Option<Language>, other: Option<Language>) -> bool
 
 /// Whether files have the same bytes, one by one.
 fn same_files(first: &Link, ones: &[Name], second: &Link, others: &[Name]) -> bool
-    ensures { result ≡ same_files (map (bytes_of first.now) ones.now) (map (bytes_of second.now) others.now) }
+    ensures { result ≡ same_files (map (input_bytes first.now) ones.now) (map (input_bytes second.now) others.now) }
 {
     match ones {
         [] => others.is_empty(),
         [one, ones @ ..] => match others {
             [] => false,
             [other, others @ ..] => {
-                bytes_of(first, one) == bytes_of(second, other)
+                input_bytes(first, one) == input_bytes(second, other)
                     && same_files(first, ones, second, others)
             }
         },

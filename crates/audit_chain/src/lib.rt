@@ -8,5 +8,5 @@ pub mod laws;
 mod link;
 mod remaining_lines;
 
-pub use link::{ChainLine, ChainLines, Link, Links};
+pub use link::{ChainLine, ChainLines, Link, ChainLinks};
 pub use remaining_lines::remaining;

@@ -10,7 +10,7 @@ pub struct Link {
 }
 
 /// Audits in a row.
-pub type Links = ListOf<Link>;
+pub type ChainLinks = ListOf<Link>;
 
 /// A line that remains.
 #[derive(Debug, Drop)]

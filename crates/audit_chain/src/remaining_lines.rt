@@ -1,10 +1,10 @@
 //! The lines that remain.
 
-ghost use Rattle.audit_chain.specs.Chain.{is_struck, numbered, remaining, unstruck};
+ghost use Rattle.audit_chain.specs.Chain.{is_struck, chain_line, remaining, unstruck};
 ghost use Rattle.std.specs.Prelude.{◌≡◌, ◌+◌, ◌++◌, ◌∷◌, ◌<◌, ◌^◌, [], filter, length, map, not, IfOk, OnOk};
 
 use crate::giving::is_struck;
-use crate::link::{ChainLine, ChainLines, Link, Links};
+use crate::link::{ChainLine, ChainLines, Link, ChainLinks};
 use ddc_base::{ListOf, OutOfMemory};
 use meaning::{Assumption, assumptions_with_compared};
 use std::alloc::Global;
@@ -12,7 +12,7 @@ use std::alloc::Global;
 /// What remains to be believed of audits in a row: the lines of each, with its number from 1, that none of the earlier audits shows.
 ///
 /// The lines of an audit are those of `meaning::assumptions`, with each compared stage counted as the program of an unchecked stage.
-pub fn remaining(alloc: Global, links: &Links) -> Result<ChainLines, OutOfMemory>
+pub fn remaining(alloc: Global, links: &ChainLinks) -> Result<ChainLines, OutOfMemory>
     requires { length links.now < 2 ^ 32 }
     ensures { IfOk result (λ lines. lines ≡ remaining links.now) }
 {
@@ -55,7 +55,7 @@ fn push_each(
 ) -> Result<(), OutOfMemory>
     requires { length earlier.now + 1 < 2 ^ 32 }
     ensures { OnOk result (lines.new ≡ lines.old
-        ++ map (numbered (length earlier.now + 1)) (filter (λ line. not (is_struck earlier.now link.now line)) listed.now)) }
+        ++ map (chain_line (length earlier.now + 1)) (filter (λ line. not (is_struck earlier.now link.now line)) listed.now)) }
 {
     for line in listed {
         push_line(lines, earlier, link, line)?;
@@ -72,7 +72,7 @@ fn push_line(
 ) -> Result<(), OutOfMemory>
     requires { length earlier.now + 1 < 2 ^ 32 }
     ensures { OnOk result (lines.new ≡ lines.old
-        ++ map (numbered (length earlier.now + 1)) (filter (λ line. not (is_struck earlier.now link.now line)) (line.now ∷ []))) }
+        ++ map (chain_line (length earlier.now + 1)) (filter (λ line. not (is_struck earlier.now link.now line)) (line.now ∷ []))) }
 {
     if is_struck(earlier, link, line) {
         return Ok(());

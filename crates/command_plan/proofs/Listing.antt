@@ -9,7 +9,7 @@ use Rattle.std.proofs.lemmas.List.Elements.{All-push}
 use Rattle.std.proofs.lemmas.List.Splits.{length-slice_split, slice_split_at, slice_split_none}
 use Rattle.std.proofs.lemmas.Str.{IsUtf8-from_ascii}
 use Rattle.ddc_base.specs.Outside.{IsFileName}
-use Rattle.command_plan.specs.Lists.{is_line_feed, is_listed_word, is_word_byte, listed_after, with_item}
+use Rattle.command_plan.specs.Lists.{is_line_feed, is_listed_word, is_listed_byte, listed_after, with_line_item}
 
 abbrev pub NoLF : ℕ → Type 0
 NoLF byte = is_line_feed byte ≡ false
@@ -33,10 +33,10 @@ uncut text at past clear = slice_split_none is_line_feed text (subst (All NoLF) 
 
 -- ---- words
 
-parts-of : (word : List ℕ) → is_listed_word word ≡ true → (1 ≤ length word) × (length word ≤ 255) × (list_all is_word_byte word ≡ true)
+parts-of : (word : List ℕ) → is_listed_word word ≡ true → (1 ≤ length word) × (length word ≤ 255) × (list_all is_listed_byte word ≡ true)
 unfolding is_listed_word
 parts-of word is =
-    let parts = and_parts (nat_le 1 (length word) && nat_le (length word) 255) (list_all is_word_byte word) is in
+    let parts = and_parts (nat_le 1 (length word) && nat_le (length word) 255) (list_all is_listed_byte word) is in
     let sizes = and_parts (nat_le 1 (length word)) (nat_le (length word) 255) parts.0 in
     (leb-true 1 (length word) sizes.0, leb-true (length word) 255 sizes.1, parts.1)
 
@@ -44,13 +44,13 @@ parts-of word is =
 pub word-names : (word : List ℕ) → IsTrue (is_listed_word word) → IsFileName word
 word-names word is = let p = parts-of word is in record { not_empty = p.0; not_long = p.1 }
 
-bytes-ascii : (word : List ℕ) → list_all is_word_byte word ≡ true → IsAscii word
+bytes-ascii : (word : List ℕ) → list_all is_listed_byte word ≡ true → IsAscii word
 bytes-ascii [] is i = omega arith
 bytes-ascii (byte ∷ bytes) is zero =
-    let parts = and_parts (is_word_byte byte) (list_all is_word_byte bytes) is in
+    let parts = and_parts (is_listed_byte byte) (list_all is_listed_byte bytes) is in
     let below = leb-true byte 0x7E (and_parts (nat_le 0x21 byte) (nat_le byte 0x7E) parts.0).1 in
     omega (arith, below)
-bytes-ascii (byte ∷ bytes) is (suc i) = bytes-ascii bytes (and_parts (is_word_byte byte) (list_all is_word_byte bytes) is).1 i
+bytes-ascii (byte ∷ bytes) is (suc i) = bytes-ascii bytes (and_parts (is_listed_byte byte) (list_all is_listed_byte bytes) is).1 i
 
 pub word-ascii : (word : List ℕ) → is_listed_word word ≡ true → IsUtf8 word
 word-ascii word is = IsUtf8-from_ascii word (bytes-ascii word (parts-of word is).2)
@@ -64,13 +64,13 @@ module _ {A : Type 0} (form : List A → List ℕ → Option A) (most : ℕ) (it
   -- what a line that is ended leads to
   abbrev ended : Result (List A) ℕ
   ended =
-      cond (nat_lt (length items) most) (with_item (form items line) (length items + 1) (λ item. listed_after form most (items ++ item ∷ []) (pieces after)))
+      cond (nat_lt (length items) most) (with_line_item (form items line) (length items + 1) (λ item. listed_after form most (items ++ item ∷ []) (pieces after)))
       (Err (length items + 1))
 
   goes : (rest : List ℕ) → listed_after form most items (pieces rest) ≡ whole → pieces rest ≡ line ∷ pieces after → ended ≡ whole
   goes rest before cut = by (pieces after) (omega (arith, length-slice_split is_line_feed after)) ∙ ap (listed_after form most items) (sym cut) ∙ before where
     by : (parts : List (List ℕ)) → 0 < length parts
-        → cond (nat_lt (length items) most) (with_item (form items line) (length items + 1) (λ item. listed_after form most (items ++ item ∷ []) parts)) (Err (length items + 1))
+        → cond (nat_lt (length items) most) (with_line_item (form items line) (length items + 1) (λ item. listed_after form most (items ++ item ∷ []) parts)) (Err (length items + 1))
         ≡ listed_after form most items (line ∷ parts)
     by [] some = absurd (omega (arith, some))
     by (part ∷ parts) some = refl
@@ -80,21 +80,21 @@ module _ {A : Type 0} (form : List A → List ℕ → Option A) (most : ℕ) (it
   too_many rest count before cut counted many =
       let over : nat_lt (length items) most ≡ false = grind (arith, nat_tests) in
       ap (λ n. Err (n + 1)) counted
-      ∙ sym (ap (λ b. cond b (with_item (form items line) (length items + 1) (λ item. listed_after form most (items ++ item ∷ []) (pieces after))) (Err (length items + 1))) over)
+      ∙ sym (ap (λ b. cond b (with_line_item (form items line) (length items + 1) (λ item. listed_after form most (items ++ item ∷ []) (pieces after))) (Err (length items + 1))) over)
       ∙ goes rest before cut
 
   within : (rest : List ℕ) → listed_after form most items (pieces rest) ≡ whole → pieces rest ≡ line ∷ pieces after → length items < most
-      → with_item (form items line) (length items + 1) (λ item. listed_after form most (items ++ item ∷ []) (pieces after)) ≡ whole
+      → with_line_item (form items line) (length items + 1) (λ item. listed_after form most (items ++ item ∷ []) (pieces after)) ≡ whole
   within rest before cut few =
       let under : nat_lt (length items) most ≡ true = grind (arith, nat_tests) in
-      sym (ap (λ b. cond b (with_item (form items line) (length items + 1) (λ item. listed_after form most (items ++ item ∷ []) (pieces after))) (Err (length items + 1))) under)
+      sym (ap (λ b. cond b (with_line_item (form items line) (length items + 1) (λ item. listed_after form most (items ++ item ∷ []) (pieces after))) (Err (length items + 1))) under)
       ∙ goes rest before cut
 
   pub no_item : (rest : List ℕ) (count : ℕ) → listed_after form most items (pieces rest) ≡ whole → pieces rest ≡ line ∷ pieces after → count ≡ length items → count + 1 ≤ most
       → form items line ≡ None → Err (count + 1) ≡ whole
   no_item rest count before cut counted few none =
       ap (λ n. Err (n + 1)) counted
-      ∙ sym (ap (λ o. with_item o (length items + 1) (λ item. listed_after form most (items ++ item ∷ []) (pieces after))) none)
+      ∙ sym (ap (λ o. with_line_item o (length items + 1) (λ item. listed_after form most (items ++ item ∷ []) (pieces after))) none)
       ∙ within rest before cut (omega (arith, counted, few))
 
   pub one_more : (rest : List ℕ) (count : ℕ) (item : A) (grown : List A) → listed_after form most items (pieces rest) ≡ whole → pieces rest ≡ line ∷ pieces after
@@ -102,7 +102,7 @@ module _ {A : Type 0} (form : List A → List ℕ → Option A) (most : ℕ) (it
       → (listed_after form most grown (pieces after) ≡ whole) × (length grown ≤ most)
   one_more rest count item grown before cut counted few some pushed = (
     ap (λ l. listed_after form most l (pieces after)) pushed
-        ∙ sym (ap (λ o. with_item o (length items + 1) (λ item. listed_after form most (items ++ item ∷ []) (pieces after))) some)
+        ∙ sym (ap (λ o. with_line_item o (length items + 1) (λ item. listed_after form most (items ++ item ∷ []) (pieces after))) some)
         ∙ within rest before cut (omega (arith, counted, few)),
     omega (arith, counted, few, ap length pushed ∙ length-append items (item ∷ [])),
   )

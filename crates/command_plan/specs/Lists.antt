@@ -6,12 +6,12 @@ use Rattle.command_plan.specs.Plan.{Plan, answers, needs, unless_refused}
 use Rattle.command_plan.specs.Texts.{list_line}
 
 -- a byte of a listed word: 21 to 7E
-abbrev pub is_word_byte : ℕ → Bool
-is_word_byte byte = nat_le 0x21 byte && nat_le byte 0x7E
+abbrev pub is_listed_byte : ℕ → Bool
+is_listed_byte byte = nat_le 0x21 byte && nat_le byte 0x7E
 
 -- a listed word: 1 to 255 such bytes
 unfoldable pub is_listed_word : List ℕ → Bool
-is_listed_word text = nat_le 1 (length text) && nat_le (length text) 255 && list_all is_word_byte text
+is_listed_word text = nat_le 1 (length text) && nat_le (length text) 255 && list_all is_listed_byte text
 
 -- the word that a text is
 abbrev pub listed_word : List ℕ → Option (List ℕ)
@@ -22,9 +22,9 @@ abbrev pub is_line_feed : ℕ → Bool
 is_line_feed byte = byte == 10
 
 -- a line that is of the form goes on with what it stands for; any other is refused by its number
-abbrev pub with_item : {A : Type 0} → Option A → ℕ → (A → Result (List A) ℕ) → Result (List A) ℕ
-with_item None number next = Err number
-with_item (Some item) number next = next item
+abbrev pub with_line_item : {A : Type 0} → Option A → ℕ → (A → Result (List A) ℕ) → Result (List A) ℕ
+with_line_item None number next = Err number
+with_line_item (Some item) number next = next item
 
 -- what these lines list behind earlier ones, of which each is what `form` reads in the light of those before it, and all of which are at most
 -- `most`. The first line, from 1, is refused that is not of the form, or is not ended, or is one too many
@@ -33,7 +33,7 @@ listed_after form most earlier [] = Ok earlier
 listed_after form most earlier (last ∷ []) = if length last == 0 then Ok earlier else Err (length earlier + 1)
 listed_after form most earlier (line ∷ next ∷ lines) =
     if nat_lt (length earlier) most
-    then with_item (form earlier line) (length earlier + 1) (λ item. listed_after form most (earlier ++ item ∷ []) (next ∷ lines))
+    then with_line_item (form earlier line) (length earlier + 1) (λ item. listed_after form most (earlier ++ item ∷ []) (next ∷ lines))
     else Err (length earlier + 1)
 
 -- what a text lists

@@ -1,7 +1,7 @@
 ghost use Rattle.std.specs.Prelude.{◌≡◌, IfOk, IsTrue, string_bytes};
 ghost use Rattle.std.specs.List.{list_all};
 ghost use Rattle.ddc_base.specs.Outside.{IsFileName};
-ghost use Rattle.command_plan.specs.Lists.{is_listed_word, is_word_byte, listed_word};
+ghost use Rattle.command_plan.specs.Lists.{is_listed_word, is_listed_byte, listed_word};
 
 use ddc_base::OutOfMemory;
 use std::alloc::Global;
@@ -70,7 +70,7 @@ fn is_listed_word(text: &[u8]) -> bool
 
 /// Whether every byte may stand in a listed word.
 fn are_word_bytes(text: &[u8]) -> bool
-    ensures { result ≡ list_all is_word_byte text.now }
+    ensures { result ≡ list_all is_listed_byte text.now }
 {
     text.iter().all(|byte| matches!(*byte, 0x21..=0x7E))
 }

@@ -15,7 +15,7 @@ ghost use Rattle.report.specs.declared.line.Line.TheVariants.{Left, Stream1, Str
 ghost use Rattle.std.specs.FinMap as map;
 ghost use Rattle.std.specs.Prelude.{◌≡◌, ◌+◌, [], ◌∷◌, All, IsTrue, List, codes, sum, ℕ};
 ghost use Rattle.tool_commands.specs.RunProgram.{left_line, stream_line};
-ghost use Rattle.wheeler.specs.Stages.{mark_of};
+ghost use Rattle.report.specs.Marks.{mark_of};
 
 use audit_chain::laws::composed;
 use meaning::Meaning;

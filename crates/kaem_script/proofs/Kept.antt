@@ -9,7 +9,7 @@ use Rattle.std.specs.Prelude.{nat_le, nat_lt, IsTrue}
 use Rattle.mem_files.specs.Names.{is_file_name, stripped}
 use Rattle.kaem_script.specs.declared.refusal.ScriptFault.{ScriptFault}
 use Rattle.kaem_script.specs.declared.refusal.ScriptFault.TheVariants.{BadWord, LongWord, OpenQuote, TooMany, TooManyWords}
-use Rattle.kaem_script.specs.Script.{Word, begins, behind_word, commands_from, ends_line, ends_or_begins, ends_quoted, ends_word, fitting, is_blank, is_wrong, most_commands, most_words, names_nothing, next_word, plain_word, quoted_word, with_line, word_at}
+use Rattle.kaem_script.specs.Script.{ScriptWord, begins, behind_word, commands_from, ends_line, ends_or_begins, ends_quoted, ends_word, fitting, parts_words, is_wrong, most_commands, most_words, names_nothing, next_word, plain_word, quoted_word, with_line, word_at}
 use Rattle.kaem_script.specs.Kept.{AreCommands, IsCommand, IsLine, IsWord, NamesProgram}
 
 abbrev has_zero : List ℕ → Bool
@@ -58,7 +58,7 @@ stripped-free (a ∷ b ∷ rest) none = by (a == 46 && b == 47) (stripped-free r
 -- ---- a word
 
 -- a word of text without a zero byte
-abbrev IsFree : Result Word ScriptFault → Type 0
+abbrev IsFree : Result ScriptWord ScriptFault → Type 0
 IsFree (Ok word) = has_zero word.text ≡ false
 IsFree (Err fault) = Unit {0}
 
@@ -86,7 +86,7 @@ quoted-free rest =
     by true true false is = is
 
 -- a word that fits where it stands
-record Fits (first : Bool) (word : Word) : Type 0 where
+record Fits (first : Bool) (word : ScriptWord) : Type 0 where
   is : IsWord word.text
   named : first ≡ true → IsTrue (is_file_name (stripped word.text))
 
@@ -101,7 +101,7 @@ file-name text free short names =
     let most : nat_le (length (stripped text)) 255 ≡ true = grind (arith, nat_tests) in
     rw (one, most, stripped-free text free) refl
 
-fitting-fits : (first : Bool) (found : Result Word ScriptFault) (word : Word) → IsFree found → fitting first found ≡ Ok word → Fits first word
+fitting-fits : (first : Bool) (found : Result ScriptWord ScriptFault) (word : ScriptWord) → IsFree found → fitting first found ≡ Ok word → Fits first word
 fitting-fits first (Err fault) word free is = absurd (cc)
 fitting-fits first (Ok found) word free is = by first (names_nothing found.text) (nat_lt 255 (length found.text)) refl refl refl is
   where
@@ -111,19 +111,19 @@ fitting-fits first (Ok found) word free is = by first (names_nothing found.text)
     by true false true first_is nothing long here = absurd (cc)
     by true false false first_is nothing long here =
         let same : found ≡ word = cc in
-        subst (λ (w : Word). Fits first w) same (record {
+        subst (λ (w : ScriptWord). Fits first w) same (record {
           is = record { no_zero = no-zero found.text free; short = ltb-false _ _ long };
           named = λ _. file-name found.text free (ltb-false _ _ long) nothing;
         })
     by false n true first_is nothing long here = absurd (cc)
     by false n false first_is nothing long here =
         let same : found ≡ word = cc in
-        subst (λ (w : Word). Fits first w) same (record {
+        subst (λ (w : ScriptWord). Fits first w) same (record {
           is = record { no_zero = no-zero found.text free; short = ltb-false _ _ long };
           named = λ e. absurd (cc);
         })
 
-word-fits : (first : Bool) (here : List ℕ) (word : Word) → word_at first here ≡ Ok word → Fits first word
+word-fits : (first : Bool) (here : List ℕ) (word : ScriptWord) → word_at first here ≡ Ok word → Fits first word
 unfolding word_at
 word-fits first here word is = by (begins (λ byte. byte == 34) here) is
   where
@@ -132,13 +132,13 @@ word-fits first here word is = by (begins (λ byte. byte == 34) here) is
     by false here_is = fitting-fits first (plain_word here) word (plain-free here) here_is
 
 -- one more word of a line
-record Follows (commands words : ℕ) (word : Word) : Type 0 where
+record Follows (commands words : ℕ) (word : ScriptWord) : Type 0 where
   is : IsWord word.text
   room : words ≢ 64
   named : words ≡ 0 → IsTrue (is_file_name (stripped word.text))
   new_room : words ≡ 0 → commands ≢ 4096
 
-next-follows : (commands words : ℕ) (here : List ℕ) (word : Word) → next_word commands words here ≡ Ok word → Follows commands words word
+next-follows : (commands words : ℕ) (here : List ℕ) (word : ScriptWord) → next_word commands words here ≡ Ok word → Follows commands words word
 unfolding next_word
 next-follows commands words here word is = by (words == most_words) (nat_le words 0) (commands == most_commands) refl refl refl is
   where
@@ -174,7 +174,7 @@ named-more : (words : List (List ℕ)) (text : List ℕ) → NamesProgram words 
 named-more [] text named first = first refl
 named-more (word ∷ words) text named first = named
 
-word-kept : (commands : List (List (List ℕ))) (words : List (List ℕ)) (word : Word) → AreCommands commands → IsOpen commands words
+word-kept : (commands : List (List (List ℕ))) (words : List (List ℕ)) (word : ScriptWord) → AreCommands commands → IsOpen commands words
     → Follows (length commands) (length words) word → IsOpen commands (words ++ word.text ∷ [])
 word-kept commands words word are begun follows = record {
   line = record {
@@ -200,13 +200,13 @@ kept at inside commands words [] found are begun is =
     subst AreCommands same (line-kept commands words are begun)
 kept at (suc inside) commands words (byte ∷ rest) found are begun is = kept (at + 1) inside commands words rest found are begun is
 kept at zero commands words (byte ∷ rest) found are begun is =
-    by (ends_line byte) (is_blank byte) (byte == 35) is
+    by (ends_line byte) (parts_words byte) (byte == 35) is
     (kept (at + 1) 0 (with_line commands words) [] rest found)
     (kept (at + 1) 0 commands words rest found)
     (kept (at + 1) (position_or_len ends_line rest) commands words rest found)
     (λ size text. kept (at + 1) size commands (words ++ text ∷ []) rest found)
   where
-    more : (next : Result Word ScriptFault) → next_word (length commands) (length words) (byte ∷ rest) ≡ next
+    more : (next : Result ScriptWord ScriptFault) → next_word (length commands) (length words) (byte ∷ rest) ≡ next
         → behind_word at next (λ word. commands_from (at + 1) (word.size - 1) commands (words ++ word.text ∷ []) rest) ≡ Ok found
         → ((size : ℕ) (text : List ℕ) → AreCommands commands → IsOpen commands (words ++ text ∷ [])
         → commands_from (at + 1) size commands (words ++ text ∷ []) rest ≡ Ok found → AreCommands found)
@@ -225,10 +225,10 @@ kept at zero commands words (byte ∷ rest) found are begun is =
         → ((size : ℕ) (text : List ℕ) → AreCommands commands → IsOpen commands (words ++ text ∷ [])
         → commands_from (at + 1) size commands (words ++ text ∷ []) rest ≡ Ok found → AreCommands found)
         → AreCommands found
-    by true b c it ended blank comment word = ended (line-kept commands words are begun) (begun-none (with_line commands words)) it
-    by false true c it ended blank comment word = blank are begun it
-    by false false true it ended blank comment word = comment are begun it
-    by false false false it ended blank comment word = more (next_word (length commands) (length words) (byte ∷ rest)) refl it word
+    by true b c it script_ended blank comment word = script_ended (line-kept commands words are begun) (begun-none (with_line commands words)) it
+    by false true c it script_ended blank comment word = blank are begun it
+    by false false true it script_ended blank comment word = comment are begun it
+    by false false false it script_ended blank comment word = more (next_word (length commands) (length words) (byte ∷ rest)) refl it word
 
 pub script-kept : (script : List ℕ) (commands : List (List (List ℕ))) → commands_from 0 0 [] [] script ≡ Ok commands → AreCommands commands
 script-kept script commands is = kept 0 0 [] [] script commands (record { few = omega arith; each = λ k d less. absurd (omega arith) }) (begun-none []) is

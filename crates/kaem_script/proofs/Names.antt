@@ -10,7 +10,7 @@ use Rattle.mem_files.specs.Replies.{Places}
 use Rattle.mem_files.specs.declared.slot.PlaceRefusal.{PlaceRefusal}
 use Rattle.mem_files.specs.declared.slot.PlaceRefusal.TheVariants.{BadName, Twice, Full, OutOfMemory}
 use Rattle.guest_run.proofs.GivenLists.{good_name}
-use Rattle.kaem_script.specs.Listed.{AreNames, Listed, Pushes}
+use Rattle.kaem_script.specs.FilesListed.{AreNames, FilesListed, Pushes}
 
 -- what a placing comes to, by its three tests
 abbrev Placed : Type 0
@@ -47,7 +47,7 @@ names-more names w new name content are is =
 
 -- a list whose file is refused
 refused-for : (names : List (List ℕ)) (w new : World) (name content : List ℕ) (refusal : PlaceRefusal) → placed w name content ≡ (Err refusal, new)
-    → (placed w name content ≡ (Err refusal, w)) × (◌≡◌ {A = Listed} (record { names = names; world = new }) (record { names = names; world = w }))
+    → (placed w name content ≡ (Err refusal, w)) × (◌≡◌ {A = FilesListed} (record { names = names; world = new }) (record { names = names; world = w }))
 refused-for names w new name content refusal is =
     let same = placed-unchanged w new name content refusal is in
     (is ∙ ap (λ (x : World). (Err refusal, x)) same, ap (λ (x : World). record { names = names; world = x }) same)

@@ -15,7 +15,7 @@ use Rattle.guest_run.specs.Start.{with_given}
 use Rattle.guest_run.proofs.GivenLists.{CanPlace, can_start, place_next, placed_next}
 use Rattle.report.specs.declared.types.LeftLine.{LeftLine}
 use Rattle.kaem_script.specs.Inside.Commands.{renewed}
-use Rattle.kaem_script.specs.Listed.{named_in}
+use Rattle.kaem_script.specs.FilesListed.{named_in}
 use Rattle.kaem_script.specs.Reported.{marked}
 
 -- the names that come after the one given last

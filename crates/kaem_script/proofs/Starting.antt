@@ -25,7 +25,7 @@ use Rattle.guest_run.specs.State.{GuestState}
 use Rattle.guest_run.specs.Run.{first_end}
 use Rattle.guest_run.proofs.GivenLists.{good_name}
 use Rattle.kaem_script.specs.declared.cause.CommandCause.TheVariants as cause
-use Rattle.kaem_script.specs.Fold.{box_of, by_end, by_program, by_start, command, program_name}
+use Rattle.kaem_script.specs.Fold.{command_box, by_first_end, by_program, by_started, command, program_name}
 use Rattle.kaem_script.specs.Inside.Commands.{renewed, texts_of}
 use Rattle.kaem_script.specs.Kept.{IsCommand, IsWord}
 
@@ -76,8 +76,8 @@ texts-of-fit words is = record {
   files = passes most_total (files_size fin.empty) (omega (arith, no-files));
 }
 
-box-fits : (w : World) (words : List (List ℕ)) → IsSound w → IsCommand words → Fits (box_of w words)
-unfolding box_of
+box-fits : (w : World) (words : List (List ℕ)) → IsSound w → IsCommand words → Fits (command_box w words)
+unfolding command_box
 box-fits w words sound is = record {
   texts = passes 131072 (start_size words []) (texts-fit words is);
   files = passes most_total (files_size (fin.from_entries (left w))) (files-fit w sound);
@@ -106,8 +106,8 @@ refused-by-image program setting refusal fits is = at (image_of program) (sym (s
 
 -- a command's start is refused where its file is no program, and for no other cause
 pub only-elf : (program : List ℕ) (w : World) (words : List (List ℕ)) (refusal : Refusal) → IsSound w → IsCommand words
-    → start_of program (box_of w words) ≡ Err refusal → (fault : ElfRefusal) × (refusal ≡ Elf fault)
-only-elf program w words refusal sound is refused = refused-by-image program (box_of w words) refusal (box-fits w words sound is) refused
+    → start_of program (command_box w words) ≡ Err refusal → (fault : ElfRefusal) × (refusal ≡ Elf fault)
+only-elf program w words refusal sound is refused = refused-by-image program (command_box w words) refusal (box-fits w words sound is) refused
 
 pub only-elf-without-files : (program : List ℕ) (words : List (List ℕ)) (refusal : Refusal) → IsCommand words
     → start_of program (texts_of words) ≡ Err refusal → (fault : ElfRefusal) × (refusal ≡ Elf fault)
@@ -120,31 +120,31 @@ unfolding start_world renewed
 world-of-box w sound = ap (fold with_given first_world) (entries-left w sound)
 
 state-of-box : (program : List ℕ) (w : World) (words : List (List ℕ)) (image : Image) → IsSound w
-    → start_state program (box_of w words) image ≡ record (start_state program (texts_of words) image) { world = renewed w }
-unfolding start_state box_of
+    → start_state program (command_box w words) image ≡ record (start_state program (texts_of words) image) { world = renewed w }
+unfolding start_state command_box
 state-of-box program w words image sound = λ i. record (start_state program (texts_of words) image) { world = world-of-box w sound i }
 
 pub starts : (program : List ℕ) (w : World) (words : List (List ℕ)) (guest : GuestState) → IsSound w → IsCommand words
-    → start_of program (texts_of words) ≡ Ok guest → start_of program (box_of w words) ≡ Ok (record guest { world = renewed w })
+    → start_of program (texts_of words) ≡ Ok guest → start_of program (command_box w words) ≡ Ok (record guest { world = renewed w })
 starts program w words guest sound is without =
-    starts-by-image program (box_of w words) (box-fits w words sound is)
+    starts-by-image program (command_box w words) (box-fits w words sound is)
     ∙ at (image_of program) (sym (starts-by-image program (texts_of words) (texts-of-fit words is)) ∙ without)
   where
     at : (image : Result Image ElfRefusal) → by_image program (texts_of words) image ≡ Ok guest
-        → by_image program (box_of w words) image ≡ Ok (record guest { world = renewed w })
+        → by_image program (command_box w words) image ≡ Ok (record guest { world = renewed w })
     at (Err fault) here = absurd cc
     at (Ok image) here =
         let same : start_state program (texts_of words) image ≡ guest = cc in
         ap Ok (state-of-box program w words image sound ∙ ap (λ (g : GuestState). record g { world = renewed w }) same)
 
 pub refuses : (program : List ℕ) (w : World) (words : List (List ℕ)) (fault : ElfRefusal) → IsSound w → IsCommand words
-    → start_of program (texts_of words) ≡ Err (Elf fault) → start_of program (box_of w words) ≡ Err (Elf fault)
+    → start_of program (texts_of words) ≡ Err (Elf fault) → start_of program (command_box w words) ≡ Err (Elf fault)
 refuses program w words fault sound is without =
-    starts-by-image program (box_of w words) (box-fits w words sound is)
+    starts-by-image program (command_box w words) (box-fits w words sound is)
     ∙ at (image_of program) (sym (starts-by-image program (texts_of words) (texts-of-fit words is)) ∙ without)
   where
     at : (image : Result Image ElfRefusal) → by_image program (texts_of words) image ≡ Err (Elf fault)
-        → by_image program (box_of w words) image ≡ Err (Elf fault)
+        → by_image program (command_box w words) image ≡ Err (Elf fault)
     at (Err other) here = cc
     at (Ok image) here = absurd cc
 
@@ -156,17 +156,17 @@ program-named (word ∷ words) is = good_name word is.line.named
 
 pub command-starts : (most : ℕ) (w : World) (words : List (List ℕ)) (program : List ℕ) (guest : GuestState) → IsSound w → IsCommand words
     → content_at w (program_name words) ≡ Some program → start_of program (texts_of words) ≡ Ok guest
-    → command most w words ≡ by_end most (first_end (record guest { world = renewed w }) most)
+    → command most w words ≡ by_first_end most (first_end (record guest { world = renewed w }) most)
 unfolding command
 command-starts most w words program guest sound is there without =
-    ap (by_program most w words) there ∙ ap (by_start most) (starts program w words guest sound is without)
+    ap (by_program most w words) there ∙ ap (by_started most) (starts program w words guest sound is without)
 
 pub command-refused : (most : ℕ) (w : World) (words : List (List ℕ)) (program : List ℕ) (fault : ElfRefusal) → IsSound w → IsCommand words
     → content_at w (program_name words) ≡ Some program → start_of program (texts_of words) ≡ Err (Elf fault)
     → command most w words ≡ Err (cause.Elf fault, 0)
 unfolding command
 command-refused most w words program fault sound is there without =
-    ap (by_program most w words) there ∙ ap (by_start most) (refuses program w words fault sound is without)
+    ap (by_program most w words) there ∙ ap (by_started most) (refuses program w words fault sound is without)
 
 pub command-without : (most : ℕ) (w : World) (words : List (List ℕ)) → content_at w (program_name words) ≡ None → command most w words ≡ Err (cause.NoProgram, 0)
 unfolding command

@@ -4,7 +4,7 @@ use Rattle.std.specs.List.{position_or_len}
 use Rattle.std.proofs.lemmas.Bool.{ne_eqb}
 use Rattle.std.proofs.lemmas.List.{at_drop_more, drop-drop, drop_all, take_rest}
 use Rattle.kaem_script.specs.declared.refusal.ScriptFault.{ScriptFault}
-use Rattle.kaem_script.specs.Script.{Word, commands_from, ends_line, is_blank, next_word, with_line}
+use Rattle.kaem_script.specs.Script.{ScriptWord, commands_from, ends_line, parts_words, next_word, with_line}
 
 -- what begins at a place
 pub front : (script : List ℕ) (at : ℕ) → at < length script → drop at script ≡ get_or script at 0 ∷ drop (at + 1) script
@@ -33,13 +33,13 @@ at-line-end script here at commands words within is ends =
     rw (front script at within) (rw byte refl)
 
 pub at-blank : (script here : List ℕ) (at : ℕ) (commands : List (List (List ℕ))) (words : List (List ℕ)) → at < length script
-    → here ≡ drop at script → (get_or here 0 0 ≡ 10 → ⊥) → is_blank (get_or here 0 0) ≡ true
+    → here ≡ drop at script → (get_or here 0 0 ≡ 10 → ⊥) → parts_words (get_or here 0 0) ≡ true
     → commands_from at 0 commands words (drop at script) ≡ commands_from (at + 1) 0 commands words (drop (at + 1) script)
 unfolding commands_from
 at-blank script here at commands words within is other blank =
     let same = first-byte script here at within is in
     let ends : ends_line (get_or script at 0) ≡ false = ne_eqb _ _ (λ e. other (same ∙ e)) in
-    let passes : is_blank (get_or script at 0) ≡ true = ap is_blank (sym same) ∙ blank in
+    let passes : parts_words (get_or script at 0) ≡ true = ap parts_words (sym same) ∙ blank in
     rw (front script at within) (rw ends (rw passes refl))
 
 pub at-comment : (script here behind : List ℕ) (at size : ℕ) (commands : List (List (List ℕ))) (words : List (List ℕ)) → at < length script
@@ -60,10 +60,10 @@ pub record Begins (script here : List ℕ) (at : ℕ) : Type 0 where
   pub within : at < length script
   pub is : here ≡ drop at script
   pub not_end : get_or here 0 0 ≡ 10 → ⊥
-  pub not_blank : is_blank (get_or here 0 0) ≡ false
+  pub not_blank : parts_words (get_or here 0 0) ≡ false
   pub not_comment : get_or here 0 0 ≡ 35 → ⊥
 
-pub at-word : (script here : List ℕ) (at : ℕ) (commands : List (List (List ℕ))) (words : List (List ℕ)) (word : Word)
+pub at-word : (script here : List ℕ) (at : ℕ) (commands : List (List (List ℕ))) (words : List (List ℕ)) (word : ScriptWord)
     → Begins script here at → next_word (length commands) (length words) here ≡ Ok word → 1 ≤ word.size
     → commands_from at 0 commands words (drop at script) ≡ commands_from (at + word.size) 0 commands (words ++ word.text ∷ []) (drop (at + word.size) script)
 unfolding commands_from
@@ -71,7 +71,7 @@ at-word script here at commands words word b found some =
     let same = first-byte script here at b.within b.is in
     let front_is = front script at b.within in
     let ends : ends_line (get_or script at 0) ≡ false = ne_eqb _ _ (λ e. b.not_end (same ∙ e)) in
-    let blank : is_blank (get_or script at 0) ≡ false = ap is_blank (sym same) ∙ b.not_blank in
+    let blank : parts_words (get_or script at 0) ≡ false = ap parts_words (sym same) ∙ b.not_blank in
     let comment : (get_or script at 0 == 35) ≡ false = ne_eqb _ _ (λ e. b.not_comment (same ∙ e)) in
     let taken : next_word (length commands) (length words) (get_or script at 0 ∷ drop (at + 1) script) ≡ Ok word =
     ap (next_word (length commands) (length words)) (sym (b.is ∙ front_is)) ∙ found in
@@ -89,7 +89,7 @@ at-fault script here at commands words fault b found =
     let same = first-byte script here at b.within b.is in
     let front_is = front script at b.within in
     let ends : ends_line (get_or script at 0) ≡ false = ne_eqb _ _ (λ e. b.not_end (same ∙ e)) in
-    let blank : is_blank (get_or script at 0) ≡ false = ap is_blank (sym same) ∙ b.not_blank in
+    let blank : parts_words (get_or script at 0) ≡ false = ap parts_words (sym same) ∙ b.not_blank in
     let comment : (get_or script at 0 == 35) ≡ false = ne_eqb _ _ (λ e. b.not_comment (same ∙ e)) in
     let taken : next_word (length commands) (length words) (get_or script at 0 ∷ drop (at + 1) script) ≡ Err fault =
     ap (next_word (length commands) (length words)) (sym (b.is ∙ front_is)) ∙ found in

@@ -15,8 +15,8 @@ use Rattle.kaem_script.specs.declared.cause.CommandCause.TheVariants as cause
 -- ---- one command
 
 -- what a command's program is given: all words as they are written, no environment, and all files that are there
-unfoldable pub box_of : World → List (List ℕ) → Setting
-box_of world words = record { args = words; env = []; files = files.from_entries (left world); heap = 536_870_912 }
+unfoldable pub command_box : World → List (List ℕ) → Setting
+command_box world words = record { args = words; env = []; files = files.from_entries (left world); heap = 536_870_912 }
 
 -- the first word names the program
 abbrev pub program_name : List (List ℕ) → List ℕ
@@ -34,28 +34,28 @@ CommandResult = Result Ran (CommandCause × ℕ)
 
 -- a start is refused where the file is no program. The law `no_other_refusal` says that the other two causes do not come: words and files
 -- of a script keep their limits.
-abbrev pub start_cause : Refusal → CommandCause
-start_cause (Elf refusal) = cause.Elf refusal
-start_cause ArgsTooLong = cause.NoProgram
-start_cause BoxTooLarge = cause.NoProgram
+abbrev pub refused_start : Refusal → CommandCause
+refused_start (Elf refusal) = cause.Elf refusal
+refused_start ArgsTooLong = cause.NoProgram
+refused_start BoxTooLarge = cause.NoProgram
 
 abbrev pub by_status : ℕ → ℕ → World → CommandResult
 by_status status step world = if status == 0 then Ok (record { steps = step; world = world }) else Err (cause.Status status, step)
 
 -- an end comes in the step that follows the state, so its own step is counted too
-abbrev pub by_end : ℕ → Option (End × GuestState) → CommandResult
-by_end most None = Err (cause.Spent, most)
-by_end most (Some (Exited status, guest)) = by_status status (guest.steps + 1) guest.world
-by_end most (Some (Trapped why, guest)) = Err (cause.Trap why, guest.steps + 1)
-by_end most (Some (UnknownCall number, guest)) = Err (cause.Call number, guest.steps + 1)
+abbrev pub by_first_end : ℕ → Option (End × GuestState) → CommandResult
+by_first_end most None = Err (cause.Spent, most)
+by_first_end most (Some (Exited status, guest)) = by_status status (guest.steps + 1) guest.world
+by_first_end most (Some (Trapped why, guest)) = Err (cause.Trap why, guest.steps + 1)
+by_first_end most (Some (UnknownCall number, guest)) = Err (cause.Call number, guest.steps + 1)
 
-abbrev pub by_start : ℕ → Result GuestState Refusal → CommandResult
-by_start most (Err refusal) = Err (start_cause refusal, 0)
-by_start most (Ok guest) = by_end most (first_end guest most)
+abbrev pub by_started : ℕ → Result GuestState Refusal → CommandResult
+by_started most (Err refusal) = Err (refused_start refusal, 0)
+by_started most (Ok guest) = by_first_end most (first_end guest most)
 
 abbrev pub by_program : ℕ → World → List (List ℕ) → Option (List ℕ) → CommandResult
 by_program most world words None = Err (cause.NoProgram, 0)
-by_program most world words (Some program) = by_start most (start_of program (box_of world words))
+by_program most world words (Some program) = by_started most (start_of program (command_box world words))
 
 -- a command over the files that are there, within so many steps: its program is what stands at the program's name now
 unfoldable pub command : ℕ → World → List (List ℕ) → CommandResult
@@ -65,7 +65,7 @@ command most world words = by_program most world words (content_at world (progra
 
 -- all commands ran, the last of which left these files; or the command of this number, from 1, stopped the script
 pub data Folded : Type 0 where
-  Finished : (ran : List Ran) → (world : World) → Folded
+  RanAll : (ran : List Ran) → (world : World) → Folded
   Stopped : (number : ℕ) → CommandCause → (step : ℕ) → Folded
 
 abbrev pub after_command : ℕ → CommandResult → (Ran → Folded) → Folded
@@ -74,7 +74,7 @@ after_command number (Ok ran) next = next ran
 
 -- the commands that are left, after those that ran, over the files that are there now
 abbrev pub fold_from : ℕ → List Ran → World → List (List (List ℕ)) → Folded
-fold_from most done world [] = Finished done world
+fold_from most done world [] = RanAll done world
 fold_from most done world (words ∷ commands) =
     after_command (length done + 1) (command most world words) (λ ran. fold_from most (done ++ ran ∷ []) ran.world commands)
 

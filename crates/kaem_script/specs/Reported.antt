@@ -5,18 +5,14 @@ use Rattle.sha2.specs.Sha256.{sha256}
 use Rattle.mem_files.specs.World.{World}
 use Rattle.mem_files.specs.Outputs.{left}
 use Rattle.report.specs.declared.types.LeftLine.{LeftLine}
-use Rattle.report.specs.declared.types.Mark.{Mark}
+use Rattle.report.specs.Marks.{mark_of}
 use Rattle.report.specs.declared.script.types.CommandLine.{CommandLine}
 use Rattle.report.specs.declared.script.types.ScriptReport.{ScriptReport}
 use Rattle.kaem_script.specs.declared.auditing.ScriptEnd.{ScriptEnd}
 use Rattle.kaem_script.specs.declared.auditing.ScriptEnd.TheVariants.{Done, Failed, OutOfMemory}
 use Rattle.kaem_script.specs.Script.{Said}
-use Rattle.kaem_script.specs.Listed.{Listed, listed_files}
-use Rattle.kaem_script.specs.Fold.{Finished, Folded, Ran, Stopped, folded}
-
--- the mark of bytes: how many they are, and their digest
-abbrev pub mark_of : List ℕ → Mark
-mark_of bytes = record { length = length bytes; digest = record { 0 = sha256 bytes } }
+use Rattle.kaem_script.specs.FilesListed.{FilesListed, listed_files}
+use Rattle.kaem_script.specs.Fold.{RanAll, Folded, Ran, Stopped, folded}
 
 -- a file by its name, with the mark of its bytes
 abbrev pub marked : List ℕ × List ℕ → LeftLine
@@ -27,7 +23,7 @@ abbrev pub command_line : Ran → CommandLine
 command_line ran = record { steps = ran.steps; stream1 = mark_of ran.world.stream1; stream2 = mark_of ran.world.stream2 }
 
 -- the report of a script whose commands all ran and left these files
-unfoldable pub script_report : Said → Listed → List Ran → World → ScriptReport
+unfoldable pub script_report : Said → FilesListed → List Ran → World → ScriptReport
 script_report script listed ran world = record {
   script = script.digest;
   files = map marked (listed_files listed);
@@ -35,13 +31,13 @@ script_report script listed ran world = record {
   left = map marked (left world);
 }
 
-abbrev pub ended : Said → Listed → Folded → ScriptEnd
-ended script listed (Finished ran world) = Done (script_report script listed ran world)
-ended script listed (Stopped number why step) = Failed number why step
+abbrev pub script_ended : Said → FilesListed → Folded → ScriptEnd
+script_ended script listed (RanAll ran world) = Done (script_report script listed ran world)
+script_ended script listed (Stopped number why step) = Failed number why step
 
 -- what a script over the listed files comes to, each of its commands within so many steps
-abbrev pub audited : ℕ → Said → Listed → ScriptEnd
-audited most script listed = ended script listed (folded most listed.world script.commands)
+abbrev pub end_of_script : ℕ → Said → FilesListed → ScriptEnd
+end_of_script most script listed = script_ended script listed (folded most listed.world script.commands)
 
 -- what a call answered: the end, or memory was wanting
 abbrev pub Audits : ScriptEnd → ScriptEnd → Type 0

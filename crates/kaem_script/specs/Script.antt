@@ -10,15 +10,15 @@ use Rattle.kaem_script.specs.declared.refusal.ScriptRefusal.{ScriptRefusal}
 use Rattle.kaem_script.specs.declared.refusal.ScriptRefusal.TheVariants.{At, OutOfMemory}
 
 -- blank, tab and CR separate words
-abbrev pub is_blank : ℕ → Bool
-is_blank byte = byte == 32 || byte == 9 || byte == 13
+abbrev pub parts_words : ℕ → Bool
+parts_words byte = byte == 32 || byte == 9 || byte == 13
 
 -- a line ends at LF, and a word at a blank or where its line ends
 abbrev pub ends_line : ℕ → Bool
 ends_line byte = byte == 10
 
 abbrev pub ends_word : ℕ → Bool
-ends_word byte = is_blank byte || ends_line byte
+ends_word byte = parts_words byte || ends_line byte
 
 -- a quoted word is closed by the next `"` of its line
 abbrev pub ends_quoted : ℕ → Bool
@@ -27,7 +27,7 @@ ends_quoted byte = byte == 34 || ends_line byte
 -- ---- a word, which begins with the first of these bytes
 
 -- what a word says, and how many bytes it takes
-pub record Word : Type 0 where
+pub record ScriptWord : Type 0 where
   pub text : List ℕ
   pub size : ℕ
 
@@ -35,10 +35,10 @@ pub record Word : Type 0 where
 abbrev pub is_wrong : ℕ → Bool
 is_wrong byte = byte == 34 || byte == 36 || byte == 92 || byte == 0
 
-abbrev pub plain_text : List ℕ → Result Word ScriptFault
+abbrev pub plain_text : List ℕ → Result ScriptWord ScriptFault
 plain_text text = if list_any is_wrong text then Err BadWord else Ok (record { text = text; size = length text })
 
-unfoldable pub plain_word : List ℕ → Result Word ScriptFault
+unfoldable pub plain_word : List ℕ → Result ScriptWord ScriptFault
 plain_word here = plain_text (take (position_or_len ends_word here) here)
 
 -- a text begins with a byte that passes the test
@@ -52,7 +52,7 @@ ends_or_begins test [] = true
 ends_or_begins test (byte ∷ rest) = test byte
 
 -- what stands between two quotes, given what stands from the closing one on
-abbrev pub between_quotes : List ℕ → List ℕ → Result Word ScriptFault
+abbrev pub between_quotes : List ℕ → List ℕ → Result ScriptWord ScriptFault
 between_quotes text closing =
     if begins (λ byte. byte == 34) closing
     then (if ends_or_begins ends_word (drop 1 closing) && not (list_any (λ byte. byte == 0) text)
@@ -60,20 +60,20 @@ between_quotes text closing =
     else Err OpenQuote
 
 -- behind an opening quote
-unfoldable pub quoted_word : List ℕ → Result Word ScriptFault
+unfoldable pub quoted_word : List ℕ → Result ScriptWord ScriptFault
 quoted_word rest = between_quotes (take (position_or_len ends_quoted rest) rest) (drop (position_or_len ends_quoted rest) rest)
 
 -- the first word of a line names a program; a word has at most 255 bytes
 abbrev pub names_nothing : List ℕ → Bool
 names_nothing text = nat_le (length (stripped text)) 0
 
-abbrev pub fitting : Bool → Result Word ScriptFault → Result Word ScriptFault
+abbrev pub fitting : Bool → Result ScriptWord ScriptFault → Result ScriptWord ScriptFault
 fitting first (Err fault) = Err fault
 fitting first (Ok word) =
     if first && names_nothing word.text then Err BadWord
     else (if nat_lt 255 (length word.text) then Err LongWord else Ok word)
 
-unfoldable pub word_at : Bool → List ℕ → Result Word ScriptFault
+unfoldable pub word_at : Bool → List ℕ → Result ScriptWord ScriptFault
 word_at first here = fitting first (if begins (λ byte. byte == 34) here then quoted_word (drop 1 here) else plain_word here)
 
 -- ---- a script
@@ -90,7 +90,7 @@ with_line commands [] = commands
 with_line commands (word ∷ words) = commands ++ (word ∷ words) ∷ []
 
 -- one more word, after so many commands and so many words of the line: a line has at most 64, and a script at most 4,096 commands
-unfoldable pub next_word : ℕ → ℕ → List ℕ → Result Word ScriptFault
+unfoldable pub next_word : ℕ → ℕ → List ℕ → Result ScriptWord ScriptFault
 next_word commands words here =
     if words == most_words then Err TooManyWords
     else (if nat_le words 0 && commands == most_commands then Err TooMany
@@ -100,7 +100,7 @@ next_word commands words here =
 abbrev pub Commands : Type 0
 Commands = Result (List (List (List ℕ))) (ScriptFault × ℕ)
 
-abbrev pub behind_word : ℕ → Result Word ScriptFault → (Word → Commands) → Commands
+abbrev pub behind_word : ℕ → Result ScriptWord ScriptFault → (ScriptWord → Commands) → Commands
 behind_word at (Err fault) next = Err (fault, at)
 behind_word at (Ok word) next = next word
 
@@ -111,7 +111,7 @@ commands_from at inside commands words [] = Ok (with_line commands words)
 commands_from at (suc inside) commands words (byte ∷ rest) = commands_from (at + 1) inside commands words rest
 commands_from at zero commands words (byte ∷ rest) =
     if ends_line byte then commands_from (at + 1) 0 (with_line commands words) [] rest
-    else (if is_blank byte then commands_from (at + 1) 0 commands words rest
+    else (if parts_words byte then commands_from (at + 1) 0 commands words rest
     else (if byte == 35 then commands_from (at + 1) (position_or_len ends_line rest) commands words rest
     else behind_word at (next_word (length commands) (length words) (byte ∷ rest))
     (λ word. commands_from (at + 1) (word.size - 1) commands (words ++ word.text ∷ []) rest)))

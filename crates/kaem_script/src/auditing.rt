@@ -1,6 +1,6 @@
 //! The audit of a script.
 
-ghost use Rattle.kaem_script.specs.Reported.{Audits, audited};
+ghost use Rattle.kaem_script.specs.Reported.{Audits, end_of_script};
 ghost use Rattle.std.specs.Prelude.{◌≡◌, ◌≤◌, ◌^◌, IfOk};
 
 use crate::cause::CommandCause;
@@ -36,9 +36,9 @@ pub enum ScriptEnd {
 pub fn audit(alloc: Global, script: &Script, files: &FileList, most: u64) -> ScriptEnd
     requires some { 1 ≤ most }
     requires few { most ≤ 2 ^ 48 }
-    ensures { Audits (audited most script.now files.now) result }
+    ensures { Audits (end_of_script most script.now files.now) result }
 {
-    match ended(alloc, script, files, most) {
+    match script_ended(alloc, script, files, most) {
         Ok(end) => end,
         Err(OutOfMemory) => ScriptEnd::OutOfMemory,
     }
@@ -46,7 +46,7 @@ pub fn audit(alloc: Global, script: &Script, files: &FileList, most: u64) -> Scr
 
 /// How the audit ends, which is not by want of memory.
 #[tactic(auto, unfolding(crate::specs::Reported::script_report))]
-fn ended(
+fn script_ended(
     alloc: Global,
     script: &Script,
     files: &FileList,
@@ -54,10 +54,10 @@ fn ended(
 ) -> Result<ScriptEnd, OutOfMemory>
     requires some { 1 ≤ most }
     requires few { most ≤ 2 ^ 48 }
-    ensures { IfOk result (λ end. end ≡ audited most script.now files.now) }
+    ensures { IfOk result (λ end. end ≡ end_of_script most script.now files.now) }
 {
     match fold(alloc, script.commands(), files.files(), most)? {
-        Folding::Finished(commands, present) => Ok(ScriptEnd::Done(ScriptReport {
+        Folding::RanAll(commands, present) => Ok(ScriptEnd::Done(ScriptReport {
             script: *script.digest(),
             files: listed_lines(alloc, files)?,
             commands,

@@ -2,7 +2,7 @@
 
 ghost use Rattle.guest_run.specs.Run.{first_end};
 ghost use Rattle.guest_run.specs.Start.{start_of};
-ghost use Rattle.kaem_script.specs.Fold.{by_end, command, program_name};
+ghost use Rattle.kaem_script.specs.Fold.{by_first_end, command, program_name};
 ghost use Rattle.kaem_script.specs.Inside.Commands.{Comes, Exits, StartsWith, texts_of, world_in};
 ghost use Rattle.kaem_script.specs.Kept.{IsCommand};
 ghost use Rattle.kaem_script.specs.Reported.{command_line};
@@ -91,7 +91,7 @@ fn run(guest: Guest<RunRam>, most: u64) -> Result<Result<Exited, Stop>, OutOfMem
     requires fresh { guest.steps ≡ 0 }
     requires some { 1 ≤ most }
     requires few { most ≤ 2 ^ 48 }
-    ensures { IfOk result (Comes (by_end most (first_end guest most))) }
+    ensures { IfOk result (Comes (by_first_end most (first_end guest most))) }
 {
     let mut guest = guest;
     match exit(&mut guest, most)? {
@@ -105,7 +105,7 @@ fn exit(guest: &mut Guest<RunRam>, most: u64) -> Result<Result<CommandLine, Stop
     requires fresh { guest.old.steps ≡ 0 }
     requires some { 1 ≤ most }
     requires few { most ≤ 2 ^ 48 }
-    ensures { IfOk result (Exits (by_end most (first_end guest.old most)) guest.new.world) }
+    ensures { IfOk result (Exits (by_first_end most (first_end guest.old most)) guest.new.world) }
 {
     match guest.run(most) {
         RunEnd::Exited(0) => Ok(Ok(line_of(guest))),

@@ -1,6 +1,6 @@
 //! The files that a script is given.
 
-ghost use Rattle.kaem_script.specs.Listed.{AreNames, Pushes, no_files};
+ghost use Rattle.kaem_script.specs.FilesListed.{AreNames, Pushes, no_files};
 ghost use Rattle.std.specs.Prelude.{◌≡◌, ◌<◌, [], ◌∷◌, ◌++◌, IfOk, vec_capacity, vec_len};
 
 use ddc_base::{Bytes, OutOfMemory};
@@ -17,10 +17,10 @@ pub struct FileList {
 }
 
 impl Model for FileList {
-    ghost use Rattle.kaem_script.specs.Listed.{AreNames, Listed};
+    ghost use Rattle.kaem_script.specs.FilesListed.{AreNames, FilesListed};
     ghost use Rattle.kaem_script.specs.Inside.Codes.{listed_code};
 
-    ghost Value = { Listed };
+    ghost Value = { FilesListed };
 
     ghost coded = { listed_code };
 

@@ -17,7 +17,7 @@ use std::alloc::Global;
 #[derive(Drop)]
 pub(crate) enum Folding<'a> {
     /// All of them ran, with these lines; the files that are there then.
-    Finished(CommandLines, Present<'a>),
+    RanAll(CommandLines, Present<'a>),
     /// The command of this number, from 1, stopped the script.
     Stopped(u32, Stop),
 }
@@ -45,5 +45,5 @@ pub(crate) fn fold<'a>(
             Err(stop) => return Ok(Folding::Stopped(index as u32 + 1, stop)),
         }
     }
-    Ok(Folding::Finished(lines, present))
+    Ok(Folding::RanAll(lines, present))
 }

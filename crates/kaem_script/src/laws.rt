@@ -4,7 +4,7 @@ ghost use Rattle.elf_load.specs.declared.refusal.ElfRefusal.{ElfRefusal};
 ghost use Rattle.guest_run.specs.Start.{Elf, Refusal, start_of};
 ghost use Rattle.mem_files.specs.Sound.{IsSound};
 ghost use Rattle.mem_files.specs.World.{World};
-ghost use Rattle.kaem_script.specs.Fold.{Ran, box_of, command};
+ghost use Rattle.kaem_script.specs.Fold.{Ran, command_box, command};
 ghost use Rattle.kaem_script.specs.Kept.{AreCommands, IsCommand};
 ghost use Rattle.kaem_script.specs.Runs.{IsCommandRun};
 ghost use Rattle.kaem_script.specs.Script.{commands_of};
@@ -19,7 +19,7 @@ pub fn scripts_keep_the_rules()
 /// limits of a start.
 pub fn no_other_refusal()
     ensures { (program : List ℕ) (world : World) (words : List (List ℕ)) (refusal : Refusal) → IsSound world → IsCommand words
-        → start_of program (box_of world words) ≡ Err refusal → (fault : ElfRefusal) × (refusal ≡ Elf fault) }
+        → start_of program (command_box world words) ≡ Err refusal → (fault : ElfRefusal) × (refusal ≡ Elf fault) }
 {}
 
 /// A command that ran is a run of the program at its name with the box of all files that are there, and the other way round.

@@ -1,7 +1,8 @@
 //! Marks, and the lines of files.
 
-ghost use Rattle.kaem_script.specs.Listed.{AreNames, listed_files, named_in};
-ghost use Rattle.kaem_script.specs.Reported.{mark_of, marked};
+ghost use Rattle.kaem_script.specs.FilesListed.{AreNames, listed_files, named_in};
+ghost use Rattle.report.specs.Marks.{mark_of};
+ghost use Rattle.kaem_script.specs.Reported.{marked};
 ghost use Rattle.mem_files.specs.Names.{is_stripped_name};
 ghost use Rattle.mem_files.specs.Outputs.{left};
 ghost use Rattle.std.specs.Prelude.{◌≡◌, IfOk, IsTrue, map};

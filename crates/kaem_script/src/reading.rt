@@ -3,7 +3,7 @@ ghost use Rattle.std.specs.Prelude.{◌≡◌, ◌+◌, ◌≤◌, ◌<◌, ◌�
 ghost use Rattle.kaem_script.specs.Script.{Reads, commands_from, commands_of, ends_or_begins, ends_word, next_word, with_line};
 
 use crate::refusal::{ScriptFault, ScriptRefusal};
-use crate::words::{Word, is_blank, until_line_end, word_at};
+use crate::words::{ScriptWord, parts_words, until_line_end, word_at};
 use ddc_base::{Bytes, ListOf, OutOfMemory};
 use std::alloc::Global;
 use std::mem;
@@ -29,7 +29,7 @@ pub fn commands_of(alloc: Global, script: &[u8]) -> Result<ListOf<Command>, Scri
         if byte == b'\n' {
             end_line(alloc, &mut commands, &mut words)?;
             at += 1;
-        } else if is_blank(byte) {
+        } else if parts_words(byte) {
             at += 1;
         } else if byte == b'#' {
             at += 1 + until_line_end(&here[1..]);
@@ -53,7 +53,7 @@ fn next_word<'s>(
     commands: &ListOf<Command>,
     words: &Command,
     here: &'s [u8],
-) -> Result<Word<'s>, ScriptFault>
+) -> Result<ScriptWord<'s>, ScriptFault>
     requires { ends_or_begins ends_word here.now ≡ false }
     ensures value { result ≡ next_word (length commands.now) (length words.now) here.now }
     ensures within { IfOk result (λ word. (1 ≤ word.size) × (word.size ≤ length here.now)) }

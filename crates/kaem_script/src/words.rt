@@ -1,7 +1,7 @@
 //! One word of a script.
 ghost use Rattle.std.specs.Prelude.{◌≡◌, ◌+◌, ◌-◌, ◌<◌, ◌≤◌, ◌==◌, ◌∷◌, false, length, Ok, Err, IfOk};
 ghost use Rattle.std.specs.List.{list_any, position_or_len};
-ghost use Rattle.kaem_script.specs.Script.{begins, between_quotes, ends_line, ends_or_begins, ends_quoted, ends_word, is_blank, is_wrong, names_nothing, plain_text, plain_word, quoted_word, word_at};
+ghost use Rattle.kaem_script.specs.Script.{begins, between_quotes, ends_line, ends_or_begins, ends_quoted, ends_word, parts_words, is_wrong, names_nothing, plain_text, plain_word, quoted_word, word_at};
 
 use crate::refusal::ScriptFault;
 use mem_files::strip;
@@ -9,22 +9,22 @@ use std::marker::Model;
 
 /// A word: what it says, and how many bytes it takes.
 #[derive(Debug, Drop)]
-pub(crate) struct Word<'s> {
+pub(crate) struct ScriptWord<'s> {
     pub text: &'s [u8],
     pub size: usize,
 }
 
-impl<'s> Model for Word<'s> {
-    ghost use Rattle.kaem_script.specs.Script.{Word};
+impl<'s> Model for ScriptWord<'s> {
+    ghost use Rattle.kaem_script.specs.Script.{ScriptWord};
 
-    ghost Value = { Word };
+    ghost Value = { ScriptWord };
 
     ghost view = { λ w. record { text = w.text.now; size = w.size } };
 }
 
 /// Blank, tab and CR separate words.
-pub(crate) fn is_blank(byte: u8) -> bool
-    ensures { result ≡ is_blank byte }
+pub(crate) fn parts_words(byte: u8) -> bool
+    ensures { result ≡ parts_words byte }
 {
     byte == b' ' || byte == b'\t' || byte == b'\r'
 }
@@ -32,7 +32,7 @@ pub(crate) fn is_blank(byte: u8) -> bool
 fn ends_word(byte: u8) -> bool
     ensures { result ≡ ends_word byte }
 {
-    is_blank(byte) || byte == b'\n'
+    parts_words(byte) || byte == b'\n'
 }
 
 /// How many bytes stand before the end of a line.
@@ -86,7 +86,7 @@ fn has_wrong(text: &[u8]) -> bool
 
 /// An unquoted word, which runs to the next blank or to the end of its line.
 #[tactic(auto, unfolding(crate::specs::Script::plain_word))]
-fn plain_word(here: &[u8]) -> Result<Word<'_>, ScriptFault>
+fn plain_word(here: &[u8]) -> Result<ScriptWord<'_>, ScriptFault>
     requires { ends_or_begins ends_word here.now ≡ false }
     ensures value { result ≡ plain_word here.now }
     ensures within { IfOk result (λ word. (1 ≤ word.size) × (word.size ≤ length here.now)) }
@@ -95,7 +95,7 @@ fn plain_word(here: &[u8]) -> Result<Word<'_>, ScriptFault>
     if has_wrong(text) {
         return Err(ScriptFault::BadWord);
     }
-    Ok(Word {
+    Ok(ScriptWord {
         text,
         size: text.len(),
     })
@@ -103,7 +103,7 @@ fn plain_word(here: &[u8]) -> Result<Word<'_>, ScriptFault>
 
 /// A quoted word, of which this stands behind its opening quote.
 #[tactic(auto, unfolding(crate::specs::Script::quoted_word))]
-fn quoted_word(rest: &[u8]) -> Result<Word<'_>, ScriptFault>
+fn quoted_word(rest: &[u8]) -> Result<ScriptWord<'_>, ScriptFault>
     ensures value { result ≡ quoted_word rest.now }
     ensures within { IfOk result (λ word. (2 ≤ word.size) × (word.size ≤ length rest.now + 1)) }
 {
@@ -113,7 +113,7 @@ fn quoted_word(rest: &[u8]) -> Result<Word<'_>, ScriptFault>
             if !ends_word_here(behind) || text.contains(&0) {
                 return Err(ScriptFault::BadWord);
             }
-            Ok(Word {
+            Ok(ScriptWord {
                 text,
                 size: text.len() + 2,
             })
@@ -134,7 +134,7 @@ fn ends_word_here(here: &[u8]) -> bool
 
 /// The word that begins here.
 #[tactic(auto, unfolding(crate::specs::Script::word_at))]
-pub(crate) fn word_at(first: bool, here: &[u8]) -> Result<Word<'_>, ScriptFault>
+pub(crate) fn word_at(first: bool, here: &[u8]) -> Result<ScriptWord<'_>, ScriptFault>
     requires { ends_or_begins ends_word here.now ≡ false }
     ensures value { result ≡ word_at first here.now }
     ensures within { IfOk result (λ word. (1 ≤ word.size) × (word.size ≤ length here.now)) }

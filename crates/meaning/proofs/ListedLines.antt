@@ -19,7 +19,7 @@ use Rattle.meaning.specs.declared.assumption.Assumption.{Assumption}
 use Rattle.meaning.specs.AllContents.{all_contents, text_named}
 use Rattle.meaning.specs.Assumptions.{Holds, LinesHold, is_trusted}
 use Rattle.meaning.specs.Follows.{HasCompared, audited_binary}
-use Rattle.meaning.specs.Listed.{ConcludesListed, ListedHold, counts, listed}
+use Rattle.meaning.specs.Listed.{ConcludesListed, ListedHold, counts, lines_listed}
 use Rattle.meaning.specs.Meaning.{Compiles, Implements, Prescribes}
 use Rattle.meaning.specs.Routes.{about}
 use Rattle.meaning.proofs.Argument.{IsClosed, follows-law, needed-each, sound-law}
@@ -75,7 +75,7 @@ listed-law prescribes compiles laws recipe inputs report ok given is same lines 
     let r = reached recipe inputs report ok given is in
     let P : Assumption → Type 0 = Holds prescribes compiles recipe all in
     let held : LinesHold prescribes compiles recipe inputs =
-    subst (All P) (sym (fewer-lines (is_trusted recipe) (counts recipe) (trusted-counts recipe) recipe)) (All-filter (λ l. is_trusted recipe (about l)) P (listed recipe) lines) in
+    subst (All P) (sym (fewer-lines (is_trusted recipe) (counts recipe) (trusted-counts recipe) recipe)) (All-filter (λ l. is_trusted recipe (about l)) P (lines_listed recipe) lines) in
     let both = sound-law prescribes compiles laws (counts recipe) recipe all ok r.are r.ran (counts-closed recipe) lines in
     let equal = equal-each recipe all recipe.compare.stages (ap all_equal r.lines ∙ same) in
     let Known : Stage → Type 0 = λ s. Facts prescribes compiles (counts recipe) recipe all s × Sound prescribes (counts recipe) recipe all s.program in

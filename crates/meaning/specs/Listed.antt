@@ -15,12 +15,12 @@ unfoldable pub counts : Said → List ℕ → Bool
 counts recipe name = is_trusted recipe name || is_on recipe.compare.stages name
 
 -- the lines of all of these; a compared stage without a source has none
-abbrev pub listed : Said → List Assumption
-listed recipe = trust_lines (counts recipe) recipe
+abbrev pub lines_listed : Said → List Assumption
+lines_listed recipe = trust_lines (counts recipe) recipe
 
 -- each of them holds
 abbrev pub ListedHold : Prescribes → Compiles → Said → List (List ℕ) → Type 0
-ListedHold prescribes compiles recipe inputs = All (Holds prescribes compiles recipe (all_contents recipe inputs)) (listed recipe)
+ListedHold prescribes compiles recipe inputs = All (Holds prescribes compiles recipe (all_contents recipe inputs)) (lines_listed recipe)
 
 -- the audited binary implements the source of the stage of a name, where that has one
 abbrev pub BinaryImplements : Prescribes → Said → List (List ℕ) → List ℕ → Type 0

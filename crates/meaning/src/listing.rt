@@ -2,7 +2,7 @@
 
 ghost use Rattle.meaning.specs.Assumptions.{assumed, checked_line, compiles_line, implements_line, input_assumption, is_trusted, line_by_check, stage_assumption, trust_lines};
 ghost use Rattle.meaning.specs.Inside.Trusting.{trusts};
-ghost use Rattle.meaning.specs.Listed.{counts, listed};
+ghost use Rattle.meaning.specs.Listed.{counts, lines_listed};
 ghost use Rattle.meaning.specs.Routes.{assumed_for, is_on};
 ghost use Rattle.recipe.specs.Lookups.{hex_check};
 ghost use Rattle.std.specs.List.{cons_option};
@@ -44,7 +44,7 @@ pub fn assumptions_for(
 /// What has to be believed where later audits may run the audited binary: the lines of `assumptions`, with each compared stage counted as the
 /// program of an unchecked stage. A compared stage without a source has no line.
 pub fn assumptions_with_compared(alloc: Global, recipe: &Recipe) -> Result<Assumptions, OutOfMemory>
-    ensures { IfOk result (λ lines. lines ≡ listed recipe.now) }
+    ensures { IfOk result (λ lines. lines ≡ lines_listed recipe.now) }
 {
     trust_lines(alloc, recipe, &Trusted::WithCompared)
 }

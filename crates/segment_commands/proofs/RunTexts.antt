@@ -8,7 +8,8 @@ use Rattle.mem_files.specs.Outputs.{left}
 use Rattle.report.specs.Lines.{line_words, lines_text}
 use Rattle.report.specs.declared.line.Line.{Line}
 use Rattle.report.specs.declared.line.Line.TheVariants.{Stage, Stream1, Stream2, Left, Made}
-use Rattle.wheeler.specs.Stages.{finished, mark_of, marked_left}
+use Rattle.report.specs.Marks.{mark_of}
+use Rattle.wheeler.specs.Stages.{finished, marked_left}
 use Rattle.tool_commands.specs.RunProgram.{left_line, stream_line, world_text}
 use Rattle.segment_commands.specs.Texts.{run_record}
 

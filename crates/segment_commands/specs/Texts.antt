@@ -7,7 +7,7 @@ use Rattle.report.specs.declared.line.Line.TheVariants.{Stage, Stream1, Stream2,
 use Rattle.segments.specs.Faults.{state_fault_number}
 use Rattle.segments.specs.declared.answers.SegmentFault.{SegmentFault}
 use Rattle.segments.specs.declared.answers.SegmentFault.TheVariants.{From, To, NotLater, TooFar, EndsAt, Differs}
-use Rattle.wheeler.specs.Stages.{mark_of}
+use Rattle.report.specs.Marks.{mark_of}
 use Rattle.wheeler.specs.declared.answer.Finished.{Finished}
 
 -- so many states are saved of a run that ended at this step

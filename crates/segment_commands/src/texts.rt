@@ -5,7 +5,8 @@ ghost use Rattle.ddc_base.specs.Lines.{line};
 ghost use Rattle.report.specs.Lines.{line_words};
 ghost use Rattle.report.specs.declared.line.Line.TheVariants.{Made, Stage};
 ghost use Rattle.segment_commands.specs.Texts.{cut_line, other_first_line, refuted_first_line, refuted_last_line, refuted_segment_line, run_record, segment_line, too_many_line};
-ghost use Rattle.wheeler.specs.Stages.{finished, mark_of};
+ghost use Rattle.report.specs.Marks.{mark_of};
+ghost use Rattle.wheeler.specs.Stages.{finished};
 
 use ddc_base::{Bytes, Name, OutOfMemory, digest, put_decimal, put_hex};
 use mem_files::Files;

@@ -18,7 +18,8 @@ use Rattle.report.specs.declared.types.Mark.{Mark}
 use Rattle.report.specs.declared.types.StageLine.{StageLine}
 use Rattle.wheeler.specs.SourceCheck.Checks.{differs}
 use Rattle.wheeler.specs.Bench.{compared, compared_at}
-use Rattle.wheeler.specs.Stages.{marked_left, mark_of}
+use Rattle.report.specs.Marks.{mark_of}
+use Rattle.wheeler.specs.Stages.{marked_left}
 use Rattle.verifier.specs.Faults.{has_left, is_at, is_mark_of, names_left, same_language, says}
 use Rattle.verifier.proofs.Rightness.{no-difference}
 

@@ -17,7 +17,8 @@ use Rattle.wheeler.specs.declared.answer.Answer.TheVariants.{Completes, Fails}
 use Rattle.wheeler.specs.declared.answer.Fault.{Fault}
 use Rattle.wheeler.specs.declared.answer.Finished.{Finished}
 use Rattle.wheeler.specs.Contents.{Contents, check_language, content}
-use Rattle.wheeler.specs.Stages.{contents, finished, mark_of, stage_result}
+use Rattle.report.specs.Marks.{mark_of}
+use Rattle.wheeler.specs.Stages.{contents, finished, stage_result}
 use Rattle.wheeler.specs.Bench.{after_stage as bench_after, bench, bench_from, bench_report, compare_line, compare_lines, compared, input_lines, stage_line, stage_lines}
 use Rattle.verifier.specs.declared.part.Part.{Part}
 use Rattle.verifier.specs.declared.part.Part.TheVariants as part

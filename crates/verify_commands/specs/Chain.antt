@@ -25,15 +25,15 @@ use Rattle.verify_commands.specs.ChainTexts.{audit_line, chain_text}
 -- ---- LIST
 
 -- a line names a recipe and its report, two words with one blank between
-abbrev pub is_blank : ℕ → Bool
-is_blank byte = byte == 32
+abbrev pub is_space : ℕ → Bool
+is_space byte = byte == 32
 
 abbrev pub both_words : Option (List ℕ) → Option (List ℕ) → Option Pair
 both_words (Some recipe) (Some report) = Some (record { recipe = recipe; report = report })
 both_words _ _ = None
 
 unfoldable pub pair_of : List Pair → List ℕ → Option Pair
-pair_of earlier line = both_words (listed_word (before_first is_blank line)) (listed_word (after_first is_blank line))
+pair_of earlier line = both_words (listed_word (before_first is_space line)) (listed_word (after_first is_space line))
 
 -- ---- one audit, by its number from 1: what `verify` says of it stands behind a line with that number
 

@@ -17,7 +17,7 @@ ghost use Rattle.verify_commands.specs.Texts.{refuted_line};
 
 use crate::pair::Pair;
 use crate::{chain_texts, texts};
-use audit_chain::{Link, Links};
+use audit_chain::{Link, ChainLinks};
 use command_plan::lists::{self, fetch_list};
 use command_plan::words::{is_file_word, is_one_file};
 use command_plan::{Answer, Status, Stop, fetch, usage};
@@ -87,7 +87,7 @@ fn verify_each<S: Shelf>(alloc: Global, shelf: &mut S, pairs: &[Pair]) -> Result
     requires { length pairs.now ≤ 64 }
     ensures { Performs (chained [] 1_073_741_824 pairs.now) (S.state shelf.old) (S.state shelf.new) result }
 {
-    let mut links = Links::new(alloc);
+    let mut links = ChainLinks::new(alloc);
     let mut room = INPUTS_LIMIT;
     for (index, pair) in pairs.iter().enumerate() {
         let link = verify_audit(alloc, shelf, index as u32 + 1, room, pair)?;
@@ -98,7 +98,7 @@ fn verify_each<S: Shelf>(alloc: Global, shelf: &mut S, pairs: &[Pair]) -> Result
 }
 
 /// The answer where all audits are true and equal.
-fn all_true(alloc: Global, links: &Links) -> Result<Answer, Stop>
+fn all_true(alloc: Global, links: &ChainLinks) -> Result<Answer, Stop>
     requires { length links.now < 2 ^ 32 }
     ensures { Says (chained links.now 0 []) result }
 {

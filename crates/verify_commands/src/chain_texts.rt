@@ -5,7 +5,7 @@ ghost use Rattle.ddc_base.specs.Lines.{line};
 ghost use Rattle.std.specs.Prelude.{◌≡◌, ◌++◌, ◌<◌, ◌^◌, [], ◌∷◌, IfOk, OnOk, codes, decimal, flat_map, length};
 ghost use Rattle.verify_commands.specs.ChainTexts.{audit_line, chain_text, remaining_line, verified_line};
 
-use audit_chain::{ChainLine, Links, remaining};
+use audit_chain::{ChainLine, ChainLinks, remaining};
 use ddc_base::{Bytes, Name, OutOfMemory};
 use meaning::Assumption;
 use std::alloc::Global;
@@ -22,7 +22,7 @@ pub fn of_audit(alloc: Global, number: u32, text: &[u8]) -> Result<Bytes, OutOfM
 
 /// All audits are true and equal: how many they are, and what remains to be believed.
 #[tactic(auto, unfolding(crate::specs::ChainTexts::chain_text))]
-pub fn verified(alloc: Global, links: &Links) -> Result<Bytes, OutOfMemory>
+pub fn verified(alloc: Global, links: &ChainLinks) -> Result<Bytes, OutOfMemory>
     requires { length links.now < 2 ^ 32 }
     ensures { IfOk result (λ text. text ≡ chain_text links.now) }
 {

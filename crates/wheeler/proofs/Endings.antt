@@ -27,7 +27,8 @@ use Rattle.wheeler.specs.declared.answer.Fault.TheVariants.{Runs}
 use Rattle.wheeler.specs.declared.answer.Finished.{Finished}
 use Rattle.wheeler.specs.declared.cause.RunCause.TheVariants as run
 use Rattle.wheeler.specs.Contents.{check_of}
-use Rattle.wheeler.specs.Stages.{artefact_bytes, checked_by, contents, ending, finished, marked_left, made_by, mark_of, output_of}
+use Rattle.report.specs.Marks.{mark_of}
+use Rattle.wheeler.specs.Stages.{artefact_bytes, checked_by, contents, ending, finished, marked_left, made_by, output_of}
 use Rattle.wheeler.specs.Valid.{HasMark, IsFinished, IsLeftLine}
 use Rattle.wheeler.proofs.Marks.{mark-small}
 

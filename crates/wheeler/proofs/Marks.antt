@@ -3,7 +3,7 @@ use Rattle.std.proofs.Common.{ℕ, List, arith}
 use Rattle.mem_files.specs.Outputs.{IsContent}
 use Rattle.report.specs.declared.types.Mark.{Mark}
 use Rattle.report.specs.Reports.{IsMark}
-use Rattle.wheeler.specs.Stages.{mark_of}
+use Rattle.report.specs.Marks.{mark_of}
 use Rattle.wheeler.specs.Valid.{IsSmallMark}
 use Rattle.report.proofs.Marks.{is_digest}
 

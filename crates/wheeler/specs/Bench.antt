@@ -16,7 +16,8 @@ use Rattle.wheeler.specs.declared.answer.Answer.TheVariants.{Completes, Fails}
 use Rattle.wheeler.specs.declared.answer.Fault.{Fault}
 use Rattle.wheeler.specs.declared.answer.Finished.{Finished}
 use Rattle.wheeler.specs.Contents.{Contents, check_language, content}
-use Rattle.wheeler.specs.Stages.{contents, mark_of, stage_result}
+use Rattle.report.specs.Marks.{mark_of}
+use Rattle.wheeler.specs.Stages.{contents, stage_result}
 
 -- the lines of the inputs, with what was given for each
 abbrev pub input_lines : List Input → List (List ℕ) → List InputLine

@@ -14,6 +14,7 @@ use Rattle.recipe.specs.declared.parts.Output.TheVariants.{Stream, File}
 use Rattle.recipe.specs.declared.parts.Stage.{Stage}
 use Rattle.report.specs.declared.types.LeftLine.{LeftLine}
 use Rattle.report.specs.declared.types.Mark.{Mark}
+use Rattle.report.specs.Marks.{mark_of}
 use Rattle.wheeler.specs.declared.source_check.cause.CheckCause.{CheckCause}
 use Rattle.wheeler.specs.declared.answer.Fault.{Fault}
 use Rattle.wheeler.specs.declared.answer.Fault.TheVariants.{Runs, Checks}
@@ -22,10 +23,6 @@ use Rattle.wheeler.specs.declared.cause.RunCause.TheVariants as run
 use Rattle.wheeler.specs.declared.cause.StartCause.{StartCause}
 use Rattle.wheeler.specs.declared.cause.StartCause.TheVariants as start
 use Rattle.wheeler.specs.Contents.{Contents, box_of, check_of, program_of}
-
--- the mark of bytes: how many they are, and their digest
-abbrev pub mark_of : List ℕ → Mark
-mark_of bytes = record { length = length bytes; digest = record { 0 = sha256 bytes } }
 
 -- the bytes of the inputs, and of the artefacts of the stages that are done
 abbrev pub contents : List (List ℕ) → List Finished → Contents

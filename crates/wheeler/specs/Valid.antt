@@ -16,7 +16,8 @@ use Rattle.report.specs.Reports.{IsDigest, IsReport, ascend}
 use Rattle.wheeler.specs.declared.answer.Answer.{Answer}
 use Rattle.wheeler.specs.declared.answer.Answer.TheVariants.{Completes, Fails}
 use Rattle.wheeler.specs.declared.answer.Finished.{Finished}
-use Rattle.wheeler.specs.Stages.{artefact_bytes, mark_of}
+use Rattle.report.specs.Marks.{mark_of}
+use Rattle.wheeler.specs.Stages.{artefact_bytes}
 use Rattle.wheeler.specs.Positions.{Position, Standing, On, Over, todo}
 
 -- the inputs of a recipe: as many as it names, each with at most the 268,435,456 bytes of a program's file

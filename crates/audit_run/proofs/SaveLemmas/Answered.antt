@@ -19,7 +19,8 @@ use Rattle.report.specs.Reports.{ascend}
 use Rattle.save_text.specs.SaveText.{SaveText, parsed_save}
 use Rattle.wheeler.specs.declared.answer.Finished.{Finished}
 use Rattle.wheeler.specs.Positions.{Position, todo}
-use Rattle.wheeler.specs.Stages.{artefact_bytes, mark_of}
+use Rattle.report.specs.Marks.{mark_of}
+use Rattle.wheeler.specs.Stages.{artefact_bytes}
 use Rattle.wheeler.specs.Valid.{AreDone, AreFinished, HasMark, IsFinished, IsLeftLine, IsSmallMark}
 use Rattle.audit_run.specs.Save.Inside.Tests as test
 use Rattle.audit_run.specs.Save.Judged.{judged, judged_as}

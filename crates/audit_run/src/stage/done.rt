@@ -1,5 +1,5 @@
 ghost use Rattle.std.specs.Prelude.{◌≡◌};
-ghost use Rattle.wheeler.specs.Stages.{mark_of};
+ghost use Rattle.report.specs.Marks.{mark_of};
 
 use crate::stage::marks::mark_of;
 use report::Mark;
@@ -16,7 +16,7 @@ pub struct Done {
 impl Model for Done {
     ghost use Rattle.wheeler.specs.declared.answer.Finished.{Finished};
     ghost use Rattle.std.specs.Prelude.{◌≡◌};
-    ghost use Rattle.wheeler.specs.Stages.{mark_of};
+    ghost use Rattle.report.specs.Marks.{mark_of};
 
     ghost Value = { Finished };
 

@@ -5,7 +5,8 @@ ghost use Rattle.mem_files.specs.Calls.{content_at};
 ghost use Rattle.mem_files.specs.Names.{is_stripped_name};
 ghost use Rattle.mem_files.specs.Outputs.{left};
 ghost use Rattle.mem_files.specs.Sound.{IsSound};
-ghost use Rattle.wheeler.specs.Stages.{marked_left, mark_of};
+ghost use Rattle.report.specs.Marks.{mark_of};
+ghost use Rattle.wheeler.specs.Stages.{marked_left};
 
 use crate::stage::marks::mark_of;
 use ddc_base::{Bytes, OutOfMemory};

@@ -1,5 +1,5 @@
 ghost use Rattle.std.specs.Prelude.{◌≡◌};
-ghost use Rattle.wheeler.specs.Stages.{mark_of};
+ghost use Rattle.report.specs.Marks.{mark_of};
 
 use ddc_base::digest;
 use report::Mark;

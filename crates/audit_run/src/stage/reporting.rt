@@ -4,7 +4,8 @@ ghost use Rattle.ddc_base.specs.Difference.{first_difference as difference_of};
 ghost use Rattle.std.specs.Prelude.{◌≡◌, IfOk, length};
 ghost use Rattle.wheeler.specs.Bench.{compared, compare_line, compare_lines, input_lines, bench_report, stage_line, stage_lines};
 ghost use Rattle.wheeler.specs.Contents.{check_language};
-ghost use Rattle.wheeler.specs.Stages.{contents, mark_of};
+ghost use Rattle.report.specs.Marks.{mark_of};
+ghost use Rattle.wheeler.specs.Stages.{contents};
 
 use crate::stage::contents::content;
 use crate::stage::done::Done;

@@ -15,7 +15,7 @@ use Rattle.kaem_script.specs.declared.present.Present.{Present}
 use Rattle.kaem_script.specs.declared.present.Present.TheVariants.{Given, Left}
 use Rattle.kaem_script.specs.declared.fold.Folding.{Folding}
 use Rattle.kaem_script.specs.declared.fold.Folding.TheVariants as fold
-use Rattle.kaem_script.specs.Fold.{CommandResult, Finished, Folded, Ran, Stopped}
+use Rattle.kaem_script.specs.Fold.{CommandResult, RanAll, Folded, Ran, Stopped}
 use Rattle.kaem_script.specs.Reported.{command_line}
 
 -- the files that are there
@@ -54,9 +54,9 @@ Comes meant (Err why) = meant ≡ Err why
 -- all commands ran, with these lines, and these files are left
 pub record Finishes (meant : Folded) (lines : List CommandLine) (world : World) : Type 0 where
   pub done : List Ran
-  pub is : meant ≡ Finished done world
+  pub is : meant ≡ RanAll done world
   pub lines_are : lines ≡ map command_line done
 
 abbrev pub Folds : Folded → Folding → Type 0
-Folds meant (fold.Finished lines present) = Finishes meant lines (world_in present)
+Folds meant (fold.RanAll lines present) = Finishes meant lines (world_in present)
 Folds meant (fold.Stopped number why) = meant ≡ Stopped number why.0 why.1

@@ -15,7 +15,8 @@ use Rattle.report.specs.Reports.{ascend}
 use Rattle.save_text.specs.SaveText.{SaveText}
 use Rattle.wheeler.specs.declared.answer.Finished.{Finished}
 use Rattle.wheeler.specs.Positions.{todo}
-use Rattle.wheeler.specs.Stages.{artefact_bytes, mark_of}
+use Rattle.report.specs.Marks.{mark_of}
+use Rattle.wheeler.specs.Stages.{artefact_bytes}
 use Rattle.audit_run.specs.Save.Saves.{digest_of, done_in}
 
 -- marks

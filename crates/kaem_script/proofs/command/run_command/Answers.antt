@@ -5,7 +5,7 @@ use Rattle.mem_files.specs.Sound.{IsSound}
 use Rattle.mem_files.specs.World.{World}
 use Rattle.guest_run.specs.Run.{first_end}
 use Rattle.guest_run.specs.State.{GuestState}
-use Rattle.kaem_script.specs.Fold.{by_end, program_name}
+use Rattle.kaem_script.specs.Fold.{by_first_end, program_name}
 use Rattle.kaem_script.specs.Inside.Commands.{Comes, world_in}
 use Rattle.kaem_script.proofs.Starting.{command-refused, command-starts, program-named}
 use Rattle.kaem_script.proofs.command.run_command.Goals as goal
@@ -21,7 +21,7 @@ returns-in_ok-renewed-in-Ok c =
     let started = rw c.in-Ok.is at c.in_ok-guest.ensures.meant in
     let guest = c.with_files.ensures ∙ ap (λ (w : World). record c.in-Ok.guest { world = w }) c.in_ok-renewed-in-Ok.ensures in
     let is = command-starts c.args.most (world_in c.args.present) c.args.words.now c.in-Some.program.now c.in-Ok.guest sound c.requires.words there started
-    ∙ ap (λ (g : GuestState). by_end c.args.most (first_end g c.args.most)) (sym guest) in
+    ∙ ap (λ (g : GuestState). by_first_end c.args.most (first_end g c.args.most)) (sym guest) in
     subst (λ m. IfOk c.run.result (Comes m)) (sym is) c.run.ensures
 
 pub returns-in-Err : goal.returns-in-Err

@@ -11,11 +11,11 @@ loop-at-preserved-then-byte-eq10 c =
     let commands = c.in_ok-end_line.ensures.commands in
     (omega arith, rw (commands, words) (sym (at-line-end script _ c.loop-at.at c.loop-at.commands c.loop-at.words c.loop-at-test.true here c.if-byte-eq10.true) ∙ c.loop-at.invariant.1))
 
-pub loop-at-preserved-then-is_blank : goal.loop-at-preserved-then-is_blank
-loop-at-preserved-then-is_blank c =
+pub loop-at-preserved-then-parts_words : goal.loop-at-preserved-then-parts_words
+loop-at-preserved-then-parts_words c =
     let script = c.args.script.now in
     let here = rest_is script c.loop-at.at in
-    (omega arith, sym (at-blank script _ c.loop-at.at c.loop-at.commands c.loop-at.words c.loop-at-test.true here c.if-byte-eq10.false (sym c.if-is_blank.ensures)) ∙ c.loop-at.invariant.1)
+    (omega arith, sym (at-blank script _ c.loop-at.at c.loop-at.commands c.loop-at.words c.loop-at-test.true here c.if-byte-eq10.false (sym c.if-parts_words.ensures)) ∙ c.loop-at.invariant.1)
 
 pub loop-at-preserved-then-byte-eq35 : goal.loop-at-preserved-then-byte-eq35
 loop-at-preserved-then-byte-eq35 c =
@@ -32,7 +32,7 @@ loop-at-preserved c =
     let script = c.args.script.now in
     let here = rest_is script c.loop-at.at in
     let begins : Begins script (take (length script - c.loop-at.at) (drop c.loop-at.at script)) c.loop-at.at =
-    record { within = c.loop-at-test.true; is = here; not_end = c.if-byte-eq10.false; not_blank = sym c.if-is_blank.ensures; not_comment = c.if-byte-eq35.false } in
+    record { within = c.loop-at-test.true; is = here; not_end = c.if-byte-eq10.false; not_blank = sym c.if-parts_words.ensures; not_comment = c.if-byte-eq35.false } in
     let bounds = c.in-Ok.ensures.within in
     let size : c.word.inside.size ≡ c.in-Ok.word.size = ap (λ w. w.size) c.word.view_is in
     let pushed = c.in_ok-push-in-Ok.ensures.ok in
@@ -47,7 +47,7 @@ returns-in-Err c =
     let script = c.args.script.now in
     let here = rest_is script c.loop-at.at in
     let begins : Begins script (take (length script - c.loop-at.at) (drop c.loop-at.at script)) c.loop-at.at =
-    record { within = c.loop-at-test.true; is = here; not_end = c.if-byte-eq10.false; not_blank = sym c.if-is_blank.ensures; not_comment = c.if-byte-eq35.false } in
+    record { within = c.loop-at-test.true; is = here; not_end = c.if-byte-eq10.false; not_blank = sym c.if-parts_words.ensures; not_comment = c.if-byte-eq35.false } in
     sym c.loop-at.invariant.1 ∙ at-fault script _ c.loop-at.at c.loop-at.commands c.loop-at.words c.in-Err.fault begins (sym c.in-Err.ensures.value)
 
 pub returns : goal.returns

@@ -1,5 +1,5 @@
 use Rattle.std.proofs.Common.{Err, [], ◌∷◌, ◌++◌, sym, ◌∙◌, subst}
-use Rattle.kaem_script.specs.Listed.{AreNames, Pushes}
+use Rattle.kaem_script.specs.FilesListed.{AreNames, Pushes}
 use Rattle.kaem_script.proofs.Names.{names-more, refused}
 use Rattle.kaem_script.proofs.files.FileList.push.Goals as goal
 

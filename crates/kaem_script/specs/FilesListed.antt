@@ -7,7 +7,7 @@ use Rattle.mem_files.specs.declared.slot.PlaceRefusal.{PlaceRefusal}
 use Rattle.mem_files.specs.declared.slot.PlaceRefusal.TheVariants.{OutOfMemory}
 
 -- the names, without the `./` that they begin with, in the order of the list; and the files, which are the world of the first command
-pub record Listed : Type 0 where
+pub record FilesListed : Type 0 where
   pub names : List (List ℕ)
   pub world : World
 
@@ -15,7 +15,7 @@ pub record Listed : Type 0 where
 abbrev pub AreNames : List (List ℕ) → Type 0
 AreNames names = All (λ name. IsTrue (is_stripped_name name)) names
 
-abbrev pub no_files : Listed
+abbrev pub no_files : FilesListed
 no_files = record { names = []; world = first_world }
 
 -- a name with the content of its file
@@ -23,11 +23,11 @@ abbrev pub named_in : World → List ℕ → List ℕ × List ℕ
 named_in world name = (name, unwrap_or (content_at world name) [])
 
 -- each name with the content of its file, in the order of the list
-abbrev pub listed_files : Listed → List (List ℕ × List ℕ)
+abbrev pub listed_files : FilesListed → List (List ℕ × List ℕ)
 listed_files listed = map (named_in listed.world) listed.names
 
 -- one more file, which is placed as files are; a refusal leaves the list as it was
-abbrev pub Pushes : Listed → List ℕ → List ℕ → Result (Unit {0}) PlaceRefusal → Listed → Type 0
+abbrev pub Pushes : FilesListed → List ℕ → List ℕ → Result (Unit {0}) PlaceRefusal → FilesListed → Type 0
 Pushes old name content (Ok done) new =
     (placed old.world name content ≡ (Ok tt, new.world)) × (new.names ≡ old.names ++ stripped name ∷ [])
 Pushes old name content (Err OutOfMemory) new = new ≡ old

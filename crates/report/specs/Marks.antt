@@ -1,0 +1,8 @@
+-- What a report says of content. docs/reference/report.md says the same for people. Digests are SHA-256 (FIPS 180-4).
+use Rattle.std.specs.Prelude.{ℕ, List, length}
+use Rattle.sha2.specs.Sha256.{sha256}
+use Rattle.report.specs.declared.types.Mark.{Mark}
+
+-- the mark of bytes: how many they are, and their digest
+abbrev pub mark_of : List ℕ → Mark
+mark_of bytes = record { length = length bytes; digest = record { 0 = sha256 bytes } }
