@@ -1,4 +1,5 @@
 mod Chaining
+mod Cutting
 pub mod Demonstrating
 pub mod Judging
 mod Written

@@ -1,5 +1,6 @@
 pub mod Chain
 pub mod ChainTexts
 pub mod Demo
+pub mod Inside
 pub mod Texts
 pub mod Verify
