@@ -5,6 +5,7 @@ use Rattle.std.specs.List.{AllZip}
 use Rattle.std.proofs.Math.Nat.{min-le_left, min-le_right}
 use Rattle.std.proofs.lemmas.List.{length-map}
 use Rattle.std.proofs.lemmas.List.Elements.{All-cons, All-nil}
+use Rattle.std.proofs.lemmas.List.Sums.{sum_by-cons}
 use Rattle.ddc_base.specs.declared.outside.Loaded.{Loaded}
 use Rattle.ddc_base.specs.declared.outside.Loaded.TheVariants.{Bytes, Absent, TooLong}
 use Rattle.ddc_base.specs.Outside.{NamedFiles, loaded}
@@ -49,20 +50,17 @@ module _ (files : NamedFiles) (P : Outcome → Type 0) where
   Goes plan = LoadsBytes plan files → (outcome plan files).status ≡ status.Yes → P (outcome plan files)
 
   answer-goes : (given : Status) (text : List ℕ) → (given ≡ status.Yes → P (told files given text)) → Goes (answers given text)
-  answer-goes given text holds bytes yes = holds yes
+  answer-goes given text holds bytes ends = holds ends
 
   need-goes : (name : List ℕ) (limit : ℕ) (next : List ℕ → Plan)
       → ((content : List ℕ) → loaded files name limit ≡ Bytes content → All (λ byte. byte < 256) content → Goes (next content)) → Goes (needs name limit next)
   need-goes name limit next goes = by (loaded files name limit) refl where
-    come : Loaded → Outcome
-    come l = follow l (λ c. outcome (next c) files) (told files status.FileRefused) name
-
     by : (l : Loaded) → loaded files name limit ≡ l → bytes_then l (λ c. LoadsBytes (next c) files)
         → (follow l (λ c. outcome (next c) files) (told files status.FileRefused) name).status ≡ status.Yes
         → P (follow l (λ c. outcome (next c) files) (told files status.FileRefused) name)
-    by (Bytes content) is bytes yes = goes content is bytes.0 bytes.1 yes
-    by Absent is bytes yes = absurd cc
-    by TooLong is bytes yes = absurd cc
+    by (Bytes content) is bytes ends = goes content is bytes.0 bytes.1 ends
+    by Absent is bytes ends = absurd cc
+    by TooLong is bytes ends = absurd cc
 
   -- what inputs are, once they were found
   pub record Found (room : ℕ) (names contents : List (List ℕ)) : Type 0 where
@@ -84,19 +82,20 @@ module _ (files : NamedFiles) (P : Outcome → Type 0) where
         held = (one.0, found.held);
         count = ap suc found.count;
         each = All-cons IsContent content contents (record { bytes = bytes; small = omega (arith, one.1, min-le_left 268_435_456 room) }) found.each;
-        small = more (length content) (sum_by length contents) room found.small (omega (arith, one.1, min-le_right 268_435_456 room));
+        small = more (length content) (sum_by length contents) room (sum_by length (content ∷ contents)) (sum_by-cons length content contents) found.small
+            (omega (arith, one.1, min-le_right 268_435_456 room));
       })))
     where
-      more : (a b c : ℕ) → b ≤ c - a → a ≤ c → a + b ≤ c
-      more a b c rest first = omega (arith, rest, first)
+      more : (a b c sum : ℕ) → sum ≡ a + b → b ≤ c - a → a ≤ c → sum ≤ c
+      more a b c sum is rest first = omega (arith, is, rest, first)
 
   read-goes : {A E : Type 0} (reading : Result A E) (given : Status) (text : E → List ℕ) (next : A → Plan) → (given ≡ status.Yes → ⊥)
       → ((value : A) → reading ≡ Ok value → Goes (next value)) → Goes (unless_refused reading (λ e. answers given (text e)) next)
   read-goes (Ok value) given text next other goes = goes value refl
-  read-goes (Err e) given text next other goes = λ bytes yes. absurd (other yes)
+  read-goes (Err e) given text next other goes = λ bytes ends. absurd (other ends)
 
   test-goes : (b : Bool) (next : Plan) → (b ≡ false → Goes next) → Goes (cond b usage next)
-  test-goes true next goes = λ bytes yes. absurd cc
+  test-goes true next goes = λ bytes ends. absurd cc
   test-goes false next goes = goes refl
 
   apart-goes : (said : Said) (file : List ℕ) (next : Unit {0} → Plan) → Goes (next tt) → Goes (needs_apart said file next)
@@ -113,8 +112,8 @@ module _ (files : NamedFiles) (P : Outcome → Type 0) where
   true-goes number lines None next goes = by (all_equal lines) refl where
     by : (b : Bool) → all_equal lines ≡ b → Goes (cond b (next tt) (answers status.Differs (audit_line number ++ compared_lines lines)))
     by true equal = goes refl equal
-    by false equal = λ bytes yes. absurd cc
-  true-goes number lines (Some (part, place)) next goes = λ bytes yes. absurd cc
+    by false equal = λ bytes ends. absurd cc
+  true-goes number lines (Some (part, place)) next goes = λ bytes ends. absurd cc
 
   audit-goes : (number room : ℕ) (pair : Pair) (next : Link → Plan) → ((link : Link) → HoldsAudit files pair link → sum_by length link.inputs ≤ room → Goes (next link))
       → Goes (needs_audit number room pair next)
@@ -128,12 +127,12 @@ module _ (files : NamedFiles) (P : Outcome → Type 0) where
       two-go pair (λ _. needs pair.recipe 1_048_576 (λ bytes. unless_refused (recipe_of bytes) (λ refusal. answers status.RecipeRefused (audit_line number ++ recipe_line refusal)) recipes))
       (need-goes pair.recipe 1_048_576 (λ bytes. unless_refused (recipe_of bytes) (λ refusal. answers status.RecipeRefused (audit_line number ++ recipe_line refusal)) recipes)
       (λ bytes held _.
-      read-goes (recipe_of bytes) status.RecipeRefused (λ refusal. audit_line number ++ recipe_line refusal) recipes (λ yes. cc)
+      read-goes (recipe_of bytes) status.RecipeRefused (λ refusal. audit_line number ++ recipe_line refusal) recipes (λ ends. cc)
       (λ said reads.
       apart-goes said pair.report (λ _. reports said)
       (need-goes pair.report 1_073_741_824 (λ text. unless_refused (report_of text) (λ line. answers status.ReportRefused (audit_line number ++ report_line line)) (loads said))
       (λ text text_held _.
-      read-goes (report_of text) status.ReportRefused (λ line. audit_line number ++ report_line line) (loads said) (λ yes. cc)
+      read-goes (report_of text) status.ReportRefused (λ line. audit_line number ++ report_line line) (loads said) (λ ends. cc)
       (λ made text_reads.
       inputs-go room (paths said) (last said made)
       (λ inputs found.
@@ -168,24 +167,25 @@ one-behind : (files : NamedFiles) (links : List Link) (room : ℕ) (pair : Pair)
 one-behind files links room pair pairs link answer held fits b = record {
   more = link ∷ b.more;
   audits = (held, b.audits);
-  small = more (sum_by length link.inputs) (bytes_of_inputs b.more) room b.small fits;
+  small = more (sum_by length link.inputs) (bytes_of_inputs b.more) room (bytes_of_inputs (link ∷ b.more))
+      (sum_by-cons (λ (l : Link). sum_by length l.inputs) link b.more) b.small fits;
   text = b.text ∙ ap chain_text (append_assoc links (link ∷ []) b.more);
 }
   where
-    more : (a c r : ℕ) → c ≤ r - a → a ≤ r → a + c ≤ r
-    more a c r rest first = omega (arith, rest, first)
+    more : (a c r sum : ℕ) → sum ≡ a + c → c ≤ r - a → a ≤ r → sum ≤ r
+    more a c r sum is rest first = omega (arith, is, rest, first)
 
 chained-goes : (files : NamedFiles) (pairs : List Pair) (links : List Link) (room : ℕ) → Goes files (Behind files links room pairs) (chained links room pairs)
-chained-goes files [] links room bytes yes = record { more = []; audits = tt; small = omega arith; text = ap chain_text (sym (append-nil links)) }
-chained-goes files (pair ∷ pairs) links room =
+chained-goes files [] links room bytes ends = record { more = []; audits = tt; small = omega arith; text = ap chain_text (sym (append-nil links)) }
+chained-goes files (pair ∷ pairs) links room bytes ends =
     audit-goes files (Behind files links room (pair ∷ pairs)) (length links + 1) room pair (λ link. chained (links ++ link ∷ []) (room_behind room link.inputs) pairs)
-    (λ link held fits bytes yes.
+    (λ link held fits later done.
     one-behind files links room pair pairs link (outcome (chained (links ++ link ∷ []) (room_behind room link.inputs) pairs) files) held fits
-    (chained-goes files pairs (links ++ link ∷ []) (room_behind room link.inputs) bytes yes))
+    (chained-goes files pairs (links ++ link ∷ []) (room_behind room link.inputs) later done)) bytes ends
 
 lines-go : (files : NamedFiles) (pairs : List Pair) → Goes files (Behind files [] 1_073_741_824 pairs) (chained_lines pairs)
 unfolding chained_lines
-lines-go files [] = λ bytes yes. absurd cc
+lines-go files [] = λ bytes ends. absurd cc
 lines-go files (pair ∷ pairs) = chained-goes files (pair ∷ pairs) [] 1_073_741_824
 
 -- a list that reads, and its audits
@@ -198,17 +198,17 @@ record Listed (list : List ℕ) (files : NamedFiles) (answer : Outcome) : Type 0
 
 list-goes : (list : List ℕ) (files : NamedFiles) (named : Bool) → Goes files (Listed list files) (cond named (chain_files list) usage)
 unfolding chain_files
-list-goes list files false = λ bytes yes. absurd cc
+list-goes list files false = λ bytes ends. absurd cc
 list-goes list files true =
     need-goes files (Listed list files) list 1_048_576 (λ text. unless_refused (list_of pair_of 64 text) (λ number. answers status.ListRefused (list_line number)) chained_lines)
     (λ content held _.
-    read-goes files (Listed list files) (list_of pair_of 64 content) status.ListRefused list_line chained_lines (λ yes. cc)
-    (λ lines reads bytes yes. record {
+    read-goes files (Listed list files) (list_of pair_of 64 content) status.ListRefused list_line chained_lines (λ ends. cc)
+    (λ lines reads bytes ends. record {
       content = content;
       held = (within 1_048_576 (finite.get files list) content held).0;
       lines = lines;
       reads = reads;
-      behind = lines-go files lines bytes yes;
+      behind = lines-go files lines bytes ends;
     }))
 
 true-each : (files : NamedFiles) (pairs : List Pair) (links : List Link) → AllZip (HoldsAudit files) pairs links → All IsTrueAudit links
@@ -224,8 +224,8 @@ pub chains : (prescribes : Prescribes) (compiles : Compiles)
     → ((links : List Link) → All IsTrueAudit links → RemainingHold prescribes compiles links → EachConcludes prescribes compiles links)
     → (list : List ℕ) (files : NamedFiles) → LoadsBytes (plan_of (codes "chain" ∷ list ∷ [])) files → (chain list files).status ≡ status.Yes
     → Chained prescribes compiles list files (chain list files)
-chains prescribes compiles composed list files bytes yes =
-    let l : Listed list files (chain list files) = list-goes list files (is_file_word list) bytes yes in
+chains prescribes compiles composed list files bytes ends =
+    let l : Listed list files (chain list files) = list-goes list files (is_file_word list) bytes ends in
     record {
       list_bytes = l.content;
       list_held = l.held;

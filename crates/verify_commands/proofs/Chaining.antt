@@ -1,18 +1,30 @@
 -- Audits in a row, as a plan and as a loop.
-use Rattle.std.proofs.Common.{◌≡◌, ℕ, ◌+◌, ◌<◌, ◌≤◌, Result, Ok, Err, List, [], ◌∷◌, ◌++◌, length, drop, get_or, refl, sym, ap, ◌∙◌, subst, arith}
+use Rattle.std.proofs.Common.{◌≡◌, ℕ, Bool, true, false, if◌then◌else◌, Option, Some, None, ◌+◌, ◌<◌, ◌≤◌, Result, Ok, Err, List, [], ◌∷◌, ◌++◌, length, drop, get_or, refl, sym, ap, ◌∙◌, subst, arith}
 use Rattle.std.proofs.lemmas.List.{at_drop_more, drop_all, length-append}
 use Rattle.ddc_base.specs.Outside.{ShelfState}
+use Rattle.report.specs.declared.types.CompareLine.{CompareLine}
+use Rattle.wheeler.specs.Bench.{all_equal}
+use Rattle.verifier.specs.declared.part.Part.{Part}
+use Rattle.verifier.specs.declared.part.Verdict.TheVariants as verdict
+use Rattle.verifier.specs.Verdicts.{Judges}
 use Rattle.audit_chain.specs.declared.link.Link.{Link}
+use Rattle.command_plan.specs.declared.status.Status.{Status}
+use Rattle.command_plan.specs.declared.status.Status.TheVariants as status
 use Rattle.command_plan.specs.declared.answer.Answer.{Answer}
 use Rattle.command_plan.specs.declared.stop.Stop.{Stop}
 use Rattle.command_plan.specs.declared.stop.Stop.TheVariants as stop
 use Rattle.command_plan.specs.Performs.{Performs}
-use Rattle.command_plan.specs.Plan.{Plan}
+use Rattle.command_plan.specs.Plan.{Plan, answers}
 use Rattle.command_plan.specs.Steps.{Obtains, Says}
 use Rattle.command_plan.proofs.Gathering.{GoesOnAs, ends_as, ends_at_step, goes_on_obtained}
+use Rattle.command_plan.proofs.Obtaining.{answers_at_once, leads, wants_as}
 use Rattle.command_plan.proofs.Performing.{says, wants_memory}
+use Rattle.recipe_plan.specs.Texts.{compared_lines}
 use Rattle.verify_commands.specs.declared.pair.Pair.{Pair}
-use Rattle.verify_commands.specs.Chain.{chained, needs_audit, room_behind}
+use Rattle.verify_commands.specs.Chain.{chained, needs_audit, needs_true, room_behind}
+use Rattle.verify_commands.specs.ChainTexts.{audit_line}
+use Rattle.verify_commands.specs.Inside.Ends.{EndsWith}
+use Rattle.verify_commands.specs.Texts.{refuted_line}
 
 module _ (plan : Plan) (old now : ShelfState) (pairs : List Pair) (links : List Link) (room index : ℕ) (pair : Pair) (leads : GoesOnAs plan (chained links room (drop index pairs)) old now)
     (count : length links ≡ index) (less : index < length pairs) (is : pair ≡ get_or pairs index pair) where
@@ -51,3 +63,59 @@ all_done plan old now pairs links room index leads past result said =
     let none : drop index pairs ≡ [] = drop_all index pairs past in
     let led : GoesOnAs plan (chained links room []) old now = subst (λ (l : List Pair). GoesOnAs plan (chained links room l) old now) none leads in
     ends_as plan (chained links room []) old now led now result (says (chained links room []) now result said)
+
+-- ---- the judgement of one audit
+
+module _ (number : ℕ) (lines : List CompareLine) where
+  yes_goes : (fault : Option (Part × ℕ)) → Judges fault lines verdict.Yes → (next : Unit {0} → Plan) → needs_true number lines fault next ≡ next tt
+  unfolding needs_true
+  yes_goes None judged next = by (all_equal lines) judged where
+    by : (equal : Bool) → verdict.Yes ≡ (if equal then verdict.Yes else verdict.TrueButDiffers)
+        → (if equal then next tt else answers status.Differs (audit_line number ++ compared_lines lines)) ≡ next tt
+    by true is = refl
+    by false is = absurd cc
+  yes_goes (Some (part, place)) judged next = absurd cc
+
+  differs_goes : (fault : Option (Part × ℕ)) → Judges fault lines verdict.TrueButDiffers → (next : Unit {0} → Plan)
+      → needs_true number lines fault next ≡ answers status.Differs (audit_line number ++ compared_lines lines)
+  unfolding needs_true
+  differs_goes None judged next = by (all_equal lines) judged where
+    by : (equal : Bool) → verdict.TrueButDiffers ≡ (if equal then verdict.Yes else verdict.TrueButDiffers)
+        → (if equal then next tt else answers status.Differs (audit_line number ++ compared_lines lines)) ≡ answers status.Differs (audit_line number ++ compared_lines lines)
+    by true is = absurd cc
+    by false is = refl
+  differs_goes (Some (part, place)) judged next = absurd cc
+
+  refuted_goes : (fault : Option (Part × ℕ)) (part : Part) (place : ℕ) → Judges fault lines (verdict.Refuted part place) → (next : Unit {0} → Plan)
+      → needs_true number lines fault next ≡ answers status.Refuted (audit_line number ++ refuted_line part place)
+  unfolding needs_true
+  refuted_goes None part place judged next = absurd (never (all_equal lines) judged) where
+    never : (equal : Bool) → verdict.Refuted part place ≡ (if equal then verdict.Yes else verdict.TrueButDiffers) → ⊥
+    never true is = cc
+    never false is = cc
+  refuted_goes (Some (first, at)) part place judged next =
+      let part_is : first ≡ part = cc in
+      let place_is : at ≡ place = cc in
+      λ i. answers status.Refuted (audit_line number ++ refuted_line (part_is i) (place_is i))
+
+  pub yes_leads : (fault : Option (Part × ℕ)) → Judges fault lines verdict.Yes → (shelf : ShelfState) → Obtains (needs_true number lines fault) shelf shelf (Ok tt)
+  yes_leads fault judged shelf = leads (needs_true number lines fault) shelf tt (yes_goes fault judged)
+
+-- an answer that ends the command, or want of memory before it was made
+ends_so : (plan : (Unit {0} → Plan) → Plan) (given : Status) (text : List ℕ) → ((next : Unit {0} → Plan) → plan next ≡ answers given text) → (shelf : ShelfState) (said : Result Answer Stop)
+    (result : Result (Unit {0}) Stop) → Says (answers given text) said → EndsWith said result → Obtains plan shelf shelf result
+ends_so plan given text is shelf (Ok answer) result said ends =
+    subst (Obtains plan shelf shelf) (sym ends) (answers_at_once plan shelf answer (λ next. is next ∙ said.by_result))
+ends_so plan given text is shelf (Err ending) result said ends = subst (Obtains plan shelf shelf) (sym ends) (wants_as plan shelf ending said.by_result)
+
+pub differs_ends : (number : ℕ) (lines : List CompareLine) (fault : Option (Part × ℕ)) → Judges fault lines verdict.TrueButDiffers → (shelf : ShelfState) (said : Result Answer Stop)
+    (result : Result (Unit {0}) Stop) → Says (answers status.Differs (audit_line number ++ compared_lines lines)) said → EndsWith said result
+    → Obtains (needs_true number lines fault) shelf shelf result
+differs_ends number lines fault judged shelf said result says_so ends =
+    ends_so (needs_true number lines fault) status.Differs (audit_line number ++ compared_lines lines) (differs_goes number lines fault judged) shelf said result says_so ends
+
+pub refuted_ends : (number : ℕ) (lines : List CompareLine) (fault : Option (Part × ℕ)) (part : Part) (place : ℕ) → Judges fault lines (verdict.Refuted part place) → (shelf : ShelfState)
+    (said : Result Answer Stop) (result : Result (Unit {0}) Stop) → Says (answers status.Refuted (audit_line number ++ refuted_line part place)) said → EndsWith said result
+    → Obtains (needs_true number lines fault) shelf shelf result
+refuted_ends number lines fault part place judged shelf said result says_so ends =
+    ends_so (needs_true number lines fault) status.Refuted (audit_line number ++ refuted_line part place) (refuted_goes number lines fault part place judged) shelf said result says_so ends

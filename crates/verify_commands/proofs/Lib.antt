@@ -1,3 +1,4 @@
 mod Chaining
+mod Cutting
 pub mod Judging
 mod Written

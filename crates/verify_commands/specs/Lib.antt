@@ -1,4 +1,5 @@
 pub mod Chain
 pub mod ChainTexts
+pub mod Inside
 pub mod Texts
 pub mod Verify

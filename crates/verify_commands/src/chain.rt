@@ -13,6 +13,7 @@ ghost use Rattle.command_plan.specs.Steps.{Obtains, Says};
 ghost use Rattle.recipe_plan.specs.Texts.{compared_lines, recipe_line, report_line};
 ghost use Rattle.verify_commands.specs.Chain.{chain_files, chain_plan, chained, chained_lines, needs_audit, needs_recipe_of, needs_report_of, needs_true, needs_two_files, room_behind};
 ghost use Rattle.verify_commands.specs.ChainTexts.{audit_line, chain_text};
+ghost use Rattle.verify_commands.specs.Inside.Ends.{EndsWith};
 ghost use Rattle.verify_commands.specs.Texts.{refuted_line};
 
 use crate::pair::Pair;
@@ -129,21 +130,45 @@ fn verify_audit<S: Shelf>(
 ) -> Result<Link, Stop>
     ensures { Obtains (needs_audit number room pair.now) (S.state shelf.old) (S.state shelf.new) result }
 {
-    two_files(alloc, pair)?;
-    let recipe = fetch_recipe(alloc, shelf, number, pair.recipe.as_str())?;
-    apart(alloc, &recipe, pair.report.as_str())?;
-    let report = fetch_report(alloc, shelf, number, pair.report.as_str())?;
+    verify_files(
+        alloc,
+        shelf,
+        number,
+        room,
+        pair.recipe.as_str(),
+        pair.report.as_str(),
+    )
+}
+
+/// The same of a recipe's file and a report's.
+fn verify_files<S: Shelf>(
+    alloc: Global,
+    shelf: &mut S,
+    number: u32,
+    room: u64,
+    recipe: &str,
+    report: &str,
+) -> Result<Link, Stop>
+    requires recipe { IsFileName recipe.now }
+    requires report { IsFileName report.now }
+    ensures { Obtains (needs_audit number room (record { recipe = recipe.now; report = report.now }))
+        (S.state shelf.old) (S.state shelf.new) result }
+{
+    two_files(alloc, recipe, report)?;
+    let recipe = fetch_recipe(alloc, shelf, number, recipe)?;
+    apart(alloc, &recipe, report)?;
+    let report = fetch_report(alloc, shelf, number, report)?;
     let inputs = fetch_inputs_within(alloc, shelf, &recipe, room)?;
     judge(alloc, number, &recipe, &inputs, &report)?;
     Ok(Link { recipe, inputs })
 }
 
-/// Ends the command where a line's words name one file.
+/// Ends the command where two words name one file.
 #[tactic(auto, unfolding(crate::specs::Chain::needs_two_files))]
-fn two_files(alloc: Global, pair: &Pair) -> Result<(), Stop>
-    ensures { (shelf : ShelfState) → Obtains (needs_two_files pair.now) shelf shelf result }
+fn two_files(alloc: Global, recipe: &str, report: &str) -> Result<(), Stop>
+    ensures { (shelf : ShelfState) → Obtains (needs_two_files (record { recipe = recipe.now; report = report.now })) shelf shelf result }
 {
-    if is_one_file(pair.recipe.as_str(), pair.report.as_str()) {
+    if is_one_file(recipe, report) {
         return Err(Stop::Answered(usage(alloc)?));
     }
     Ok(())
@@ -234,15 +259,19 @@ fn judge(
 {
     match verifier::verify(alloc, recipe, inputs, report) {
         Verdict::Yes => Ok(()),
-        Verdict::TrueButDiffers => Err(Stop::Answered(differs(
-            alloc,
-            number,
-            report.compare.as_slice(),
-        )?)),
-        Verdict::Refuted { part, place } => Err(Stop::Answered(refuted(
-            alloc, number, part, place,
-        )?)),
+        Verdict::TrueButDiffers => answered(differs(alloc, number, report.compare.as_slice())),
+        Verdict::Refuted { part, place } => answered(refuted(alloc, number, part, place)),
         Verdict::OutOfMemory { .. } => Err(Stop::OutOfMemory),
+    }
+}
+
+/// Ends the command with an answer.
+fn answered(answer: Result<Answer, Stop>) -> Result<(), Stop>
+    ensures { EndsWith answer result }
+{
+    match answer {
+        Ok(answer) => Err(Stop::Answered(answer)),
+        Err(ending) => Err(ending),
     }
 }
 

@@ -1,5 +1,5 @@
-ghost use Rattle.std.specs.Prelude.{◌≡◌, ◌==◌, IfOk};
-ghost use Rattle.std.specs.List.{after_first, before_first};
+ghost use Rattle.std.specs.Prelude.{◌≡◌, ◌<◌, ◌==◌, IfOk, IfSome, length};
+ghost use Rattle.std.specs.List.{after_first, before_first, position};
 
 use command_plan::ListedWord;
 use command_plan::lists::Listed;
@@ -38,8 +38,16 @@ fn cut_at_blank(line: &[u8]) -> (&[u8], &[u8])
     ensures before { result.0.now ≡ before_first (λ byte. byte == 32) line.now }
     ensures behind { result.1.now ≡ after_first (λ byte. byte == 32) line.now }
 {
-    match line.iter().position(|byte| *byte == b' ') {
+    match blank_at(line) {
         Some(at) => (&line[..at], &line[at + 1..]),
         None => (line, &[]),
     }
+}
+
+/// The index of the first blank.
+fn blank_at(line: &[u8]) -> Option<usize>
+    ensures place { result ≡ position (λ byte. byte == 32) line.now }
+    ensures within { IfSome result (λ at. at < length line.now) }
+{
+    line.iter().position(|byte| *byte == b' ')
 }

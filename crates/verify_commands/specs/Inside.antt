@@ -1,0 +1,2 @@
+-- No promise rests on this file being read.
+pub mod Ends
