@@ -88,16 +88,56 @@ type Limit = (
 
 static LIMITS: &[Limit] = &[
     (b"a ", 64, b"# more", Ok(1)),
-    (b"a ", 64, b"b", Err(ScriptRefusal::At(ScriptFault::TooManyWords, 128))),
-    (b"a ", 64, b"\"", Err(ScriptRefusal::At(ScriptFault::TooManyWords, 128))),
+    (
+        b"a ",
+        64,
+        b"b",
+        Err(ScriptRefusal::At(ScriptFault::TooManyWords, 128)),
+    ),
+    (
+        b"a ",
+        64,
+        b"\"",
+        Err(ScriptRefusal::At(ScriptFault::TooManyWords, 128)),
+    ),
     (b"a\n", 4_096, b"# more", Ok(4_096)),
-    (b"a\n", 4_096, b" b", Err(ScriptRefusal::At(ScriptFault::TooMany, 8_193))),
-    (b"a\n", 4_096, b"$", Err(ScriptRefusal::At(ScriptFault::TooMany, 8_192))),
-    (b"a\n", 4_095, b"a $", Err(ScriptRefusal::At(ScriptFault::BadWord, 8_192))),
+    (
+        b"a\n",
+        4_096,
+        b" b",
+        Err(ScriptRefusal::At(ScriptFault::TooMany, 8_193)),
+    ),
+    (
+        b"a\n",
+        4_096,
+        b"$",
+        Err(ScriptRefusal::At(ScriptFault::TooMany, 8_192)),
+    ),
+    (
+        b"a\n",
+        4_095,
+        b"a $",
+        Err(ScriptRefusal::At(ScriptFault::BadWord, 8_192)),
+    ),
     (b"a", 255, b"", Ok(1)),
-    (b"a", 256, b"", Err(ScriptRefusal::At(ScriptFault::LongWord, 0))),
-    (b"a", 256, b"$", Err(ScriptRefusal::At(ScriptFault::BadWord, 0))),
-    (b"./", 128, b"", Err(ScriptRefusal::At(ScriptFault::BadWord, 0))),
+    (
+        b"a",
+        256,
+        b"",
+        Err(ScriptRefusal::At(ScriptFault::LongWord, 0)),
+    ),
+    (
+        b"a",
+        256,
+        b"$",
+        Err(ScriptRefusal::At(ScriptFault::BadWord, 0)),
+    ),
+    (
+        b"./",
+        128,
+        b"",
+        Err(ScriptRefusal::At(ScriptFault::BadWord, 0)),
+    ),
 ];
 
 #[test]
@@ -199,13 +239,53 @@ fn a_script_stops_at_its_first_failure(rt: HostRuntime) -> Result<(), Fail> {
     let alloc = rt.alloc();
     assert!(rt; stops(alloc, b"out\n", b"", 100, (1, CommandCause::NoProgram, 0))?);
     // What a command made is there for the next one, under the name that it has then.
-    assert!(rt; stops(alloc, b"copy.elf\nout\nelse\n", &EXIT, 100, (3, CommandCause::NoProgram, 0))?);
-    assert!(rt; stops(alloc, b"copy.elf\nout", b"abc", 100, (2, CommandCause::Elf(ElfRefusal::Short), 0))?);
+    assert!(rt;
+        stops(
+            alloc,
+            b"copy.elf\nout\nelse\n",
+            &EXIT,
+            100,
+            (3, CommandCause::NoProgram, 0)
+        )?
+    );
+    assert!(rt;
+        stops(
+            alloc,
+            b"copy.elf\nout",
+            b"abc",
+            100,
+            (2, CommandCause::Elf(ElfRefusal::Short), 0)
+        )?
+    );
     assert!(rt; stops(alloc, b"copy.elf", b"abc", 31, (1, CommandCause::Spent, 31))?);
     // addi x10, x0, 7 in the place of addi x10, x0, 0; addi x17, x0, 999 in that of addi x17, x0, 93; no instruction.
-    assert!(rt; stops(alloc, b"in", &altered(120, 0x0070_0513), 100, (1, CommandCause::Status(7), 3))?);
-    assert!(rt; stops(alloc, b"in", &altered(124, 0x3e70_0893), 100, (1, CommandCause::Call(999), 3))?);
-    assert!(rt; stops(alloc, b"in", &altered(120, 0), 100, (1, CommandCause::Trap(Cause::Illegal(0)), 1))?);
+    assert!(rt;
+        stops(
+            alloc,
+            b"in",
+            &altered(120, 0x0070_0513),
+            100,
+            (1, CommandCause::Status(7), 3)
+        )?
+    );
+    assert!(rt;
+        stops(
+            alloc,
+            b"in",
+            &altered(124, 0x3e70_0893),
+            100,
+            (1, CommandCause::Call(999), 3)
+        )?
+    );
+    assert!(rt;
+        stops(
+            alloc,
+            b"in",
+            &altered(120, 0),
+            100,
+            (1, CommandCause::Trap(Cause::Illegal(0)), 1)
+        )?
+    );
     Ok(())
 }
 

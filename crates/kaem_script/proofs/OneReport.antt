@@ -1,5 +1,5 @@
 -- A script's report without a fault is the one that its commands give.
-use Rattle.std.proofs.Common.{◌≡◌, ℕ, zero, suc, ◌+◌, ◌≤◌, ◌^◌, ◌==◌, ◌&&◌, Bool, true, false, cond, Option, None, Some, Result, Ok, Err, List, [], ◌∷◌, ◌++◌, length, map, append_assoc, refl, sym, ap, subst, ◌∙◌, arith, inl, inr}
+use Rattle.std.proofs.Common.{◌≡◌, ℕ, zero, suc, ◌+◌, ◌≤◌, ◌^◌, ◌==◌, ◌&&◌, Bool, true, false, cond, Option, None, Some, Result, Ok, Err, List, [], ◌∷◌, ◌++◌, length, map, append_assoc, refl, sym, ap, subst, ◌∙◌, arith}
 use Rattle.std.specs.Bool.{Decides}
 use Rattle.std.specs.Prelude.{bytes_eq, nat_le, option_map}
 use Rattle.std.proofs.lemmas.Bool.{and_parts, and_from, eqb-true, eq-eqb, leb-true, le-leb}
@@ -15,14 +15,13 @@ use Rattle.report.specs.declared.types.LeftLine.{LeftLine}
 use Rattle.report.specs.declared.types.Mark.{Mark}
 use Rattle.report.specs.declared.script.types.CommandLine.{CommandLine}
 use Rattle.report.specs.declared.script.types.ScriptReport.{ScriptReport}
-use Rattle.kaem_script.specs.declared.auditing.ScriptEnd.TheVariants.{Done, Failed}
+use Rattle.kaem_script.specs.declared.auditing.ScriptEnd.TheVariants.{Done}
 use Rattle.kaem_script.specs.declared.verdict.ScriptPart.{ScriptPart}
 use Rattle.kaem_script.specs.declared.verdict.ScriptPart.TheVariants as part
 use Rattle.kaem_script.specs.Faults.{by_streams, commands_fault, fault_after_command, files_fault, first_fault, first_of_both, is_mark_of, left_after_steps, left_at, left_fault, replayed, says_file, says_files, says_streams, wrong_file}
 use Rattle.kaem_script.specs.Fold.{CommandResult, Finished, Folded, Ran, Stopped, after_command, command, fold_from, folded}
 use Rattle.kaem_script.specs.Listed.{Listed, listed_files}
 use Rattle.kaem_script.specs.Reported.{audited, command_line, ended, mark_of, marked, script_report}
-use Rattle.kaem_script.specs.Runs.{IsCommandRun}
 use Rattle.kaem_script.specs.Script.{Said}
 use Rattle.kaem_script.proofs.Runs.{is-command, is-run}
 

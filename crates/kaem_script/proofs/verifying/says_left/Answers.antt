@@ -1,5 +1,4 @@
-use Rattle.std.proofs.Common.{◌≡◌, ◌∙◌, Option, ℕ, List, true, false, sym, ap, is_none, option_copied}
-use Rattle.mem_files.specs.Calls.{name_after}
+use Rattle.std.proofs.Common.{◌≡◌, ◌∙◌, ℕ, List, true, false, sym, ap, is_none, option_copied}
 use Rattle.mem_files.proofs.Walks.{walk-name}
 use Rattle.kaem_script.specs.Faults.{says_file, says_files}
 use Rattle.kaem_script.specs.Listed.{named_in}
