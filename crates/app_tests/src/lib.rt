@@ -7,6 +7,8 @@ mod assumed;
 mod audits;
 #[cfg(test)]
 mod causes;
+#[cfg(test)]
+mod chains;
 pub mod copying;
 #[cfg(test)]
 mod differences;

@@ -107,3 +107,12 @@ module _ (plan : Plan) (name content : List ℕ) (next : Plan) (old now : ShelfS
   -- a save that ends the command
   pub ends_at_one : (new : ShelfState) (ending : Stop) → Saves name content now new (Err ending) → Performs plan old new (Err ending)
   ends_at_one new ending s = ends_as plan (sets name content next) old now leads new (Err ending) (ends_at_save name content next now new ending s)
+
+module _ {A : Type 0} (plan : Plan) (step : (A → Plan) → Plan) (next : A → Plan) (old now : ShelfState) (leads : GoesOnAs plan (step next) old now) where
+  -- one more step
+  pub goes_on_obtained : (mid : ShelfState) (value : A) → Obtains step now mid (Ok value) → GoesOnAs plan (next value) old mid
+  goes_on_obtained mid value o = λ final ending e. leads final ending (o.by_result next final ending e)
+
+  -- a step that ends the command
+  pub ends_at_step : (new : ShelfState) (ending : Stop) → Obtains step now new (Err ending) → Performs plan old new (Err ending)
+  ends_at_step new ending o = ends_as plan (step next) old now leads new (Err ending) (o.by_result next)

@@ -5,6 +5,7 @@ pub mod Walks
 pub mod Openings
 pub mod Accepting
 pub mod Verifying
+pub mod Chaining
 pub mod CountWords
 pub mod Beginnings
 pub mod Pieces

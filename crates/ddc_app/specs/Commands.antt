@@ -12,6 +12,7 @@ use Rattle.tool_commands.specs.RunProgram.{run_plan}
 use Rattle.audit_commands.specs.Pause.{part_plan, resume_plan}
 use Rattle.audit_commands.specs.Delta.{delta_resume_plan, delta_start_plan}
 use Rattle.audit_commands.specs.Step.{step_plan}
+use Rattle.verify_commands.specs.Chain.{chain_plan}
 use Rattle.verify_commands.specs.Demo.{demo_plan}
 use Rattle.segment_commands.specs.Cut.{cut_plan}
 use Rattle.segment_commands.specs.Ends.{ends_plan}
@@ -38,7 +39,8 @@ text_plan (command ∷ words) =
     else (if bytes_eq command (codes "cut") then cut_plan words
     else (if bytes_eq command (codes "segment") then segment_plan words
     else (if bytes_eq command (codes "ends") then ends_plan words
-    else usage)))))))))))))))
+    else (if bytes_eq command (codes "chain") then chain_plan words
+    else usage))))))))))))))))
 
 -- whether a command line is one of `step`, the command that may begin a session
 abbrev pub is_step : List (List ℕ) → Bool

@@ -6,3 +6,4 @@ pub mod Holding
 pub mod Pausing
 pub mod Differences
 pub mod Verified
+pub mod Chained

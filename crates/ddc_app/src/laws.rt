@@ -1,12 +1,13 @@
 //! Laws of what commands come to. Each law is the contract of a function that does nothing.
 
 ghost use Rattle.ddc_app.specs.Accepting.{HoldBytes, audit, is_compared, verify};
+ghost use Rattle.ddc_app.specs.Chained.{Chained, chain};
 ghost use Rattle.ddc_app.specs.Commands.{plan_of};
 ghost use Rattle.ddc_app.specs.Differences.{AreDeltaWords, DeltaPieces, Differences, IsSavedBeside, LeavesAllBut, delta_resume, delta_start, in_differences};
 ghost use Rattle.ddc_app.specs.Pausing.{AreWords, IsStepCount, LeavesOthers, LeavesUnwritten, Pieces, IsSavedAt, in_pieces, part, resume};
 ghost use Rattle.ddc_app.specs.Verified.{Verified};
 ghost use Rattle.command_plan.specs.Plan.{LoadsBytes};
-ghost use Rattle.command_plan.specs.declared.status.Status.TheVariants.{Paused};
+ghost use Rattle.command_plan.specs.declared.status.Status.TheVariants.{Paused, Yes};
 ghost use Rattle.ddc_base.specs.Outside.{NamedFiles};
 ghost use Rattle.ddc_base.specs.Lines.{line};
 ghost use Rattle.report.specs.Lines.{line_words};
@@ -16,6 +17,7 @@ ghost use Rattle.std.specs.Prelude.{◌≡◌, ◌+◌, [], ◌∷◌, All, IsTr
 ghost use Rattle.tool_commands.specs.RunProgram.{left_line, stream_line};
 ghost use Rattle.wheeler.specs.Stages.{mark_of};
 
+use audit_chain::laws::composed;
 use meaning::Meaning;
 use verifier::conclusion::laws::a_true_report_shows;
 
@@ -42,6 +44,17 @@ pub fn verified_as_loaded<M: Meaning>()
         → Verified M.prescribes M.compiles recipe report files (verify recipe report files) }
 {
     a_true_report_shows::<M>();
+}
+
+/// Composed audits, on the answer of `chain`, whatever sources mean: where `chain LIST` over files, of which those that it loads are found to be
+/// bytes, comes to 0, each line of the list is a true audit whose comparisons are equal, and the text has exactly what remains of all of them.
+/// Where each of these lines holds, every line that is assumed of every audit does, every stage follows, and each audited binary implements the
+/// source of each compared stage that has one.
+pub fn chained<M: Meaning>()
+    ensures { (list : List ℕ) (files : NamedFiles) → LoadsBytes (plan_of (codes "chain" ∷ list ∷ [])) files → (chain list files).status ≡ Yes
+        → Chained M.prescribes M.compiles list files (chain list files) }
+{
+    composed::<M>();
 }
 
 /// A piece of an audit: `part` by some steps over files pauses behind as many and leaves the save of that position, or it comes to the same

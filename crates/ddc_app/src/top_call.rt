@@ -9,21 +9,21 @@ ghost use Rattle.command_plan.specs.Performs.{HoldsTalk, Performs, WantsMemory};
 ghost use Rattle.command_plan.specs.Plan.{talk_of};
 ghost use Rattle.ddc_app.specs.Accepting.{is_compared};
 ghost use Rattle.ddc_app.specs.Commands.{is_step, text_plan};
+ghost use Rattle.ddc_app.specs.Chained.{Chained};
 ghost use Rattle.ddc_app.specs.Verified.{Verified};
 ghost use Rattle.ddc_app.specs.Run.{plan_for, due, IsDue, IsOneText, LosesText, NamesFault, TakesOne};
 ghost use Rattle.ddc_app.specs.Inside.Concluding.{Closes, Leaves, PutEnds, SaysEnding, unless_lost};
 
-use crate::laws::verified_as_loaded;
+use crate::laws::{chained, verified_as_loaded};
 use audit_commands::{audit, delta_resume, delta_start, left, part, resume, show, step};
 use command_plan::{Answer, Status, Stop, usage};
 use ddc_base::{PutFail, Shelf, Sink};
-use verify_commands::demo;
 use meaning::Meaning;
 use prompt::Prompt;
 use segment_commands::{cut, ends, segment};
 use std::alloc::Global;
 use tool_commands::{asm, hex0, list, run};
-use verify_commands::verify;
+use verify_commands::{chain, demo, verify};
 
 /// Everything that the program does: it takes the words of the command line, without the program's own name, and answers the
 /// status that the program ends with. docs/reference/command-line.md has the commands and the statuses.
@@ -88,6 +88,11 @@ pub fn run<M: Meaning, S: Shelf, K: Sink, P: Prompt>(
         → map (λ word. word.now) words.now ≡ codes "verify" ∷ recipe ∷ report ∷ [] → IsTrue (is_compared result)
         → Verified M.prescribes M.compiles recipe report (S.state shelf.old).files (due words.now (S.state shelf.old)) }
 
+    // What a yes of `chain` shows.
+    ensures chained { IsDue words.now (S.state shelf.old) → (list : List ℕ) → map (λ word. word.now) words.now ≡ codes "chain" ∷ list ∷ []
+        → result ≡ Status.Yes
+        → Chained M.prescribes M.compiles list (S.state shelf.old).files (due words.now (S.state shelf.old)) }
+
     // The prompt is asked in a session alone.
     ensures prompt_stays { IsOneText words.now (S.state shelf.old) ⊎ (result ≡ Status.ShelfFault)
         → P.state prompt.new ≡ P.state prompt.old }
@@ -97,6 +102,7 @@ pub fn run<M: Meaning, S: Shelf, K: Sink, P: Prompt>(
     ensures prompt_tells { (P.state prompt.new).tells ≡ (P.state prompt.old).tells }
 {
     verified_as_loaded::<M>();
+    chained::<M>();
     act::<M, S, K, P>(alloc, words, shelf, out, prompt)
 }
 
@@ -164,6 +170,7 @@ fn perform<M: Meaning, S: Shelf>(
         "cut" => cut::perform(alloc, words, shelf),
         "segment" => segment::perform(alloc, words, shelf),
         "ends" => ends::perform(alloc, words, shelf),
+        "chain" => chain::perform(alloc, words, shelf),
         _ => usage(alloc),
     }
 }

@@ -5,9 +5,10 @@ use ddc_base::digests::Digest;
 use ddc_base::{Bytes, read_hex};
 use elf_load::ElfRefusal;
 use kaem_script::{
-    CommandCause, FileList, ScriptEnd, ScriptFault, ScriptRefusal, ScriptReport, audit, read,
+    CommandCause, FileList, ScriptEnd, ScriptFault, ScriptRefusal, audit, read,
 };
 use mem_files::PlaceRefusal;
+use report::script::ScriptReport;
 use rv64_machine::Cause;
 use std::alloc::Global;
 use std::process::Abort;
@@ -345,7 +346,7 @@ fn a_list_refuses_as_placing_does(rt: HostRuntime) -> Result<(), Fail> {
     assert!(rt; files.push(b"./b", b"3") == Err(PlaceRefusal::Twice));
     assert!(rt; files.push(b"./", b"4") == Err(PlaceRefusal::BadName));
     match files.names() {
-        [first, second] => assert!(rt; first.as_slice() == b"b" && second.as_slice() == b"a"),
+        [first, second] => assert!(rt; first.as_slice() == b"b".as_slice() && second.as_slice() == b"a".as_slice()),
         _ => panic!(rt; "other names"),
     }
     assert!(rt; files.files().content(b"b") == Some(b"1".as_slice()));

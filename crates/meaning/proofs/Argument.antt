@@ -38,11 +38,11 @@ All-filter_map P f [] all = All-nil _
 All-filter_map P f (x ∷ xs) all =
     All-cons (λ x. IfSome (f x) P) x xs (head-holds P (f x) (filter_map f xs) all) (All-filter_map P f xs (rest-holds P (f x) (filter_map f xs) all))
 
-All-front : {X : Type 0} (P : X → Type 0) (xs ys : List X) → All P (xs ++ ys) → All P xs
+pub All-front : {X : Type 0} (P : X → Type 0) (xs ys : List X) → All P (xs ++ ys) → All P xs
 All-front P [] ys all = All-nil P
 All-front P (x ∷ xs) ys all = All-cons P x xs (All-head P x (xs ++ ys) all) (All-front P xs ys (All-tail P x (xs ++ ys) all))
 
-All-back : {X : Type 0} (P : X → Type 0) (xs ys : List X) → All P (xs ++ ys) → All P ys
+pub All-back : {X : Type 0} (P : X → Type 0) (xs ys : List X) → All P (xs ++ ys) → All P ys
 All-back P [] ys all = all
 All-back P (x ∷ xs) ys all = All-back P xs ys (All-tail P x (xs ++ ys) all)
 
@@ -137,7 +137,7 @@ unchecked : (o : Option (List ℕ)) → o ≡ None → is_none o ≡ true
 unchecked None is = refl
 unchecked (Some x) is = absurd cc
 
-needed-each : (recipe : Said) → All (λ (stage : Stage). stage.check ≡ None → is_trusted recipe stage.program ≡ true) recipe.stages
+pub needed-each : (recipe : Said) → All (λ (stage : Stage). stage.check ≡ None → is_trusted recipe stage.program ≡ true) recipe.stages
 unfolding is_trusted
 needed-each recipe k d less was =
     let stage = get_or recipe.stages k d in

@@ -12,3 +12,4 @@ pub mod RouteLines
 pub mod Directions
 pub mod ComparedStages
 pub mod RouteBack
+pub mod ListedLines

@@ -6,6 +6,7 @@ pub mod Assumptions
 pub mod Routes
 pub mod Inside
 pub mod Follows
+pub mod Listed
 pub mod Checked
 pub mod Differing
 pub mod Concludes

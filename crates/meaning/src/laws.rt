@@ -4,13 +4,14 @@ ghost use Rattle.meaning.specs.AllContents.{stage_named};
 ghost use Rattle.meaning.specs.Assumptions.{assumed, is_trusted};
 ghost use Rattle.meaning.specs.Concludes.{Concludes};
 ghost use Rattle.meaning.specs.Follows.{HasCompared};
+ghost use Rattle.meaning.specs.Listed.{ConcludesListed, ListedHold};
 ghost use Rattle.meaning.specs.Routes.{about, assumed_for, unless_checked, is_on, route, route_named};
 ghost use Rattle.recipe.specs.Kept.{IsRecipe};
 ghost use Rattle.recipe.specs.declared.contents.Said.{Said};
 ghost use Rattle.recipe.specs.declared.parts.Stage.{Stage};
 ghost use Rattle.report.specs.declared.types.Report.{Report};
 ghost use Rattle.std.specs.Prelude.{◌≡◌, ◌≤◌, ◌-◌, ◌∷◌, [], ℕ, All, List, None, Some, filter, slice_get, true};
-ghost use Rattle.wheeler.specs.Bench.{bench};
+ghost use Rattle.wheeler.specs.Bench.{all_equal, bench};
 ghost use Rattle.wheeler.specs.Valid.{IsInputs};
 ghost use Rattle.wheeler.specs.declared.answer.Answer.TheVariants.{Completes};
 
@@ -43,4 +44,12 @@ pub fn a_route_goes_back()
 pub fn routes_are_trusted()
     ensures programs { (recipe : Said) (number : ℕ) (name : List ℕ) → is_on (route recipe number) name ≡ true → is_trusted recipe name ≡ true }
     ensures lines { (recipe : Said) (number : ℕ) → assumed_for recipe number ≡ filter (λ line. is_on (route recipe number) (about line)) (assumed recipe) }
+{}
+
+/// An audit whose comparisons are all equal: where every line that is listed of its programs and of its compared stages holds, so does every
+/// line that is assumed of it, every stage follows, and its audited binary implements the source of each compared stage that has one.
+pub fn an_equal_bench_concludes<M: Meaning>()
+    ensures { (recipe : Said) (inputs : List (List ℕ)) (report : Report) → IsRecipe recipe → IsInputs recipe inputs
+        → bench recipe inputs ≡ Completes report → all_equal report.compare ≡ true → ListedHold M.prescribes M.compiles recipe inputs
+        → ConcludesListed M.prescribes M.compiles recipe inputs }
 {}

@@ -14,5 +14,5 @@ mod trusted;
 
 pub use assembly::Assembly;
 pub use assumption::{Assumption, Assumptions};
-pub use listing::{assumptions, assumptions_for};
+pub use listing::{assumptions, assumptions_for, assumptions_with_compared};
 pub use meaning::Meaning;

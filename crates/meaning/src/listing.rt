@@ -2,6 +2,7 @@
 
 ghost use Rattle.meaning.specs.Assumptions.{assumed, checked_line, compiles_line, implements_line, input_assumption, is_trusted, line_by_check, stage_assumption, trust_lines};
 ghost use Rattle.meaning.specs.Inside.Trusting.{trusts};
+ghost use Rattle.meaning.specs.Listed.{counts, listed};
 ghost use Rattle.meaning.specs.Routes.{assumed_for, is_on};
 ghost use Rattle.recipe.specs.Lookups.{hex_check};
 ghost use Rattle.std.specs.List.{cons_option};
@@ -38,6 +39,14 @@ pub fn assumptions_for(
 {
     let programs = route(alloc, recipe, stage)?;
     trust_lines(alloc, recipe, &Trusted::These(programs.as_slice()))
+}
+
+/// What has to be believed where later audits may run the audited binary: the lines of `assumptions`, with each compared stage counted as the
+/// program of an unchecked stage. A compared stage without a source has no line.
+pub fn assumptions_with_compared(alloc: Global, recipe: &Recipe) -> Result<Assumptions, OutOfMemory>
+    ensures { IfOk result (λ lines. lines ≡ listed recipe.now) }
+{
+    trust_lines(alloc, recipe, &Trusted::WithCompared)
 }
 
 /// The lines of what is trusted: inputs first and then stages, each in the recipe's order.
@@ -161,7 +170,16 @@ fn trusts(recipe: &Recipe, trusted: &Trusted<'_>, name: &Name) -> bool
     match trusted {
         Trusted::OfAll => is_trusted(recipe, name),
         Trusted::These(programs) => is_on(programs, name),
+        Trusted::WithCompared => counts(recipe, name),
     }
+}
+
+/// Whether a name is that of the program of some unchecked stage, or of a compared stage.
+#[tactic(auto, unfolding(crate::specs::Listed::counts))]
+fn counts(recipe: &Recipe, name: &Name) -> bool
+    ensures { result ≡ counts recipe.now name.now }
+{
+    is_trusted(recipe, name) || is_on(recipe.compare().stages.as_slice(), name)
 }
 
 /// Whether a name is one of these.

@@ -7,4 +7,6 @@ pub(crate) enum Trusted<'p> {
     OfAll,
     /// Of these alone.
     These(&'p [Name]),
+    /// Of those of all unchecked stages, and of the compared stages.
+    WithCompared,
 }

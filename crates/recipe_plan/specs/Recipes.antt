@@ -30,6 +30,10 @@ is_input recipe file = list_any (λ (input : Input). is_one_file input.path file
 unfoldable pub needs_apart : Said → List ℕ → (Unit {0} → Plan) → Plan
 needs_apart recipe file next = if is_input recipe file then usage else next tt
 
--- the inputs are needed, each of at most 268,435,456 bytes and all of at most 1,073,741,824
+-- the inputs are needed, each of at most 268,435,456 bytes and all of at most `room`
+abbrev pub needs_inputs_within : ℕ → Said → (List (List ℕ) → Plan) → Plan
+needs_inputs_within room recipe next = needs_all 268_435_456 room (paths recipe) next
+
+-- the same of at most 1,073,741,824
 abbrev pub needs_inputs : Said → (List (List ℕ) → Plan) → Plan
-needs_inputs recipe next = needs_all 268_435_456 1_073_741_824 (paths recipe) next
+needs_inputs recipe next = needs_inputs_within 1_073_741_824 recipe next

@@ -6,7 +6,7 @@ ghost use Rattle.recipe.specs.Kept.{IsRecipe};
 ghost use Rattle.wheeler.specs.Valid.{IsInputs};
 ghost use Rattle.command_plan.specs.Plan.{needs_all};
 ghost use Rattle.command_plan.specs.Steps.{Obtains};
-ghost use Rattle.recipe_plan.specs.Recipes.{needs_inputs};
+ghost use Rattle.recipe_plan.specs.Recipes.{needs_inputs, needs_inputs_within};
 
 use command_plan::{Stop, fetch};
 use ddc_base::Shelf;
@@ -14,8 +14,8 @@ use recipe::{Input, Inputs, Recipe};
 use std::alloc::Global;
 use wheeler::MAX_INPUT;
 
-/// The most bytes of all inputs together.
-const INPUTS_LIMIT: u64 = 1_073_741_824;
+/// The most bytes of all inputs together that a command takes.
+pub const INPUTS_LIMIT: u64 = 1_073_741_824;
 
 /// Fetches the inputs of a recipe, in order.
 pub fn fetch_inputs<S: Shelf>(alloc: Global, shelf: &mut S, recipe: &Recipe) -> Result<Inputs, Stop>
@@ -23,17 +23,35 @@ pub fn fetch_inputs<S: Shelf>(alloc: Global, shelf: &mut S, recipe: &Recipe) -> 
     ensures inputs { IfOk result (IsInputs recipe.now) }
     ensures kept { IsRecipe recipe.now }
 {
-    fetch_each(alloc, shelf, recipe.inputs().as_slice())
+    fetch_inputs_within(alloc, shelf, recipe, INPUTS_LIMIT)
+}
+
+/// The same where all of them may have at most `room` bytes together.
+pub fn fetch_inputs_within<S: Shelf>(
+    alloc: Global,
+    shelf: &mut S,
+    recipe: &Recipe,
+    room: u64,
+) -> Result<Inputs, Stop>
+    ensures obtained { Obtains (needs_inputs_within room recipe.now) (S.state shelf.old) (S.state shelf.new) result }
+    ensures inputs { IfOk result (IsInputs recipe.now) }
+    ensures kept { IsRecipe recipe.now }
+{
+    fetch_each(alloc, shelf, recipe.inputs().as_slice(), room)
 }
 
 /// Fetches these inputs, in order.
-fn fetch_each<S: Shelf>(alloc: Global, shelf: &mut S, inputs: &[Input]) -> Result<Inputs, Stop>
-    ensures obtained { Obtains (needs_all 268_435_456 1_073_741_824 (map (λ input. input.path) inputs.now))
+fn fetch_each<S: Shelf>(
+    alloc: Global,
+    shelf: &mut S,
+    inputs: &[Input],
+    mut room: u64,
+) -> Result<Inputs, Stop>
+    ensures obtained { Obtains (needs_all 268_435_456 room (map (λ input. input.path) inputs.now))
         (S.state shelf.old) (S.state shelf.new) result }
     ensures count { IfOk result (λ contents. length contents ≡ length inputs.now) }
     ensures each { IfOk result (All IsContent) }
 {
-    let mut room = INPUTS_LIMIT;
     let mut contents = Inputs::new(alloc);
     for input in inputs {
         let content = fetch(alloc, shelf, input.path.as_str(), MAX_INPUT.min(room))?;

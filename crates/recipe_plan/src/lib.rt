@@ -9,6 +9,6 @@ mod recipes;
 mod reports;
 pub mod texts;
 
-pub use inputs::fetch_inputs;
+pub use inputs::{INPUTS_LIMIT, fetch_inputs, fetch_inputs_within};
 pub use recipes::{apart, fetch_recipe, read_recipe};
 pub use reports::{compared_status, fetch_report};

@@ -1,3 +1,4 @@
+mod Chaining
 pub mod Demonstrating
 pub mod Judging
 mod Written

@@ -1,6 +1,8 @@
 use Rattle.std.proofs.Common.{ℕ, List, sym, ap, ◌∙◌, subst}
 use Rattle.command_plan.specs.Plan.{LoadsBytes, outcome}
+use Rattle.command_plan.specs.Answered.{is_answer}
 use Rattle.ddc_app.specs.Accepting.{is_compared}
+use Rattle.ddc_app.specs.Chained.{Chained}
 use Rattle.ddc_app.specs.Commands.{plan_of}
 use Rattle.ddc_app.specs.Verified.{Verified}
 use Rattle.ddc_app.proofs.Sessions as sessions
@@ -32,6 +34,15 @@ returns g c =
           subst (Verified g.M.Meaning.prescribes g.M.Meaning.compiles recipe report files) (sym same)
           (c.verified_as_loaded.ensures recipe report files (subst (λ (w : List (List ℕ)). LoadsBytes (plan_of w) files) words bytes)
           (sym (ap is_compared (status ∙ ap (λ o. o.status) same)) ∙ compared));
+      chained = λ settled list words yes.
+          let files = (g.S.Shelf.state c.args.shelf.now).files in
+          let same = ap (λ (w : List (List ℕ)). outcome (plan_of w) files) words in
+          let answers = ap is_answer yes in
+          let status = sessions.status _ _ _ _ _ _ _ _ _ l settled answers in
+          let bytes = (sessions.calls _ _ _ _ _ _ _ _ _ l answers).bytes settled in
+          subst (Chained g.M.Meaning.prescribes g.M.Meaning.compiles list files) (sym same)
+          (c.chained.ensures list files (subst (λ (w : List (List ℕ)). LoadsBytes (plan_of w) files) words bytes)
+          (sym (ap (λ o. o.status) same) ∙ sym status ∙ yes));
       prompt_stays = sessions.prompt_stays _ _ _ _ _ _ _ _ _ l;
       shelf_tells = sessions.shelf_tells _ _ _ _ _ _ _ _ _ l;
       out_tells = sessions.out_tells _ _ _ _ _ _ _ _ _ l;

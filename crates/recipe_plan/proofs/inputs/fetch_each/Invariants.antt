@@ -14,6 +14,6 @@ pub record Fetched (led : Type 0) (contents : List (List ℕ)) (index : ℕ) : T
 abbrev pub invariant-loop-input : goal.invariant-loop-input
 invariant-loop-input g l =
     Fetched
-    (LeadsOn (needs_all 268_435_456 1_073_741_824 (map (λ (input : Input). input.path) l.inputs))
+    (LeadsOn (needs_all 268_435_456 l.fn.room (map (λ (input : Input). input.path) l.inputs))
     (rest_of 268_435_456 l.room l.contents (drop l.input-index (map (λ (input : Input). input.path) l.inputs))) (g.S.Shelf.state l.fn.shelf) (g.S.Shelf.state l.shelf))
     l.contents l.input-index

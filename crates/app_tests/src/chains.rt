@@ -1,0 +1,628 @@
+//! Audits that are composed. What `chain` comes to was written down from docs/reference/chain.md and docs/reference/command-line.md.
+
+use crate::audits::RECIPE;
+use crate::worked::{COPY, decoded, run, with};
+use ddc_app::Status;
+use ddc_base::{Bytes, MemShelf, MemSink, OutOfMemory};
+use std::alloc::Global;
+use std::process::Abort;
+use std::test::Fail;
+
+/// A piece of a recipe and what stands there instead.
+type Change = (&'static str, &'static str);
+
+/// The audit that gives the copier: what stage `one` made is compared with it.
+static GIVES: [Change; 2] = [
+    ("\"b.bin\"", "\"copy.elf\""),
+    ("stage = \"two\"", "stage = \"one\""),
+];
+
+/// The audit that assumes the copier: both stages run it, the second one unchecked.
+static ASSUMES: [Change; 2] = [
+    (
+        "path = \"copy.elf\"",
+        "path = \"copy.elf\"\nimplements = \"copy_src\"",
+    ),
+    ("program = \"one\"", "program = \"prog\""),
+];
+
+/// A recipe with pieces changed, one after the other.
+fn changed(alloc: Global, text: &str, changes: &[Change]) -> Result<String, OutOfMemory> {
+    let mut text = String::from_str(alloc, text)?;
+    for (old, new) in changes {
+        text = with(alloc, text.as_str(), old, new)?;
+    }
+    Ok(text)
+}
+
+/// The files of the audits.
+fn files(alloc: Global) -> Result<MemShelf, OutOfMemory> {
+    let mut shelf = MemShelf::new(alloc);
+    let copy = decoded(alloc, COPY)?;
+    let mut longer = Bytes::from_slice(alloc, copy.as_slice())?;
+    longer.push(0)?;
+    let (front, back) = COPY.split_once('\n').unwrap_or((COPY, ""));
+    shelf.set("copy.elf", copy.as_slice())?;
+    shelf.set("same.elf", copy.as_slice())?;
+    shelf.set("longer.elf", longer.as_slice())?;
+    shelf.set("copy.hex0", COPY.as_bytes())?;
+    shelf.set(
+        "commented.hex0",
+        format!(in alloc; "{COPY}# no more\n")?.as_bytes(),
+    )?;
+    shelf.set("front.hex0", front.as_bytes())?;
+    shelf.set("back.hex0", back.as_bytes())?;
+    shelf.set("a.bin", b"abc")?;
+    shelf.set("b.bin", b"abc")?;
+    Ok(shelf)
+}
+
+/// Sets a recipe and the report that its audit saves, and tells whether the audit found its comparison equal.
+fn add(
+    alloc: Global,
+    shelf: &mut MemShelf,
+    recipe: &str,
+    report: &str,
+    base: &[Change],
+    changes: &[Change],
+) -> Result<bool, OutOfMemory> {
+    let text = changed(alloc, changed(alloc, RECIPE, base)?.as_str(), changes)?;
+    shelf.set(recipe, text.as_bytes())?;
+    let mut out = MemSink::new(alloc);
+    Ok(run(alloc, &["audit", recipe, report], shelf, &mut out)? == Status::Yes)
+}
+
+/// The files, with both audits: k.toml gives, and b.toml assumes.
+fn both(
+    rt: &impl Abort,
+    alloc: Global,
+    first: &[Change],
+    second: &[Change],
+) -> Result<MemShelf, OutOfMemory> {
+    let mut shelf = files(alloc)?;
+    assert!(rt; add(alloc, &mut shelf, "k.toml", "k.rep", &GIVES, first)?);
+    assert!(rt; add(alloc, &mut shelf, "b.toml", "b.rep", &ASSUMES, second)?);
+    Ok(shelf)
+}
+
+/// Runs `chain list` over this list, and compares its status and text.
+fn chains(
+    rt: &impl Abort,
+    alloc: Global,
+    shelf: &mut MemShelf,
+    list: &str,
+    status: Status,
+    text: &str,
+) -> Result<(), OutOfMemory> {
+    shelf.set("list", list.as_bytes())?;
+    let mut out = MemSink::new(alloc);
+    let ended = run(alloc, &["chain", "list"], shelf, &mut out)?;
+    assert_eq!(rt; out.written(), text.as_bytes(), "{list}");
+    assert_eq!(rt; ended, status, "{list}");
+    Ok(())
+}
+
+const IN_ORDER: &str = "k.toml k.rep\nb.toml b.rep\n";
+
+/// Nothing remains, or the line of the second audit does.
+const NONE: &str = "chain 2 yes\n";
+
+const SECOND: &str = "chain 2 yes\nassumes 2 implements prog copy_src\n";
+
+#[test]
+fn an_earlier_audit_shows_a_line(rt: HostRuntime) -> Result<(), Fail> {
+    let alloc = rt.alloc();
+    let mut shelf = both(&rt, alloc, &[], &[])?;
+    chains(&rt, alloc, &mut shelf, IN_ORDER, Status::Yes, NONE)?;
+    Ok(())
+}
+
+#[test]
+fn a_later_audit_shows_none(rt: HostRuntime) -> Result<(), Fail> {
+    let alloc = rt.alloc();
+    let mut shelf = both(&rt, alloc, &[], &[])?;
+    let table: [(&str, &str); 6] = [
+        (
+            "b.toml b.rep\nk.toml k.rep\n",
+            "chain 2 yes\nassumes 1 implements prog copy_src\n",
+        ),
+        ("k.toml k.rep\n", "chain 1 yes\n"),
+        (
+            "b.toml b.rep\n",
+            "chain 1 yes\nassumes 1 implements prog copy_src\n",
+        ),
+        (
+            "k.toml k.rep\nb.toml b.rep\nb.toml b.rep\n",
+            "chain 3 yes\n",
+        ),
+        (
+            "b.toml b.rep\nk.toml k.rep\nb.toml b.rep\n",
+            "chain 3 yes\nassumes 1 implements prog copy_src\n",
+        ),
+        (
+            "b.toml b.rep\nb.toml b.rep\nk.toml k.rep\n",
+            "chain 3 yes\nassumes 1 implements prog copy_src\nassumes 2 implements prog copy_src\n",
+        ),
+    ];
+    for (list, text) in &table {
+        chains(&rt, alloc, &mut shelf, list, Status::Yes, text)?;
+    }
+    Ok(())
+}
+
+/// A stage more, before the others, that copies the text: the source is then of what it made.
+static MADE_TEXT: [Change; 2] = [
+    (
+        "[[stage]]\n",
+        "[[stage]]
+name = \"copied\"
+program = \"prog\"
+args = [\"copy\"]
+files = [{ path = \"in\", from = \"text\" }]
+output = \"out\"
+steps = 100000
+[[stage]]
+",
+    ),
+    ("files = [\"text\"]", "files = [\"copied\"]"),
+];
+
+/// What is changed in the audit that gives, what in the one that assumes, and what remains.
+type Row = (&'static [Change], &'static [Change], &'static str);
+
+static ROWS: &[Row] = &[
+    // another base, in the later audit, in the earlier one and in both
+    (&[], &[("\"hex0\"", "\"hex0\"\nbase = 0")], SECOND),
+    (&[("\"hex0\"", "\"hex0\"\nbase = 0")], &[], SECOND),
+    (
+        &[("\"hex0\"", "\"hex0\"\nbase = 0")],
+        &[("\"hex0\"", "\"hex0\"\nbase = 0")],
+        NONE,
+    ),
+    // another language
+    (&[], &[("\"hex0\"", "\"hex1\"")], SECOND),
+    (&[("\"hex0\"", "\"hex1\"")], &[], SECOND),
+    (
+        &[("\"hex0\"", "\"hex1\"")],
+        &[("\"hex0\"", "\"hex1\"")],
+        NONE,
+    ),
+    // equal names with other bytes, and equal bytes under another path
+    (
+        &[],
+        &[
+            ("\"copy.elf\"", "\"longer.elf\""),
+            ("check = \"copy_src\"\n", ""),
+        ],
+        SECOND,
+    ),
+    (&[], &[("\"copy.elf\"", "\"same.elf\"")], NONE),
+    // other names for equal bytes and an equal text
+    (
+        &[],
+        &[
+            ("name = \"prog\"", "name = \"copier\""),
+            ("program = \"prog\"", "program = \"copier\""),
+            ("program = \"prog\"", "program = \"copier\""),
+            ("from = \"prog\"", "from = \"copier\""),
+            ("name = \"text\"", "name = \"letters\""),
+            ("files = [\"text\"]", "files = [\"letters\"]"),
+            ("name = \"copy_src\"", "name = \"origin\""),
+            ("implements = \"copy_src\"", "implements = \"origin\""),
+            ("check = \"copy_src\"", "check = \"origin\""),
+        ],
+        NONE,
+    ),
+    // another text of the same value
+    (&[], &[("\"copy.hex0\"", "\"commented.hex0\"")], SECOND),
+    // the same text in two files
+    (
+        &[],
+        &[
+            (
+                "name = \"text\"\npath = \"copy.hex0\"",
+                "name = \"front\"\npath = \"front.hex0\"\n[[input]]\nname = \"text\"\npath = \"back.hex0\"",
+            ),
+            ("files = [\"text\"]", "files = [\"front\", \"text\"]"),
+        ],
+        SECOND,
+    ),
+    (
+        &[
+            (
+                "name = \"text\"\npath = \"copy.hex0\"",
+                "name = \"front\"\npath = \"front.hex0\"\n[[input]]\nname = \"text\"\npath = \"back.hex0\"",
+            ),
+            ("files = [\"text\"]", "files = [\"front\", \"text\"]"),
+        ],
+        &[],
+        SECOND,
+    ),
+    // two comparisons in one audit, of which the second stage has a source, or the first
+    (
+        &[
+            ("format = 1", "format = 2"),
+            ("stage = \"one\"", "stages = [\"two\", \"one\"]"),
+            ("from = \"src\"", "from = \"prog\""),
+        ],
+        &[],
+        NONE,
+    ),
+    (
+        &[
+            ("format = 1", "format = 2"),
+            ("stage = \"one\"", "stages = [\"one\", \"two\"]"),
+            ("from = \"src\"", "from = \"prog\""),
+        ],
+        &[],
+        NONE,
+    ),
+    // of two comparisons none has a source
+    (
+        &[
+            ("format = 1", "format = 2"),
+            ("stage = \"one\"", "stages = [\"two\"]"),
+            ("from = \"src\"", "from = \"prog\""),
+        ],
+        &[],
+        SECOND,
+    ),
+    // the compared stage counts as a program, though no stage runs what it made
+    (
+        &[
+            (
+                "path = \"copy.elf\"",
+                "path = \"copy.elf\"\nimplements = \"copy_src\"",
+            ),
+            ("check = \"copy_src\"", "becomes = \"copy_src\""),
+            ("program = \"one\"", "program = \"prog\""),
+        ],
+        &[],
+        "chain 2 yes\nassumes 1 implements prog copy_src\nassumes 1 compiles copy_src one copy_src\n",
+    ),
+];
+
+#[test]
+fn lines_are_struck_by_bytes_and_texts(rt: HostRuntime) -> Result<(), Fail> {
+    let alloc = rt.alloc();
+    for (first, second, text) in ROWS {
+        let mut shelf = both(&rt, alloc, first, second)?;
+        chains(&rt, alloc, &mut shelf, IN_ORDER, Status::Yes, text)?;
+    }
+    Ok(())
+}
+
+/// The same of the audit that gives: its copier then has to have a source, too.
+static GIVES_MADE_TEXT: [Change; 3] = [
+    (
+        "path = \"copy.elf\"",
+        "path = \"copy.elf\"\nimplements = \"copy_src\"",
+    ),
+    MADE_TEXT[0],
+    MADE_TEXT[1],
+];
+
+/// The text is made by a stage: its bytes are the same, but they are no input's.
+#[test]
+fn a_source_of_what_a_stage_made_gives_and_takes_nothing(rt: HostRuntime) -> Result<(), Fail> {
+    let alloc = rt.alloc();
+    let mut shelf = both(&rt, alloc, &[], &MADE_TEXT)?;
+    chains(&rt, alloc, &mut shelf, IN_ORDER, Status::Yes, SECOND)?;
+    let mut shelf = both(&rt, alloc, &GIVES_MADE_TEXT, &[])?;
+    let text =
+        "chain 2 yes\nassumes 1 implements prog copy_src\nassumes 2 implements prog copy_src\n";
+    chains(&rt, alloc, &mut shelf, IN_ORDER, Status::Yes, text)?;
+    Ok(())
+}
+
+/// What is wrong with the second audit, by a file that is set behind both audits, and what `chain` says of it.
+static FAULTS: [(&str, &[u8], Status, &str); 8] = [
+    (
+        "b.bin",
+        b"abd",
+        Status::Refuted,
+        "audit 2\nrefuted input 4\n",
+    ),
+    (
+        "copy.hex0",
+        b"00",
+        Status::Refuted,
+        "audit 1\nrefuted input 2\n",
+    ),
+    (
+        "b.toml",
+        b"",
+        Status::RecipeRefused,
+        "audit 2\nrecipe refused 2 top 0 format\n",
+    ),
+    (
+        "b.toml",
+        b"format",
+        Status::RecipeRefused,
+        "audit 2\nrecipe refused 1\n",
+    ),
+    (
+        "k.toml",
+        b"format",
+        Status::RecipeRefused,
+        "audit 1\nrecipe refused 1\n",
+    ),
+    (
+        "b.rep",
+        b"",
+        Status::ReportRefused,
+        "audit 2\nreport line 1\n",
+    ),
+    (
+        "b.rep",
+        b"ddc-report 1\nrecipe 0\n",
+        Status::ReportRefused,
+        "audit 2\nreport line 2\n",
+    ),
+    (
+        "k.rep",
+        b"ddc-report 1",
+        Status::ReportRefused,
+        "audit 1\nreport line 1\n",
+    ),
+];
+
+#[test]
+fn an_audit_ends_the_chain_in_its_turn(rt: HostRuntime) -> Result<(), Fail> {
+    let alloc = rt.alloc();
+    for (name, content, status, text) in &FAULTS {
+        let mut shelf = both(&rt, alloc, &[], &[])?;
+        shelf.set(name, content)?;
+        chains(&rt, alloc, &mut shelf, IN_ORDER, *status, text)?;
+    }
+    Ok(())
+}
+
+/// A report of the other recipe, and one that is true and says that the binary differs.
+#[test]
+fn an_untrue_report_and_a_difference_end_the_chain(rt: HostRuntime) -> Result<(), Fail> {
+    let alloc = rt.alloc();
+    let mut shelf = both(&rt, alloc, &[], &[])?;
+    let list = "k.toml k.rep\nb.toml k.rep\n";
+    let text = "audit 2\nrefuted header 0\n";
+    chains(&rt, alloc, &mut shelf, list, Status::Refuted, text)?;
+    shelf.set("b.bin", b"abd")?;
+    assert!(&rt; !add(alloc, &mut shelf, "b.toml", "b.rep", &ASSUMES, &[])?);
+    let text = "audit 2\ndiffers two bin 2 3 3\n";
+    chains(&rt, alloc, &mut shelf, IN_ORDER, Status::Differs, text)?;
+    let list = "b.toml b.rep\nk.toml none\n";
+    let text = "audit 1\ndiffers two bin 2 3 3\n";
+    chains(&rt, alloc, &mut shelf, list, Status::Differs, text)?;
+    Ok(())
+}
+
+/// A list, the status, and the text, over both audits as they are.
+static LISTS: [(&str, Status, &str); 25] = [
+    // words that name one file, and a report that is an input of its recipe, each in its turn
+    ("k.toml k.toml\n", Status::Usage, "usage\n"),
+    ("k.toml ././k.toml\n", Status::Usage, "usage\n"),
+    ("k.toml k.rep\nb.toml a.bin\n", Status::Usage, "usage\n"),
+    ("k.toml k.rep\nb.toml ./b.bin\n", Status::Usage, "usage\n"),
+    (
+        "k.toml b.rep\nb.toml b.toml\n",
+        Status::Refuted,
+        "audit 1\nrefuted header 0\n",
+    ),
+    // files that are not there
+    (
+        "k.toml k.rep\nnone b.rep\n",
+        Status::FileRefused,
+        "file refused none absent\n",
+    ),
+    (
+        "k.toml k.rep\nb.toml none\n",
+        Status::FileRefused,
+        "file refused none absent\n",
+    ),
+    (
+        "none k.rep\nalso also\n",
+        Status::FileRefused,
+        "file refused none absent\n",
+    ),
+    // lists: no line, a line that is not ended, words too many and too few, blanks elsewhere, other bytes
+    ("", Status::ListRefused, "list refused 1\n"),
+    ("\n", Status::ListRefused, "list refused 1\n"),
+    ("k.toml k.rep", Status::ListRefused, "list refused 1\n"),
+    ("k.toml\n", Status::ListRefused, "list refused 1\n"),
+    ("k.toml \n", Status::ListRefused, "list refused 1\n"),
+    (" k.rep\n", Status::ListRefused, "list refused 1\n"),
+    ("k.toml  k.rep\n", Status::ListRefused, "list refused 1\n"),
+    ("k.toml k.rep \n", Status::ListRefused, "list refused 1\n"),
+    (" k.toml k.rep\n", Status::ListRefused, "list refused 1\n"),
+    ("k.toml k.rep b\n", Status::ListRefused, "list refused 1\n"),
+    ("k.toml\tk.rep\n", Status::ListRefused, "list refused 1\n"),
+    ("k.toml k.rep\r\n", Status::ListRefused, "list refused 1\n"),
+    (
+        "k.toml k.re\u{7f}\n",
+        Status::ListRefused,
+        "list refused 1\n",
+    ),
+    (
+        "k.t\u{f6}ml k.rep\n",
+        Status::ListRefused,
+        "list refused 1\n",
+    ),
+    (
+        "k.toml k.rep\nb.toml b.rep",
+        Status::ListRefused,
+        "list refused 2\n",
+    ),
+    (
+        "none none\nk.toml k.rep\n\n",
+        Status::ListRefused,
+        "list refused 3\n",
+    ),
+    // bytes at both ends of what a word may have
+    ("! ~\n", Status::FileRefused, "file refused ! absent\n"),
+];
+
+#[test]
+fn lists_are_judged_before_their_audits(rt: HostRuntime) -> Result<(), Fail> {
+    let alloc = rt.alloc();
+    let mut shelf = both(&rt, alloc, &[], &[])?;
+    for (list, status, text) in &LISTS {
+        chains(&rt, alloc, &mut shelf, list, *status, text)?;
+    }
+    let mut longest = String::new(alloc);
+    for _ in 0..255 {
+        longest.push_str("a")?;
+    }
+    let words = format!(in alloc; "{longest} {longest}b\n")?;
+    chains(
+        &rt,
+        alloc,
+        &mut shelf,
+        words.as_str(),
+        Status::ListRefused,
+        "list refused 1\n",
+    )?;
+    let words = format!(in alloc; "{longest} b\n")?;
+    let absent = format!(in alloc; "file refused {longest} absent\n")?;
+    chains(
+        &rt,
+        alloc,
+        &mut shelf,
+        words.as_str(),
+        Status::FileRefused,
+        absent.as_str(),
+    )?;
+    Ok(())
+}
+
+/// The line of the audit that assumes, so many times.
+fn many(alloc: Global, count: usize) -> Result<String, OutOfMemory> {
+    let mut list = String::new(alloc);
+    for _ in 0..count {
+        list.push_str("b.toml b.rep\n")?;
+    }
+    Ok(list)
+}
+
+#[test]
+fn a_chain_has_at_most_sixty_four_audits(rt: HostRuntime) -> Result<(), Fail> {
+    let alloc = rt.alloc();
+    let mut shelf = both(&rt, alloc, &[], &[])?;
+    let mut text = format!(in alloc; "chain 64 yes\n")?;
+    for number in 1..65 {
+        text.push_str(format!(in alloc; "assumes {number} implements prog copy_src\n")?.as_str())?;
+    }
+    let list = many(alloc, 64)?;
+    chains(
+        &rt,
+        alloc,
+        &mut shelf,
+        list.as_str(),
+        Status::Yes,
+        text.as_str(),
+    )?;
+    let list = many(alloc, 65)?;
+    chains(
+        &rt,
+        alloc,
+        &mut shelf,
+        list.as_str(),
+        Status::ListRefused,
+        "list refused 65\n",
+    )?;
+    // The 65th line is one too many whatever it says, and a line before it comes first.
+    let whole = many(alloc, 64)?;
+    let list = format!(in alloc; "{whole}k")?;
+    chains(
+        &rt,
+        alloc,
+        &mut shelf,
+        list.as_str(),
+        Status::ListRefused,
+        "list refused 65\n",
+    )?;
+    let list = format!(in alloc; "k\n{whole}{whole}")?;
+    chains(
+        &rt,
+        alloc,
+        &mut shelf,
+        list.as_str(),
+        Status::ListRefused,
+        "list refused 1\n",
+    )?;
+    Ok(())
+}
+
+/// Each load of the call fails: of the list, and of each audit the recipe, the report and the inputs. The two audits before had five each.
+#[test]
+fn loads_that_fail_are_named(rt: HostRuntime) -> Result<(), Fail> {
+    let alloc = rt.alloc();
+    let names = [
+        "list",
+        "k.toml",
+        "k.rep",
+        "copy.elf",
+        "copy.hex0",
+        "a.bin",
+        "copy.elf",
+        "b.toml",
+        "b.rep",
+        "copy.elf",
+        "copy.hex0",
+        "a.bin",
+        "b.bin",
+    ];
+    for (index, name) in names.iter().enumerate() {
+        let mut shelf = both(&rt, alloc, &[], &[])?;
+        shelf.fail_load(11 + index as u64)?;
+        let text = format!(in alloc; "shelf fault {name}\n")?;
+        chains(
+            &rt,
+            alloc,
+            &mut shelf,
+            IN_ORDER,
+            Status::ShelfFault,
+            text.as_str(),
+        )?;
+    }
+    Ok(())
+}
+
+/// A put that fails takes a part of the text, and the files are as they were.
+#[test]
+fn a_put_that_fails_loses_the_text(rt: HostRuntime) -> Result<(), Fail> {
+    let alloc = rt.alloc();
+    let mut shelf = both(&rt, alloc, &[], &[])?;
+    shelf.set("list", IN_ORDER.as_bytes())?;
+    let mut out = MemSink::new(alloc);
+    out.fail_put(1)?;
+    assert_eq!(&rt;
+        run(alloc, &["chain", "list"], &mut shelf, &mut out)?,
+        Status::OutFault
+    );
+    assert!(&rt; NONE.as_bytes().starts_with(out.written()));
+    Ok(())
+}
+
+#[test]
+fn words_that_are_no_list(rt: HostRuntime) -> Result<(), Fail> {
+    let alloc = rt.alloc();
+    let mut shelf = files(alloc)?;
+    let table: [&[&str]; 4] = [
+        &["chain"],
+        &["chain", ""],
+        &["chain", "list", "list"],
+        &["chain", "a\0"],
+    ];
+    for words in &table {
+        let mut out = MemSink::new(alloc);
+        assert_eq!(&rt; run(alloc, words, &mut shelf, &mut out)?, Status::Usage);
+        assert_eq!(&rt; out.written(), b"usage\n");
+    }
+    let mut out = MemSink::new(alloc);
+    assert_eq!(&rt;
+        run(alloc, &["chain", "none"], &mut shelf, &mut out)?,
+        Status::FileRefused
+    );
+    assert_eq!(&rt; out.written(), b"file refused none absent\n");
+    Ok(())
+}

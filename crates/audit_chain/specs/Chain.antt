@@ -1,0 +1,87 @@
+-- Audits in a row, of which an earlier one may show what a later one assumes: the lines that remain. docs/reference/chain.md says the same for
+-- people.
+use Rattle.std.specs.Prelude.{ℕ, ◌+◌, ◌==◌, Bool, true, false, ◌&&◌, not, bytes_eq, if◌then◌else◌, Option, None, Some, is_some, option_and_then, List, [], ◌∷◌, ◌++◌, length, map, filter}
+use Rattle.std.specs.List.{list_all, list_any}
+use Rattle.recipe.specs.declared.contents.Said.{Said}
+use Rattle.recipe.specs.declared.parts.Source.{Source}
+use Rattle.recipe.specs.Lookups.{input_at, source_named, source_of}
+use Rattle.wheeler.specs.Contents.{Contents, SourceText, content, defined, text_of}
+use Rattle.verifier.specs.Faults.{same_language}
+use Rattle.meaning.specs.Listed.{listed}
+use Rattle.meaning.specs.declared.assumption.Assumption.{Assumption}
+use Rattle.meaning.specs.declared.assumption.Assumption.TheVariants.{Implements, Compiles}
+use Rattle.audit_chain.specs.declared.link.Link.{Link}
+use Rattle.audit_chain.specs.declared.link.ChainLine.{ChainLine}
+
+-- ---- what an audit's inputs say, before any stage was run
+
+abbrev pub given_contents : Link → Contents
+given_contents link = record { inputs = link.inputs; artefacts = [] }
+
+-- the bytes of the input of a name
+abbrev pub bytes_of : Link → List ℕ → List ℕ
+bytes_of link name = content link.recipe (given_contents link) name
+
+abbrev pub is_input : Said → List ℕ → Bool
+is_input recipe name = is_some (input_at recipe.inputs name)
+
+-- the text of a source all of whose files are inputs
+unfoldable pub given_text : Link → Source → Option SourceText
+given_text link source =
+    if list_all (is_input link.recipe) source.files then Some (text_of link.recipe (given_contents link) source) else None
+
+-- the text of the source of a name, where all its files are inputs
+abbrev pub text_named : Link → List ℕ → Option SourceText
+text_named link name = option_and_then (given_text link) (source_named link.recipe.sources name)
+
+-- ---- what an audit gives to later ones: for each compared stage with a source, its audited binary with the text of that source
+
+-- two texts are equal: in language, in base and file by file
+abbrev pub same_files : List (List ℕ) → List (List ℕ) → Bool
+same_files [] [] = true
+same_files (first ∷ firsts) (second ∷ seconds) = bytes_eq first second && same_files firsts seconds
+same_files _ _ = false
+
+unfoldable pub same_text : SourceText → SourceText → Bool
+same_text first second = same_language (defined first.lang) (defined second.lang) && first.base == second.base && same_files first.files second.files
+
+abbrev pub is_text : SourceText → Option SourceText → Bool
+is_text text None = false
+is_text text (Some given) = same_text given text
+
+-- the text of a compared stage's source, where it has one
+unfoldable pub stage_text : Link → List ℕ → Option SourceText
+stage_text link stage = option_and_then (text_named link) (source_of link.recipe stage)
+
+-- whether an audit gives these bytes with this text
+unfoldable pub gives : List ℕ → SourceText → Link → Bool
+gives bytes text link =
+    bytes_eq (bytes_of link link.recipe.compare.binary) bytes && list_any (λ stage. is_text text (stage_text link stage)) link.recipe.compare.stages
+
+-- ---- struck lines
+
+-- one of these audits gives the bytes with the text, if there is a text
+abbrev pub is_given : List Link → List ℕ → Option SourceText → Bool
+is_given earlier bytes None = false
+is_given earlier bytes (Some text) = list_any (gives bytes text) earlier
+
+-- an earlier audit shows a line: it says of an input that it implements a source, and the input's bytes are given with that source's text
+unfoldable pub is_struck : List Link → Link → Assumption → Bool
+is_struck earlier link (Implements made source) = is_input link.recipe made && is_given earlier (bytes_of link made) (text_named link source)
+is_struck earlier link (Compiles source stage becomes) = false
+
+-- ---- the lines that remain, each with its audit's number from 1
+
+abbrev pub numbered : ℕ → Assumption → ChainLine
+numbered number line = record { audit = number; line = line }
+
+-- those that are listed of an audit and that none of the earlier ones shows
+unfoldable pub unstruck : List Link → Link → List ChainLine
+unstruck earlier link = map (numbered (length earlier + 1)) (filter (λ line. not (is_struck earlier link line)) (listed link.recipe))
+
+abbrev pub remaining_after : List Link → List Link → List ChainLine
+remaining_after earlier [] = []
+remaining_after earlier (link ∷ links) = unstruck earlier link ++ remaining_after (earlier ++ link ∷ []) links
+
+abbrev pub remaining : List Link → List ChainLine
+remaining links = remaining_after [] links

@@ -1,0 +1,190 @@
+//! What an audit gives to later ones, and which of their lines it shows.
+
+ghost use Rattle.audit_chain.specs.Chain.{bytes_of, given_contents, gives, is_input, is_struck, is_text, same_files, same_text, stage_text, text_named};
+ghost use Rattle.recipe.specs.Lookups.{input_at};
+ghost use Rattle.std.specs.List.{list_all, list_any};
+ghost use Rattle.std.specs.Prelude.{◌≡◌, [], get_or, map, option_map};
+ghost use Rattle.verifier.specs.Faults.{same_language};
+ghost use Rattle.wheeler.specs.Contents.{defined, text_of};
+
+use crate::link::Link;
+use ddc_base::languages::Language;
+use ddc_base::{Bytes, Name};
+use meaning::Assumption;
+use recipe::{Content, Input, Recipe, Source, SourceLanguage};
+
+/// Whether one of the earlier audits shows a line of an audit.
+#[tactic(auto, unfolding(crate::specs::Chain::is_struck))]
+pub(crate) fn is_struck(earlier: &[Link], link: &Link, line: &Assumption) -> bool
+    ensures { result ≡ is_struck earlier.now link.now line.now }
+{
+    match line {
+        Assumption::Implements { made, source } => {
+            if !is_input(&link.recipe, made) {
+                return false;
+            }
+            match source_named(link, source) {
+                Some(source) => is_given(earlier, bytes_of(link, made), link, source),
+                None => false,
+            }
+        }
+        Assumption::Compiles { .. } => false,
+    }
+}
+
+/// Whether one of these audits gives bytes with the text of a source of another audit.
+fn is_given(earlier: &[Link], bytes: &[u8], link: &Link, source: &Source) -> bool
+    ensures { result ≡ list_any (gives bytes.now (text_of link.now.recipe (given_contents link.now) source.now)) earlier.now }
+{
+    earlier
+        .iter()
+        .any(|other| gives(other, bytes, link, source))
+}
+
+/// Whether an audit gives bytes with the text of a source of another audit: they are its audited binary, and the text is that of a
+/// compared stage's source.
+#[tactic(auto, unfolding(crate::specs::Chain::gives))]
+fn gives(other: &Link, bytes: &[u8], link: &Link, source: &Source) -> bool
+    ensures { result ≡ gives bytes.now (text_of link.now.recipe (given_contents link.now) source.now) other.now }
+{
+    bytes_of(other, &other.recipe.compare().binary) == bytes && gives_text(other, link, source)
+}
+
+/// Whether the text is that of the source of one of its compared stages.
+fn gives_text(other: &Link, link: &Link, source: &Source) -> bool
+    ensures { result ≡ list_any (λ stage. is_text (text_of link.now.recipe (given_contents link.now) source.now) (stage_text other.now stage))
+        other.now.recipe.compare.stages }
+{
+    other
+        .recipe
+        .compare()
+        .stages
+        .as_slice()
+        .iter()
+        .any(|stage| is_of_stage(other, stage, link, source))
+}
+
+/// Whether the text is that of the source of a stage.
+fn is_of_stage(other: &Link, stage: &Name, link: &Link, source: &Source) -> bool
+    ensures { result ≡ is_text (text_of link.now.recipe (given_contents link.now) source.now) (stage_text other.now stage.now) }
+{
+    match source_of_stage(other, stage) {
+        Some(own) => same_text(other, own, link, source),
+        None => false,
+    }
+}
+
+/// The source of a stage, where it has one and all its files are inputs.
+#[tactic(auto, unfolding(crate::specs::Chain::stage_text))]
+fn source_of_stage<'a>(link: &'a Link, stage: &Name) -> Option<&'a Source>
+    ensures { option_map (λ source. text_of link.now.recipe (given_contents link.now) source.now) result ≡ stage_text link.now stage.now }
+{
+    match link.recipe.source_of(stage) {
+        Some(name) => source_named(link, name),
+        None => None,
+    }
+}
+
+/// The source of a name, where all its files are inputs.
+#[tactic(auto, unfolding(crate::specs::Chain::given_text))]
+fn source_named<'a>(link: &'a Link, name: &Name) -> Option<&'a Source>
+    ensures { option_map (λ source. text_of link.now.recipe (given_contents link.now) source.now) result ≡ text_named link.now name.now }
+{
+    match link.recipe.source(name) {
+        Some(source) => {
+            if are_inputs(&link.recipe, source.files.as_slice()) {
+                Some(source)
+            } else {
+                None
+            }
+        }
+        None => None,
+    }
+}
+
+/// Whether all these names are inputs'.
+fn are_inputs(recipe: &Recipe, names: &[Name]) -> bool
+    ensures { result ≡ list_all (is_input recipe.now) names.now }
+{
+    names.iter().all(|name| is_input(recipe, name))
+}
+
+/// Whether a name is an input's.
+fn is_input(recipe: &Recipe, name: &Name) -> bool
+    ensures { result ≡ is_input recipe.now name.now }
+{
+    place_of(recipe.inputs().as_slice(), name).is_some()
+}
+
+/// The index of the input of a name.
+fn place_of(inputs: &[Input], name: &Name) -> Option<usize>
+    ensures { result ≡ input_at inputs.now name.now }
+{
+    inputs.iter().position(|input| input.name == *name)
+}
+
+/// The bytes of the input of a name; none where it is no input's.
+#[tactic(auto, unfolding(wheeler::specs::Contents::content))]
+fn bytes_of<'a>(link: &'a Link, name: &Name) -> &'a [u8]
+    ensures { result.now ≡ bytes_of link.now name.now }
+{
+    match link.recipe.content(name) {
+        Some(Content::Input(index)) => at(link.inputs.as_slice(), index),
+        Some(Content::Stage(_)) => &[],
+        None => &[],
+    }
+}
+
+/// The bytes at an index; none past the end.
+fn at(all: &[Bytes], index: usize) -> &[u8]
+    ensures { result.now ≡ get_or all.now index [] }
+{
+    match all.get(index) {
+        Some(bytes) => bytes.as_slice(),
+        None => &[],
+    }
+}
+
+/// Whether sources of two audits have one text.
+#[tactic(auto, unfolding(crate::specs::Chain::same_text, wheeler::specs::Contents::text_of))]
+fn same_text(first: &Link, one: &Source, second: &Link, other: &Source) -> bool
+    ensures { result ≡ same_text (text_of first.now.recipe (given_contents first.now) one.now)
+        (text_of second.now.recipe (given_contents second.now) other.now) }
+{
+    same_language(defined(one.lang), defined(other.lang))
+        && one.base == other.base
+        && same_files(first, one.files.as_slice(), second, other.files.as_slice())
+}
+
+/// The language of a source, where ddc defines it.
+fn defined(language: SourceLanguage) -> Option<Language>
+    ensures { result ≡ defined language }
+{
+    match language {
+        SourceLanguage::Defined(language) => Some(language),
+        SourceLanguage::Other => None,
+    }
+}
+
+/// Whether both are the same language, or none that ddc defines.
+fn same_language(one: Option<Language>, other: Option<Language>) -> bool
+    ensures { result ≡ same_language one other }
+{
+    one == other
+}
+
+/// Whether files have the same bytes, one by one.
+fn same_files(first: &Link, ones: &[Name], second: &Link, others: &[Name]) -> bool
+    ensures { result ≡ same_files (map (bytes_of first.now) ones.now) (map (bytes_of second.now) others.now) }
+{
+    match ones {
+        [] => others.is_empty(),
+        [one, ones @ ..] => match others {
+            [] => false,
+            [other, others @ ..] => {
+                bytes_of(first, one) == bytes_of(second, other)
+                    && same_files(first, ones, second, others)
+            }
+        },
+    }
+}

@@ -1,0 +1,24 @@
+use ddc_base::ListOf;
+use meaning::Assumption;
+use recipe::{Inputs, Recipe};
+
+/// An audit: a recipe, and the contents of its inputs in the recipe's order.
+#[derive(Debug, Drop)]
+pub struct Link {
+    pub recipe: Recipe,
+    pub inputs: Inputs,
+}
+
+/// Audits in a row.
+pub type Links = ListOf<Link>;
+
+/// A line that remains.
+#[derive(Debug, Drop)]
+pub struct ChainLine {
+    /// The number of its audit, from 1.
+    pub audit: u32,
+    pub line: Assumption,
+}
+
+/// Such lines in a row.
+pub type ChainLines = ListOf<ChainLine>;

@@ -1,0 +1,108 @@
+-- A text that is cut into lines, and its words.
+use Rattle.std.proofs.Common.{◌≡◌, ℕ, zero, suc, ◌+◌, ◌<◌, ◌≤◌, ◌&&◌, true, false, cond, IsTrue, Option, None, Some, Result, Err, List, [], ◌∷◌, ◌++◌, length, take, drop, get_or, nat_le, nat_lt, eq-eqb, ne_eqb, take_all, refl, sym, ap, ◌∙◌, subst, arith, All}
+use Rattle.std.specs.List.{list_all, slice_split}
+use Rattle.std.specs.Str.{IsAscii, IsUtf8}
+use Rattle.std.proofs.lemmas.Bool.{and_parts, leb-true}
+use Rattle.std.proofs.lemmas.Bool.Decides.{nat_tests}
+use Rattle.std.proofs.lemmas.List.{at_drop_more, length-append, take-append-drop, take_more}
+use Rattle.std.proofs.lemmas.List.Elements.{All-push}
+use Rattle.std.proofs.lemmas.List.Splits.{length-slice_split, slice_split_at, slice_split_none}
+use Rattle.std.proofs.lemmas.Str.{IsUtf8-from_ascii}
+use Rattle.ddc_base.specs.Outside.{IsFileName}
+use Rattle.command_plan.specs.Lists.{is_line_feed, is_listed_word, is_word_byte, listed_after, with_item}
+
+abbrev pub NoLF : ℕ → Type 0
+NoLF byte = is_line_feed byte ≡ false
+
+-- one byte more that is no LF
+pub more-clear : (text : List ℕ) (at : ℕ) → at < length text → All NoLF (take at text) → (get_or text at 0 ≡ 10 → ⊥) → All NoLF (take (at + 1) text)
+more-clear text at less clear other =
+    subst (All NoLF) (sym (take_more text at 0 less)) (All-push NoLF (take at text) (get_or text at 0) clear (ne_eqb (get_or text at 0) 10 other))
+
+-- cut at the first LF
+pub cut-there : (text : List ℕ) (at : ℕ) → at < length text → All NoLF (take at text) → get_or text at 0 ≡ 10
+    → slice_split is_line_feed text ≡ take at text ∷ slice_split is_line_feed (drop (at + 1) text)
+cut-there text at less clear here =
+    let behind : drop at text ≡ get_or text at 0 ∷ drop (at + 1) text = at_drop_more (λ (l : List ℕ). l) text at 0 less in
+    ap (slice_split is_line_feed) (sym (take-append-drop at text) ∙ ap (λ l. take at text ++ l) behind)
+    ∙ slice_split_at is_line_feed (take at text) (get_or text at 0) (drop (at + 1) text) clear (eq-eqb (get_or text at 0) 10 here)
+
+-- no LF is left
+pub uncut : (text : List ℕ) (at : ℕ) → length text ≤ at → All NoLF (take at text) → slice_split is_line_feed text ≡ text ∷ []
+uncut text at past clear = slice_split_none is_line_feed text (subst (All NoLF) (take_all at text past) clear)
+
+-- ---- words
+
+parts-of : (word : List ℕ) → is_listed_word word ≡ true → (1 ≤ length word) × (length word ≤ 255) × (list_all is_word_byte word ≡ true)
+unfolding is_listed_word
+parts-of word is =
+    let parts = and_parts (nat_le 1 (length word) && nat_le (length word) 255) (list_all is_word_byte word) is in
+    let sizes = and_parts (nat_le 1 (length word)) (nat_le (length word) 255) parts.0 in
+    (leb-true 1 (length word) sizes.0, leb-true (length word) 255 sizes.1, parts.1)
+
+-- a listed word is a name that a shelf takes
+pub word-names : (word : List ℕ) → IsTrue (is_listed_word word) → IsFileName word
+word-names word is = let p = parts-of word is in record { not_empty = p.0; not_long = p.1 }
+
+bytes-ascii : (word : List ℕ) → list_all is_word_byte word ≡ true → IsAscii word
+bytes-ascii [] is i = omega arith
+bytes-ascii (byte ∷ bytes) is zero =
+    let parts = and_parts (is_word_byte byte) (list_all is_word_byte bytes) is in
+    let below = leb-true byte 0x7E (and_parts (nat_le 0x21 byte) (nat_le byte 0x7E) parts.0).1 in
+    omega (arith, below)
+bytes-ascii (byte ∷ bytes) is (suc i) = bytes-ascii bytes (and_parts (is_word_byte byte) (list_all is_word_byte bytes) is).1 i
+
+pub word-ascii : (word : List ℕ) → is_listed_word word ≡ true → IsUtf8 word
+word-ascii word is = IsUtf8-from_ascii word (bytes-ascii word (parts-of word is).2)
+
+-- ---- the lines of a list
+
+abbrev pub pieces : List ℕ → List (List ℕ)
+pieces text = slice_split is_line_feed text
+
+module _ {A : Type 0} (form : List A → List ℕ → Option A) (most : ℕ) (items : List A) (line after : List ℕ) (whole : Result (List A) ℕ) where
+  -- what a line that is ended leads to
+  abbrev ended : Result (List A) ℕ
+  ended =
+      cond (nat_lt (length items) most) (with_item (form items line) (length items + 1) (λ item. listed_after form most (items ++ item ∷ []) (pieces after)))
+      (Err (length items + 1))
+
+  goes : (rest : List ℕ) → listed_after form most items (pieces rest) ≡ whole → pieces rest ≡ line ∷ pieces after → ended ≡ whole
+  goes rest before cut = by (pieces after) (omega (arith, length-slice_split is_line_feed after)) ∙ ap (listed_after form most items) (sym cut) ∙ before where
+    by : (parts : List (List ℕ)) → 0 < length parts
+        → cond (nat_lt (length items) most) (with_item (form items line) (length items + 1) (λ item. listed_after form most (items ++ item ∷ []) parts)) (Err (length items + 1))
+        ≡ listed_after form most items (line ∷ parts)
+    by [] some = absurd (omega (arith, some))
+    by (part ∷ parts) some = refl
+
+  pub too_many : (rest : List ℕ) (count : ℕ) → listed_after form most items (pieces rest) ≡ whole → pieces rest ≡ line ∷ pieces after → count ≡ length items → most < count + 1
+      → Err (count + 1) ≡ whole
+  too_many rest count before cut counted many =
+      let over : nat_lt (length items) most ≡ false = grind (arith, nat_tests) in
+      ap (λ n. Err (n + 1)) counted
+      ∙ sym (ap (λ b. cond b (with_item (form items line) (length items + 1) (λ item. listed_after form most (items ++ item ∷ []) (pieces after))) (Err (length items + 1))) over)
+      ∙ goes rest before cut
+
+  within : (rest : List ℕ) → listed_after form most items (pieces rest) ≡ whole → pieces rest ≡ line ∷ pieces after → length items < most
+      → with_item (form items line) (length items + 1) (λ item. listed_after form most (items ++ item ∷ []) (pieces after)) ≡ whole
+  within rest before cut few =
+      let under : nat_lt (length items) most ≡ true = grind (arith, nat_tests) in
+      sym (ap (λ b. cond b (with_item (form items line) (length items + 1) (λ item. listed_after form most (items ++ item ∷ []) (pieces after))) (Err (length items + 1))) under)
+      ∙ goes rest before cut
+
+  pub no_item : (rest : List ℕ) (count : ℕ) → listed_after form most items (pieces rest) ≡ whole → pieces rest ≡ line ∷ pieces after → count ≡ length items → count + 1 ≤ most
+      → form items line ≡ None → Err (count + 1) ≡ whole
+  no_item rest count before cut counted few none =
+      ap (λ n. Err (n + 1)) counted
+      ∙ sym (ap (λ o. with_item o (length items + 1) (λ item. listed_after form most (items ++ item ∷ []) (pieces after))) none)
+      ∙ within rest before cut (omega (arith, counted, few))
+
+  pub one_more : (rest : List ℕ) (count : ℕ) (item : A) (grown : List A) → listed_after form most items (pieces rest) ≡ whole → pieces rest ≡ line ∷ pieces after
+      → count ≡ length items → count + 1 ≤ most → form items line ≡ Some item → grown ≡ items ++ item ∷ []
+      → (listed_after form most grown (pieces after) ≡ whole) × (length grown ≤ most)
+  one_more rest count item grown before cut counted few some pushed = (
+    ap (λ l. listed_after form most l (pieces after)) pushed
+        ∙ sym (ap (λ o. with_item o (length items + 1) (λ item. listed_after form most (items ++ item ∷ []) (pieces after))) some)
+        ∙ within rest before cut (omega (arith, counted, few)),
+    omega (arith, counted, few, ap length pushed ∙ length-append items (item ∷ [])),
+  )

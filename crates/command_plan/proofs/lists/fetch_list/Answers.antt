@@ -1,0 +1,8 @@
+use Rattle.command_plan.proofs.Obtaining.{and_then, stops_before, stops_with}
+use Rattle.command_plan.proofs.lists.fetch_list.Goals as goal
+
+pub returns-in_err-text-clause-obtained : goal.returns-in_err-text-clause-obtained
+returns-in_err-text-clause-obtained g c = stops_with c.from_residual.ensures.1 (stops_before c.in_err-text.ensures.obtained)
+
+pub returns-clause-obtained : goal.returns-clause-obtained
+returns-clause-obtained g c = and_then c.in_ok-text.ensures.obtained (c.read.ensures.obtained _)

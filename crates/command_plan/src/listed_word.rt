@@ -1,0 +1,76 @@
+ghost use Rattle.std.specs.Prelude.{◌≡◌, IfOk, IsTrue, string_bytes};
+ghost use Rattle.std.specs.List.{list_all};
+ghost use Rattle.ddc_base.specs.Outside.{IsFileName};
+ghost use Rattle.command_plan.specs.Lists.{is_listed_word, is_word_byte, listed_word};
+
+use ddc_base::OutOfMemory;
+use std::alloc::Global;
+use std::marker::Model;
+use std::str;
+
+/// A word of a list: 1 to 255 bytes from `!` to `~`, which contracts see as these bytes.
+#[derive(Debug, Drop)]
+pub struct ListedWord {
+    text: String,
+}
+
+impl Model for ListedWord {
+    ghost use Rattle.std.specs.Prelude.{List, ℕ, IsTrue, string_bytes};
+    ghost use Rattle.command_plan.specs.Lists.{is_listed_word};
+
+    ghost Value = { List ℕ };
+
+    ghost view = { λ word. string_bytes word.text };
+
+    ghost invariant = { λ word. IsTrue (is_listed_word (string_bytes word.text)) };
+}
+
+impl ListedWord {
+    /// The word that a text is, and `None` for every other text.
+    pub fn read(alloc: Global, text: &[u8]) -> Result<Option<ListedWord>, OutOfMemory>
+        ensures { IfOk result (λ word. word ≡ listed_word text.now) }
+    {
+        if !is_listed_word(text) {
+            return Ok(None);
+        }
+        match str::from_utf8(text) {
+            Ok(text) => Ok(Some(ListedWord::keep(alloc, text)?)),
+            // The bytes are ASCII.
+            Err(_) => unreachable!(),
+        }
+    }
+
+    /// A word's text, kept.
+    fn keep(alloc: Global, text: &str) -> Result<ListedWord, OutOfMemory>
+        requires { IsTrue (is_listed_word text.now) }
+        ensures { IfOk result (λ word. word ≡ text.now) }
+    {
+        Ok(ListedWord {
+            text: String::from_str(alloc, text)?,
+        })
+    }
+
+    /// The word as text, by which a shelf loads.
+    pub fn as_str(&self) -> &str
+        ensures value { result.now ≡ self.now }
+        ensures word { IsTrue (is_listed_word self.now) }
+        ensures name { IsFileName self.now }
+    {
+        self.text.as_str()
+    }
+}
+
+/// Whether a text is a listed word.
+#[tactic(auto, unfolding(crate::specs::Lists::is_listed_word))]
+fn is_listed_word(text: &[u8]) -> bool
+    ensures { result ≡ is_listed_word text.now }
+{
+    !text.is_empty() && text.len() <= 255 && are_word_bytes(text)
+}
+
+/// Whether every byte may stand in a listed word.
+fn are_word_bytes(text: &[u8]) -> bool
+    ensures { result ≡ list_all is_word_byte text.now }
+{
+    text.iter().all(|byte| matches!(*byte, 0x21..=0x7E))
+}

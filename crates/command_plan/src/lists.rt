@@ -1,0 +1,114 @@
+//! Files that list things, one a line.
+//!
+//! Their rules for people: docs/reference/command-line.md.
+
+ghost use Rattle.std.specs.Prelude.{◌≡◌, ◌<◌, ◌≤◌, ◌∷◌, [], IfOk, IfSome, List, MatchOption, Option, length, ℕ};
+ghost use Rattle.std.specs.List.{slice_split};
+ghost use Rattle.ddc_base.specs.Outside.{IsFileName, ShelfState};
+ghost use Rattle.command_plan.specs.declared.status.Status.TheVariants.{ListRefused};
+ghost use Rattle.command_plan.specs.Lists.{is_line_feed, list_of, needs_list};
+ghost use Rattle.command_plan.specs.Plan.{answers, unless_refused};
+ghost use Rattle.command_plan.specs.Steps.{Obtains, Says};
+ghost use Rattle.command_plan.specs.Texts.{list_line};
+
+use crate::answer::Answer;
+use crate::fetching::fetch;
+use crate::status::Status;
+use crate::stop::Stop;
+use crate::texts;
+use ddc_base::{Bytes, ListOf, OutOfMemory, Shelf};
+use std::alloc::Global;
+
+/// The most bytes of a list that is loaded.
+const LIST_LIMIT: u64 = 1_048_576;
+
+/// What a line of a list stands for.
+pub trait Listed: Sized + Drop {
+    // What a line stands for, in the light of what the lines before it stand for.
+    ghost form: { List Self → List ℕ → Option Self };
+
+    /// What a line stands for, behind the earlier lines. None where it is not of the form.
+    fn read(alloc: Global, earlier: &[Self], line: &[u8]) -> Result<Option<Self>, OutOfMemory>
+        ensures { IfOk result (λ item. item ≡ form earlier.now line.now) };
+}
+
+/// Fetches a list of at most so many lines, each ended by LF, and reads it. It is refused at the first line that is not of the form.
+pub fn fetch_list<T: Listed, S: Shelf>(
+    alloc: Global,
+    shelf: &mut S,
+    file: &str,
+    most: u32,
+) -> Result<ListOf<T>, Stop>
+    requires { IsFileName file.now }
+    ensures obtained { Obtains (needs_list T.form most file.now) (S.state shelf.old) (S.state shelf.new) result }
+    ensures few { IfOk result (λ items. length items ≤ most) }
+{
+    let text = fetch(alloc, shelf, file, LIST_LIMIT)?;
+    read(alloc, text, most)
+}
+
+/// Reads a list, and lets its text go.
+fn read<T: Listed>(alloc: Global, text: Bytes, most: u32) -> Result<ListOf<T>, Stop>
+    ensures obtained { (shelf : ShelfState) → Obtains (unless_refused (list_of T.form most text) (λ number. answers ListRefused (list_line number)))
+        shelf shelf result }
+    ensures few { IfOk result (λ items. length items ≤ most) }
+{
+    match read_lines::<T>(alloc, text.as_slice(), most)? {
+        Ok(items) => Ok(items),
+        Err(number) => Err(Stop::Answered(refused(alloc, number)?)),
+    }
+}
+
+/// The answer to a file that is no list, from this line on.
+pub fn refused(alloc: Global, number: u64) -> Result<Answer, Stop>
+    ensures { Says (answers ListRefused (list_line number)) result }
+{
+    Ok(Answer {
+        status: Status::ListRefused,
+        text: texts::list(alloc, number)?,
+    })
+}
+
+/// What a text lists, or the number of the first line, from 1, that lists nothing.
+#[tactic(auto, unfolding(crate::specs::Lists::list_of))]
+pub fn read_lines<T: Listed>(
+    alloc: Global,
+    text: &[u8],
+    most: u32,
+) -> Result<Result<ListOf<T>, u64>, OutOfMemory>
+    ensures value { IfOk result (λ read. read ≡ list_of T.form most text.now) }
+    ensures few { IfOk result (λ read. IfOk read (λ items. length items ≤ most)) }
+{
+    let mut items = ListOf::new(alloc);
+    let mut rest = text;
+    while let Some((line, after)) = next_line(rest) {
+        let number = items.len() as u64 + 1;
+        if number > most as u64 {
+            return Ok(Err(number));
+        }
+        match T::read(alloc, items.as_slice(), line)? {
+            Some(item) => items.push(item)?,
+            None => return Ok(Err(number)),
+        }
+        rest = after;
+    }
+    if rest.is_empty() {
+        Ok(Ok(items))
+    } else {
+        Ok(Err(items.len() as u64 + 1))
+    }
+}
+
+/// The line at the front of a text, and what follows its LF. None where no LF is left.
+fn next_line(text: &[u8]) -> Option<(&[u8], &[u8])>
+    ensures lines { MatchOption result (slice_split is_line_feed text.now ≡ text.now ∷ [])
+        (λ cut. slice_split is_line_feed text.now ≡ cut.0.now ∷ slice_split is_line_feed cut.1.now) }
+    ensures shorter { IfSome result (λ cut. length cut.1.now < length text.now) }
+{
+    for (at, byte) in text.iter().enumerate() {
+        if *byte == b'\n' {
+            return Some((&text[..at], &text[at + 1..]));
+        }
+    }
+    None
+}

@@ -1,0 +1,90 @@
+-- `chain LIST`: the audits of a list are verified one after the other, and what remains to be believed of all of them is said.
+-- docs/reference/command-line.md and docs/reference/chain.md say the same for people.
+use Rattle.std.specs.Prelude.{ℕ, ◌+◌, ◌-◌, ◌==◌, Bool, Option, None, Some, List, [], ◌∷◌, ◌++◌, length, sum_by, if◌then◌else◌}
+use Rattle.std.specs.List.{before_first, after_first}
+use Rattle.recipe.specs.declared.contents.Said.{Said}
+use Rattle.recipe.specs.Reading.{recipe_of}
+use Rattle.report.specs.declared.types.CompareLine.{CompareLine}
+use Rattle.report.specs.declared.types.Report.{Report}
+use Rattle.report.specs.Reading.{report_of}
+use Rattle.wheeler.specs.Bench.{all_equal}
+use Rattle.verifier.specs.declared.part.Part.{Part}
+use Rattle.verifier.specs.Faults.{first_fault}
+use Rattle.audit_chain.specs.declared.link.Link.{Link}
+use Rattle.command_plan.specs.declared.status.Status.TheVariants.{Yes, Refuted, Differs, RecipeRefused, ReportRefused, ListRefused}
+use Rattle.command_plan.specs.Lists.{listed_word, needs_list}
+use Rattle.command_plan.specs.Plan.{Plan, answers, needs, unless_refused}
+use Rattle.command_plan.specs.Texts.{list_line}
+use Rattle.command_plan.specs.Words.{is_file_word, is_one_file, usage}
+use Rattle.recipe_plan.specs.Recipes.{needs_apart, needs_inputs_within}
+use Rattle.recipe_plan.specs.Texts.{compared_lines, recipe_line, report_line}
+use Rattle.verify_commands.specs.declared.pair.Pair.{Pair}
+use Rattle.verify_commands.specs.Texts.{refuted_line}
+use Rattle.verify_commands.specs.ChainTexts.{audit_line, chain_text}
+
+-- ---- LIST
+
+-- a line names a recipe and its report, two words with one blank between
+abbrev pub is_blank : ℕ → Bool
+is_blank byte = byte == 32
+
+abbrev pub both_words : Option (List ℕ) → Option (List ℕ) → Option Pair
+both_words (Some recipe) (Some report) = Some (record { recipe = recipe; report = report })
+both_words _ _ = None
+
+unfoldable pub pair_of : List Pair → List ℕ → Option Pair
+pair_of earlier line = both_words (listed_word (before_first is_blank line)) (listed_word (after_first is_blank line))
+
+-- ---- one audit, by its number from 1: what `verify` says of it stands behind a line with that number
+
+unfoldable pub needs_two_files : Pair → (Unit {0} → Plan) → Plan
+needs_two_files pair next = if is_one_file pair.recipe pair.report then usage else next tt
+
+abbrev pub needs_recipe_of : ℕ → List ℕ → (Said → Plan) → Plan
+needs_recipe_of number file next =
+    needs file 1_048_576 (λ bytes. unless_refused (recipe_of bytes) (λ refusal. answers RecipeRefused (audit_line number ++ recipe_line refusal)) next)
+
+abbrev pub needs_report_of : ℕ → List ℕ → (Report → Plan) → Plan
+needs_report_of number file next =
+    needs file 1_073_741_824 (λ bytes. unless_refused (report_of bytes) (λ line. answers ReportRefused (audit_line number ++ report_line line)) next)
+
+-- a report without a fault goes on, where all its comparisons are equal; else the comparisons are said, or the first part that is not true
+unfoldable pub needs_true : ℕ → List CompareLine → Option (Part × ℕ) → (Unit {0} → Plan) → Plan
+needs_true number lines None next = if all_equal lines then next tt else answers Differs (audit_line number ++ compared_lines lines)
+needs_true number lines (Some (part, place)) next = answers Refuted (audit_line number ++ refuted_line part place)
+
+-- as `verify`: the recipe, a report that is none of its inputs, what the report says, the inputs, for which so many bytes are left, and then
+-- the judgement
+unfoldable pub needs_audit : ℕ → ℕ → Pair → (Link → Plan) → Plan
+needs_audit number room pair next =
+    needs_two_files pair (λ _.
+    needs_recipe_of number pair.recipe (λ said.
+    needs_apart said pair.report (λ _.
+    needs_report_of number pair.report (λ made.
+    needs_inputs_within room said (λ inputs.
+    needs_true number made.compare (first_fault said inputs made) (λ _. next (record { recipe = said; inputs = inputs })))))))
+
+-- ---- all of them
+
+-- how many bytes are left for the inputs of later audits
+abbrev pub room_behind : ℕ → List (List ℕ) → ℕ
+room_behind room inputs = room - sum_by length inputs
+
+-- the audits of these lines, behind those that are verified
+abbrev pub chained : List Link → ℕ → List Pair → Plan
+chained links room [] = answers Yes (chain_text links)
+chained links room (pair ∷ pairs) = needs_audit (length links + 1) room pair (λ link. chained (links ++ link ∷ []) (room_behind room link.inputs) pairs)
+
+-- there is to be a line; the inputs of all audits have at most 1,073,741,824 bytes together
+unfoldable pub chained_lines : List Pair → Plan
+chained_lines [] = answers ListRefused (list_line 1)
+chained_lines (pair ∷ pairs) = chained [] 1_073_741_824 (pair ∷ pairs)
+
+-- the list, of at most 64 lines, and then its audits in order
+unfoldable pub chain_files : List ℕ → Plan
+chain_files list = needs_list pair_of 64 list chained_lines
+
+-- the words after `chain`
+abbrev pub chain_plan : List (List ℕ) → Plan
+chain_plan (list ∷ []) = if is_file_word list then chain_files list else usage
+chain_plan _ = usage

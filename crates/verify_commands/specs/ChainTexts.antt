@@ -1,0 +1,28 @@
+-- What `chain` prints. docs/reference/command-line.md says the same for people.
+use Rattle.std.specs.Prelude.{ℕ, List, [], ◌∷◌, ◌++◌, codes, decimal, flat_map, length}
+use Rattle.ddc_base.specs.Lines.{line}
+use Rattle.meaning.specs.declared.assumption.Assumption.{Assumption}
+use Rattle.meaning.specs.declared.assumption.Assumption.TheVariants.{Implements, Compiles}
+use Rattle.audit_chain.specs.declared.link.Link.{Link}
+use Rattle.audit_chain.specs.declared.link.ChainLine.{ChainLine}
+use Rattle.audit_chain.specs.Chain.{remaining}
+
+-- what follows is said of the audit of this number
+unfoldable pub audit_line : ℕ → List ℕ
+audit_line number = line (codes "audit" ∷ decimal number ∷ [])
+
+-- so many audits are true, and their artefacts are equal
+unfoldable pub verified_line : ℕ → List ℕ
+verified_line count = line (codes "chain" ∷ decimal count ∷ codes "yes" ∷ [])
+
+-- what has to be believed of a program of the audit of this number
+abbrev pub line_in : ℕ → Assumption → List ℕ
+line_in number (Implements made source) = line (codes "assumes" ∷ decimal number ∷ codes "implements" ∷ made ∷ source ∷ [])
+line_in number (Compiles source stage becomes) = line (codes "assumes" ∷ decimal number ∷ codes "compiles" ∷ source ∷ stage ∷ becomes ∷ [])
+
+unfoldable pub remaining_line : ChainLine → List ℕ
+remaining_line remains = line_in remains.audit remains.line
+
+-- all audits are true and equal: how many they are, and exactly what remains to be believed
+unfoldable pub chain_text : List Link → List ℕ
+chain_text links = verified_line (length links) ++ flat_map remaining_line (remaining links)

@@ -1,0 +1,100 @@
+//! What `chain` prints.
+
+ghost use Rattle.audit_chain.specs.Chain.{remaining};
+ghost use Rattle.ddc_base.specs.Lines.{line};
+ghost use Rattle.std.specs.Prelude.{◌≡◌, ◌++◌, ◌<◌, ◌^◌, [], ◌∷◌, IfOk, OnOk, codes, decimal, flat_map, length};
+ghost use Rattle.verify_commands.specs.ChainTexts.{audit_line, chain_text, remaining_line, verified_line};
+
+use audit_chain::{ChainLine, Links, remaining};
+use ddc_base::{Bytes, Name, OutOfMemory};
+use meaning::Assumption;
+use std::alloc::Global;
+
+/// A text behind the line that says of which audit it is.
+#[tactic(auto, unfolding(crate::specs::ChainTexts::audit_line))]
+pub fn of_audit(alloc: Global, number: u32, text: &[u8]) -> Result<Bytes, OutOfMemory>
+    ensures { IfOk result (λ whole. whole ≡ audit_line number ++ text.now) }
+{
+    let mut whole = Bytes::from_vec(format!(in alloc; "audit {number}\n")?.into_bytes());
+    whole.extend(text)?;
+    Ok(whole)
+}
+
+/// All audits are true and equal: how many they are, and what remains to be believed.
+#[tactic(auto, unfolding(crate::specs::ChainTexts::chain_text))]
+pub fn verified(alloc: Global, links: &Links) -> Result<Bytes, OutOfMemory>
+    requires { length links.now < 2 ^ 32 }
+    ensures { IfOk result (λ text. text ≡ chain_text links.now) }
+{
+    let lines = remaining(alloc, links)?;
+    let mut text = count(alloc, links.len())?;
+    put_remaining(alloc, &mut text, lines.as_slice())?;
+    Ok(text)
+}
+
+/// So many audits are.
+#[tactic(auto, unfolding(crate::specs::ChainTexts::verified_line))]
+fn count(alloc: Global, count: usize) -> Result<Bytes, OutOfMemory>
+    ensures { IfOk result (λ text. text ≡ verified_line count) }
+{
+    Ok(Bytes::from_vec(format!(in alloc; "chain {count} yes\n")?.into_bytes()))
+}
+
+/// Adds a line for each that remains.
+fn put_remaining(alloc: Global, text: &mut Bytes, lines: &[ChainLine]) -> Result<(), OutOfMemory>
+    ensures { OnOk result (text.new ≡ text.old ++ flat_map remaining_line lines.now) }
+{
+    for line in lines {
+        text.extend(remains(alloc, line)?.as_slice())?;
+    }
+    Ok(())
+}
+
+/// What has to be believed of a program of an audit.
+#[tactic(auto, unfolding(crate::specs::ChainTexts::remaining_line))]
+fn remains(alloc: Global, remains: &ChainLine) -> Result<Bytes, OutOfMemory>
+    ensures { IfOk result (λ text. text ≡ remaining_line remains.now) }
+{
+    match &remains.line {
+        Assumption::Implements { made, source } => implements(alloc, remains.audit, made, source),
+        Assumption::Compiles {
+            source,
+            stage,
+            becomes,
+        } => compiles(alloc, remains.audit, source, stage, becomes),
+    }
+}
+
+/// That it is one of its source.
+#[tactic(auto, using(crate::proofs::Written::written))]
+fn implements(alloc: Global, audit: u32, made: &Name, source: &Name) -> Result<Bytes, OutOfMemory>
+    ensures { IfOk result (λ text. text ≡ line (codes "assumes" ∷ decimal audit ∷ codes "implements" ∷ made.now ∷ source.now ∷ [])) }
+{
+    let mut text = Bytes::from_vec(format!(in alloc; "assumes {audit} implements ")?.into_bytes());
+    text.extend(made.bytes())?;
+    text.push(b' ')?;
+    text.extend(source.bytes())?;
+    text.push(b'\n')?;
+    Ok(text)
+}
+
+/// That a source compiles another in a stage.
+#[tactic(auto, using(crate::proofs::Written::written))]
+fn compiles(
+    alloc: Global,
+    audit: u32,
+    source: &Name,
+    stage: &Name,
+    becomes: &Name,
+) -> Result<Bytes, OutOfMemory>
+    ensures { IfOk result (λ text. text ≡ line (codes "assumes" ∷ decimal audit ∷ codes "compiles" ∷ source.now ∷ stage.now ∷ becomes.now ∷ [])) }
+{
+    let mut text = Bytes::from_vec(format!(in alloc; "assumes {audit} compiles ")?.into_bytes());
+    text.extend(source.bytes())?;
+    text.push(b' ')?;
+    text.extend(stage.bytes())?;
+    text.push(b' ')?;
+    text.extend(becomes.bytes())?;
+    text.push(b'\n')?;
+    Ok(text)
+}

@@ -1,0 +1,45 @@
+ghost use Rattle.std.specs.Prelude.{◌≡◌, ◌==◌, IfOk};
+ghost use Rattle.std.specs.List.{after_first, before_first};
+
+use command_plan::ListedWord;
+use command_plan::lists::Listed;
+use ddc_base::OutOfMemory;
+use std::alloc::Global;
+
+/// A line of a list of audits.
+#[derive(Debug, Drop)]
+pub struct Pair {
+    /// The name of a recipe's file.
+    pub recipe: ListedWord,
+    /// The name of its report's file.
+    pub report: ListedWord,
+}
+
+impl Listed for Pair {
+    ghost use Rattle.verify_commands.specs.Chain.{pair_of};
+
+    ghost form = { pair_of };
+
+    #[tactic(auto, unfolding(crate::specs::Chain::pair_of))]
+    fn read(alloc: Global, _earlier: &[Pair], line: &[u8]) -> Result<Option<Pair>, OutOfMemory> {
+        let (recipe, report) = cut_at_blank(line);
+        match ListedWord::read(alloc, recipe)? {
+            Some(recipe) => match ListedWord::read(alloc, report)? {
+                Some(report) => Ok(Some(Pair { recipe, report })),
+                None => Ok(None),
+            },
+            None => Ok(None),
+        }
+    }
+}
+
+/// What stands before the first blank of a line, and what stands behind it: nothing where there is no blank.
+fn cut_at_blank(line: &[u8]) -> (&[u8], &[u8])
+    ensures before { result.0.now ≡ before_first (λ byte. byte == 32) line.now }
+    ensures behind { result.1.now ≡ after_first (λ byte. byte == 32) line.now }
+{
+    match line.iter().position(|byte| *byte == b' ') {
+        Some(at) => (&line[..at], &line[at + 1..]),
+        None => (line, &[]),
+    }
+}
