@@ -4,9 +4,7 @@ use crate::exit_program::EXIT;
 use ddc_base::digests::Digest;
 use ddc_base::{Bytes, read_hex};
 use elf_load::ElfRefusal;
-use kaem_script::{
-    CommandCause, FileList, ScriptEnd, ScriptFault, ScriptRefusal, audit, read,
-};
+use kaem_script::{CommandCause, FileList, ScriptEnd, ScriptFault, ScriptRefusal, audit, read};
 use mem_files::PlaceRefusal;
 use report::script::ScriptReport;
 use rv64_machine::Cause;
@@ -259,6 +257,12 @@ fn a_script_stops_at_its_first_failure(rt: HostRuntime) -> Result<(), Fail> {
         )?
     );
     assert!(rt; stops(alloc, b"copy.elf", b"abc", 31, (1, CommandCause::Spent, 31))?);
+    Ok(())
+}
+
+#[test]
+fn a_script_stops_at_a_program_that_ends_otherwise(rt: HostRuntime) -> Result<(), Fail> {
+    let alloc = rt.alloc();
     // addi x10, x0, 7 in the place of addi x10, x0, 0; addi x17, x0, 999 in that of addi x17, x0, 93; no instruction.
     assert!(rt;
         stops(
@@ -346,7 +350,9 @@ fn a_list_refuses_as_placing_does(rt: HostRuntime) -> Result<(), Fail> {
     assert!(rt; files.push(b"./b", b"3") == Err(PlaceRefusal::Twice));
     assert!(rt; files.push(b"./", b"4") == Err(PlaceRefusal::BadName));
     match files.names() {
-        [first, second] => assert!(rt; first.as_slice() == b"b".as_slice() && second.as_slice() == b"a".as_slice()),
+        [first, second] => assert!(rt;
+            first.as_slice() == b"b".as_slice() && second.as_slice() == b"a".as_slice()
+        ),
         _ => panic!(rt; "other names"),
     }
     assert!(rt; files.files().content(b"b") == Some(b"1".as_slice()));
