@@ -1,4 +1,4 @@
--- Lines taken one by one: those of commands that are replayed, and those of the files that are left, which a walk by "the first name after" finds.
+-- Lines taken one by one: those of commands that are replayed_command, and those of the files that are left, which a walk by "the first name after" finds.
 use Rattle.std.proofs.Common.{◌≡◌, ℕ, suc, ◌+◌, ◌-◌, ◌<◌, ◌≤◌, ◌&&◌, Bool, true, false, Bor, Option, Some, None, Result, Ok, List, [], ◌∷◌, length, take, drop, get_or, map, not, is_none, is_some, option_copied, refl, sym, ap, ◌∙◌, arith, All, subst}
 use Rattle.std.specs.FinMap as fin
 use Rattle.std.proofs.lemmas.List.{take_all}
@@ -10,7 +10,7 @@ use Rattle.mem_files.proofs.Walks.{names-left, names-rise, walk-end, walk-start,
 use Rattle.report.specs.declared.types.LeftLine.{LeftLine}
 use Rattle.report.specs.declared.script.types.CommandLine.{CommandLine}
 use Rattle.kaem_script.specs.declared.verdict.ScriptPart.{ScriptPart}
-use Rattle.kaem_script.specs.Faults.{commands_fault, fault_after_command, replayed, says_file, says_files}
+use Rattle.kaem_script.specs.Faults.{commands_fault, fault_after_command, replayed_command, says_file, says_files}
 use Rattle.kaem_script.specs.Kept.{IsCommand}
 use Rattle.kaem_script.specs.FilesListed.{named_in}
 use Rattle.kaem_script.proofs.Renewing.{files_after}
@@ -34,7 +34,7 @@ empty-is (x ∷ xs) few = absurd (omega arith)
 
 pub replay-goes-on : (f : World → Option (ScriptPart × ℕ)) (number : ℕ) (world after : World) (ahead rest : List (List (List ℕ))) (words : List (List ℕ))
     → (lines others : List CommandLine) (line : CommandLine) (whole : Option (ScriptPart × ℕ)) → ahead ≡ words ∷ rest → lines ≡ line ∷ others
-    → replayed world words line ≡ Ok after → commands_fault f number world ahead lines ≡ whole → commands_fault f (number + 1) after rest others ≡ whole
+    → replayed_command world words line ≡ Ok after → commands_fault f number world ahead lines ≡ whole → commands_fault f (number + 1) after rest others ≡ whole
 replay-goes-on f number world after ahead rest words lines others line whole ahead_is lines_are is before =
     sym (ap (λ (r : Result World ScriptPart). fault_after_command number r (λ left. commands_fault f (number + 1) left rest others)) is)
     ∙ sym (λ i. commands_fault f number world (ahead_is i) (lines_are i)) ∙ before

@@ -18,7 +18,8 @@ use Rattle.report.specs.declared.script.types.ScriptReport.{ScriptReport}
 use Rattle.kaem_script.specs.declared.auditing.ScriptEnd.TheVariants.{Done}
 use Rattle.kaem_script.specs.declared.verdict.ScriptPart.{ScriptPart}
 use Rattle.kaem_script.specs.declared.verdict.ScriptPart.TheVariants as part
-use Rattle.kaem_script.specs.Faults.{by_streams, commands_fault, fault_after_command, files_fault, first_fault, first_of_both, is_mark_of, left_after_steps, left_at, left_fault, replayed, says_file, says_files, says_streams, wrong_file}
+use Rattle.report.specs.Marks.{is_mark_of}
+use Rattle.kaem_script.specs.Faults.{by_streams, commands_fault, fault_after_command, files_fault, first_script_fault, fault_or, left_after_steps, left_at_step, left_fault, replayed_command, says_file, says_files, says_streams, wrong_file}
 use Rattle.kaem_script.specs.Fold.{CommandResult, RanAll, Folded, Ran, Stopped, after_command, command, fold_from, folded}
 use Rattle.kaem_script.specs.FilesListed.{FilesListed, listed_files}
 use Rattle.report.specs.Marks.{mark_of}
@@ -123,8 +124,8 @@ record LeftAt (world : World) (words : List (List ℕ)) (step : ℕ) (after : Wo
   step_is : ran.steps ≡ step
   leaves : ran.world ≡ after
 
-left-run : (world : World) (words : List (List ℕ)) (step : ℕ) (after : World) → left_at world words step ≡ Some after → LeftAt world words step after
-unfolding left_at
+left-run : (world : World) (words : List (List ℕ)) (step : ℕ) (after : World) → left_at_step world words step ≡ Some after → LeftAt world words step after
+unfolding left_at_step
 left-run world words step after is = by_limits (nat_le 1 step && nat_le step (2 ^ 48)) refl is
   where
     by_result : (c : CommandResult) → command step world words ≡ c → step ≤ 2 ^ 48 → left_after_steps step c ≡ Some after → LeftAt world words step after
@@ -140,11 +141,11 @@ left-run world words step after is = by_limits (nat_le 1 step && nat_le step (2 
     by_limits true limits here =
         by_result (command step world words) refl (leb-true step (2 ^ 48) (and_parts (nat_le 1 step) (nat_le step (2 ^ 48)) limits).1) here
 
-replayed-run : (world : World) (words : List (List ℕ)) (line : CommandLine) (after : World) → replayed world words line ≡ Ok after → Replays world words line after
-unfolding replayed
-replayed-run world words line after is = on (left_at world words line.steps) refl is
+replayed_command-run : (world : World) (words : List (List ℕ)) (line : CommandLine) (after : World) → replayed_command world words line ≡ Ok after → Replays world words line after
+unfolding replayed_command
+replayed_command-run world words line after is = on (left_at_step world words line.steps) refl is
   where
-    on : (o : Option World) → left_at world words line.steps ≡ o → by_streams line o ≡ Ok after → Replays world words line after
+    on : (o : Option World) → left_at_step world words line.steps ≡ o → by_streams line o ≡ Ok after → Replays world words line after
     on None was here = absurd cc
     on (Some found) was here =
         let right = right-streams (says_streams line found) found after here in
@@ -161,9 +162,9 @@ replayed-run world words line after is = on (left_at world words line.steps) ref
           leaves = found_is.leaves ∙ right.1;
         }
 
-run-replayed : (world : World) (words : List (List ℕ)) (ran : Ran) → command (2 ^ 48) world words ≡ Ok ran → replayed world words (command_line ran) ≡ Ok ran.world
-unfolding replayed left_at
-run-replayed world words ran is =
+run-replayed_command : (world : World) (words : List (List ℕ)) (ran : Ran) → command (2 ^ 48) world words ≡ Ok ran → replayed_command world words (command_line ran) ≡ Ok ran.world
+unfolding replayed_command left_at_step
+run-replayed_command world words ran is =
     let steps_are = taken (2 ^ 48) world words ran is in
     let exact : command ran.steps world words ≡ Ok ran = within (2 ^ 48) ran.steps world words ran is (omega arith) in
     let limits : (nat_le 1 ran.steps && nat_le ran.steps (2 ^ 48)) ≡ true =
@@ -241,15 +242,15 @@ lines-right f number world [] [] is = record { rans = []; last = world; are = re
 lines-right f number world [] (line ∷ lines) is = absurd cc
 lines-right f number world (words ∷ commands) [] is = absurd cc
 lines-right f number world (words ∷ commands) (line ∷ lines) is =
-    on (replayed world words line) refl (λ after. lines-right f (number + 1) after commands lines) is
+    on (replayed_command world words line) refl (λ after. lines-right f (number + 1) after commands lines) is
   where
-    on : (r : Result World ScriptPart) → replayed world words line ≡ r
+    on : (r : Result World ScriptPart) → replayed_command world words line ≡ r
         → ((after : World) → commands_fault f (number + 1) after commands lines ≡ None → Right f after commands lines)
         → fault_after_command number r (λ after. commands_fault f (number + 1) after commands lines) ≡ None → Right f world (words ∷ commands) (line ∷ lines)
     on (Err why) was further here = absurd cc
     on (Ok after) was further here =
         let rest = further after here in
-        let first = replayed-run world words line after was in
+        let first = replayed_command-run world words line after was in
         let are : AreRun (2 ^ 48) first.ran.world commands rest.rans rest.last = subst (λ (w : World). AreRun (2 ^ 48) w commands rest.rans rest.last) (sym first.leaves) rest.are in
         let line_is = first.line_is in
         let lines_are = rest.lines_are in
@@ -262,7 +263,7 @@ right-lines f number world [] (ran ∷ rans) last are rest = absurd are
 right-lines f number world (words ∷ commands) [] last are rest = absurd are
 right-lines f number world (words ∷ commands) (ran ∷ rans) last are rest =
     ap (λ (r : Result World ScriptPart). fault_after_command number r (λ after. commands_fault f (number + 1) after commands (map command_line rans)))
-    (run-replayed world words ran are.0)
+    (run-replayed_command world words ran are.0)
     ∙ right-lines f (number + 1) ran.world commands rans last are.1 rest
 
 -- ---- the whole report
@@ -274,7 +275,7 @@ left-none lines world is = on (says_files lines (left world)) is
     on true e = refl
     on false e = absurd cc
 
-none-of-both : (first second : Option (ScriptPart × ℕ)) → first_of_both first second ≡ None → (first ≡ None) × (second ≡ None)
+none-of-both : (first second : Option (ScriptPart × ℕ)) → fault_or first second ≡ None → (first ≡ None) × (second ≡ None)
 none-of-both None second e = (refl, e)
 none-of-both (Some fault) second e = absurd cc
 
@@ -286,12 +287,12 @@ headed : (b : Bool) (rest : Option (ScriptPart × ℕ)) → cond b rest (Some (p
 headed true rest e = (refl, e)
 headed false rest e = absurd cc
 
-pub no_fault_reports : (script : Said) (listed : FilesListed) (report : ScriptReport) → first_fault script listed report ≡ None → end_of_script (2 ^ 48) script listed ≡ Done report
-unfolding first_fault folded script_report
+pub no_fault_reports : (script : Said) (listed : FilesListed) (report : ScriptReport) → first_script_fault script listed report ≡ None → end_of_script (2 ^ 48) script listed ≡ Done report
+unfolding first_script_fault folded script_report
 no_fault_reports script listed report is =
     let files = files_fault (listed_files listed) report.files in
     let commands = commands_fault (left_fault report.left) 1 listed.world script.commands report.commands in
-    let head = headed (bytes_eq script.digest.0 report.script.0) (first_of_both files commands) is in
+    let head = headed (bytes_eq script.digest.0 report.script.0) (fault_or files commands) is in
     let parts = none-of-both files commands head.1 in
     let digest_is = (bytes_eq-Decides script.digest.0 report.script.0).0 head.0 in
     let files_are = files-said 1 (listed_files listed) report.files (no-number (wrong_file 1 (listed_files listed) report.files) parts.0) in
@@ -321,20 +322,20 @@ done-is most script listed report is = on (folded most listed.world script.comma
 
 -- a report that the commands give has no fault
 run_has_none : (script : Said) (listed : FilesListed) (rans : List Ran) (last : World) → AreRun (2 ^ 48) listed.world script.commands rans last
-    → first_fault script listed (script_report script listed rans last) ≡ None
-unfolding first_fault script_report
+    → first_script_fault script listed (script_report script listed rans last) ≡ None
+unfolding first_script_fault script_report
 run_has_none script listed rans last are =
     let lines = map command_line rans in
     let at_end = left_fault (map marked (left last)) in
     let none_left : at_end last ≡ None = ap (λ (b : Bool). cond b None (Some (part.Left, 0))) (said-left (left last)) in
-    ap (λ (b : Bool). cond b (first_of_both (files_fault (listed_files listed) (map marked (listed_files listed))) (commands_fault at_end 1 listed.world script.commands lines))
+    ap (λ (b : Bool). cond b (fault_or (files_fault (listed_files listed) (map marked (listed_files listed))) (commands_fault at_end 1 listed.world script.commands lines))
     (Some (part.Header, 0))) ((bytes_eq-Decides script.digest.0 script.digest.0).1 refl)
-    ∙ ap (λ (o : Option ℕ). first_of_both (option_map (λ number. (part.File, number)) o) (commands_fault at_end 1 listed.world script.commands lines)) (said-files 1 (listed_files listed))
+    ∙ ap (λ (o : Option ℕ). fault_or (option_map (λ number. (part.File, number)) o) (commands_fault at_end 1 listed.world script.commands lines)) (said-files 1 (listed_files listed))
     ∙ right-lines at_end 1 listed.world script.commands rans last are none_left
 
 pub reported_without_fault : (most : ℕ) (script : Said) (listed : FilesListed) (report : ScriptReport) → most ≤ 2 ^ 48 → end_of_script most script listed ≡ Done report
-    → first_fault script listed report ≡ None
+    → first_script_fault script listed report ≡ None
 reported_without_fault most script listed report few is =
     let done = done-is most script listed report is in
-    ap (first_fault script listed) (sym done.is)
+    ap (first_script_fault script listed) (sym done.is)
     ∙ run_has_none script listed done.rans done.last (within-all most (2 ^ 48) listed.world script.commands done.rans done.last few done.are)

@@ -9,15 +9,12 @@ use Rattle.report.specs.declared.types.LeftLine.{LeftLine}
 use Rattle.report.specs.declared.types.Mark.{Mark}
 use Rattle.report.specs.declared.script.types.CommandLine.{CommandLine}
 use Rattle.report.specs.declared.script.types.ScriptReport.{ScriptReport}
+use Rattle.report.specs.Marks.{is_mark_of}
 use Rattle.kaem_script.specs.declared.verdict.ScriptPart.{ScriptPart}
 use Rattle.kaem_script.specs.declared.verdict.ScriptPart.TheVariants as part
 use Rattle.kaem_script.specs.Fold.{CommandResult, command}
 use Rattle.kaem_script.specs.FilesListed.{FilesListed, listed_files}
 use Rattle.kaem_script.specs.Script.{Said}
-
--- a mark is that of some bytes: it says how many they are, and their digest
-unfoldable pub is_mark_of : Mark → List ℕ → Bool
-is_mark_of mark bytes = mark.length == length bytes && bytes_eq mark.digest.0 (sha256 bytes)
 
 -- a line says the name of this file, and the mark of its bytes
 abbrev pub says_file : LeftLine → List ℕ × List ℕ → Bool
@@ -39,8 +36,8 @@ left_after_steps step (Ok ran) = if ran.steps == step then Some ran.world else N
 left_after_steps step (Err why) = None
 
 -- the files that a command leaves whose first end is an exit with 0 at exactly this step, which is from 1 to 2^48
-unfoldable pub left_at : World → List (List ℕ) → ℕ → Option World
-left_at world words step = if nat_le 1 step && nat_le step (2 ^ 48) then left_after_steps step (command step world words) else None
+unfoldable pub left_at_step : World → List (List ℕ) → ℕ → Option World
+left_at_step world words step = if nat_le 1 step && nat_le step (2 ^ 48) then left_after_steps step (command step world words) else None
 
 -- a command's line says what it wrote to its streams
 abbrev pub says_streams : CommandLine → World → Bool
@@ -51,8 +48,8 @@ abbrev pub by_streams : CommandLine → Option World → Result World ScriptPart
 by_streams line None = Err part.Run
 by_streams line (Some world) = if says_streams line world then Ok world else Err part.Streams
 
-unfoldable pub replayed : World → List (List ℕ) → CommandLine → Result World ScriptPart
-replayed world words line = by_streams line (left_at world words line.steps)
+unfoldable pub replayed_command : World → List (List ℕ) → CommandLine → Result World ScriptPart
+replayed_command world words line = by_streams line (left_at_step world words line.steps)
 
 -- the command of this number is right and what follows is judged, or it has the first fault
 abbrev pub fault_after_command : ℕ → Result World ScriptPart → (World → Option (ScriptPart × ℕ)) → Option (ScriptPart × ℕ)
@@ -64,7 +61,7 @@ fault_after_command number (Ok world) rest = rest world
 abbrev pub commands_fault : (World → Option (ScriptPart × ℕ)) → ℕ → World → List (List (List ℕ)) → List CommandLine → Option (ScriptPart × ℕ)
 commands_fault last number world [] [] = last world
 commands_fault last number world (words ∷ commands) (line ∷ lines) =
-    fault_after_command number (replayed world words line) (λ left. commands_fault last (number + 1) left commands lines)
+    fault_after_command number (replayed_command world words line) (λ left. commands_fault last (number + 1) left commands lines)
 commands_fault last number world _ _ = Some (part.Run, number)
 
 -- ---- the files at the end: a line for each, in the order of the names
@@ -80,18 +77,18 @@ left_fault lines world = if says_files lines (left world) then None else Some (p
 -- ---- all parts
 
 -- the former fault, where there is one, else the latter
-abbrev pub first_of_both : Option (ScriptPart × ℕ) → Option (ScriptPart × ℕ) → Option (ScriptPart × ℕ)
-first_of_both (Some fault) later = Some fault
-first_of_both None later = later
+abbrev pub fault_or : Option (ScriptPart × ℕ) → Option (ScriptPart × ℕ) → Option (ScriptPart × ℕ)
+fault_or (Some fault) later = Some fault
+fault_or None later = later
 
 abbrev pub files_fault : List (List ℕ × List ℕ) → List LeftLine → Option (ScriptPart × ℕ)
 files_fault files lines = option_map (λ number. (part.File, number)) (wrong_file 1 files lines)
 
 -- the first part of a report that fails, with its place: the number of the file or of the command from 1, 0 for the header and for the files
 -- at the end; none where every word of the report is true
-unfoldable pub first_fault : Said → FilesListed → ScriptReport → Option (ScriptPart × ℕ)
-first_fault script listed report =
+unfoldable pub first_script_fault : Said → FilesListed → ScriptReport → Option (ScriptPart × ℕ)
+first_script_fault script listed report =
     if bytes_eq script.digest.0 report.script.0
-    then first_of_both (files_fault (listed_files listed) report.files)
+    then fault_or (files_fault (listed_files listed) report.files)
     (commands_fault (left_fault report.left) 1 listed.world script.commands report.commands)
     else Some (part.Header, 0)

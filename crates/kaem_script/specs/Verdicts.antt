@@ -6,14 +6,14 @@ use Rattle.kaem_script.specs.declared.verdict.ScriptVerdict.{ScriptVerdict}
 use Rattle.kaem_script.specs.declared.verdict.ScriptVerdict.TheVariants.{Yes, Refuted, OutOfMemory}
 use Rattle.kaem_script.specs.Script.{Said}
 
-abbrev pub verdict_of : Option (ScriptPart × ℕ) → ScriptVerdict
-verdict_of None = Yes
-verdict_of (Some (part, place)) = Refuted part place
+abbrev pub script_verdict : Option (ScriptPart × ℕ) → ScriptVerdict
+script_verdict None = Yes
+script_verdict (Some (part, place)) = Refuted part place
 
 -- an answer to a report with this first fault: the verdict, or want of memory
-abbrev pub Judges : Option (ScriptPart × ℕ) → ScriptVerdict → Type 0
-Judges fault OutOfMemory = Unit {0}
-Judges fault answer = answer ≡ verdict_of fault
+abbrev pub JudgesScript : Option (ScriptPart × ℕ) → ScriptVerdict → Type 0
+JudgesScript fault OutOfMemory = Unit {0}
+JudgesScript fault answer = answer ≡ script_verdict fault
 
 -- memory is wanting only where the header is right
 abbrev pub WantsBehindHeader : Said → ScriptReport → ScriptVerdict → Type 0

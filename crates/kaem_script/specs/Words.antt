@@ -3,9 +3,9 @@ use Rattle.std.specs.Prelude.{ℕ, List, codes}
 use Rattle.kaem_script.specs.declared.verdict.ScriptPart.{ScriptPart}
 use Rattle.kaem_script.specs.declared.verdict.ScriptPart.TheVariants.{Header, File, Run, Streams, Left}
 
-abbrev pub part_word : ScriptPart → List ℕ
-part_word Header = codes "header"
-part_word File = codes "file"
-part_word Run = codes "run"
-part_word Streams = codes "streams"
-part_word Left = codes "left"
+abbrev pub script_part_word : ScriptPart → List ℕ
+script_part_word Header = codes "header"
+script_part_word File = codes "file"
+script_part_word Run = codes "run"
+script_part_word Streams = codes "streams"
+script_part_word Left = codes "left"

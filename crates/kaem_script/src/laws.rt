@@ -5,11 +5,11 @@ ghost use Rattle.guest_run.specs.Start.{Elf, Refusal, start_of};
 ghost use Rattle.mem_files.specs.Sound.{IsSound};
 ghost use Rattle.mem_files.specs.World.{World};
 ghost use Rattle.report.specs.declared.script.types.ScriptReport.{ScriptReport};
-ghost use Rattle.kaem_script.specs.Faults.{first_fault};
-ghost use Rattle.kaem_script.specs.Fold.{Ran, box_of, command};
+ghost use Rattle.kaem_script.specs.Faults.{first_script_fault};
+ghost use Rattle.kaem_script.specs.Fold.{Ran, command_box, command};
 ghost use Rattle.kaem_script.specs.Kept.{AreCommands, IsCommand};
-ghost use Rattle.kaem_script.specs.Listed.{Listed};
-ghost use Rattle.kaem_script.specs.Reported.{audited};
+ghost use Rattle.kaem_script.specs.FilesListed.{FilesListed};
+ghost use Rattle.kaem_script.specs.Reported.{end_of_script};
 ghost use Rattle.kaem_script.specs.Runs.{IsCommandRun};
 ghost use Rattle.kaem_script.specs.Script.{Said, commands_of};
 ghost use Rattle.kaem_script.specs.declared.auditing.ScriptEnd.TheVariants.{Done};
@@ -24,7 +24,7 @@ pub fn scripts_keep_the_rules()
 /// limits of a start.
 pub fn no_other_refusal()
     ensures { (program : List ℕ) (world : World) (words : List (List ℕ)) (refusal : Refusal) → IsSound world → IsCommand words
-        → start_of program (box_of world words) ≡ Err refusal → (fault : ElfRefusal) × (refusal ≡ Elf fault) }
+        → start_of program (command_box world words) ≡ Err refusal → (fault : ElfRefusal) × (refusal ≡ Elf fault) }
 {}
 
 /// A command that ran is a run of the program at its name with the box of all files that are there, and the other way round.
@@ -37,11 +37,11 @@ pub fn a_command_is_a_run()
 
 /// One report: a script over listed files has one report without a fault, that of its commands, which each exit with 0 within 2^48 steps.
 pub fn one_report()
-    ensures { (script : Said) (listed : Listed) (report : ScriptReport) → (first_fault script listed report ≡ None) ↔ (audited (2 ^ 48) script listed ≡ Done report) }
+    ensures { (script : Said) (listed : FilesListed) (report : ScriptReport) → (first_script_fault script listed report ≡ None) ↔ (end_of_script (2 ^ 48) script listed ≡ Done report) }
 {}
 
 /// The report of an audit has no fault, whatever the most steps of its commands.
 pub fn what_is_audited_is_verified()
-    ensures { (most : ℕ) (script : Said) (listed : Listed) (report : ScriptReport) → most ≤ 2 ^ 48
-        → audited most script listed ≡ Done report → first_fault script listed report ≡ None }
+    ensures { (most : ℕ) (script : Said) (listed : FilesListed) (report : ScriptReport) → most ≤ 2 ^ 48
+        → end_of_script most script listed ≡ Done report → first_script_fault script listed report ≡ None }
 {}

@@ -1,7 +1,8 @@
 //! A command's line, judged by a replay. How a command is started is the audit's too; where it ends, and what it left, is found here.
 
 ghost use Rattle.guest_run.specs.Run.{first_end};
-ghost use Rattle.kaem_script.specs.Faults.{is_mark_of, left_after_steps, left_at, replayed, says_streams};
+ghost use Rattle.report.specs.Marks.{is_mark_of};
+ghost use Rattle.kaem_script.specs.Faults.{left_after_steps, left_at_step, replayed_command, says_streams};
 ghost use Rattle.kaem_script.specs.Fold.{by_first_end, command};
 ghost use Rattle.kaem_script.specs.Inside.Commands.{world_in};
 ghost use Rattle.kaem_script.specs.Inside.Replays.{Judged, or_no_run};
@@ -40,7 +41,7 @@ impl From<ddc_base::OutOfMemory> for Stop {
 }
 
 /// The files that a command left whose line is true.
-#[tactic(auto, unfolding(crate::specs::Faults::replayed))]
+#[tactic(auto, unfolding(crate::specs::Faults::replayed_command))]
 pub(crate) fn replay(
     alloc: Global,
     present: Present<'_>,
@@ -48,7 +49,7 @@ pub(crate) fn replay(
     line: &CommandLine,
 ) -> Result<Files, Stop>
     requires { IsCommand words.now }
-    ensures { Judged (λ files. files) (replayed (world_in present.entry) words.now line.now) result }
+    ensures { Judged (λ files. files) (replayed_command (world_in present.entry) words.now line.now) result }
 {
     let guest = exited(alloc, present, words, line.steps)?;
     if !says_streams(line, guest.files()) {
@@ -58,7 +59,7 @@ pub(crate) fn replay(
 }
 
 /// The guest of a command's program, which stands before its exit with 0 at exactly this step.
-#[tactic(auto, unfolding(crate::specs::Faults::left_at))]
+#[tactic(auto, unfolding(crate::specs::Faults::left_at_step))]
 fn exited(
     alloc: Global,
     present: Present<'_>,
@@ -66,7 +67,7 @@ fn exited(
     step: u64,
 ) -> Result<Guest<RunRam>, Stop>
     requires { IsCommand words.now }
-    ensures { Judged (λ guest. guest.world) (or_no_run (left_at (world_in present.entry) words.now step)) result }
+    ensures { Judged (λ guest. guest.world) (or_no_run (left_at_step (world_in present.entry) words.now step)) result }
 {
     if 1 <= step && step <= MOST_STEPS {
         run_command(alloc, present, words, step)

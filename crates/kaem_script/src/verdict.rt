@@ -1,5 +1,5 @@
 ghost use Rattle.std.specs.Prelude.{◌≡◌};
-ghost use Rattle.kaem_script.specs.Words.{part_word};
+ghost use Rattle.kaem_script.specs.Words.{script_part_word};
 
 /// A part of a script's report, in the order in which the parts are judged.
 #[derive(Clone, Copy, Debug, PartialEq, Eq)]
@@ -19,7 +19,7 @@ pub enum ScriptPart {
 impl ScriptPart {
     /// The word that a command prints for it.
     pub fn word(self) -> &'static str
-        ensures { result.now ≡ part_word self }
+        ensures { result.now ≡ script_part_word self }
     {
         match self {
             ScriptPart::Header => "header",

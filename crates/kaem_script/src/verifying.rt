@@ -1,9 +1,9 @@
 //! The verdict on a script's report: its parts in order, up to the first that is not true.
 
-ghost use Rattle.kaem_script.specs.Faults.{commands_fault, files_fault, first_fault, first_of_both, left_fault, says_file, says_files, wrong_file};
+ghost use Rattle.kaem_script.specs.Faults.{commands_fault, files_fault, first_script_fault, fault_or, left_fault, says_file, says_files, wrong_file};
 ghost use Rattle.kaem_script.specs.Kept.{AreCommands};
 ghost use Rattle.kaem_script.specs.FilesListed.{listed_files};
-ghost use Rattle.kaem_script.specs.Verdicts.{Judges, WantsBehindHeader};
+ghost use Rattle.kaem_script.specs.Verdicts.{JudgesScript, WantsBehindHeader};
 ghost use Rattle.mem_files.specs.Outputs.{left};
 ghost use Rattle.std.specs.Prelude.{◌≡◌, ◌+◌, IfOk};
 
@@ -26,14 +26,14 @@ type Fault = (ScriptPart, u32);
 ///
 /// `Refuted` names the first part that is not true, judged on the bytes that the earlier commands left. A digest that is not the script's comes
 /// before all want of memory.
-#[tactic(auto, unfolding(crate::specs::Faults::first_fault))]
+#[tactic(auto, unfolding(crate::specs::Faults::first_script_fault))]
 pub fn verify(
     alloc: Global,
     script: &Script,
     files: &FileList,
     report: &ScriptReport,
 ) -> ScriptVerdict
-    ensures value { Judges (first_fault script.now files.now report.now) result }
+    ensures value { JudgesScript (first_script_fault script.now files.now report.now) result }
     ensures memory { WantsBehindHeader script.now report.now result }
 {
     if script.digest().0 != report.script.0 {
@@ -56,7 +56,7 @@ fn fault_of(
     files: &FileList,
     report: &ScriptReport,
 ) -> Result<Option<Fault>, OutOfMemory>
-    ensures { IfOk result (λ fault. fault ≡ first_of_both (files_fault (listed_files files.now) report.now.files) (commands_fault (left_fault report.now.left) 1 files.now.world script.now.commands report.now.commands)) }
+    ensures { IfOk result (λ fault. fault ≡ fault_or (files_fault (listed_files files.now) report.now.files) (commands_fault (left_fault report.now.left) 1 files.now.world script.now.commands report.now.commands)) }
 {
     if let Some(place) = wrong_file(files, report.files.as_slice())? {
         return Ok(Some((ScriptPart::File, place)));
@@ -102,7 +102,7 @@ fn after(number: u32) -> Result<u32, OutOfMemory>
     }
 }
 
-/// The first fault of the commands, each of which is replayed over the files that those before it left, and then of the files at the end.
+/// The first fault of the commands, each of which is replayed_command over the files that those before it left, and then of the files at the end.
 fn wrong_command(
     alloc: Global,
     commands: &[Command],

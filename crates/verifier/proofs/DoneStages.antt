@@ -32,7 +32,8 @@ use Rattle.wheeler.proofs.Slices.{end-place}
 use Rattle.verifier.proofs.StageRules.{rules-of}
 use Rattle.verifier.specs.declared.part.Part.{Part}
 use Rattle.verifier.specs.declared.part.Part.TheVariants as part
-use Rattle.verifier.specs.Faults.{◌>>=◌, checked_artefact, exit_of, has_left, is_mark_of, left_at, made_as, or_fails, recorded, replayed, size_of}
+use Rattle.report.specs.Marks.{is_mark_of}
+use Rattle.verifier.specs.Faults.{◌>>=◌, checked_artefact, exit_of, has_left, left_at, made_as, or_fails, recorded, replayed, size_of}
 
 -- the program ends by an exit with 0 at this step, and what it leaves has an artefact that is small enough and right
 pub record IsDone (recipe : Said) (inputs : List (List ℕ)) (done : List Finished) (stage : Stage) (steps : ℕ) (world : World) (made : List ℕ) : Type 0 where

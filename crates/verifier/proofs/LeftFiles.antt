@@ -8,7 +8,8 @@ use Rattle.mem_files.specs.Calls.{content_at, is_after}
 use Rattle.mem_files.specs.Outputs.{left}
 use Rattle.mem_files.proofs.Walks.{named_at, names-left, names-rise, walk-end, walk-start, walk-turn}
 use Rattle.report.specs.declared.types.LeftLine.{LeftLine}
-use Rattle.verifier.specs.Faults.{is_mark_of, names_left}
+use Rattle.report.specs.Marks.{is_mark_of}
+use Rattle.verifier.specs.Faults.{names_left}
 
 -- the files whose names come after the given one
 abbrev pub left_after : World → Option (List ℕ) → List (List ℕ × List ℕ)

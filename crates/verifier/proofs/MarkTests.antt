@@ -20,7 +20,8 @@ use Rattle.wheeler.specs.SourceCheck.Checks.{differs}
 use Rattle.wheeler.specs.Bench.{compared, compared_at}
 use Rattle.report.specs.Marks.{mark_of}
 use Rattle.wheeler.specs.Stages.{marked_left}
-use Rattle.verifier.specs.Faults.{has_left, is_at, is_mark_of, names_left, same_language, says}
+use Rattle.report.specs.Marks.{is_mark_of}
+use Rattle.verifier.specs.Faults.{has_left, is_at, names_left, same_language, says}
 use Rattle.verifier.proofs.Rightness.{no-difference}
 
 pub both : {P Q : Type 0} (a b : Bool) → Decides a P → Decides b Q → Decides (a && b) (P × Q)

@@ -22,7 +22,8 @@ use Rattle.wheeler.specs.Stages.{contents, finished, stage_result}
 use Rattle.wheeler.specs.Bench.{after_stage as bench_after, bench, bench_from, bench_report, compare_line, compare_lines, compared, input_lines, stage_line, stage_lines}
 use Rattle.verifier.specs.declared.part.Part.{Part}
 use Rattle.verifier.specs.declared.part.Part.TheVariants as part
-use Rattle.verifier.specs.Faults.{fault_after_stage, compare_fault, first_fault, first_of_both, inputs_fault, is_header, is_mark_of, line_place, names_compared, names_inputs, names_stages, replayed, same_language, says, stages_fault, with_artefact, wrong_line}
+use Rattle.report.specs.Marks.{is_mark_of}
+use Rattle.verifier.specs.Faults.{fault_after_stage, compare_fault, first_fault, first_of_both, inputs_fault, is_header, line_place, names_compared, names_inputs, names_stages, replayed, same_language, says, stages_fault, with_artefact, wrong_line}
 use Rattle.verifier.proofs.DoneStages.{done-replayed, done-result, replayed-done, result-done}
 use Rattle.verifier.proofs.MarkTests.{compared-Decides, language-Decides, left-Decides, mark-Decides}
 

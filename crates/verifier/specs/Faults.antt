@@ -21,15 +21,12 @@ use Rattle.report.specs.declared.types.LeftLine.{LeftLine}
 use Rattle.report.specs.declared.types.Mark.{Mark}
 use Rattle.report.specs.declared.types.Report.{Report}
 use Rattle.report.specs.declared.types.StageLine.{StageLine}
+use Rattle.report.specs.Marks.{is_mark_of}
 use Rattle.wheeler.specs.declared.source_check.cause.CheckCause.{CheckCause}
 use Rattle.wheeler.specs.Contents.{Contents, box_of, check_language, check_of, content, program_of}
 use Rattle.wheeler.specs.Stages.{output_of}
 use Rattle.verifier.specs.declared.part.Part.{Part}
 use Rattle.verifier.specs.declared.part.Part.TheVariants as part
-
--- a mark is that of some bytes: it says how many they are, and their digest
-unfoldable pub is_mark_of : Mark → List ℕ → Bool
-is_mark_of mark bytes = mark.length == length bytes && bytes_eq mark.digest.0 (sha256 bytes)
 
 -- ---- header: what the report says of the recipe is what the recipe says
 

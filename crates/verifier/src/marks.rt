@@ -1,7 +1,7 @@
 //! Whether a mark is that of some bytes.
 
 ghost use Rattle.std.specs.Prelude.{◌≡◌};
-ghost use Rattle.verifier.specs.Faults.{is_mark_of};
+ghost use Rattle.report.specs.Marks.{is_mark_of};
 
 use ddc_base::digest;
 use report::Mark;

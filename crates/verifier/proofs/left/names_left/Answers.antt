@@ -3,7 +3,8 @@ use Rattle.std.specs.Prelude.{bytes_eq, is_none}
 use Rattle.std.specs.Option.{option_copied}
 use Rattle.mem_files.specs.Calls.{content_at}
 use Rattle.mem_files.proofs.Walks.{walk-name}
-use Rattle.verifier.specs.Faults.{is_mark_of, names_left}
+use Rattle.report.specs.Marks.{is_mark_of}
+use Rattle.verifier.specs.Faults.{names_left}
 use Rattle.verifier.proofs.LeftFiles.{left-start, left_after, line-end, line-missing, line-turn, none-told, not-false, not-true}
 use Rattle.verifier.proofs.left.names_left.Goals as goal
 
