@@ -298,8 +298,19 @@ static GIVES_MADE_TEXT: [Change; 3] = [
         "path = \"copy.elf\"",
         "path = \"copy.elf\"\nimplements = \"copy_src\"",
     ),
-    MADE_TEXT[0],
-    MADE_TEXT[1],
+    (
+        "[[stage]]\n",
+        "[[stage]]
+name = \"copied\"
+program = \"prog\"
+args = [\"copy\"]
+files = [{ path = \"in\", from = \"text\" }]
+output = \"out\"
+steps = 100000
+[[stage]]
+",
+    ),
+    ("files = [\"text\"]", "files = [\"copied\"]"),
 ];
 
 /// The text is made by a stage: its bytes are the same, but they are no input's.
@@ -616,13 +627,13 @@ fn words_that_are_no_list(rt: HostRuntime) -> Result<(), Fail> {
     for words in &table {
         let mut out = MemSink::new(alloc);
         assert_eq!(&rt; run(alloc, words, &mut shelf, &mut out)?, Status::Usage);
-        assert_eq!(&rt; out.written(), b"usage\n");
+        assert_eq!(&rt; out.written(), "usage\n".as_bytes());
     }
     let mut out = MemSink::new(alloc);
     assert_eq!(&rt;
         run(alloc, &["chain", "none"], &mut shelf, &mut out)?,
         Status::FileRefused
     );
-    assert_eq!(&rt; out.written(), b"file refused none absent\n");
+    assert_eq!(&rt; out.written(), "file refused none absent\n".as_bytes());
     Ok(())
 }
