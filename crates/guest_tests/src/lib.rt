@@ -15,6 +15,8 @@ mod loader;
 #[cfg(test)]
 mod programs;
 #[cfg(test)]
+mod script_verdicts;
+#[cfg(test)]
 mod scripts;
 #[cfg(test)]
 mod sessions;

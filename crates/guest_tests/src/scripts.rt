@@ -4,9 +4,7 @@ use crate::exit_program::EXIT;
 use ddc_base::digests::Digest;
 use ddc_base::{Bytes, read_hex};
 use elf_load::ElfRefusal;
-use kaem_script::{
-    CommandCause, FileList, ScriptEnd, ScriptFault, ScriptRefusal, audit, read,
-};
+use kaem_script::{CommandCause, FileList, ScriptEnd, ScriptFault, ScriptRefusal, audit, read};
 use mem_files::PlaceRefusal;
 use report::script::ScriptReport;
 use rv64_machine::Cause;
@@ -89,16 +87,56 @@ type Limit = (
 
 static LIMITS: &[Limit] = &[
     (b"a ", 64, b"# more", Ok(1)),
-    (b"a ", 64, b"b", Err(ScriptRefusal::At(ScriptFault::TooManyWords, 128))),
-    (b"a ", 64, b"\"", Err(ScriptRefusal::At(ScriptFault::TooManyWords, 128))),
+    (
+        b"a ",
+        64,
+        b"b",
+        Err(ScriptRefusal::At(ScriptFault::TooManyWords, 128)),
+    ),
+    (
+        b"a ",
+        64,
+        b"\"",
+        Err(ScriptRefusal::At(ScriptFault::TooManyWords, 128)),
+    ),
     (b"a\n", 4_096, b"# more", Ok(4_096)),
-    (b"a\n", 4_096, b" b", Err(ScriptRefusal::At(ScriptFault::TooMany, 8_193))),
-    (b"a\n", 4_096, b"$", Err(ScriptRefusal::At(ScriptFault::TooMany, 8_192))),
-    (b"a\n", 4_095, b"a $", Err(ScriptRefusal::At(ScriptFault::BadWord, 8_192))),
+    (
+        b"a\n",
+        4_096,
+        b" b",
+        Err(ScriptRefusal::At(ScriptFault::TooMany, 8_193)),
+    ),
+    (
+        b"a\n",
+        4_096,
+        b"$",
+        Err(ScriptRefusal::At(ScriptFault::TooMany, 8_192)),
+    ),
+    (
+        b"a\n",
+        4_095,
+        b"a $",
+        Err(ScriptRefusal::At(ScriptFault::BadWord, 8_192)),
+    ),
     (b"a", 255, b"", Ok(1)),
-    (b"a", 256, b"", Err(ScriptRefusal::At(ScriptFault::LongWord, 0))),
-    (b"a", 256, b"$", Err(ScriptRefusal::At(ScriptFault::BadWord, 0))),
-    (b"./", 128, b"", Err(ScriptRefusal::At(ScriptFault::BadWord, 0))),
+    (
+        b"a",
+        256,
+        b"",
+        Err(ScriptRefusal::At(ScriptFault::LongWord, 0)),
+    ),
+    (
+        b"a",
+        256,
+        b"$",
+        Err(ScriptRefusal::At(ScriptFault::BadWord, 0)),
+    ),
+    (
+        b"./",
+        128,
+        b"",
+        Err(ScriptRefusal::At(ScriptFault::BadWord, 0)),
+    ),
 ];
 
 #[test]
@@ -200,13 +238,59 @@ fn a_script_stops_at_its_first_failure(rt: HostRuntime) -> Result<(), Fail> {
     let alloc = rt.alloc();
     assert!(rt; stops(alloc, b"out\n", b"", 100, (1, CommandCause::NoProgram, 0))?);
     // What a command made is there for the next one, under the name that it has then.
-    assert!(rt; stops(alloc, b"copy.elf\nout\nelse\n", &EXIT, 100, (3, CommandCause::NoProgram, 0))?);
-    assert!(rt; stops(alloc, b"copy.elf\nout", b"abc", 100, (2, CommandCause::Elf(ElfRefusal::Short), 0))?);
+    assert!(rt;
+        stops(
+            alloc,
+            b"copy.elf\nout\nelse\n",
+            &EXIT,
+            100,
+            (3, CommandCause::NoProgram, 0)
+        )?
+    );
+    assert!(rt;
+        stops(
+            alloc,
+            b"copy.elf\nout",
+            b"abc",
+            100,
+            (2, CommandCause::Elf(ElfRefusal::Short), 0)
+        )?
+    );
     assert!(rt; stops(alloc, b"copy.elf", b"abc", 31, (1, CommandCause::Spent, 31))?);
+    Ok(())
+}
+
+#[test]
+fn a_script_stops_at_a_program_that_ends_otherwise(rt: HostRuntime) -> Result<(), Fail> {
+    let alloc = rt.alloc();
     // addi x10, x0, 7 in the place of addi x10, x0, 0; addi x17, x0, 999 in that of addi x17, x0, 93; no instruction.
-    assert!(rt; stops(alloc, b"in", &altered(120, 0x0070_0513), 100, (1, CommandCause::Status(7), 3))?);
-    assert!(rt; stops(alloc, b"in", &altered(124, 0x3e70_0893), 100, (1, CommandCause::Call(999), 3))?);
-    assert!(rt; stops(alloc, b"in", &altered(120, 0), 100, (1, CommandCause::Trap(Cause::Illegal(0)), 1))?);
+    assert!(rt;
+        stops(
+            alloc,
+            b"in",
+            &altered(120, 0x0070_0513),
+            100,
+            (1, CommandCause::Status(7), 3)
+        )?
+    );
+    assert!(rt;
+        stops(
+            alloc,
+            b"in",
+            &altered(124, 0x3e70_0893),
+            100,
+            (1, CommandCause::Call(999), 3)
+        )?
+    );
+    assert!(rt;
+        stops(
+            alloc,
+            b"in",
+            &altered(120, 0),
+            100,
+            (1, CommandCause::Trap(Cause::Illegal(0)), 1)
+        )?
+    );
     Ok(())
 }
 
@@ -266,7 +350,9 @@ fn a_list_refuses_as_placing_does(rt: HostRuntime) -> Result<(), Fail> {
     assert!(rt; files.push(b"./b", b"3") == Err(PlaceRefusal::Twice));
     assert!(rt; files.push(b"./", b"4") == Err(PlaceRefusal::BadName));
     match files.names() {
-        [first, second] => assert!(rt; first.as_slice() == b"b".as_slice() && second.as_slice() == b"a".as_slice()),
+        [first, second] => assert!(rt;
+            first.as_slice() == b"b".as_slice() && second.as_slice() == b"a".as_slice()
+        ),
         _ => panic!(rt; "other names"),
     }
     assert!(rt; files.files().content(b"b") == Some(b"1".as_slice()));

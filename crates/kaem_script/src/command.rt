@@ -54,7 +54,7 @@ pub(crate) fn run_command(
 }
 
 /// The name of a command's program.
-fn program_name(words: &Command) -> &[u8]
+pub(crate) fn program_name(words: &Command) -> &[u8]
     ensures { result.now ≡ program_name words.now }
 {
     match words.as_slice() {
@@ -64,7 +64,7 @@ fn program_name(words: &Command) -> &[u8]
 }
 
 /// Starts a command's program, without files.
-fn start(
+pub(crate) fn start(
     alloc: Global,
     program: &[u8],
     words: &Command,

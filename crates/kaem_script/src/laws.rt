@@ -1,13 +1,18 @@
 //! Laws of scripts. Each law is the contract of a function that does nothing.
-ghost use Rattle.std.specs.Prelude.{◌≡◌, ℕ, List, Ok, Err};
+ghost use Rattle.std.specs.Prelude.{◌≡◌, ◌≤◌, ◌^◌, ◌↔◌, ℕ, List, None, Ok, Err};
 ghost use Rattle.elf_load.specs.declared.refusal.ElfRefusal.{ElfRefusal};
 ghost use Rattle.guest_run.specs.Start.{Elf, Refusal, start_of};
 ghost use Rattle.mem_files.specs.Sound.{IsSound};
 ghost use Rattle.mem_files.specs.World.{World};
+ghost use Rattle.report.specs.declared.script.types.ScriptReport.{ScriptReport};
+ghost use Rattle.kaem_script.specs.Faults.{first_fault};
 ghost use Rattle.kaem_script.specs.Fold.{Ran, box_of, command};
 ghost use Rattle.kaem_script.specs.Kept.{AreCommands, IsCommand};
+ghost use Rattle.kaem_script.specs.Listed.{Listed};
+ghost use Rattle.kaem_script.specs.Reported.{audited};
 ghost use Rattle.kaem_script.specs.Runs.{IsCommandRun};
-ghost use Rattle.kaem_script.specs.Script.{commands_of};
+ghost use Rattle.kaem_script.specs.Script.{Said, commands_of};
+ghost use Rattle.kaem_script.specs.declared.auditing.ScriptEnd.TheVariants.{Done};
 
 /// A script that is read has at most 4,096 commands of 1 to 64 words; each word has at most 255 bytes, none of them zero, and the first
 /// names a file of a guest.
@@ -28,4 +33,15 @@ pub fn a_command_is_a_run()
         → IsCommandRun most world words ran }
     ensures found { (most : ℕ) (world : World) (words : List (List ℕ)) (ran : Ran) → IsCommandRun most world words ran
         → command most world words ≡ Ok ran }
+{}
+
+/// One report: a script over listed files has one report without a fault, that of its commands, which each exit with 0 within 2^48 steps.
+pub fn one_report()
+    ensures { (script : Said) (listed : Listed) (report : ScriptReport) → (first_fault script listed report ≡ None) ↔ (audited (2 ^ 48) script listed ≡ Done report) }
+{}
+
+/// The report of an audit has no fault, whatever the most steps of its commands.
+pub fn what_is_audited_is_verified()
+    ensures { (most : ℕ) (script : Said) (listed : Listed) (report : ScriptReport) → most ≤ 2 ^ 48
+        → audited most script listed ≡ Done report → first_fault script listed report ≡ None }
 {}

@@ -13,7 +13,10 @@ mod marks;
 mod present;
 mod reading;
 mod refusal;
+mod replay;
 mod script;
+mod verdict;
+mod verifying;
 mod words;
 
 pub use auditing::{ScriptEnd, audit};
@@ -22,3 +25,5 @@ pub use files::FileList;
 pub use reading::Command;
 pub use refusal::{ScriptFault, ScriptRefusal};
 pub use script::{Script, read};
+pub use verdict::{ScriptPart, ScriptVerdict};
+pub use verifying::verify;

@@ -1,0 +1,263 @@
+//! Verdicts on reports of scripts: a true one, and one fault or two at each part.
+
+use crate::exit_program::EXIT;
+use ddc_base::{Bytes, OutOfMemory, read_hex};
+use kaem_script::{FileList, ScriptEnd, ScriptPart, ScriptVerdict, audit, read, verify};
+use report::script;
+use std::alloc::Global;
+use std::test::Fail;
+
+/// The script that is run twice: it makes `out`, and then runs it.
+static SCRIPT: &[u8] = b"./copy.elf\n# made\n\"out\" x\n";
+
+/// Copies the file `in` to `out` in 32 steps, and exits with 0: 232 bytes.
+const COPY: &str =
+    "7f454c460201010000000000000000000200f30001000000780001000000000040000000000000000000000000000000000000004000380001000000000000000100000007000000000000000000000000000100000000000000010000000000e800000000000000e80000000000000000100000000000001305c0f9b70501009385050e1306000093088003730000001305c0f9b70501009385350e130610247300000037140000b30481401305300093850400130604009308f00373000000630c0500130605001305400093080004730000006ff09ffd9308d00573000000696e006f75740000";
+
+/// Its report over copy.elf and a copy of it under the name `in`: `*` stands for the digest of no bytes, and `+` for copy.elf's, both by
+/// sha256sum; the script's is by sha256sum too.
+static EXAMPLE: &str = "\
+kaem-report 1\n\
+script 5b544eaf879399c9d37e34356a8842f02a6cb537d69cfa52ec6a88eb0dc91427\n\
+file 636f70792e656c66 232 +\n\
+file 696e 232 +\n\
+command 32\n\
+stream 1 0 *\n\
+stream 2 0 *\n\
+command 32\n\
+stream 1 0 *\n\
+stream 2 0 *\n\
+left 636f70792e656c66 232 +\n\
+left 696e 232 +\n\
+left 6f7574 232 +\n\
+end\n\
+";
+
+const LINES: u64 = 14;
+
+/// Adds a text in which `*` and `+` stand for digests.
+fn put_text(out: &mut Bytes, text: &[u8]) -> Result<(), OutOfMemory> {
+    for byte in text {
+        match *byte {
+            b'*' => {
+                out.extend(b"e3b0c44298fc1c149afbf4c8996fb92427ae41e4649b934ca495991b7852b855")?;
+            }
+            b'+' => {
+                out.extend(b"da8dcb705eb55cbf9f4852135f93a902f4584b973901f37abb829fd299d0b026")?;
+            }
+            other => out.push(other)?,
+        }
+    }
+    Ok(())
+}
+
+/// Adds the example's lines from one number to another.
+fn put_lines(out: &mut Bytes, first: u64, last: u64) -> Result<(), OutOfMemory> {
+    let mut number = 0u64;
+    for line in EXAMPLE.lines() {
+        number = number.saturating_add(1);
+        if first <= number && number <= last {
+            put_text(out, line.as_bytes())?;
+            out.push(b'\n')?;
+        }
+    }
+    Ok(())
+}
+
+/// copy.elf and this file `in`, in this order or the other.
+fn listed(alloc: Global, input: &[u8], reversed: bool) -> Result<FileList, Fail> {
+    let Ok(copy) = read_hex(alloc, COPY.as_bytes()) else {
+        return Err("no hexadecimal text".into());
+    };
+    let mut files = FileList::new(alloc)?;
+    let pairs: [(&[u8], &[u8]); 2] = if reversed {
+        [(b"./in", input), (b"copy.elf", copy.as_slice())]
+    } else {
+        [(b"./copy.elf", copy.as_slice()), (b"in", input)]
+    };
+    for (name, content) in pairs {
+        let Ok(()) = files.push(name, content) else {
+            return Err("a file is refused".into());
+        };
+    }
+    Ok(files)
+}
+
+/// What a replay says of a report text of a script over files.
+fn judged(
+    alloc: Global,
+    source: &[u8],
+    files: &FileList,
+    text: &[u8],
+) -> Result<ScriptVerdict, Fail> {
+    let Ok(script) = read(alloc, source) else {
+        return Err("the script is refused".into());
+    };
+    let Ok(report) = script::read(alloc, text) else {
+        return Err("no report".into());
+    };
+    Ok(verify(alloc, &script, files, &report))
+}
+
+/// Changes of the example: from this line on so many lines are replaced by a text; the first part that is then not true, and its place.
+static CHANGES: &[(u64, u64, &str, ScriptPart, u32)] = &[
+    (2, 1, "script *\n", ScriptPart::Header, 0),
+    (2, 2, "script *\nfile 61 0 *\n", ScriptPart::Header, 0),
+    (3, 1, "file 636f70792e656c66 231 +\n", ScriptPart::File, 1),
+    (3, 1, "file 636f70792e656c66 232 *\n", ScriptPart::File, 1),
+    (3, 1, "file 636f70792e656c67 232 +\n", ScriptPart::File, 1),
+    (
+        3,
+        1,
+        "file 2e2f636f70792e656c66 232 +\n",
+        ScriptPart::File,
+        1,
+    ),
+    (
+        3,
+        2,
+        "file 696e 232 +\nfile 636f70792e656c66 232 +\n",
+        ScriptPart::File,
+        1,
+    ),
+    (4, 1, "file 696e 0 *\n", ScriptPart::File, 2),
+    (4, 2, "file 696e 0 *\ncommand 31\n", ScriptPart::File, 2),
+    (4, 1, "", ScriptPart::File, 2),
+    (3, 2, "", ScriptPart::File, 1),
+    (5, 0, "file 61 0 *\n", ScriptPart::File, 3),
+    (5, 1, "command 31\n", ScriptPart::Run, 1),
+    (5, 1, "command 33\n", ScriptPart::Run, 1),
+    (5, 1, "command 1\n", ScriptPart::Run, 1),
+    (5, 1, "command 281474976710656\n", ScriptPart::Run, 1),
+    (8, 1, "command 33\n", ScriptPart::Run, 2),
+    (6, 1, "stream 1 1 *\n", ScriptPart::Streams, 1),
+    (6, 1, "stream 1 0 +\n", ScriptPart::Streams, 1),
+    (7, 1, "stream 2 1 *\n", ScriptPart::Streams, 1),
+    (7, 2, "stream 2 0 +\ncommand 31\n", ScriptPart::Streams, 1),
+    (10, 1, "stream 2 0 +\n", ScriptPart::Streams, 2),
+    (9, 1, "stream 1 0 +\n", ScriptPart::Streams, 2),
+    (8, 3, "", ScriptPart::Run, 2),
+    (5, 6, "", ScriptPart::Run, 1),
+    (
+        5,
+        0,
+        "command 32\nstream 1 0 *\nstream 2 0 *\n",
+        ScriptPart::Run,
+        3,
+    ),
+    (8, 4, "", ScriptPart::Run, 2),
+    (11, 1, "", ScriptPart::Left, 0),
+    (13, 1, "", ScriptPart::Left, 0),
+    (11, 3, "", ScriptPart::Left, 0),
+    (13, 1, "left 6f7574 231 +\n", ScriptPart::Left, 0),
+    (13, 1, "left 6f7574 232 *\n", ScriptPart::Left, 0),
+    (13, 1, "left 6f7575 232 +\n", ScriptPart::Left, 0),
+    (14, 0, "left 7a 0 *\n", ScriptPart::Left, 0),
+    (11, 0, "left 61 0 *\n", ScriptPart::Left, 0),
+];
+
+#[test]
+fn a_true_report_is_a_yes(rt: HostRuntime) -> Result<(), Fail> {
+    let alloc = rt.alloc();
+    let Ok(copy) = read_hex(alloc, COPY.as_bytes()) else {
+        panic!(rt; "no hexadecimal text");
+    };
+    let files = listed(alloc, copy.as_slice(), false)?;
+    let mut text = Bytes::new(alloc);
+    put_lines(&mut text, 1, LINES)?;
+    assert!(rt; judged(alloc, SCRIPT, &files, text.as_slice())? == ScriptVerdict::Yes);
+    // The files that are given are another list in another order.
+    let files = listed(alloc, copy.as_slice(), true)?;
+    let refuted = ScriptVerdict::Refuted {
+        part: ScriptPart::File,
+        place: 1,
+    };
+    assert!(rt; judged(alloc, SCRIPT, &files, text.as_slice())? == refuted);
+    Ok(())
+}
+
+#[test]
+fn the_first_part_that_fails_is_named(rt: HostRuntime) -> Result<(), Fail> {
+    let alloc = rt.alloc();
+    let Ok(copy) = read_hex(alloc, COPY.as_bytes()) else {
+        panic!(rt; "no hexadecimal text");
+    };
+    let files = listed(alloc, copy.as_slice(), false)?;
+    for (first, count, change, part, place) in CHANGES {
+        let mut text = Bytes::new(alloc);
+        put_lines(&mut text, 1, first.saturating_sub(1))?;
+        put_text(&mut text, change.as_bytes())?;
+        put_lines(&mut text, first.saturating_add(*count), LINES)?;
+        let refuted = ScriptVerdict::Refuted {
+            part: *part,
+            place: *place,
+        };
+        assert!(rt; judged(alloc, SCRIPT, &files, text.as_slice())? == refuted);
+    }
+    Ok(())
+}
+
+/// Scripts of one command over copy.elf and a file `in` of the bytes `abc`, with their digests by sha256sum: the program is not there, or is none.
+static NO_RUNS: [(&[u8], &str); 2] = [
+    (
+        b"out\n",
+        "54034ac5c6e9ea95734ec2b729fd6d62abf64af34a9f9ce5d466cb788191a73d",
+    ),
+    (
+        b"in\n",
+        "ab5080369a968a3638a5a5e0df9932a3656766bec904667f72438fd49cd515b0",
+    ),
+];
+
+/// What a report of such a script says below its digest, as if the command had exited.
+static CLAIM: &str = "\n\
+file 636f70792e656c66 232 +\n\
+file 696e 3 ba7816bf8f01cfea414140de5dae2223b00361a396177a9cb410ff61f20015ad\n\
+command 3\n\
+stream 1 0 *\n\
+stream 2 0 *\n\
+left 636f70792e656c66 232 +\n\
+left 696e 3 ba7816bf8f01cfea414140de5dae2223b00361a396177a9cb410ff61f20015ad\n\
+end\n\
+";
+
+#[test]
+fn a_program_that_does_not_start_has_no_run(rt: HostRuntime) -> Result<(), Fail> {
+    let alloc = rt.alloc();
+    let files = listed(alloc, b"abc", false)?;
+    for (source, digest) in NO_RUNS {
+        let mut text = Bytes::new(alloc);
+        text.extend(b"kaem-report 1\nscript ")?;
+        text.extend(digest.as_bytes())?;
+        put_text(&mut text, CLAIM.as_bytes())?;
+        let refuted = ScriptVerdict::Refuted {
+            part: ScriptPart::Run,
+            place: 1,
+        };
+        assert!(rt; judged(alloc, source, &files, text.as_slice())? == refuted);
+    }
+    Ok(())
+}
+
+#[test]
+fn what_is_audited_is_verified(rt: HostRuntime) -> Result<(), Fail> {
+    let alloc = rt.alloc();
+    for (source, input, reversed) in [
+        (b"".as_slice(), b"abc".as_slice(), true),
+        (b"copy.elf\n", b"abc", true),
+        (b"copy.elf\nout\n./in\n", &EXIT, false),
+    ] {
+        let files = listed(alloc, input, reversed)?;
+        let Ok(script) = read(alloc, source) else {
+            panic!(rt; "the script is refused");
+        };
+        let ScriptEnd::Done(report) = audit(alloc, &script, &files, 100) else {
+            panic!(rt; "not done");
+        };
+        assert!(rt; verify(alloc, &script, &files, &report) == ScriptVerdict::Yes);
+        // Over other files it is refuted.
+        let others = listed(alloc, b"other", reversed)?;
+        assert!(rt; verify(alloc, &script, &others, &report) != ScriptVerdict::Yes);
+    }
+    Ok(())
+}

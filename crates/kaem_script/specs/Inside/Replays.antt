@@ -1,0 +1,17 @@
+-- What the steps of a replay answer. No promise rests on its being read.
+use Rattle.std.specs.Prelude.{◌≡◌, Option, None, Some, Result, Ok, Err}
+use Rattle.kaem_script.specs.declared.replay.Stop.{Stop}
+use Rattle.kaem_script.specs.declared.replay.Stop.TheVariants.{Refuted, OutOfMemory}
+use Rattle.kaem_script.specs.declared.verdict.ScriptPart.{ScriptPart}
+use Rattle.kaem_script.specs.declared.verdict.ScriptPart.TheVariants as part
+
+-- what is there, or the run fails
+abbrev pub or_no_run : {A : Type 0} → Option A → Result A ScriptPart
+or_no_run None = Err part.Run
+or_no_run (Some found) = Ok found
+
+-- what a step of a replay answers, by what it is to come to
+abbrev pub Judged : {A B : Type 0} → (B → A) → Result A ScriptPart → Result B Stop → Type 0
+Judged view meant (Ok found) = meant ≡ Ok (view found)
+Judged view meant (Err (Refuted part)) = meant ≡ Err part
+Judged view meant (Err OutOfMemory) = Unit {0}

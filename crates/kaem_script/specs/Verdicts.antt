@@ -1,0 +1,21 @@
+-- What a replay answers by the first fault of a script's report. docs/reference/kaem.md says the same for people.
+use Rattle.std.specs.Prelude.{◌≡◌, ℕ, true, bytes_eq, Option, None, Some}
+use Rattle.report.specs.declared.script.types.ScriptReport.{ScriptReport}
+use Rattle.kaem_script.specs.declared.verdict.ScriptPart.{ScriptPart}
+use Rattle.kaem_script.specs.declared.verdict.ScriptVerdict.{ScriptVerdict}
+use Rattle.kaem_script.specs.declared.verdict.ScriptVerdict.TheVariants.{Yes, Refuted, OutOfMemory}
+use Rattle.kaem_script.specs.Script.{Said}
+
+abbrev pub verdict_of : Option (ScriptPart × ℕ) → ScriptVerdict
+verdict_of None = Yes
+verdict_of (Some (part, place)) = Refuted part place
+
+-- an answer to a report with this first fault: the verdict, or want of memory
+abbrev pub Judges : Option (ScriptPart × ℕ) → ScriptVerdict → Type 0
+Judges fault OutOfMemory = Unit {0}
+Judges fault answer = answer ≡ verdict_of fault
+
+-- memory is wanting only where the header is right
+abbrev pub WantsBehindHeader : Said → ScriptReport → ScriptVerdict → Type 0
+WantsBehindHeader script report OutOfMemory = bytes_eq script.digest.0 report.script.0 ≡ true
+WantsBehindHeader script report answer = Unit {0}

@@ -1,0 +1,140 @@
+//! A command's line, judged by a replay. How a command is started is the audit's too; where it ends, and what it left, is found here.
+
+ghost use Rattle.guest_run.specs.Run.{first_end};
+ghost use Rattle.kaem_script.specs.Faults.{is_mark_of, left_after_steps, left_at, replayed, says_streams};
+ghost use Rattle.kaem_script.specs.Fold.{by_end, command};
+ghost use Rattle.kaem_script.specs.Inside.Commands.{world_in};
+ghost use Rattle.kaem_script.specs.Inside.Replays.{Judged, or_no_run};
+ghost use Rattle.kaem_script.specs.Kept.{IsCommand};
+ghost use Rattle.kaem_script.specs.declared.replay.Stop.TheVariants.{OutOfMemory};
+ghost use Rattle.std.specs.Prelude.{◌≡◌, ◌≤◌, ◌^◌};
+
+use crate::command::{program_name, start};
+use crate::present::{Present, files_in, renewed};
+use crate::reading::Command;
+use crate::verdict::ScriptPart;
+use ddc_base::digest;
+use guest_run::{Guest, RunEnd, RunRam};
+use mem_files::Files;
+use report::Mark;
+use report::script::CommandLine;
+use std::alloc::Global;
+
+/// The most steps that a report records of a command.
+const MOST_STEPS: u64 = 1 << 48;
+
+/// What stops the replay of a command.
+#[derive(Clone, Copy, Debug, PartialEq, Eq)]
+pub(crate) enum Stop {
+    /// This part is not true.
+    Refuted(ScriptPart),
+    OutOfMemory,
+}
+
+impl From<ddc_base::OutOfMemory> for Stop {
+    ghost from_gives = { λ _ stop. stop ≡ OutOfMemory };
+
+    fn from(_error: ddc_base::OutOfMemory) -> Stop {
+        Stop::OutOfMemory
+    }
+}
+
+/// The files that a command left whose line is true.
+#[tactic(auto, unfolding(crate::specs::Faults::replayed))]
+pub(crate) fn replay(
+    alloc: Global,
+    present: Present<'_>,
+    words: &Command,
+    line: &CommandLine,
+) -> Result<Files, Stop>
+    requires { IsCommand words.now }
+    ensures { Judged (λ files. files) (replayed (world_in present.entry) words.now line.now) result }
+{
+    let guest = exited(alloc, present, words, line.steps)?;
+    if !says_streams(line, guest.files()) {
+        return Err(Stop::Refuted(ScriptPart::Streams));
+    }
+    Ok(guest.into_files())
+}
+
+/// The guest of a command's program, which stands before its exit with 0 at exactly this step.
+#[tactic(auto, unfolding(crate::specs::Faults::left_at))]
+fn exited(
+    alloc: Global,
+    present: Present<'_>,
+    words: &Command,
+    step: u64,
+) -> Result<Guest<RunRam>, Stop>
+    requires { IsCommand words.now }
+    ensures { Judged (λ guest. guest.world) (or_no_run (left_at (world_in present.entry) words.now step)) result }
+{
+    if 1 <= step && step <= MOST_STEPS {
+        run_command(alloc, present, words, step)
+    } else {
+        Err(Stop::Refuted(ScriptPart::Run))
+    }
+}
+
+/// Runs a command's program up to its exit with 0 at exactly this step.
+#[tactic(auto, unfolding(crate::specs::Fold::command))]
+fn run_command(
+    alloc: Global,
+    present: Present<'_>,
+    words: &Command,
+    step: u64,
+) -> Result<Guest<RunRam>, Stop>
+    requires words { IsCommand words.now }
+    requires some { 1 ≤ step }
+    requires few { step ≤ 2 ^ 48 }
+    ensures { Judged (λ guest. guest.world) (or_no_run (left_after_steps step (command step (world_in present.entry) words.now))) result }
+{
+    let files = files_in(&present);
+    // What files keep is told by a call of theirs.
+    files.stream(1);
+    let Some(program) = files.content(program_name(words)) else {
+        return Err(Stop::Refuted(ScriptPart::Run));
+    };
+    match start(alloc, program, words)? {
+        Ok(guest) => run_to(guest.with_files(renewed(alloc, present)?), step),
+        Err(_) => Err(Stop::Refuted(ScriptPart::Run)),
+    }
+}
+
+/// Runs a fresh guest for so many steps, the last of which has to be its exit with 0.
+fn run_to(guest: Guest<RunRam>, step: u64) -> Result<Guest<RunRam>, Stop>
+    requires fresh { guest.steps ≡ 0 }
+    requires some { 1 ≤ step }
+    requires few { step ≤ 2 ^ 48 }
+    ensures { Judged (λ guest. guest.world) (or_no_run (left_after_steps step (by_end step (first_end guest step)))) result }
+{
+    let mut guest = guest;
+    match guest.run(step) {
+        RunEnd::Exited(0) => {
+            if guest.steps() + 1 == step {
+                Ok(guest)
+            } else {
+                Err(Stop::Refuted(ScriptPart::Run))
+            }
+        }
+        RunEnd::Exited(_) => Err(Stop::Refuted(ScriptPart::Run)),
+        RunEnd::Trapped(_) => Err(Stop::Refuted(ScriptPart::Run)),
+        RunEnd::UnknownCall(_) => Err(Stop::Refuted(ScriptPart::Run)),
+        RunEnd::Spent => Err(Stop::Refuted(ScriptPart::Run)),
+        RunEnd::OutOfMemory => Err(Stop::OutOfMemory),
+    }
+}
+
+/// Whether a command's line says what it wrote to its streams.
+fn says_streams(line: &CommandLine, files: &Files) -> bool
+    ensures { result ≡ says_streams line.now files.now }
+{
+    is_mark_of(&line.stream1, files.stream(1)) && is_mark_of(&line.stream2, files.stream(2))
+}
+
+/// Whether a mark says how many bytes these are, and their digest. The digest is made only where the length is right.
+#[tactic(auto, unfolding(crate::specs::Faults::is_mark_of))]
+pub(crate) fn is_mark_of(mark: &Mark, bytes: &[u8]) -> bool
+    ensures { result ≡ is_mark_of mark.now bytes.now }
+{
+    mark.length == bytes.len() as u64 && mark.digest.0 == digest(bytes).0
+}

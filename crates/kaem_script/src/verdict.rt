@@ -1,0 +1,43 @@
+ghost use Rattle.std.specs.Prelude.{◌≡◌};
+ghost use Rattle.kaem_script.specs.Words.{part_word};
+
+/// A part of a script's report, in the order in which the parts are judged.
+#[derive(Clone, Copy, Debug, PartialEq, Eq)]
+pub enum ScriptPart {
+    /// The digest of the script.
+    Header,
+    /// The name, the length and the digest of a listed file.
+    File,
+    /// A command's run: that it exits with 0 at the recorded step.
+    Run,
+    /// What a command wrote to its streams.
+    Streams,
+    /// The files that are there at the end.
+    Left,
+}
+
+impl ScriptPart {
+    /// The word that a command prints for it.
+    pub fn word(self) -> &'static str
+        ensures { result.now ≡ part_word self }
+    {
+        match self {
+            ScriptPart::Header => "header",
+            ScriptPart::File => "file",
+            ScriptPart::Run => "run",
+            ScriptPart::Streams => "streams",
+            ScriptPart::Left => "left",
+        }
+    }
+}
+
+/// What a replay of a script's report comes to.
+#[derive(Clone, Copy, Debug, PartialEq, Eq)]
+pub enum ScriptVerdict {
+    /// Every word of the report is true.
+    Yes,
+    /// The first part that is not true, with the number of the file or of the command, from 1; 0 for the header and for the files at the end.
+    Refuted { part: ScriptPart, place: u32 },
+    /// Want of memory of this process.
+    OutOfMemory,
+}
