@@ -133,7 +133,7 @@ fn says_streams(line: &CommandLine, files: &Files) -> bool
 }
 
 /// Whether a mark says how many bytes these are, and their digest. The digest is made only where the length is right.
-#[tactic(auto, unfolding(crate::specs::Faults::is_mark_of))]
+#[tactic(auto, unfolding(report::specs::Marks::is_mark_of))]
 pub(crate) fn is_mark_of(mark: &Mark, bytes: &[u8]) -> bool
     ensures { result ≡ is_mark_of mark.now bytes.now }
 {
