@@ -2,14 +2,14 @@
 //
 // It is linked with a program that has a `main`; errno stands in what is a thread's own, of which the one thread has 512 bytes.
 
+#include "call.h"
+
 #include <errno.h>
 #include <fcntl.h>
 #include <stdio.h>
 #include <stdlib.h>
 #include <sys/types.h>
 #include <unistd.h>
-
-enum { OPENAT = 56, CLOSE = 57, LSEEK = 62, READ = 63, WRITE = 64, EXIT = 93, BRK = 214 };
 
 int main(int count, char **words);
 
@@ -22,16 +22,6 @@ __asm__(".globl _start\n"
         "    .option pop\n"
         "    mv a0, sp\n"
         "    jal begin\n");
-
-static long call(long number, long first, long second, long third, long fourth) {
-    register long a7 __asm__("a7") = number;
-    register long a0 __asm__("a0") = first;
-    register long a1 __asm__("a1") = second;
-    register long a2 __asm__("a2") = third;
-    register long a3 __asm__("a3") = fourth;
-    __asm__ volatile("ecall" : "+r"(a0) : "r"(a7), "r"(a1), "r"(a2), "r"(a3) : "memory");
-    return a0;
-}
 
 // The answer of a call, or -1 with its error in errno.
 static long told(long answer) {

@@ -3,7 +3,8 @@
 // It makes five of Linux's calls: openat, read, write, close and exit. Its status is 0, 1 where there are not two words, 2 where SOURCE
 // cannot be read, 3 where OUTPUT cannot be made or written.
 
-enum { OPENAT = 56, CLOSE = 57, READ = 63, WRITE = 64, EXIT = 93 };
+#include "call.h"
+
 enum { AT_FDCWD = -100, O_RDONLY = 0, O_WRONLY = 1, O_CREAT = 64, O_TRUNC = 512 };
 
 // At the entry the stack pointer holds the count of words, and the words' addresses stand above it.
@@ -11,17 +12,6 @@ __asm__(".globl _start\n"
         "_start:\n"
         "    mv a0, sp\n"
         "    jal begin\n");
-
-// One system call; an error is the negated number of Linux's error.
-static long call(long number, long first, long second, long third, long fourth) {
-    register long a7 __asm__("a7") = number;
-    register long a0 __asm__("a0") = first;
-    register long a1 __asm__("a1") = second;
-    register long a2 __asm__("a2") = third;
-    register long a3 __asm__("a3") = fourth;
-    __asm__ volatile("ecall" : "+r"(a0) : "r"(a7), "r"(a1), "r"(a2), "r"(a3) : "memory");
-    return a0;
-}
 
 static long run(long count, char **words) {
     if (count != 3)

@@ -150,13 +150,13 @@ fn all_pieces_come_to_the_report(rt: HostRuntime) -> Result<(), Fail> {
 }
 
 /// What is changed in the recipe, into what, two pieces that pause, and the last one.
-type Change = (&'static str, &'static str, [Piece; 3]);
+type Change = (&'static str, &'static str, &'static [Piece; 3]);
 
 static CHANGES: [Change; 4] = [
     (
         "\"b.bin\"",
         "\"abd\"",
-        [
+        &[
             ("part", "32", Status::Paused, "paused two 0\n"),
             ("delta-start", "31", Status::Paused, "paused two 31\n"),
             (
@@ -170,7 +170,7 @@ static CHANGES: [Change; 4] = [
     (
         "steps = 100000",
         "steps = 31",
-        [
+        &[
             ("part", "10", Status::Paused, "paused one 10\n"),
             ("delta-start", "20", Status::Paused, "paused one 30\n"),
             (
@@ -184,7 +184,7 @@ static CHANGES: [Change; 4] = [
     (
         "\"copy.elf\"",
         "\"exit.elf\"",
-        [
+        &[
             ("part", "1", Status::Paused, "paused one 1\n"),
             ("delta-start", "1", Status::Paused, "paused one 2\n"),
             (
@@ -198,7 +198,7 @@ static CHANGES: [Change; 4] = [
     (
         "from = \"prog\"",
         "from = \"src\"",
-        [
+        &[
             ("part", "20", Status::Paused, "paused one 20\n"),
             ("delta-start", "11", Status::Paused, "paused one 31\n"),
             (

@@ -71,19 +71,15 @@ delta_resume_files recipe base patch report steps =
 unfoldable pub are_four_files : List ℕ → List ℕ → List ℕ → List ℕ → Bool
 are_four_files recipe base patch report = are_three_files recipe base report && are_three_files recipe patch report && are_two_files base patch
 
--- the words after either command
-abbrev pub delta_start_words : List ℕ → List ℕ → List ℕ → List ℕ → List ℕ → Plan
-delta_start_words recipe base patch report steps =
-    or_usage (as_steps steps) (λ count. if are_four_files recipe base patch report then delta_start_files recipe base patch report count else usage)
+-- four files and a number of steps, in the words after either command
+abbrev pub delta_words : (List ℕ → List ℕ → List ℕ → List ℕ → ℕ → Plan) → List ℕ → List ℕ → List ℕ → List ℕ → List ℕ → Plan
+delta_words files recipe base patch report steps =
+    or_usage (as_steps steps) (λ count. if are_four_files recipe base patch report then files recipe base patch report count else usage)
 
 abbrev pub delta_start_plan : List (List ℕ) → Plan
-delta_start_plan (recipe ∷ base ∷ patch ∷ report ∷ steps ∷ []) = delta_start_words recipe base patch report steps
+delta_start_plan (recipe ∷ base ∷ patch ∷ report ∷ steps ∷ []) = delta_words delta_start_files recipe base patch report steps
 delta_start_plan _ = usage
 
-abbrev pub delta_resume_words : List ℕ → List ℕ → List ℕ → List ℕ → List ℕ → Plan
-delta_resume_words recipe base patch report steps =
-    or_usage (as_steps steps) (λ count. if are_four_files recipe base patch report then delta_resume_files recipe base patch report count else usage)
-
 abbrev pub delta_resume_plan : List (List ℕ) → Plan
-delta_resume_plan (recipe ∷ base ∷ patch ∷ report ∷ steps ∷ []) = delta_resume_words recipe base patch report steps
+delta_resume_plan (recipe ∷ base ∷ patch ∷ report ∷ steps ∷ []) = delta_words delta_resume_files recipe base patch report steps
 delta_resume_plan _ = usage

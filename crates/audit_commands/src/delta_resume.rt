@@ -10,7 +10,7 @@ ghost use Rattle.command_plan.specs.Performs.{Performs};
 ghost use Rattle.command_plan.specs.Plan.{answers};
 ghost use Rattle.command_plan.specs.Steps.{Says};
 ghost use Rattle.audit_run.specs.Delta.Audits.{IsResumedBeside, ResumesAuditBeside};
-ghost use Rattle.audit_commands.specs.Delta.{delta_resume_files, delta_resume_plan, delta_resume_words, resumes_beside};
+ghost use Rattle.audit_commands.specs.Delta.{delta_resume_files, delta_resume_plan, delta_words, resumes_beside};
 ghost use Rattle.audit_commands.specs.Inside.Refusing.{RefusesDelta};
 ghost use Rattle.audit_commands.specs.PauseTexts.{delta_refused_line};
 
@@ -50,7 +50,7 @@ fn on_words<S: Shelf>(
     report: &str,
     steps: &str,
 ) -> Result<Answer, Stop>
-    ensures { Performs (delta_resume_words recipe.now base.now patch.now report.now steps.now) (S.state shelf.old) (S.state shelf.new) result }
+    ensures { Performs (delta_words delta_resume_files recipe.now base.now patch.now report.now steps.now) (S.state shelf.old) (S.state shelf.new) result }
 {
     match steps_of(steps) {
         Some(steps) if are_four_files(recipe, base, patch, report) => {

@@ -5,7 +5,7 @@ ghost use Rattle.std.specs.Prelude.{◌≤◌, map};
 ghost use Rattle.ddc_base.specs.Outside.{IsFileName};
 ghost use Rattle.wheeler.specs.Valid.{IsInputs};
 ghost use Rattle.command_plan.specs.Performs.{Performs};
-ghost use Rattle.audit_commands.specs.Delta.{delta_start_files, delta_start_plan, delta_start_words, starts_beside};
+ghost use Rattle.audit_commands.specs.Delta.{delta_start_files, delta_start_plan, delta_words, starts_beside};
 
 use crate::going::{Kept, go_on};
 use crate::resume::{SAVE_LIMIT, refuse};
@@ -42,7 +42,7 @@ fn on_words<S: Shelf>(
     report: &str,
     steps: &str,
 ) -> Result<Answer, Stop>
-    ensures { Performs (delta_start_words recipe.now base.now patch.now report.now steps.now) (S.state shelf.old) (S.state shelf.new) result }
+    ensures { Performs (delta_words delta_start_files recipe.now base.now patch.now report.now steps.now) (S.state shelf.old) (S.state shelf.new) result }
 {
     match steps_of(steps) {
         Some(steps) if are_four_files(recipe, base, patch, report) => {

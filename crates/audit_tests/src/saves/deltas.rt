@@ -3,7 +3,7 @@
 ghost use Rattle.std.specs.Prelude.{◌≤◌};
 
 use crate::saves::are_inputs;
-use crate::saves::kept::{delta_from, save_beside};
+use crate::saves::kept::{delta_from, delta_of_none, save_beside};
 use crate::saves::saves::{old_save_at, recipe_of, save_at};
 use crate::saves::worked::{Edit, RECIPE, edited, inputs};
 use audit_run::{DeltaRefusal, SaveRefusal};
@@ -52,7 +52,7 @@ fn saves(alloc: Global) -> Result<Vec<Bytes>, OutOfMemory> {
 fn come_back(alloc: Global, base: &[u8], later: &[Bytes]) -> Result<bool, OutOfMemory> {
     let mut more = 0;
     for save in later {
-        more += 1;
+        more = u64::saturating_add(more, 1);
         let delta = delta_of(alloc, base, more)?;
         if !says(alloc, base, delta.as_slice(), save.as_slice()) {
             return Ok(false);
@@ -119,6 +119,26 @@ fn an_old_base_has_the_same_deltas(rt: HostRuntime) -> Result<(), Fail> {
             says(alloc, old.as_slice(), delta.as_slice(), save.as_slice()),
             "{first}"
         );
+    }
+    Ok(())
+}
+
+/// Of two audits that stand at one place, the one says nothing beside the other. The texts have a header, the present place and no stage.
+#[test]
+fn an_audit_has_a_delta_against_itself(rt: HostRuntime) -> Result<(), Fail> {
+    let alloc = rt.alloc();
+    for steps in [1, 31, 32, 63] {
+        let save = save_at(alloc, steps)?;
+        let recipe = recipe_of(alloc, RECIPE)?;
+        let inputs = inputs(alloc, b"abc")?;
+        assert!(rt; are_inputs(&recipe, &inputs));
+        if are_inputs(&recipe, &inputs) {
+            let delta = delta_of_none(alloc, recipe, inputs, save.as_slice())?;
+            assert!(rt;
+                says(alloc, save.as_slice(), delta.as_slice(), save.as_slice()),
+                "{steps}"
+            );
+        }
     }
     Ok(())
 }
@@ -260,10 +280,11 @@ fn a_delta_ends_with_its_last_field(rt: HostRuntime) -> Result<(), Fail> {
         resumed(alloc, base.as_slice(), longer.as_slice()).err(),
         Some(DeltaRefusal::Form(end as u64))
     );
-    let shorter = delta.as_slice().get(..end - 1).unwrap_or(&[]);
+    let last = end.saturating_sub(1);
+    let shorter = delta.as_slice().get(..last).unwrap_or(&[]);
     assert_eq!(rt;
         resumed(alloc, base.as_slice(), shorter).err(),
-        Some(DeltaRefusal::Form(end as u64 - 1))
+        Some(DeltaRefusal::Form(last as u64))
     );
     Ok(())
 }

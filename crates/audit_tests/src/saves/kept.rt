@@ -52,3 +52,18 @@ pub fn save_beside(
     let text = audit.save()?;
     Ok(text)
 }
+
+/// The delta of the audit that a save says against itself.
+pub fn delta_of_none(
+    alloc: Global,
+    recipe: Recipe,
+    inputs: Inputs,
+    save: &[u8],
+) -> Result<Bytes, OutOfMemory>
+    requires given { IsInputs recipe inputs }
+{
+    match Audit::resume(alloc, recipe, inputs, save) {
+        Ok(audit) => audit.save_delta(&audit),
+        Err(_) => Err(OutOfMemory),
+    }
+}
