@@ -531,35 +531,24 @@ fn a_chain_has_at_most_sixty_four_audits(rt: HostRuntime) -> Result<(), Fail> {
         Status::Yes,
         text.as_str(),
     )?;
-    let list = many(alloc, 65)?;
-    chains(
-        &rt,
-        alloc,
-        &mut shelf,
-        list.as_str(),
-        Status::ListRefused,
-        "list refused 65\n",
-    )?;
-    // The 65th line is one too many whatever it says, and a line before it comes first.
+    Ok(())
+}
+
+/// The 65th line is one too many whatever it says, and a line before it comes first.
+#[test]
+fn a_65th_audit_is_one_too_many(rt: HostRuntime) -> Result<(), Fail> {
+    let alloc = rt.alloc();
+    let mut shelf = both(&rt, alloc, &[], &[])?;
     let whole = many(alloc, 64)?;
-    let list = format!(in alloc; "{whole}k")?;
-    chains(
-        &rt,
-        alloc,
-        &mut shelf,
-        list.as_str(),
-        Status::ListRefused,
-        "list refused 65\n",
-    )?;
-    let list = format!(in alloc; "k\n{whole}{whole}")?;
-    chains(
-        &rt,
-        alloc,
-        &mut shelf,
-        list.as_str(),
-        Status::ListRefused,
-        "list refused 1\n",
-    )?;
+    let refused = Status::ListRefused;
+    for (front, end, text) in [
+        ("", "b.toml b.rep\n", "list refused 65\n"),
+        ("", "k", "list refused 65\n"),
+        ("k\n", "b.toml b.rep\n", "list refused 1\n"),
+    ] {
+        let list = format!(in alloc; "{front}{whole}{end}")?;
+        chains(&rt, alloc, &mut shelf, list.as_str(), refused, text)?;
+    }
     Ok(())
 }
 
