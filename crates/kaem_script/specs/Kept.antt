@@ -2,7 +2,8 @@
 use Rattle.std.specs.Prelude.{ℕ, ◌≤◌, ◌==◌, not, IsTrue, List, [], ◌∷◌, length, All}
 use Rattle.std.specs.List.{list_any}
 use Rattle.mem_files.specs.Names.{is_file_name, stripped}
-use Rattle.kaem_script.specs.Script.{most_commands, most_words}
+use Rattle.report.specs.Reports.{IsDigest}
+use Rattle.kaem_script.specs.Script.{Said, most_commands, most_words}
 
 -- a word has no zero byte, and at most 255 bytes
 pub record IsWord (text : List ℕ) : Type 0 where
@@ -26,3 +27,8 @@ pub record IsCommand (words : List (List ℕ)) : Type 0 where
 pub record AreCommands (commands : List (List (List ℕ))) : Type 0 where
   pub few : length commands ≤ most_commands
   pub each : All IsCommand commands
+
+-- a script that was read: the digest of its bytes, and commands that keep the rules
+pub record IsScript (said : Said) : Type 0 where
+  pub digest : IsDigest said.digest
+  pub commands : AreCommands said.commands

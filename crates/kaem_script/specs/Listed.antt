@@ -1,5 +1,6 @@
 -- The files that a script is given. docs/reference/kaem.md says the same for people.
-use Rattle.std.specs.Prelude.{◌≡◌, ℕ, List, [], ◌∷◌, ◌++◌, map, unwrap_or, Result, Ok, Err, IsTrue, All}
+use Rattle.std.specs.Prelude.{◌≡◌, ℕ, ◌≤◌, List, [], ◌∷◌, ◌++◌, length, map, unwrap_or, IsSome, Result, Ok, Err, IsTrue, All}
+use Rattle.std.specs.FinMap as map_of
 use Rattle.mem_files.specs.World.{World}
 use Rattle.mem_files.specs.Calls.{content_at, first_world, placed}
 use Rattle.mem_files.specs.Names.{is_stripped_name, stripped}
@@ -14,6 +15,12 @@ pub record Listed : Type 0 where
 -- names as files hold them
 abbrev pub AreNames : List (List ℕ) → Type 0
 AreNames names = All (λ name. IsTrue (is_stripped_name name)) names
+
+-- each listed name is held by a file, and no more names are listed than there are
+pub record IsList (listed : Listed) : Type 0 where
+  pub named : AreNames listed.names
+  pub there : All (λ name. IsSome (map_of.get listed.world.names name)) listed.names
+  pub few : length listed.names ≤ map_of.len listed.world.names
 
 abbrev pub no_files : Listed
 no_files = record { names = []; world = first_world }

@@ -4,6 +4,7 @@ use Rattle.std.specs.Prelude.{◌≡◌, ℕ, List, length, map}
 use Rattle.sha2.specs.Sha256.{sha256}
 use Rattle.mem_files.specs.World.{World}
 use Rattle.mem_files.specs.Outputs.{left}
+use Rattle.report.specs.Script.Reports.{IsScriptReport}
 use Rattle.report.specs.declared.types.LeftLine.{LeftLine}
 use Rattle.report.specs.declared.types.Mark.{Mark}
 use Rattle.report.specs.declared.script.types.CommandLine.{CommandLine}
@@ -48,3 +49,9 @@ abbrev pub Audits : ScriptEnd → ScriptEnd → Type 0
 Audits meant (Done report) = meant ≡ Done report
 Audits meant (Failed number why step) = meant ≡ Failed number why step
 Audits meant OutOfMemory = Unit {0}
+
+-- the report of a script that is done has a text
+abbrev pub HasReport : ScriptEnd → Type 0
+HasReport (Done report) = IsScriptReport report
+HasReport (Failed number why step) = Unit {0}
+HasReport OutOfMemory = Unit {0}

@@ -1,6 +1,6 @@
 //! The audit of a script.
 
-ghost use Rattle.kaem_script.specs.Reported.{Audits, audited};
+ghost use Rattle.kaem_script.specs.Reported.{Audits, HasReport, audited};
 ghost use Rattle.std.specs.Prelude.{◌≡◌, ◌≤◌, ◌^◌, IfOk};
 
 use crate::cause::CommandCause;
@@ -36,7 +36,9 @@ pub enum ScriptEnd {
 pub fn audit(alloc: Global, script: &Script, files: &FileList, most: u64) -> ScriptEnd
     requires some { 1 ≤ most }
     requires few { most ≤ 2 ^ 48 }
-    ensures { Audits (audited most script.now files.now) result }
+    ensures answer { Audits (audited most script.now files.now) result }
+    // A report that is answered has a text.
+    ensures report { HasReport result }
 {
     match ended(alloc, script, files, most) {
         Ok(end) => end,
@@ -54,15 +56,23 @@ fn ended(
 ) -> Result<ScriptEnd, OutOfMemory>
     requires some { 1 ≤ most }
     requires few { most ≤ 2 ^ 48 }
-    ensures { IfOk result (λ end. end ≡ audited most script.now files.now) }
+    ensures answer { IfOk result (λ end. end ≡ audited most script.now files.now) }
+    ensures report { IfOk result HasReport }
 {
+    // What a list and its files keep is told by calls of theirs.
+    files.len();
+    files.files().stream(1);
     match fold(alloc, script.commands(), files.files(), most)? {
-        Folding::Finished(commands, present) => Ok(ScriptEnd::Done(ScriptReport {
-            script: *script.digest(),
-            files: listed_lines(alloc, files)?,
-            commands,
-            left: left_lines(alloc, files_in(&present))?,
-        })),
+        Folding::Finished(commands, present) => {
+            let left = files_in(&present);
+            left.stream(1);
+            Ok(ScriptEnd::Done(ScriptReport {
+                script: *script.digest(),
+                files: listed_lines(alloc, files)?,
+                commands,
+                left: left_lines(alloc, left)?,
+            }))
+        }
         Folding::Stopped(command, (cause, step)) => Ok(ScriptEnd::Failed {
             command,
             cause,

@@ -1,7 +1,7 @@
 //! The files that a script is given.
 
-ghost use Rattle.kaem_script.specs.Listed.{AreNames, Pushes, no_files};
-ghost use Rattle.std.specs.Prelude.{◌≡◌, ◌<◌, [], ◌∷◌, ◌++◌, IfOk, vec_capacity, vec_len};
+ghost use Rattle.kaem_script.specs.Listed.{AreNames, IsList, Pushes, no_files};
+ghost use Rattle.std.specs.Prelude.{◌≡◌, ◌<◌, [], ◌∷◌, ◌++◌, IfOk, length, vec_capacity, vec_len};
 
 use ddc_base::{Bytes, OutOfMemory};
 use mem_files::{Files, PlaceRefusal, strip};
@@ -17,7 +17,7 @@ pub struct FileList {
 }
 
 impl Model for FileList {
-    ghost use Rattle.kaem_script.specs.Listed.{AreNames, Listed};
+    ghost use Rattle.kaem_script.specs.Listed.{IsList, Listed};
     ghost use Rattle.kaem_script.specs.Inside.Codes.{listed_code};
 
     ghost Value = { Listed };
@@ -26,7 +26,7 @@ impl Model for FileList {
 
     ghost view = { λ list. record { names = list.names.items; world = list.files } };
 
-    ghost invariant = { λ list. AreNames list.names.items };
+    ghost invariant = { λ list. IsList (record { names = list.names.items; world = list.files }) };
 }
 
 impl FileList {
@@ -69,6 +69,15 @@ impl FileList {
         ensures kept { AreNames self.now.names }
     {
         self.names.as_slice()
+    }
+
+    /// How many files there are.
+    pub fn len(&self) -> usize
+        ensures value { result ≡ length self.now.names }
+        // Each listed name is held by a file.
+        ensures kept { IsList self.now }
+    {
+        self.names.as_slice().len()
     }
 
     /// The files.

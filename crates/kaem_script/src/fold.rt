@@ -1,9 +1,9 @@
 //! All commands of a script, one after the other.
 
 ghost use Rattle.kaem_script.specs.Fold.{folded};
-ghost use Rattle.kaem_script.specs.Inside.Commands.{Folds};
+ghost use Rattle.kaem_script.specs.Inside.Commands.{Folds, HasLines};
 ghost use Rattle.kaem_script.specs.Kept.{AreCommands};
-ghost use Rattle.std.specs.Prelude.{◌≡◌, ◌≤◌, ◌^◌, IfOk};
+ghost use Rattle.std.specs.Prelude.{◌≡◌, ◌≤◌, ◌^◌, IfOk, length};
 
 use crate::command::{Stop, run_command};
 use crate::present::Present;
@@ -32,13 +32,16 @@ pub(crate) fn fold<'a>(
     requires kept { AreCommands commands.now }
     requires some { 1 ≤ most }
     requires few { most ≤ 2 ^ 48 }
-    ensures { IfOk result (Folds (folded most files.now commands.now)) }
+    ensures folds { IfOk result (Folds (folded most files.now commands.now)) }
+    ensures lines { IfOk result (HasLines (length commands.now)) }
 {
     let mut lines = CommandLines::new(alloc);
     let mut present = Present::Given(files);
     for (index, words) in commands.iter().enumerate() {
         match run_command(alloc, present, words, most)? {
             Ok((line, left)) => {
+                // What files keep is told by a call of theirs.
+                left.stream(1);
                 lines.push(line)?;
                 present = Present::Left(left);
             }

@@ -1,4 +1,4 @@
-ghost use Rattle.kaem_script.specs.Kept.{AreCommands};
+ghost use Rattle.kaem_script.specs.Kept.{AreCommands, IsScript};
 ghost use Rattle.kaem_script.specs.Script.{ReadsScript};
 ghost use Rattle.std.specs.Prelude.{◌≡◌};
 
@@ -18,14 +18,14 @@ pub struct Script {
 }
 
 impl Model for Script {
-    ghost use Rattle.kaem_script.specs.Kept.{AreCommands};
+    ghost use Rattle.kaem_script.specs.Kept.{IsScript};
     ghost use Rattle.kaem_script.specs.Script.{Said};
 
     ghost Value = { Said };
 
     ghost view = { λ s. record { digest = s.digest; commands = s.commands } };
 
-    ghost invariant = { λ s. AreCommands s.commands };
+    ghost invariant = { λ s. IsScript (record { digest = s.digest; commands = s.commands }) };
 }
 
 impl Script {
@@ -41,6 +41,7 @@ impl Script {
         ensures value { result.now ≡ self.now.commands }
         // Every script keeps its rules.
         ensures kept { AreCommands self.now.commands }
+        ensures whole { IsScript self.now }
     {
         self.commands.as_slice()
     }

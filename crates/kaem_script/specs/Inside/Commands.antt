@@ -1,5 +1,6 @@
 -- What a command and all commands come to, as the code has it.
-use Rattle.std.specs.Prelude.{◌≡◌, ℕ, Result, Ok, Err, List, [], map}
+use Rattle.std.specs.Prelude.{◌≡◌, ℕ, ◌≤◌, All, Result, Ok, Err, List, [], length, map}
+use Rattle.report.specs.Script.Reports.{IsCommandLine}
 use Rattle.std.specs.List.{fold}
 use Rattle.std.specs.FinMap as files
 use Rattle.elf_load.specs.declared.refusal.ElfRefusal.{ElfRefusal}
@@ -60,3 +61,8 @@ pub record Finishes (meant : Folded) (lines : List CommandLine) (world : World) 
 abbrev pub Folds : Folded → Folding → Type 0
 Folds meant (fold.Finished lines present) = Finishes meant lines (world_in present)
 Folds meant (fold.Stopped number why) = meant ≡ Stopped number why.0 why.1
+
+-- the lines of commands that all ran are those of a report, and at most so many
+abbrev pub HasLines : ℕ → Folding → Type 0
+HasLines most (fold.Finished lines present) = All IsCommandLine lines × (length lines ≤ most)
+HasLines most (fold.Stopped number why) = Unit {0}

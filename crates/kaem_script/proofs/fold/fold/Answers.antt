@@ -1,12 +1,26 @@
+use Rattle.std.proofs.Common.{[], ◌∷◌, ap, length, arith, length-append, subst, sym, All}
+use Rattle.std.proofs.lemmas.List.Elements.{All-nil, All-push}
+use Rattle.report.specs.Script.Reports.{IsCommandLine}
 use Rattle.kaem_script.proofs.Folding.{begins, goes_on}
+use Rattle.kaem_script.proofs.WellFormed.{good-line}
 use Rattle.kaem_script.specs.Inside.Commands.{world_in}
 use Rattle.kaem_script.proofs.fold.fold.Goals as goal
 
 pub loop-index-init : goal.loop-index-init
-loop-index-init c = begins c.args.most _ c.args.files.now c.args.commands.now c.new-lines.ensures
+loop-index-init c = record {
+  going = begins c.args.most _ c.args.files.now c.args.commands.now c.new-lines.ensures;
+  good = subst (All IsCommandLine) (sym c.new-lines.ensures) (All-nil IsCommandLine);
+  count = ap length c.new-lines.ensures;
+}
 
 pub loop-index-preserved : goal.loop-index-preserved
 loop-index-preserved c =
     let run = rw c.in-Ok.is at c.in_ok-line.ensures in
-    goes_on c.args.most c.loop-index.lines c.push.new.self c.in-Ok.line (world_in c.loop-index.present) c.in-Ok.left c.args.commands.now c.loop-index.index
-    c.index-commands-index.result _ c.loop-index.invariant c.loop-index-test.true c.index-commands-index.is run c.in_ok-push-in-Ok.ensures.ok
+    let pushed = c.in_ok-push-in-Ok.ensures.ok in
+    let line = good-line c.args.most (world_in c.loop-index.present) c.in-Ok.left c.index-commands-index.result c.in-Ok.line c.requires.few c.stream.ensures.sound run in
+    record {
+      going = goes_on c.args.most c.loop-index.lines c.push.new.self c.in-Ok.line (world_in c.loop-index.present) c.in-Ok.left c.args.commands.now c.loop-index.index
+          c.index-commands-index.result _ c.loop-index.invariant.going c.loop-index-test.true c.index-commands-index.is run pushed;
+      good = subst (All IsCommandLine) (sym pushed) (All-push IsCommandLine c.loop-index.lines c.in-Ok.line c.loop-index.invariant.good line);
+      count = omega (arith, ap length pushed, length-append c.loop-index.lines (c.in-Ok.line ∷ []), c.loop-index.invariant.count);
+    }
