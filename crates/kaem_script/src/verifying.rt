@@ -1,11 +1,11 @@
 //! The verdict on a script's report: its parts in order, up to the first that is not true.
 
-ghost use Rattle.kaem_script.specs.Faults.{commands_fault, files_fault, first_script_fault, fault_or, left_fault, says_file, says_files, wrong_file};
+ghost use Rattle.kaem_script.specs.Faults.{commands_fault, first_fault, left_fault, says_file, says_files, wrong_file};
 ghost use Rattle.kaem_script.specs.Kept.{AreCommands};
-ghost use Rattle.kaem_script.specs.FilesListed.{listed_files};
-ghost use Rattle.kaem_script.specs.Verdicts.{JudgesScript, WantsBehindHeader};
+ghost use Rattle.kaem_script.specs.Listed.{listed_files};
+ghost use Rattle.kaem_script.specs.Verdicts.{Judges, WantsAtCommands};
 ghost use Rattle.mem_files.specs.Outputs.{left};
-ghost use Rattle.std.specs.Prelude.{◌≡◌, ◌+◌, IfOk};
+ghost use Rattle.std.specs.Prelude.{◌≡◌, ◌≤◌, IfOk, length};
 
 use crate::files::FileList;
 use crate::present::{Present, bytes_of, files_in};
@@ -24,17 +24,17 @@ type Fault = (ScriptPart, u32);
 
 /// Replays a script's report, which it doesn't believe.
 ///
-/// `Refuted` names the first part that is not true, judged on the bytes that the earlier commands left. A digest that is not the script's comes
-/// before all want of memory.
-#[tactic(auto, unfolding(crate::specs::Faults::first_script_fault))]
+/// `Refuted` names the first part that is not true, judged on the bytes that the earlier commands left. Want of memory comes only where the
+/// script's digest and all `file` lines are right. docs/reference/kaem.md has the rules.
+#[tactic(auto, unfolding(crate::specs::Faults::first_fault))]
 pub fn verify(
     alloc: Global,
     script: &Script,
     files: &FileList,
     report: &ScriptReport,
 ) -> ScriptVerdict
-    ensures value { JudgesScript (first_script_fault script.now files.now report.now) result }
-    ensures memory { WantsBehindHeader script.now report.now result }
+    ensures value { Judges (first_fault script.now files.now report.now) result }
+    ensures memory { WantsAtCommands script.now files.now report.now result }
 {
     if script.digest().0 != report.script.0 {
         return ScriptVerdict::Refuted {
@@ -42,67 +42,55 @@ pub fn verify(
             place: 0,
         };
     }
-    match fault_of(alloc, script, files, report) {
+    if let Some(place) = wrong_file(files, report.files.as_slice()) {
+        return ScriptVerdict::Refuted {
+            part: ScriptPart::File,
+            place,
+        };
+    }
+    match wrong_command(alloc, script.commands(), files.files(), report) {
         Ok(None) => ScriptVerdict::Yes,
         Ok(Some((part, place))) => ScriptVerdict::Refuted { part, place },
         Err(OutOfMemory) => ScriptVerdict::OutOfMemory,
     }
 }
 
-/// The first fault behind the header.
-fn fault_of(
-    alloc: Global,
-    script: &Script,
-    files: &FileList,
-    report: &ScriptReport,
-) -> Result<Option<Fault>, OutOfMemory>
-    ensures { IfOk result (λ fault. fault ≡ fault_or (files_fault (listed_files files.now) report.now.files) (commands_fault (left_fault report.now.left) 1 files.now.world script.now.commands report.now.commands)) }
+/// The number of the first listed file that no line says, or that of the first line too many.
+fn wrong_file(list: &FileList, lines: &[LeftLine]) -> Option<u32>
+    ensures { result ≡ wrong_file 1 (listed_files list.now) lines.now }
 {
-    if let Some(place) = wrong_file(files, report.files.as_slice())? {
-        return Ok(Some((ScriptPart::File, place)));
-    }
-    wrong_command(alloc, script.commands(), files.files(), report)
+    // What a list and its files keep is told by calls of theirs.
+    list.len();
+    list.files().stream(1);
+    wrong_name(list, lines)
 }
 
-/// The number of the first listed file that no line says, or that of the first line too many.
-fn wrong_file(list: &FileList, lines: &[LeftLine]) -> Result<Option<u32>, OutOfMemory>
-    ensures { IfOk result (λ place. place ≡ wrong_file 1 (listed_files list.now) lines.now) }
+/// The same of a list that is known to be short.
+fn wrong_name(list: &FileList, lines: &[LeftLine]) -> Option<u32>
+    requires few { length list.now.names ≤ 4096 }
+    ensures { result ≡ wrong_file 1 (listed_files list.now) lines.now }
 {
     let mut names = list.names();
     let mut ahead = lines;
     let mut number: u32 = 1;
     while let [name, later @ ..] = names {
         match ahead {
-            [] => return Ok(Some(number)),
+            [] => return Some(number),
             [line, others @ ..] => {
                 let content = bytes_of(list.files(), name.as_slice());
                 if !says_file(line, name.as_slice(), content) {
-                    return Ok(Some(number));
+                    return Some(number);
                 }
                 names = later;
                 ahead = others;
-                number = after(number)?;
+                number += 1;
             }
         }
     }
-    if ahead.is_empty() {
-        Ok(None)
-    } else {
-        Ok(Some(number))
-    }
+    if ahead.is_empty() { None } else { Some(number) }
 }
 
-/// The next number. A list of 2^32 names is longer than memory.
-fn after(number: u32) -> Result<u32, OutOfMemory>
-    ensures { IfOk result (λ next. next ≡ number + 1) }
-{
-    match number.checked_add(1) {
-        Some(next) => Ok(next),
-        None => Err(OutOfMemory),
-    }
-}
-
-/// The first fault of the commands, each of which is replayed_command over the files that those before it left, and then of the files at the end.
+/// The first fault of the commands, each of which is replayed over the files that those before it left, and then of the files at the end.
 fn wrong_command(
     alloc: Global,
     commands: &[Command],
