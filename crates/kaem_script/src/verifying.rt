@@ -1,9 +1,9 @@
 //! The verdict on a script's report: its parts in order, up to the first that is not true.
 
-ghost use Rattle.kaem_script.specs.Faults.{commands_fault, first_fault, left_fault, says_file, says_files, wrong_file};
+ghost use Rattle.kaem_script.specs.Faults.{commands_fault, first_script_fault, left_fault, says_file, says_files, wrong_file};
 ghost use Rattle.kaem_script.specs.Kept.{AreCommands};
-ghost use Rattle.kaem_script.specs.Listed.{listed_files};
-ghost use Rattle.kaem_script.specs.Verdicts.{Judges, WantsAtCommands};
+ghost use Rattle.kaem_script.specs.FilesListed.{listed_files};
+ghost use Rattle.kaem_script.specs.Verdicts.{JudgesScript, WantsAtCommands};
 ghost use Rattle.mem_files.specs.Outputs.{left};
 ghost use Rattle.std.specs.Prelude.{◌≡◌, ◌≤◌, IfOk, length};
 
@@ -26,14 +26,14 @@ type Fault = (ScriptPart, u32);
 ///
 /// `Refuted` names the first part that is not true, judged on the bytes that the earlier commands left. Want of memory comes only where the
 /// script's digest and all `file` lines are right. docs/reference/kaem.md has the rules.
-#[tactic(auto, unfolding(crate::specs::Faults::first_fault))]
+#[tactic(auto, unfolding(crate::specs::Faults::first_script_fault))]
 pub fn verify(
     alloc: Global,
     script: &Script,
     files: &FileList,
     report: &ScriptReport,
 ) -> ScriptVerdict
-    ensures value { Judges (first_fault script.now files.now report.now) result }
+    ensures value { JudgesScript (first_script_fault script.now files.now report.now) result }
     ensures memory { WantsAtCommands script.now files.now report.now result }
 {
     if script.digest().0 != report.script.0 {
@@ -90,7 +90,7 @@ fn wrong_name(list: &FileList, lines: &[LeftLine]) -> Option<u32>
     if ahead.is_empty() { None } else { Some(number) }
 }
 
-/// The first fault of the commands, each of which is replayed over the files that those before it left, and then of the files at the end.
+/// The first fault of the commands, each of which is replayed_command over the files that those before it left, and then of the files at the end.
 fn wrong_command(
     alloc: Global,
     commands: &[Command],

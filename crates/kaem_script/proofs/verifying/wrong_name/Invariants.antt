@@ -1,6 +1,6 @@
 use Rattle.std.proofs.Common.{◌≡◌, ◌≤◌, ◌+◌, length, map}
 use Rattle.kaem_script.specs.Faults.{wrong_file}
-use Rattle.kaem_script.specs.Listed.{AreNames, listed_files, named_in}
+use Rattle.kaem_script.specs.FilesListed.{AreNames, listed_files, named_in}
 use Rattle.kaem_script.proofs.verifying.wrong_name.Given as goal
 
 abbrev pub invariant-loop-names : goal.invariant-loop-names
