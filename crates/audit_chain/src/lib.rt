@@ -8,5 +8,5 @@ pub mod laws;
 mod link;
 mod remaining_lines;
 
-pub use link::{ChainLine, ChainLines, Link, ChainLinks};
+pub use link::{ChainLine, ChainLines, ChainLinks, Link};
 pub use remaining_lines::remaining;

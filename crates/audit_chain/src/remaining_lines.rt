@@ -4,7 +4,7 @@ ghost use Rattle.audit_chain.specs.Chain.{is_struck, chain_line, remaining, unst
 ghost use Rattle.std.specs.Prelude.{◌≡◌, ◌+◌, ◌++◌, ◌∷◌, ◌<◌, ◌^◌, [], filter, length, map, not, IfOk, OnOk};
 
 use crate::giving::is_struck;
-use crate::link::{ChainLine, ChainLines, Link, ChainLinks};
+use crate::link::{ChainLine, ChainLines, ChainLinks, Link};
 use ddc_base::{ListOf, OutOfMemory};
 use meaning::{Assumption, assumptions_with_compared};
 use std::alloc::Global;

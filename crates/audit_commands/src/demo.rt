@@ -13,8 +13,8 @@ ghost use Rattle.command_plan.specs.Steps.{Obtains, Says};
 ghost use Rattle.recipe_plan.specs.Recipes.{reads_recipe};
 ghost use Rattle.audit_commands.specs.Demo.{as_demo_size, demo_compared, demo_files, demo_input, demo_inputs, demo_line, demo_plan, demo_recipe, demonstrated, generated_bytes, steps_of_all};
 
-use crate::generated::{generated_bytes, recipe_text};
 use crate::audit::{compared, undone};
+use crate::generated::{generated_bytes, recipe_text};
 use audit_run::laws::earlier_stages_are_the_audits;
 use audit_run::run_earlier;
 use audit_run::stage::report_of;

@@ -18,7 +18,7 @@ ghost use Rattle.verify_commands.specs.Texts.{refuted_line};
 
 use crate::pair::Pair;
 use crate::{chain_texts, texts};
-use audit_chain::{Link, ChainLinks};
+use audit_chain::{ChainLinks, Link};
 use command_plan::lists::{self, fetch_list};
 use command_plan::words::{is_file_word, is_one_file};
 use command_plan::{Answer, Status, Stop, fetch, usage};
