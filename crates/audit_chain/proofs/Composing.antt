@@ -96,8 +96,8 @@ given-source link source text is =
     sym same ∙ parts.1
 
 given-named : (link : Link) (name : List ℕ) (text : SourceText) → given_text_named link name ≡ Some text
-    → full.given_text_named link.recipe (all_contents link.recipe link.inputs) name ≡ text
-unfolding full.given_text_named
+    → full.text_named link.recipe (all_contents link.recipe link.inputs) name ≡ text
+unfolding full.text_named
 given-named link name text is = by (source_named link.recipe.sources name) is where
   by : (o : Option Source) → option_and_then (given_text link) o ≡ Some text → text_by link.recipe (all_contents link.recipe link.inputs) o ≡ text
   by None is = absurd cc
@@ -125,14 +125,14 @@ module _ (prescribes : Prescribes) (compiles : Compiling) where
   unfolding text_of_stage
   stage-given other stage text shown is = by_source (source_of other.recipe stage) shown is where
     by_text : (name : List ℕ) (o : Option SourceText) → given_text_named other name ≡ o → is_same_text text o ≡ true
-        → IsProgram prescribes (audited_binary other.recipe other.inputs) (full.given_text_named other.recipe (all_contents other.recipe other.inputs) name)
+        → IsProgram prescribes (audited_binary other.recipe other.inputs) (full.text_named other.recipe (all_contents other.recipe other.inputs) name)
         → IsProgram prescribes (audited_binary other.recipe other.inputs) text
     by_text name None at is implements = absurd cc
     by_text name (Some given) at is implements =
         subst (IsProgram prescribes (audited_binary other.recipe other.inputs)) (given-named other name given at ∙ same-text given text is) implements
 
     by_source : (o : Option (List ℕ))
-        → IfSome o (λ name. IsProgram prescribes (audited_binary other.recipe other.inputs) (full.given_text_named other.recipe (all_contents other.recipe other.inputs) name))
+        → IfSome o (λ name. IsProgram prescribes (audited_binary other.recipe other.inputs) (full.text_named other.recipe (all_contents other.recipe other.inputs) name))
         → is_same_text text (option_and_then (given_text_named other) o) ≡ true → IsProgram prescribes (audited_binary other.recipe other.inputs) text
     by_source None implements is = absurd cc
     by_source (Some name) implements is = by_text name (given_text_named other name) refl is implements
@@ -161,7 +161,7 @@ module _ (prescribes : Prescribes) (compiles : Compiling) where
       by parts.0 (given_text_named link source) refl parts.1
     where
       by : names_input link.recipe made ≡ true → (o : Option SourceText) → given_text_named link source ≡ o → is_given earlier (input_bytes link made) o ≡ true
-          → IsProgram prescribes (content link.recipe (all_contents link.recipe link.inputs) made) (full.given_text_named link.recipe (all_contents link.recipe link.inputs) source)
+          → IsProgram prescribes (content link.recipe (all_contents link.recipe link.inputs) made) (full.text_named link.recipe (all_contents link.recipe link.inputs) source)
       by there None at given = absurd cc
       by there (Some text) at given =
           let one = any-has (gives (input_bytes link made) text) Audited earlier given audited in
