@@ -1,6 +1,4 @@
 use Rattle.command_plan.proofs.Obtaining.{ends_before, ends_with, goes_on_with}
-use Rattle.wheeler.specs.Bench.{bench}
-use Rattle.audit_commands.proofs.Finishing.{carried}
 use Rattle.audit_commands.specs.Audit.{audit_files}
 use Rattle.audit_commands.proofs.audit.audit.Goals as goal
 
@@ -18,6 +16,4 @@ returns-in_err-inputs g c = ends_with c.from_residual-in_err-inputs.ensures.1 (g
 
 pub returns : goal.returns
 unfolding audit_files
-returns g c =
-    let begun = c.new-audit.result in
-    goes_on_with c.in_ok-recipe.ensures (goes_on_with (c.in_ok-apart.ensures _) (goes_on_with c.in_ok-inputs.ensures.obtained ((carried _ _ c.finish-progress.new.audit.recipe begun c.args.report.now _ _ _ c.finish-progress.ensures.recipe c.new-audit.ensures (c.conclude.ensures (bench begun.recipe begun.inputs) c.finish-progress.ensures.answer)))))
+returns g c = goes_on_with c.in_ok-recipe.ensures (goes_on_with (c.in_ok-apart.ensures _) (goes_on_with c.in_ok-inputs.ensures.obtained c.run_over.ensures))
