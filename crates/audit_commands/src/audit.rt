@@ -1,12 +1,12 @@
 //! `audit RECIPE REPORT`: the stages of a recipe are run, and their report is saved.
 
-ghost use Rattle.std.specs.Prelude.{◌≡◌, None, map, IfOk};
+ghost use Rattle.std.specs.Prelude.{◌≡◌, map, IfOk};
 ghost use Rattle.ddc_base.specs.Outside.{IsFileName};
-ghost use Rattle.recipe.specs.Kept.{IsRecipe};
 ghost use Rattle.report.specs.Reports.{IsReport};
 ghost use Rattle.wheeler.specs.Bench.{bench};
 ghost use Rattle.wheeler.specs.declared.answer.Answer.{Answer as Outcome};
 ghost use Rattle.wheeler.specs.Positions.{Over};
+ghost use Rattle.wheeler.specs.Valid.{IsAuditAnswer, IsInputs};
 ghost use Rattle.command_plan.specs.declared.status.Status.TheVariants.{RunFailed, CheckFailed};
 ghost use Rattle.command_plan.specs.Performs.{Performs};
 ghost use Rattle.command_plan.specs.Plan.{answers};
@@ -18,10 +18,10 @@ ghost use Rattle.audit_commands.specs.Inside.Finishing.{Comes};
 ghost use Rattle.audit_commands.specs.Texts.{stage_name, run_failed_line, check_failed_line};
 
 use crate::texts;
-use audit_run::{Audit, Progress};
+use audit_run::{Audit, Progress, run_bench};
 use command_plan::words::are_two_files;
 use command_plan::{Answer, Status, Stop, keep, usage};
-use ddc_base::{OutOfMemory, Shelf};
+use ddc_base::{Bytes, OutOfMemory, Shelf};
 use recipe::Recipe;
 use recipe_plan::texts::compared_lines;
 use recipe_plan::{apart, compared_status, fetch_inputs, fetch_recipe};
@@ -51,9 +51,41 @@ fn audit<S: Shelf>(alloc: Global, shelf: &mut S, recipe: &str, report: &str) -> 
     let recipe = fetch_recipe(alloc, shelf, recipe)?;
     apart(alloc, &recipe, report)?;
     let inputs = fetch_inputs(alloc, shelf, &recipe)?;
-    let mut audit = Audit::new(alloc, recipe, inputs);
-    let progress = finish(&mut audit);
-    conclude(alloc, &audit, progress, report, shelf)
+    run_over(alloc, &recipe, inputs.as_slice(), report, shelf)
+}
+
+/// The audit over inputs that are lent: its report is saved, or it is said which stage is not done.
+fn run_over<S: Shelf>(
+    alloc: Global,
+    recipe: &Recipe,
+    inputs: &[Bytes],
+    report: &str,
+    shelf: &mut S,
+) -> Result<Answer, Stop>
+    requires given { IsInputs recipe.now inputs.now }
+    requires report { IsFileName report.now }
+    ensures { Performs (audited recipe.now report.now (bench recipe.now inputs.now)) (S.state shelf.old) (S.state shelf.new) result }
+{
+    let answer = run_bench(alloc, recipe, inputs)?;
+    tell(alloc, recipe, &answer, report, shelf)
+}
+
+/// Saves the report that an audit comes to, or says which stage is not done.
+fn tell<S: Shelf>(
+    alloc: Global,
+    recipe: &Recipe,
+    answer: &wheeler::Answer,
+    report: &str,
+    shelf: &mut S,
+) -> Result<Answer, Stop>
+    requires form { IsAuditAnswer answer.now }
+    requires report { IsFileName report.now }
+    ensures { Performs (audited recipe.now report.now answer.now) (S.state shelf.old) (S.state shelf.new) result }
+{
+    match answer {
+        wheeler::Answer::Completes(made) => keep_report(alloc, made, report, shelf),
+        wheeler::Answer::Fails(stage, fault) => undone(alloc, recipe, *stage, *fault),
+    }
 }
 
 /// Saves the report of an audit that is over, or says which stage is not done.
@@ -124,17 +156,6 @@ fn check_failed(
         status: Status::CheckFailed,
         text: texts::check_failed(alloc, texts::stage_name(recipe, stage), cause)?,
     })
-}
-
-/// Advances an audit to its end: no recipe allows as many steps.
-fn finish(audit: &mut Audit) -> Progress
-    requires stands { audit.old.stands ≡ None }
-    requires kept { IsRecipe audit.old.recipe }
-    ensures answer { Comes (Over (bench audit.old.recipe audit.old.inputs)) result audit.new.stands }
-    ensures recipe { audit.new.recipe ≡ audit.old.recipe }
-    ensures inputs { audit.new.inputs ≡ audit.old.inputs }
-{
-    audit.advance(u64::MAX)
 }
 
 /// Saves a report, and says how its comparisons ended.
