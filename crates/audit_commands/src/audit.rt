@@ -22,7 +22,7 @@ use audit_run::{Audit, Progress, run_bench};
 use command_plan::words::are_two_files;
 use command_plan::{Answer, Status, Stop, keep, usage};
 use ddc_base::{Bytes, OutOfMemory, Shelf};
-use recipe::Recipe;
+use recipe::{Inputs, Recipe};
 use recipe_plan::texts::compared_lines;
 use recipe_plan::{apart, compared_status, fetch_inputs, fetch_recipe};
 use report::{CompareLine, Report};
@@ -51,10 +51,25 @@ fn audit<S: Shelf>(alloc: Global, shelf: &mut S, recipe: &str, report: &str) -> 
     let recipe = fetch_recipe(alloc, shelf, recipe)?;
     apart(alloc, &recipe, report)?;
     let inputs = fetch_inputs(alloc, shelf, &recipe)?;
-    run_over(alloc, &recipe, inputs.as_slice(), report, shelf)
+    run_whole(alloc, &recipe, &inputs, report, shelf)
 }
 
-/// The audit over inputs that are lent: its report is saved, or it is said which stage is not done.
+/// The audit: its report is saved, or it is said which stage is not done.
+fn run_whole<S: Shelf>(
+    alloc: Global,
+    recipe: &Recipe,
+    inputs: &Inputs,
+    report: &str,
+    shelf: &mut S,
+) -> Result<Answer, Stop>
+    requires given { IsInputs recipe.now inputs.now }
+    requires report { IsFileName report.now }
+    ensures { Performs (audited recipe.now report.now (bench recipe.now inputs.now)) (S.state shelf.old) (S.state shelf.new) result }
+{
+    run_over(alloc, recipe, inputs.as_slice(), report, shelf)
+}
+
+/// The same, over inputs that are lent.
 fn run_over<S: Shelf>(
     alloc: Global,
     recipe: &Recipe,
