@@ -1,6 +1,6 @@
 -- Stages that are run in order, one by one.
 use Rattle.std.proofs.Common.{◌≡◌, ℕ, suc, ◌-◌, Result, Ok, Err, IfOk, List, [], ◌∷◌, ◌++◌, length, drop, take, refl, sym, ap, ◌∙◌, arith, subst}
-use Rattle.std.proofs.lemmas.List.{take-append-drop}
+use Rattle.std.proofs.lemmas.List.{drop_all, take-append-drop}
 use Rattle.ddc_base.specs.declared.byte_list.OutOfMemory.{OutOfMemory}
 use Rattle.guest_run.specs.State.{GuestState}
 use Rattle.guest_run.specs.Run.{first_end}
@@ -8,15 +8,19 @@ use Rattle.recipe.specs.declared.contents.Said.{Said}
 use Rattle.recipe.specs.declared.parts.Stage.{Stage}
 use Rattle.recipe.specs.Kept as kept
 use Rattle.wheeler.specs.Bench.{after_stage, bench, bench_from}
+use Rattle.wheeler.specs.declared.answer.Answer.{Answer}
+use Rattle.wheeler.specs.declared.answer.Answer.TheVariants.{Completes, Fails}
 use Rattle.wheeler.specs.declared.answer.Fault.{Fault}
 use Rattle.wheeler.specs.declared.answer.Finished.{Finished}
 use Rattle.wheeler.specs.Positions.{at, enter, entered, todo}
 use Rattle.wheeler.specs.Stages.{by_end, by_start, contents, stage_result, start_stage}
-use Rattle.wheeler.specs.Valid.{AreDone, IsAt, IsInputs, IsStanding}
+use Rattle.wheeler.specs.Valid.{AreDone, IsAt, IsAuditAnswer, IsInputs, IsStanding}
+use Rattle.wheeler.proofs.Closing.{bench-report}
 use Rattle.wheeler.proofs.Places.{enter-standing}
 use Rattle.wheeler.proofs.Rules.{rules}
 use Rattle.audit_run.specs.Earlier.{done_in_order, goes_on_behind, unless_undone}
 use Rattle.audit_run.specs.Stage.Rules.{IsStageOf}
+use Rattle.audit_run.specs.declared.earlier.Undone.{Undone}
 use Rattle.audit_run.proofs.Present.{from-index, same-stage, stage-rules}
 
 pub next-rules : (recipe : Said) (done : List Finished) (stage : Stage) (stages : List Stage) → kept.IsRecipe recipe → todo recipe done ≡ stage ∷ stages → IsStageOf recipe stage
@@ -54,3 +58,17 @@ pub bench-behind : (recipe : Said) (inputs : List (List ℕ)) (count : ℕ)
     → bench recipe inputs ≡ goes_on_behind recipe inputs (drop count recipe.stages) (done_in_order recipe inputs [] (take count recipe.stages))
 bench-behind recipe inputs count =
     ap (bench_from recipe inputs []) (sym (take-append-drop count recipe.stages)) ∙ behind recipe inputs (take count recipe.stages) (drop count recipe.stages) []
+
+-- all stages in a row
+pub bench-whole : (recipe : Said) (inputs : List (List ℕ)) (count : ℕ) (run : Result (List Finished) Undone) → count ≡ length recipe.stages
+    → run ≡ done_in_order recipe inputs [] (take count recipe.stages) → goes_on_behind recipe inputs [] run ≡ bench recipe inputs
+bench-whole recipe inputs count run all is =
+    ap (goes_on_behind recipe inputs []) is
+    ∙ ap (λ rest. goes_on_behind recipe inputs rest (done_in_order recipe inputs [] (take count recipe.stages))) (sym (drop_all count recipe.stages (omega arith)))
+    ∙ sym (bench-behind recipe inputs count)
+
+-- what the bench comes to is an answer
+pub bench-answer : (recipe : Said) (inputs : List (List ℕ)) (answer : Answer) → kept.IsRecipe recipe → IsInputs recipe inputs → answer ≡ bench recipe inputs
+    → IsAuditAnswer answer
+bench-answer recipe inputs (Completes report) is given comes = bench-report recipe inputs report (rules recipe is) given (sym comes)
+bench-answer recipe inputs (Fails number fault) is given comes = tt

@@ -6,6 +6,7 @@
 
 mod advance;
 mod audit;
+mod bench;
 pub mod check;
 pub mod delta;
 mod earlier;
@@ -21,5 +22,6 @@ mod stretch;
 pub use crate::delta::DeltaRefusal;
 pub use crate::save::SaveRefusal;
 pub use audit::Audit;
+pub use bench::run_bench;
 pub use earlier::{Undone, run_earlier};
 pub use place::Progress;
