@@ -1,6 +1,7 @@
 //! Verdicts on reports of scripts: a true one, and one fault or two at each part.
 
 use crate::exit_program::EXIT;
+use crate::scripts::COPY;
 use ddc_base::{Bytes, OutOfMemory, read_hex};
 use kaem_script::{FileList, ScriptEnd, ScriptPart, ScriptVerdict, audit, read, verify};
 use report::script;
@@ -9,10 +10,6 @@ use std::test::Fail;
 
 /// The script that is run twice: it makes `out`, and then runs it.
 static SCRIPT: &[u8] = b"./copy.elf\n# made\n\"out\" x\n";
-
-/// Copies the file `in` to `out` in 32 steps, and exits with 0: 232 bytes.
-const COPY: &str =
-    "7f454c460201010000000000000000000200f30001000000780001000000000040000000000000000000000000000000000000004000380001000000000000000100000007000000000000000000000000000100000000000000010000000000e800000000000000e80000000000000000100000000000001305c0f9b70501009385050e1306000093088003730000001305c0f9b70501009385350e130610247300000037140000b30481401305300093850400130604009308f00373000000630c0500130605001305400093080004730000006ff09ffd9308d00573000000696e006f75740000";
 
 /// Its report over copy.elf and a copy of it under the name `in`: `*` stands for the digest of no bytes, and `+` for copy.elf's, both by
 /// sha256sum; the script's is by sha256sum too.
@@ -64,21 +61,26 @@ fn put_lines(out: &mut Bytes, first: u64, last: u64) -> Result<(), OutOfMemory> 
     Ok(())
 }
 
+/// Adds a file that is not refused.
+fn push(files: &mut FileList, name: &[u8], content: &[u8]) -> Result<(), Fail> {
+    match files.push(name, content) {
+        Ok(()) => Ok(()),
+        Err(_) => Err("a file is refused".into()),
+    }
+}
+
 /// copy.elf and this file `in`, in this order or the other.
 fn listed(alloc: Global, input: &[u8], reversed: bool) -> Result<FileList, Fail> {
     let Ok(copy) = read_hex(alloc, COPY.as_bytes()) else {
         return Err("no hexadecimal text".into());
     };
     let mut files = FileList::new(alloc)?;
-    let pairs: [(&[u8], &[u8]); 2] = if reversed {
-        [(b"./in", input), (b"copy.elf", copy.as_slice())]
+    if reversed {
+        push(&mut files, b"./in", input)?;
+        push(&mut files, b"copy.elf", copy.as_slice())?;
     } else {
-        [(b"./copy.elf", copy.as_slice()), (b"in", input)]
-    };
-    for (name, content) in pairs {
-        let Ok(()) = files.push(name, content) else {
-            return Err("a file is refused".into());
-        };
+        push(&mut files, b"./copy.elf", copy.as_slice())?;
+        push(&mut files, b"in", input)?;
     }
     Ok(files)
 }

@@ -1,5 +1,7 @@
 //! Scripts of commands: what a text says, each way to be wrong with its offset, and commands over one world of files.
 
+ghost use Rattle.std.specs.Prelude.{◌≤◌, ◌^◌};
+
 use crate::exit_program::EXIT;
 use ddc_base::digests::Digest;
 use ddc_base::{Bytes, read_hex};
@@ -172,7 +174,7 @@ fn words_are_kept_as_written(rt: HostRuntime) -> Result<(), Fail> {
 }
 
 /// Copies the file `in` to `out` in 32 steps, and exits with 0: 232 bytes.
-const COPY: &str =
+pub(crate) const COPY: &str =
     "7f454c460201010000000000000000000200f30001000000780001000000000040000000000000000000000000000000000000004000380001000000000000000100000007000000000000000000000000000100000000000000010000000000e800000000000000e80000000000000000100000000000001305c0f9b70501009385050e1306000093088003730000001305c0f9b70501009385350e130610247300000037140000b30481401305300093850400130604009308f00373000000630c0500130605001305400093080004730000006ff09ffd9308d00573000000696e006f75740000";
 /// Of the 232 bytes, by sha256sum.
 const COPY_DIGEST: &str = "da8dcb705eb55cbf9f4852135f93a902f4584b973901f37abb829fd299d0b026";
@@ -302,15 +304,17 @@ fn is_digest(alloc: Global, digest: &Digest, text: &str) -> bool {
     }
 }
 
+/// The names of the files at the end, the first two of which are listed.
+static NAMES: &[&[u8]] = &[b"copy.elf", b"in", b"out"];
+
 /// Whether both commands took 32 steps and wrote nothing, and copy.elf, `in` and `out` are copy.elf's bytes.
 fn is_of_two_copies(alloc: Global, report: &ScriptReport) -> bool {
-    let names: [&[u8]; 3] = [b"copy.elf", b"in", b"out"];
     let mut right = report.files.len() == 2 && report.left.len() == 3 && report.commands.len() == 2;
-    for (name, line) in names.iter().zip(report.left.as_slice()) {
+    for (name, line) in NAMES.iter().zip(report.left.as_slice()) {
         right = right && *name == line.name.as_slice() && line.mark.length == 232;
         right = right && is_digest(alloc, &line.mark.digest, COPY_DIGEST);
     }
-    for (name, line) in names.iter().zip(report.files.as_slice()) {
+    for (name, line) in NAMES.iter().zip(report.files.as_slice()) {
         right = right && *name == line.name.as_slice() && line.mark.length == 232;
         right = right && is_digest(alloc, &line.mark.digest, COPY_DIGEST);
     }
