@@ -1,4 +1,4 @@
--- Lines taken one by one: those of commands that are replayed_command, and those of the files that are left, which a walk by "the first name after" finds.
+-- Lines taken one by one: those of commands that are replayed, and those of the files that are left, which a walk by "the first name after" finds.
 use Rattle.std.proofs.Common.{◌≡◌, ℕ, suc, ◌+◌, ◌-◌, ◌<◌, ◌≤◌, ◌&&◌, Bool, true, false, Bor, Option, Some, None, Result, Ok, List, [], ◌∷◌, length, take, drop, get_or, map, not, is_none, is_some, option_copied, refl, sym, ap, ◌∙◌, arith, All, subst}
 use Rattle.std.specs.FinMap as fin
 use Rattle.std.proofs.lemmas.List.{take_all}

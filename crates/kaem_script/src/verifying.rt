@@ -90,7 +90,7 @@ fn wrong_name(list: &FileList, lines: &[LeftLine]) -> Option<u32>
     if ahead.is_empty() { None } else { Some(number) }
 }
 
-/// The first fault of the commands, each of which is replayed_command over the files that those before it left, and then of the files at the end.
+/// The first fault of the commands, each of which is replayed over the files that those before it left, and then of the files at the end.
 fn wrong_command(
     alloc: Global,
     commands: &[Command],
