@@ -9,10 +9,10 @@ use Rattle.audit_run.specs.Delta.Judged.{judged_from}
 use Rattle.audit_run.specs.Save.Saves.{save_of}
 use Rattle.audit_run.specs.declared.delta.reading.DeltaRefusal.{DeltaRefusal}
 use Rattle.command_plan.specs.declared.status.Status.TheVariants.{SaveRefused}
-use Rattle.command_plan.specs.Words.{are_two_files, as_steps, or_usage, usage}
+use Rattle.command_plan.specs.Words.{are_three_files, are_two_files, as_steps, or_usage, usage}
 use Rattle.command_plan.specs.Plan.{Plan, answers, needs, unless_refused}
 use Rattle.recipe_plan.specs.Recipes.{needs_apart, needs_inputs, needs_recipe}
-use Rattle.audit_commands.specs.Pause.{are_three_files, came_to, needs_position}
+use Rattle.audit_commands.specs.Pause.{came_to, needs_position}
 use Rattle.audit_commands.specs.PauseTexts.{delta_refused_line}
 
 -- ---- `delta-start`

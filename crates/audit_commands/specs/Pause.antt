@@ -8,7 +8,7 @@ use Rattle.audit_run.specs.Save.Judged.{judged}
 use Rattle.audit_run.specs.Save.Saves.{save_of}
 use Rattle.audit_run.specs.declared.save.reading.SaveRefusal.{SaveRefusal}
 use Rattle.command_plan.specs.declared.status.Status.TheVariants.{Paused, SaveRefused}
-use Rattle.command_plan.specs.Words.{are_two_files, as_steps, or_usage, usage}
+use Rattle.command_plan.specs.Words.{are_three_files, as_steps, or_usage, usage}
 use Rattle.command_plan.specs.Plan.{Plan, answers, needs, sets, unless_refused}
 use Rattle.recipe_plan.specs.Recipes.{needs_apart, needs_inputs, needs_recipe}
 use Rattle.audit_commands.specs.Audit.{audited}
@@ -66,10 +66,6 @@ resume_files recipe save report steps =
     came_to said (whole_save said inputs) save report (forward said inputs p steps)))))))
 
 -- ---- the words
-
--- three words that can name three files
-abbrev pub are_three_files : List ℕ → List ℕ → List ℕ → Bool
-are_three_files recipe save report = are_two_files recipe save && are_two_files recipe report && are_two_files save report
 
 -- the words after either command
 abbrev pub part_plan : List (List ℕ) → Plan

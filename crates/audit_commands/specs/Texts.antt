@@ -2,7 +2,7 @@
 use Rattle.std.specs.Prelude.{ℕ, ◌-◌, List, [], ◌∷◌, codes, decimal, slice_get, unwrap_or}
 use Rattle.std.specs.Option.{option_map}
 use Rattle.ddc_base.specs.Lines.{line}
-use Rattle.command_plan.specs.Causes.Texts.{spaced, trap_text, call_text, elf_text, args_text, box_text, spent_text}
+use Rattle.command_plan.specs.Causes.Texts.{spaced, trap_text, call_text, elf_text, args_text, box_text, spent_text, status_text}
 use Rattle.recipe.specs.declared.parts.Stage.{Stage}
 use Rattle.wheeler.specs.SourceCheck.Causes.{hex_cause_number, hex_cause_place, m1_cause_number, m1_cause_place}
 use Rattle.wheeler.specs.declared.source_check.cause.CheckCause.{CheckCause}
@@ -22,7 +22,7 @@ abbrev pub run_cause_text : RunCause → List ℕ
 run_cause_text (run.Start cause) = start_cause_text cause
 run_cause_text (run.Trap cause) = trap_text cause
 run_cause_text (run.Call number) = call_text number
-run_cause_text (run.Status status) = spaced (codes "status" ∷ decimal status ∷ [])
+run_cause_text (run.Status status) = status_text status
 run_cause_text run.NoOutput = codes "no-output"
 run_cause_text run.Spent = spent_text
 run_cause_text run.Crowded = codes "crowded"

@@ -16,7 +16,7 @@ pub fn run_cause(alloc: Global, cause: RunCause) -> Result<String, OutOfMemory>
         RunCause::Start(cause) => start_cause(alloc, cause),
         RunCause::Trap(cause) => command_plan::causes::trap(alloc, cause),
         RunCause::Call(number) => command_plan::causes::call(alloc, number),
-        RunCause::Status(status) => Ok(format!(in alloc; "status {status}")?),
+        RunCause::Status(status) => command_plan::causes::status(alloc, status),
         RunCause::NoOutput => Ok(String::from_str(alloc, "no-output")?),
         RunCause::Spent => Ok(String::from_str(alloc, command_plan::causes::spent())?),
         RunCause::Crowded => Ok(String::from_str(alloc, "crowded")?),

@@ -6,9 +6,8 @@ ghost use Rattle.command_plan.specs.Performs.{Performs};
 ghost use Rattle.audit_commands.specs.Pause.{part_files, part_plan};
 
 use crate::going::{Kept, go_on};
-use crate::words::are_three_files;
 use audit_run::Audit;
-use command_plan::words::steps_of;
+use command_plan::words::{are_three_files, steps_of};
 use command_plan::{Answer, Stop, usage};
 use ddc_base::Shelf;
 use recipe_plan::{apart, fetch_inputs, fetch_recipe};

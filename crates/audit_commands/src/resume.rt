@@ -14,10 +14,9 @@ ghost use Rattle.audit_commands.specs.PauseTexts.{save_refused_line};
 
 use crate::going::{Kept, go_on};
 use crate::pause_texts;
-use crate::words::are_three_files;
 use audit_run::Audit;
 use audit_run::save::SaveRefusal;
-use command_plan::words::steps_of;
+use command_plan::words::{are_three_files, steps_of};
 use command_plan::{Answer, Status, Stop, fetch, usage};
 use ddc_base::{Bytes, Shelf};
 use recipe::{Inputs, Recipe};

@@ -3,16 +3,8 @@
 ghost use Rattle.std.specs.Prelude.{◌≡◌, IsTrue};
 ghost use Rattle.ddc_base.specs.Outside.{IsFileName};
 ghost use Rattle.audit_commands.specs.Delta.{are_four_files};
-ghost use Rattle.audit_commands.specs.Pause.{are_three_files};
 
-use command_plan::words::are_two_files;
-
-/// Whether three words can name three files.
-pub(crate) fn are_three_files(recipe: &str, save: &str, report: &str) -> bool
-    ensures { result ≡ are_three_files recipe.now save.now report.now }
-{
-    are_two_files(recipe, save) && are_two_files(recipe, report) && are_two_files(save, report)
-}
+use command_plan::words::{are_three_files, are_two_files};
 
 /// Whether four words can name four files.
 #[tactic(auto, unfolding(crate::specs::Delta::are_four_files))]

@@ -4,7 +4,7 @@
 
 ghost use Rattle.std.specs.Prelude.{◌≡◌, ◌∷◌, [], IfOk, codes, string_bytes};
 ghost use Rattle.hex.specs.Hex.{encode_lower};
-ghost use Rattle.command_plan.specs.Causes.Texts.{hex_word, hex_address, spaced, trap_text, call_text, elf_text, args_text, box_text, spent_text};
+ghost use Rattle.command_plan.specs.Causes.Texts.{hex_word, hex_address, spaced, trap_text, call_text, elf_text, args_text, box_text, spent_text, status_text};
 
 use byteorder::{BigEndian, ByteOrder};
 use ddc_base::OutOfMemory;
@@ -90,6 +90,14 @@ pub fn box_files() -> &'static str
     ensures { result.now ≡ box_text }
 {
     "start box"
+}
+
+/// An exit with another status than 0.
+#[tactic(auto, unfolding(crate::specs::Causes::Texts::status_text))]
+pub fn status(alloc: Global, status: u8) -> Result<String, OutOfMemory>
+    ensures { IfOk result (λ text. string_bytes text ≡ status_text status) }
+{
+    Ok(format!(in alloc; "status {status}")?)
 }
 
 /// A run that took all its steps.

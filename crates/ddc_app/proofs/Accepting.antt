@@ -24,7 +24,7 @@ use Rattle.command_plan.specs.Plan.{Plan, Outcome, answers, outcome, unless_refu
 use Rattle.command_plan.specs.Words.{are_two_files, usage}
 use Rattle.recipe_plan.specs.Recipes.{is_input, needs_apart, needs_inputs}
 use Rattle.recipe_plan.specs.Reports.{needs_report}
-use Rattle.recipe_plan.specs.Texts.{report_line}
+use Rattle.command_plan.specs.Texts.{report_line}
 use Rattle.audit_commands.specs.Audit.{audit_files, audited, completed}
 use Rattle.verify_commands.specs.Verify.{judged_report, verified, verify_files}
 use Rattle.ddc_app.specs.Accepting.{HoldBytes, audit, is_compared, verify}

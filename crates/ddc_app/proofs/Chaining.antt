@@ -30,10 +30,10 @@ use Rattle.command_plan.specs.declared.status.Status.{Status}
 use Rattle.command_plan.specs.declared.status.Status.TheVariants as status
 use Rattle.command_plan.specs.Lists.{list_of}
 use Rattle.command_plan.specs.Plan.{LoadsBytes, Outcome, Plan, answers, bytes_then, follow, needs, needs_all, outcome, unless_refused}
-use Rattle.command_plan.specs.Texts.{list_line}
+use Rattle.command_plan.specs.Texts.{list_line, report_line}
 use Rattle.command_plan.specs.Words.{is_file_word, is_one_file, usage}
 use Rattle.recipe_plan.specs.Recipes.{is_input, needs_apart, needs_inputs_within, paths}
-use Rattle.recipe_plan.specs.Texts.{compared_lines, recipe_line, report_line}
+use Rattle.recipe_plan.specs.Texts.{compared_lines, recipe_line}
 use Rattle.verify_commands.specs.declared.pair.Pair.{Pair}
 use Rattle.verify_commands.specs.Chain.{chain_files, chained, chained_lines, needs_audit, needs_report_of, needs_true, needs_two_files, pair_of, room_behind}
 use Rattle.verify_commands.specs.ChainTexts.{audit_line, chain_text}

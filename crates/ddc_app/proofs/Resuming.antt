@@ -19,10 +19,10 @@ use Rattle.wheeler.proofs.Places.{beginning-standing, from-standing}
 use Rattle.wheeler.proofs.Rules.{rules}
 use Rattle.command_plan.specs.declared.status.Status.TheVariants.{SaveRefused}
 use Rattle.command_plan.specs.Plan.{Plan, answers, needs, outcome, unless_refused}
-use Rattle.command_plan.specs.Words.{usage}
+use Rattle.command_plan.specs.Words.{are_three_files, usage}
 use Rattle.recipe_plan.specs.Recipes.{is_input, needs_apart, needs_inputs}
 use Rattle.audit_commands.specs.Audit.{audit_files, audited}
-use Rattle.audit_commands.specs.Pause.{are_three_files, came_to, needs_position, read_as, resume_files, whole_save}
+use Rattle.audit_commands.specs.Pause.{came_to, needs_position, read_as, resume_files, whole_save}
 use Rattle.audit_commands.specs.PauseTexts.{save_refused_line}
 use Rattle.ddc_app.specs.Accepting.{HoldBytes, audit}
 use Rattle.ddc_app.specs.Pausing.{AreWords, IsStepCount, Pieces, IsSavedAt, resume}

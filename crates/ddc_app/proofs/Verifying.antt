@@ -27,7 +27,8 @@ use Rattle.command_plan.specs.Plan.{LoadsBytes, Plan, Outcome, answers, outcome,
 use Rattle.command_plan.specs.Words.{are_two_files, usage}
 use Rattle.recipe_plan.specs.Recipes.{is_input, needs_apart, needs_inputs, paths}
 use Rattle.recipe_plan.specs.Reports.{compared_status, needs_report}
-use Rattle.recipe_plan.specs.Texts.{recipe_line, report_line}
+use Rattle.command_plan.specs.Texts.{report_line}
+use Rattle.recipe_plan.specs.Texts.{recipe_line}
 use Rattle.verify_commands.specs.Verify.{judged_report, verified, verify_files}
 use Rattle.ddc_app.specs.Accepting.{HoldBytes, is_compared, verify}
 use Rattle.ddc_app.specs.Commands.{plan_of}

@@ -7,6 +7,8 @@ use Rattle.audit_commands.specs.Left.{left_plan}
 use Rattle.audit_commands.specs.Show.{show_plan}
 use Rattle.tool_commands.specs.Asm.{asm_plan}
 use Rattle.tool_commands.specs.Hex0.{hex0_plan}
+use Rattle.tool_commands.specs.Kaem.{kaem_plan}
+use Rattle.tool_commands.specs.KaemVerify.{kaem_verify_plan}
 use Rattle.tool_commands.specs.List.{list_plan}
 use Rattle.tool_commands.specs.RunProgram.{run_plan}
 use Rattle.audit_commands.specs.Pause.{part_plan, resume_plan}
@@ -40,7 +42,9 @@ text_plan (command ∷ words) =
     else (if bytes_eq command (codes "segment") then segment_plan words
     else (if bytes_eq command (codes "ends") then ends_plan words
     else (if bytes_eq command (codes "chain") then chain_plan words
-    else usage))))))))))))))))
+    else (if bytes_eq command (codes "kaem") then kaem_plan words
+    else (if bytes_eq command (codes "kaem-verify") then kaem_verify_plan words
+    else usage))))))))))))))))))
 
 -- whether a command line is one of `step`, the command that may begin a session
 abbrev pub is_step : List (List ℕ) → Bool

@@ -7,3 +7,4 @@ pub mod Pausing
 pub mod Differences
 pub mod Verified
 pub mod Chained
+pub mod Scripted

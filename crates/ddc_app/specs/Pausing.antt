@@ -12,9 +12,9 @@ use Rattle.wheeler.specs.Positions as positions
 use Rattle.wheeler.specs.Positions.{Position, On}
 use Rattle.command_plan.specs.declared.status.Status.{Status}
 use Rattle.command_plan.specs.declared.status.Status.TheVariants.{Paused}
+use Rattle.command_plan.specs.Words.{are_three_files}
 use Rattle.command_plan.specs.Plan.{Outcome, outcome}
 use Rattle.recipe_plan.specs.Recipes.{is_input, paths}
-use Rattle.audit_commands.specs.Pause.{are_three_files}
 use Rattle.ddc_app.specs.Accepting.{audit}
 use Rattle.ddc_app.specs.Commands.{plan_of}
 use Rattle.ddc_app.specs.Holding.{AreHeld}

@@ -7,7 +7,7 @@ use Rattle.wheeler.specs.Bench.{all_equal}
 use Rattle.command_plan.specs.declared.status.Status.{Status}
 use Rattle.command_plan.specs.declared.status.Status.TheVariants as status
 use Rattle.command_plan.specs.Plan.{Plan, answers, needs, unless_refused}
-use Rattle.recipe_plan.specs.Texts.{report_line}
+use Rattle.command_plan.specs.Texts.{report_line}
 
 -- the report is needed, of at most 1,073,741,824 bytes, and read
 abbrev pub needs_report : List ℕ → (Report → Plan) → Plan

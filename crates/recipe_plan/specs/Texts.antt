@@ -1,4 +1,4 @@
--- The printed lines on recipes and reports. docs/reference/command-line.md says the same for people.
+-- The printed lines on recipes and comparisons. docs/reference/command-line.md says the same for people.
 use Rattle.std.specs.Prelude.{ℕ, List, [], ◌∷◌, Option, Some, None, codes, decimal}
 use Rattle.std.specs.List.{flat_map}
 use Rattle.ddc_base.specs.Lines.{line}
@@ -10,10 +10,6 @@ use Rattle.recipe.specs.declared.text.refusal.RecipeRefusal.{RecipeRefusal}
 use Rattle.report.specs.declared.types.CompareLine.{CompareLine}
 use Rattle.report.specs.declared.types.Compared.{Compared}
 use Rattle.report.specs.declared.types.Compared.TheVariants.{Equal, Differs}
-
--- a file is no report, from this line on
-unfoldable pub report_line : ℕ → List ℕ
-report_line number = line (codes "report" ∷ codes "line" ∷ decimal number ∷ [])
 
 -- where a recipe is refused: the table and its number, and the key
 abbrev pub place_words : Option Place → Option Key → List (List ℕ)

@@ -8,10 +8,9 @@ ghost use Rattle.command_plan.specs.declared.status.Status.TheVariants.{ReportRe
 ghost use Rattle.command_plan.specs.Plan.{answers, unless_refused};
 ghost use Rattle.command_plan.specs.Steps.{Obtains, Says};
 ghost use Rattle.recipe_plan.specs.Reports.{compared_status, needs_report};
-ghost use Rattle.recipe_plan.specs.Texts.{report_line};
+ghost use Rattle.command_plan.specs.Texts.{report_line};
 
-use crate::texts;
-use command_plan::{Answer, Status, Stop, fetch};
+use command_plan::{Answer, Status, Stop, fetch, texts};
 use ddc_base::{Bytes, Shelf};
 use report::{CompareLine, Report, ReportRefusal};
 use std::alloc::Global;
@@ -49,7 +48,7 @@ fn refused(alloc: Global, number: u64) -> Result<Answer, Stop>
 {
     Ok(Answer {
         status: Status::ReportRefused,
-        text: texts::report_line(alloc, number)?,
+        text: texts::report(alloc, number)?,
     })
 }
 

@@ -1,22 +1,14 @@
-//! The lines on recipes and reports.
+//! The lines on recipes and comparisons.
 
 ghost use Rattle.std.specs.Prelude.{◌≡◌, ◌∷◌, ◌++◌, [], codes, decimal, IfOk, OnOk};
 ghost use Rattle.ddc_base.specs.Lines.{line};
 ghost use Rattle.recipe.specs.Text.Keys.{key_word, table_word};
-ghost use Rattle.recipe_plan.specs.Texts.{report_line, recipe_line, compared_line, compared_lines};
+ghost use Rattle.recipe_plan.specs.Texts.{recipe_line, compared_line, compared_lines};
 
 use ddc_base::{Bytes, Name, OutOfMemory};
 use recipe::{Key, Place, RecipeRefusal};
 use report::{CompareLine, Compared};
 use std::alloc::Global;
-
-/// A file is no report, from this line on.
-#[tactic(auto, unfolding(crate::specs::Texts::report_line))]
-pub fn report_line(alloc: Global, number: u64) -> Result<Bytes, OutOfMemory>
-    ensures { IfOk result (λ text. text ≡ report_line number) }
-{
-    Ok(Bytes::from_vec(format!(in alloc; "report line {number}\n")?.into_bytes()))
-}
 
 /// A file is no recipe.
 #[tactic(auto, unfolding(crate::specs::Texts::recipe_line))]

@@ -3,3 +3,7 @@ pub mod Asm
 pub mod Inside
 pub mod List
 pub mod RunProgram
+pub mod Scripts
+pub mod ScriptTexts
+pub mod Kaem
+pub mod KaemVerify

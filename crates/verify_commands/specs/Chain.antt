@@ -14,10 +14,10 @@ use Rattle.audit_chain.specs.declared.link.Link.{Link}
 use Rattle.command_plan.specs.declared.status.Status.TheVariants.{Yes, Refuted, Differs, RecipeRefused, ReportRefused, ListRefused}
 use Rattle.command_plan.specs.Lists.{listed_word, needs_list}
 use Rattle.command_plan.specs.Plan.{Plan, answers, needs, unless_refused}
-use Rattle.command_plan.specs.Texts.{list_line}
+use Rattle.command_plan.specs.Texts.{list_line, report_line}
 use Rattle.command_plan.specs.Words.{is_file_word, is_one_file, usage}
 use Rattle.recipe_plan.specs.Recipes.{needs_apart, needs_inputs_within}
-use Rattle.recipe_plan.specs.Texts.{compared_lines, recipe_line, report_line}
+use Rattle.recipe_plan.specs.Texts.{compared_lines, recipe_line}
 use Rattle.verify_commands.specs.declared.pair.Pair.{Pair}
 use Rattle.verify_commands.specs.Texts.{refuted_line}
 use Rattle.verify_commands.specs.ChainTexts.{audit_line, chain_text}

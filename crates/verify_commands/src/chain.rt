@@ -10,7 +10,8 @@ ghost use Rattle.command_plan.specs.declared.status.Status.TheVariants.{Differs,
 ghost use Rattle.command_plan.specs.Performs.{Performs};
 ghost use Rattle.command_plan.specs.Plan.{answers, unless_refused};
 ghost use Rattle.command_plan.specs.Steps.{Obtains, Says};
-ghost use Rattle.recipe_plan.specs.Texts.{compared_lines, recipe_line, report_line};
+ghost use Rattle.command_plan.specs.Texts.{report_line};
+ghost use Rattle.recipe_plan.specs.Texts.{compared_lines, recipe_line};
 ghost use Rattle.verify_commands.specs.Chain.{chain_files, chain_plan, chained, chained_lines, needs_audit, needs_recipe_of, needs_report_of, needs_true, needs_two_files, room_behind};
 ghost use Rattle.verify_commands.specs.ChainTexts.{audit_line, chain_text};
 ghost use Rattle.verify_commands.specs.Inside.Ends.{EndsWith};
@@ -24,7 +25,7 @@ use command_plan::words::{is_file_word, is_one_file};
 use command_plan::{Answer, Status, Stop, fetch, usage};
 use ddc_base::{Bytes, ListOf, Shelf};
 use recipe::{Inputs, Recipe, RecipeRefusal};
-use recipe_plan::texts::{compared_lines, recipe_line, report_line};
+use recipe_plan::texts::{compared_lines, recipe_line};
 use recipe_plan::{INPUTS_LIMIT, apart, fetch_inputs_within};
 use report::{CompareLine, Report, ReportRefusal};
 use std::alloc::Global;
@@ -242,7 +243,7 @@ fn report_refused(alloc: Global, number: u32, line: u64) -> Result<Answer, Stop>
 {
     Ok(Answer {
         status: Status::ReportRefused,
-        text: chain_texts::of_audit(alloc, number, report_line(alloc, line)?.as_slice())?,
+        text: chain_texts::of_audit(alloc, number, command_plan::texts::report(alloc, line)?.as_slice())?,
     })
 }
 

@@ -47,6 +47,10 @@ args_text = codes "start args"
 abbrev pub box_text : List ℕ
 box_text = codes "start box"
 
+-- an exit with another status than 0
+unfoldable pub status_text : ℕ → List ℕ
+status_text status = spaced (codes "status" ∷ decimal status ∷ [])
+
 -- all steps were taken
 abbrev pub spent_text : List ℕ
 spent_text = codes "spent"

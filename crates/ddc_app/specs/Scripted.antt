@@ -1,0 +1,74 @@
+-- What `kaem SCRIPT LIST REPORT STEPS` and `kaem-verify SCRIPT LIST REPORT` come to. docs/reference/kaem.md says the same for people.
+use Rattle.std.specs.Prelude.{◌≡◌, ℕ, ◌^◌, IsTrue, false, Some, Ok, List, [], ◌∷◌, codes, decimal, length}
+use Rattle.std.specs.List.{list_any}
+use Rattle.std.specs.FinMap as map
+use Rattle.ddc_base.specs.declared.outside.Loaded.TheVariants.{Bytes}
+use Rattle.ddc_base.specs.Outside.{NamedFiles, loaded}
+use Rattle.mem_files.specs.World.{World}
+use Rattle.report.specs.Script.Reports.{script_report_text}
+use Rattle.kaem_script.specs.FilesListed.{FilesListed, no_files}
+use Rattle.kaem_script.specs.Fold.{Folded, RanAll, Ran, Stopped, folded}
+use Rattle.kaem_script.specs.Reported.{script_report}
+use Rattle.kaem_script.specs.Script.{Said}
+use Rattle.command_plan.specs.declared.status.Status.TheVariants.{RunFailed, Yes}
+use Rattle.command_plan.specs.Lists.{list_of}
+use Rattle.command_plan.specs.Plan.{Outcome, outcome}
+use Rattle.command_plan.specs.Words.{are_three_files, is_one_file}
+use Rattle.tool_commands.specs.Kaem.{steps_of_all}
+use Rattle.tool_commands.specs.Scripts.{and_files, file_line, script_of}
+use Rattle.tool_commands.specs.ScriptTexts.{command_failed_line, commands_true_line, done_line}
+use Rattle.ddc_app.specs.Commands.{plan_of}
+use Rattle.ddc_app.specs.Holding.{AreHeld}
+
+-- what both commands come to over files
+abbrev pub kaem : List ℕ → List ℕ → List ℕ → ℕ → NamedFiles → Outcome
+kaem script list report most files = outcome (plan_of (codes "kaem" ∷ script ∷ list ∷ report ∷ decimal most ∷ [])) files
+
+abbrev pub kaem_verify : List ℕ → List ℕ → List ℕ → NamedFiles → Outcome
+kaem_verify script list report files = outcome (plan_of (codes "kaem-verify" ∷ script ∷ list ∷ report ∷ [])) files
+
+-- ---- what is asked of words and files
+
+-- three words for three files. The files hold a script that reads, a list that reads, none of whose words stands for the report's file, and
+-- the contents of these words, within their limits; this is what the script says, and these are the listed files
+pub record HoldsScript (script list report : List ℕ) (files : NamedFiles) (said : Said) (listed : FilesListed) : Type 0 where
+  pub three : IsTrue (are_three_files script list report)
+  pub script_bytes : List ℕ
+  pub script_held : loaded files script 1_048_576 ≡ Bytes script_bytes
+  pub script_reads : script_of script_bytes ≡ Ok said
+  pub list_bytes : List ℕ
+  pub list_held : loaded files list 1_048_576 ≡ Bytes list_bytes
+  pub words : List (List ℕ)
+  pub list_reads : list_of file_line 4_096 list_bytes ≡ Ok words
+  pub apart : list_any (λ word. is_one_file word report) words ≡ false
+  pub contents : List (List ℕ)
+  pub contents_held : AreHeld 268_435_456 536_870_912 files words contents
+  pub listed_are : listed ≡ and_files no_files words contents
+
+-- ---- what they come to
+
+-- `kaem` by how its commands end: all ran, and the report is held; or one stopped the script, and nothing is changed
+abbrev pub kaem_ended : List ℕ → NamedFiles → Said → FilesListed → Folded → Outcome
+kaem_ended report files said listed (RanAll ran world) = record {
+  status = Yes;
+  text = done_line (length ran) (steps_of_all ran);
+  files = map.insert files report (script_report_text (script_report said listed ran world));
+}
+kaem_ended report files said listed (Stopped number cause step) =
+    record { status = RunFailed; text = command_failed_line number cause step; files = files }
+
+-- what is held as the report is exactly the text of what these commands come to: each exits with 0 at its recorded step, which is the first end
+-- and at most 2^48, and leaves the recorded streams, and the last one leaves the recorded files
+pub record IsScriptTrue (report : List ℕ) (files : NamedFiles) (said : Said) (listed : FilesListed) : Type 0 where
+  pub ran : List Ran
+  pub world : World
+  pub all_ran : folded (2 ^ 48) listed.world said.commands ≡ RanAll ran world
+  pub held : map.get files report ≡ Some (script_report_text (script_report said listed ran world))
+
+-- what a yes of `kaem-verify` shows: the files hold such a script and such a list, and the report is true of them; the text says how many commands ran
+pub record ScriptVerified (script list report : List ℕ) (files : NamedFiles) (answer : Outcome) : Type 0 where
+  pub said : Said
+  pub listed : FilesListed
+  pub holds : HoldsScript script list report files said listed
+  pub is_true : IsScriptTrue report files said listed
+  pub text : answer.text ≡ commands_true_line (length said.commands)

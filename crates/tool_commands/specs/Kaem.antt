@@ -1,0 +1,35 @@
+-- `kaem SCRIPT LIST REPORT STEPS`: the commands of a script are run over listed files, each within so many steps, and its report is saved.
+-- docs/reference/command-line.md and docs/reference/kaem.md say the same for people.
+use Rattle.std.specs.Prelude.{ℕ, List, [], ◌∷◌, length, sum_by, if◌then◌else◌}
+use Rattle.report.specs.Script.Reports.{script_report_text}
+use Rattle.kaem_script.specs.FilesListed.{FilesListed}
+use Rattle.kaem_script.specs.Fold.{Folded, RanAll, Ran, Stopped, folded}
+use Rattle.kaem_script.specs.Reported.{script_report}
+use Rattle.kaem_script.specs.Script.{Said}
+use Rattle.command_plan.specs.declared.status.Status.TheVariants.{RunFailed, Yes}
+use Rattle.command_plan.specs.Plan.{Plan, answers, sets}
+use Rattle.command_plan.specs.Words.{are_three_files, as_steps, or_usage, usage}
+use Rattle.tool_commands.specs.Scripts.{needs_files, needs_script_and_list}
+use Rattle.tool_commands.specs.ScriptTexts.{command_failed_line, done_line}
+
+-- the steps of all commands together
+abbrev pub steps_of_all : List Ran → ℕ
+steps_of_all ran = sum_by (λ (one : Ran). one.steps) ran
+
+-- all commands ran, and the report is saved; or one stopped the script
+abbrev pub folded_plan : List ℕ → Said → FilesListed → Folded → Plan
+folded_plan report said listed (RanAll ran world) =
+    sets report (script_report_text (script_report said listed ran world)) (answers Yes (done_line (length ran) (steps_of_all ran)))
+folded_plan report said listed (Stopped number cause step) = answers RunFailed (command_failed_line number cause step)
+
+-- the script, the list and the files, and then the commands
+unfoldable pub kaem_files : List ℕ → List ℕ → List ℕ → ℕ → Plan
+kaem_files script list report most =
+    needs_script_and_list script list report (λ said words.
+    needs_files words (λ listed. folded_plan report said listed (folded most listed.world said.commands)))
+
+-- the words after `kaem`
+abbrev pub kaem_plan : List (List ℕ) → Plan
+kaem_plan (script ∷ list ∷ report ∷ steps ∷ []) =
+    or_usage (as_steps steps) (λ most. if are_three_files script list report then kaem_files script list report most else usage)
+kaem_plan _ = usage

@@ -1,0 +1,67 @@
+-- What the commands on scripts begin with: a script, a list of files, and these files. docs/reference/command-line.md and
+-- docs/reference/kaem.md say the same for people. Digests are SHA-256 (FIPS 180-4).
+use Rattle.std.specs.Prelude.{ℕ, Bool, ◌&&◌, not, nat_le, bytes_eq, if◌then◌else◌, Option, None, Some, Result, Ok, Err, List, [], ◌∷◌, ◌++◌, length}
+use Rattle.std.specs.List.{list_any}
+use Rattle.sha2.specs.Sha256.{sha256}
+use Rattle.mem_files.specs.Calls.{placed}
+use Rattle.mem_files.specs.Names.{stripped}
+use Rattle.kaem_script.specs.declared.refusal.ScriptFault.{ScriptFault}
+use Rattle.kaem_script.specs.FilesListed.{FilesListed, no_files}
+use Rattle.kaem_script.specs.Script.{Commands, Said, commands_of}
+use Rattle.command_plan.specs.declared.status.Status.TheVariants.{ScriptRefused}
+use Rattle.command_plan.specs.Lists.{is_listed_word, needs_list}
+use Rattle.command_plan.specs.Plan.{Plan, answers, needs, needs_all, unless_refused}
+use Rattle.command_plan.specs.Words.{is_one_file, usage}
+use Rattle.tool_commands.specs.ScriptTexts.{script_line}
+
+-- ---- SCRIPT
+
+-- a script by its text: the digest of all its bytes, and its commands
+abbrev pub said_by : List ℕ → Commands → Result Said (ScriptFault × ℕ)
+said_by text (Err fault) = Err fault
+said_by text (Ok commands) = Ok (record { digest = record { 0 = sha256 text }; commands = commands })
+
+-- the script whose text this is, or its first fault with the offset of its word
+unfoldable pub script_of : List ℕ → Result Said (ScriptFault × ℕ)
+script_of text = said_by text (commands_of text)
+
+-- the script is needed, of at most 1,048,576 bytes, and read
+abbrev pub needs_script : List ℕ → (Said → Plan) → Plan
+needs_script file next =
+    needs file 1_048_576 (λ text. unless_refused (script_of text) (λ fault. answers ScriptRefused (script_line fault.0 fault.1)) next)
+
+-- ---- LIST
+
+-- a word stands for a file, by its name without the `./` that it begins with, and for none of those for which these words stand
+abbrev pub stands_for_another : List (List ℕ) → List ℕ → Bool
+stands_for_another earlier word =
+    nat_le 1 (length (stripped word)) && not (list_any (λ listed. bytes_eq (stripped listed) (stripped word)) earlier)
+
+-- a line is one word, which stands for another file than each line before it
+unfoldable pub file_line : List (List ℕ) → List ℕ → Option (List ℕ)
+file_line earlier line = if is_listed_word line && stands_for_another earlier line then Some line else None
+
+-- no listed word stands for the file that REPORT stands for
+unfoldable pub needs_unlisted : List (List ℕ) → List ℕ → (Unit {0} → Plan) → Plan
+needs_unlisted words report next = if list_any (λ word. is_one_file word report) words then usage else next tt
+
+-- ---- the files
+
+-- one more listed file, of this word and content
+abbrev pub and_file : FilesListed → List ℕ → List ℕ → FilesListed
+and_file listed word content = record { names = listed.names ++ stripped word ∷ []; world = (placed listed.world word content).1 }
+
+-- a listed file for each word, with the content of the same place, behind those that are listed
+abbrev pub and_files : FilesListed → List (List ℕ) → List (List ℕ) → FilesListed
+and_files listed (word ∷ words) (content ∷ contents) = and_files (and_file listed word content) words contents
+and_files listed _ _ = listed
+
+-- the contents of the listed words are needed in order, each of at most 268,435,456 bytes and all of at most 536,870,912 together
+unfoldable pub needs_files : List (List ℕ) → (FilesListed → Plan) → Plan
+needs_files words next = needs_all 268_435_456 536_870_912 words (λ contents. next (and_files no_files words contents))
+
+-- ---- what comes before the files: SCRIPT, then LIST, of at most 4,096 lines, then REPORT, which is to be no listed file
+
+abbrev pub needs_script_and_list : List ℕ → List ℕ → List ℕ → (Said → List (List ℕ) → Plan) → Plan
+needs_script_and_list script list report next =
+    needs_script script (λ said. needs_list file_line 4_096 list (λ words. needs_unlisted words report (λ _. next said words)))
