@@ -14,7 +14,7 @@ use Rattle.command_plan.specs.declared.status.Status.TheVariants.{RunFailed, Yes
 use Rattle.command_plan.specs.Lists.{list_of}
 use Rattle.command_plan.specs.Plan.{Outcome, outcome}
 use Rattle.command_plan.specs.Words.{are_three_files, is_one_file}
-use Rattle.tool_commands.specs.Kaem.{steps_of_all}
+use Rattle.tool_commands.specs.Kaem.{steps_of_commands}
 use Rattle.tool_commands.specs.Scripts.{and_files, file_line, script_of}
 use Rattle.tool_commands.specs.ScriptTexts.{command_failed_line, commands_true_line, done_line}
 use Rattle.ddc_app.specs.Commands.{plan_of}
@@ -51,7 +51,7 @@ pub record HoldsScript (script list report : List ℕ) (files : NamedFiles) (sai
 abbrev pub kaem_ended : List ℕ → NamedFiles → Said → FilesListed → Folded → Outcome
 kaem_ended report files said listed (RanAll ran world) = record {
   status = Yes;
-  text = done_line (length ran) (steps_of_all ran);
+  text = done_line (length ran) (steps_of_commands ran);
   files = map.insert files report (script_report_text (script_report said listed ran world));
 }
 kaem_ended report files said listed (Stopped number cause step) =

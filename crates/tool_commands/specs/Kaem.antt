@@ -13,13 +13,13 @@ use Rattle.tool_commands.specs.Scripts.{needs_files, needs_script_and_list}
 use Rattle.tool_commands.specs.ScriptTexts.{command_failed_line, done_line}
 
 -- the steps of all commands together
-abbrev pub steps_of_all : List Ran → ℕ
-steps_of_all ran = sum_by (λ (one : Ran). one.steps) ran
+abbrev pub steps_of_commands : List Ran → ℕ
+steps_of_commands ran = sum_by (λ (one : Ran). one.steps) ran
 
 -- all commands ran, and the report is saved; or one stopped the script
 abbrev pub folded_plan : List ℕ → Said → FilesListed → Folded → Plan
 folded_plan report said listed (RanAll ran world) =
-    sets report (script_report_text (script_report said listed ran world)) (answers Yes (done_line (length ran) (steps_of_all ran)))
+    sets report (script_report_text (script_report said listed ran world)) (answers Yes (done_line (length ran) (steps_of_commands ran)))
 folded_plan report said listed (Stopped number cause step) = answers RunFailed (command_failed_line number cause step)
 
 -- the script, the list and the files, and then the commands

@@ -17,13 +17,13 @@ use Rattle.tool_commands.specs.ScriptTexts.{script_line}
 -- ---- SCRIPT
 
 -- a script by its text: the digest of all its bytes, and its commands
-abbrev pub said_by : List ℕ → Commands → Result Said (ScriptFault × ℕ)
-said_by text (Err fault) = Err fault
-said_by text (Ok commands) = Ok (record { digest = record { 0 = sha256 text }; commands = commands })
+abbrev pub script_by_text : List ℕ → Commands → Result Said (ScriptFault × ℕ)
+script_by_text text (Err fault) = Err fault
+script_by_text text (Ok commands) = Ok (record { digest = record { 0 = sha256 text }; commands = commands })
 
 -- the script whose text this is, or its first fault with the offset of its word
 unfoldable pub script_of : List ℕ → Result Said (ScriptFault × ℕ)
-script_of text = said_by text (commands_of text)
+script_of text = script_by_text text (commands_of text)
 
 -- the script is needed, of at most 1,048,576 bytes, and read
 abbrev pub needs_script : List ℕ → (Said → Plan) → Plan
