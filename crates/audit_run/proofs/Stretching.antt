@@ -1,5 +1,6 @@
 -- Stretches in a row, and where they leave an audit.
-use Rattle.std.proofs.Common.{◌≡◌, ℕ, ◌+◌, ◌-◌, ◌≤◌, Result, Ok, List, [], refl, sym, ap, ◌∙◌, arith, subst}
+use Rattle.std.proofs.Common.{◌≡◌, ℕ, ◌+◌, ◌-◌, ◌≤◌, Some, Result, Ok, Err, OnErr, List, [], refl, sym, ap, ◌∙◌, arith, subst}
+use Rattle.ddc_base.specs.declared.byte_list.OutOfMemory.{OutOfMemory}
 use Rattle.guest_run.specs.State.{GuestState}
 use Rattle.recipe.specs.declared.contents.Said.{Said}
 use Rattle.recipe.specs.Kept as kept
@@ -17,8 +18,9 @@ use Rattle.audit_run.specs.declared.place.Moved.{Moved}
 use Rattle.audit_run.specs.declared.place.Moved.TheVariants as moved
 use Rattle.audit_run.specs.declared.place.Place.{Place}
 use Rattle.audit_run.specs.declared.place.Place.TheVariants as place
-use Rattle.audit_run.specs.Advances.{StopsAt}
-use Rattle.audit_run.specs.Inside.Parts.{entry_standing, IsPlace, IsStarted, KeepsPlace, later, SlicesBy, stands, StopsIn, WantsBehind}
+use Rattle.audit_run.specs.Advances.{StopsAt, WantsWithin}
+use Rattle.audit_run.specs.Seen.{standing}
+use Rattle.audit_run.specs.Inside.Parts.{entry_standing, IsPlace, IsStarted, KeepsPlace, later, seen, SlicesBy, stands, StopsIn, WantsBehind}
 use Rattle.audit_run.proofs.Present.{stays}
 
 -- where an audit stands that has started
@@ -57,6 +59,21 @@ wants-later Kept recipe inputs from between done where_it_is first most left is 
     (wants.0, wants.1, stops-later recipe inputs from between (stands recipe inputs done where_it_is) first most left is le wants.2)
 wants-later GivenUp recipe inputs from between done where_it_is first most left is le wants =
     (wants.0, stops-later recipe inputs from between (On wants.0) first most left is le wants.1)
+
+-- where an audit stopped that was entered, the audit may stop
+pub wants-within : (recipe : Said) (inputs : List (List ℕ)) (done shown : List Finished) (where_it_is entered : Place) (most : ℕ) (result : Result (Unit {0}) OutOfMemory) → shown ≡ done
+    → stands recipe inputs shown entered ≡ stands recipe inputs shown where_it_is
+    → OnErr result ((p : Position) × StopsAt recipe inputs (stands recipe inputs done entered) most p)
+    → OnErr result (WantsWithin (record { recipe = recipe; inputs = inputs; stands = seen done where_it_is }) most)
+wants-within recipe inputs done shown where_it_is entered most (Ok done_with) same stood stops = tt
+wants-within recipe inputs done shown where_it_is entered most (Err error) same stood stops =
+    let from : stands recipe inputs done entered ≡ stands recipe inputs done where_it_is =
+    subst (λ d. stands recipe inputs d entered ≡ stands recipe inputs d where_it_is) same stood in
+    (Some (On stops.0), subst (λ s. StopsAt recipe inputs s most stops.0) (from ∙ by_place where_it_is) stops.1) where
+      by_place : (q : Place) → stands recipe inputs done q ≡ standing (record { recipe = recipe; inputs = inputs; stands = seen done q })
+      by_place place.Ready = refl
+      by_place (place.Running guest) = refl
+      by_place (place.Over answer) = refl
 
 module _ (recipe : Said) (inputs : List (List ℕ)) (is : kept.IsRecipe recipe) (given : IsInputs recipe inputs) (done shown : List Finished) (same : shown ≡ done)
     (where_it_is : Place) (guest new : GuestState) (at_place : where_it_is ≡ place.Running guest) (ok : IsPlace recipe done where_it_is) where
