@@ -6,3 +6,6 @@ returns-in_err-text-clause-obtained g c = stops_with c.from_residual.ensures.1 (
 
 pub returns-clause-obtained : goal.returns-clause-obtained
 returns-clause-obtained g c = and_then c.in_ok-text.ensures.obtained (c.read.ensures.obtained _)
+
+pub returns-clause-listed : goal.returns-clause-listed
+returns-clause-listed g c = λ items is. (c.in_ok-text.text, c.read.ensures.value items is)
