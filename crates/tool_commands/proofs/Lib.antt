@@ -2,3 +2,6 @@ pub mod Listing
 pub mod LeftNames
 pub mod Arguments
 pub mod Making
+mod FilePlaces
+mod FileWords
+mod ScriptEnds
