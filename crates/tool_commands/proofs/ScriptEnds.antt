@@ -1,5 +1,5 @@
 -- What a plan comes to by the end of a script's audit, and by the verdict on its report.
-use Rattle.std.proofs.Common.{◌≡◌, ℕ, Option, None, Some, Result, Ok, Err, List, [], ◌∷◌, length, map, sum_by, refl, sym, ap, ◌∙◌, arith}
+use Rattle.std.proofs.Common.{◌≡◌, ℕ, ◌+◌, Option, None, Some, Result, Ok, Err, List, [], ◌∷◌, length, map, sum_by, refl, sym, ap, ◌∙◌, subst}
 use Rattle.std.proofs.lemmas.List.{length-map}
 use Rattle.std.proofs.lemmas.List.Sums.{sum_by-cons}
 use Rattle.sha2.specs.Sha256.{sha256}
@@ -17,8 +17,13 @@ use Rattle.kaem_script.specs.Fold.{Folded, Ran, RanAll, Stopped}
 use Rattle.kaem_script.specs.Reported.{command_line, script_ended, script_report}
 use Rattle.kaem_script.specs.Script.{Said, commands_of}
 use Rattle.kaem_script.specs.Verdicts.{JudgesScript}
+use Rattle.ddc_base.specs.Outside.{ShelfState}
+use Rattle.command_plan.specs.declared.answer.Answer.{Answer}
 use Rattle.command_plan.specs.declared.status.Status.TheVariants.{Refuted, RunFailed, Yes}
+use Rattle.command_plan.specs.declared.stop.Stop.{Stop}
+use Rattle.command_plan.specs.Performs.{Performs}
 use Rattle.command_plan.specs.Plan.{Plan, answers, sets}
+use Rattle.command_plan.specs.Steps.{Says}
 use Rattle.tool_commands.specs.Kaem.{folded_plan, steps_of_commands}
 use Rattle.tool_commands.specs.KaemVerify.{script_verdict_plan}
 use Rattle.tool_commands.specs.Scripts.{script_by_text, script_of}
@@ -45,6 +50,14 @@ same-steps (one ∷ ran) =
 module _ (file : List ℕ) (said : Said) (listed : FilesListed) where
   abbrev done : ScriptReport → Plan
   done made = sets file (script_report_text made) (answers Yes (done_line (length made.commands) (steps_in made.commands)))
+
+  -- the report is saved, and its commands are counted
+  pub saved-so : (content : List ℕ) (commands : List CommandLine) (made : ScriptReport) (answer : Answer) (old new : ShelfState) (result : Result Answer Stop) → content ≡ script_report_text made
+      → commands ≡ made.commands → Says (answers Yes (done_line (length commands) (steps_in commands))) (Ok answer)
+      → Performs (sets file content (answers answer.status answer.text)) old new result → Performs (done made) old new result
+  saved-so content commands made answer old new result text_is same says_so p =
+      subst (λ plan. Performs plan old new result)
+      ((λ i. sets file (text_is i) (sym says_so.by_result i)) ∙ ap (λ cs. sets file (script_report_text made) (answers Yes (done_line (length cs) (steps_in cs)))) same) p
 
   pub all-ran : (folds : Folded) (made : ScriptReport) → script_ended said listed folds ≡ end.Done made → folded_plan file said listed folds ≡ done made
   unfolding script_report
