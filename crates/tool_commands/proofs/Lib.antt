@@ -2,3 +2,4 @@ pub mod Listing
 pub mod LeftNames
 pub mod Arguments
 pub mod Making
+pub mod ListedFiles
