@@ -3,3 +3,6 @@ pub mod LeftNames
 pub mod Arguments
 pub mod Making
 pub mod ListedFiles
+mod FilePlaces
+mod FileWords
+mod ScriptEnds
