@@ -1,17 +1,17 @@
 -- What the commands on scripts come to.
-use Rattle.std.proofs.Common.{◌≡◌, ◌≢◌, ℕ, ◌-◌, ◌≤◌, ◌^◌, ◌↔◌, ◌&&◌, Bool, true, false, cond, IsTrue, Option, Some, None, Result, Ok, Err, List, [], ◌∷◌, length, map, map-id, decimal, sum_by, codes, min, refl, sym, ap, ◌∙◌, subst, arith, All}
+use Rattle.std.proofs.Common.{◌≡◌, ℕ, ◌-◌, ◌≤◌, ◌^◌, ◌↔◌, ◌&&◌, Bool, true, false, cond, IsTrue, Option, Some, None, Result, Ok, Err, List, [], ◌∷◌, ◌+◌, length, decimal, sum_by, codes, min, refl, sym, ap, ◌∙◌, subst, arith, All}
 use Rattle.std.specs.FinMap as finite
 use Rattle.std.specs.List.{list_any}
 use Rattle.std.specs.Prelude.{nat_le}
 use Rattle.std.proofs.Math.Nat.{min-le_right}
 use Rattle.std.proofs.lemmas.Bool.{and_parts, leb-true}
+use Rattle.std.proofs.lemmas.List.{map-id}
 use Rattle.std.proofs.lemmas.List.Sums.{sum_by-cons}
 use Rattle.ddc_base.specs.declared.outside.Loaded.TheVariants.{Bytes}
 use Rattle.ddc_base.specs.Outside.{NamedFiles, loaded}
 use Rattle.ddc_base.specs.declared.digests.Digest.{Digest}
 use Rattle.sha2.specs.Sha256.{sha256}
 use Rattle.ddc_base.proofs.StoredFiles.{others-insert}
-use Rattle.mem_files.specs.Outputs.{IsContent}
 use Rattle.mem_files.specs.Sound.{AreBytes, IsSound}
 use Rattle.mem_files.specs.World.{World}
 use Rattle.report.specs.Script.Reading.{script_report_of}
@@ -40,11 +40,11 @@ use Rattle.command_plan.specs.Lists.{list_of, needs_list}
 use Rattle.command_plan.specs.Plan.{Outcome, Plan, answers, needs, outcome, unless_refused}
 use Rattle.command_plan.specs.Texts.{list_line, report_line, usage_line}
 use Rattle.command_plan.specs.Words.{are_three_files, as_steps, is_one_file, or_usage, usage, within_steps}
-use Rattle.tool_commands.specs.Kaem.{folded_plan, kaem_files, steps_of_commands}
+use Rattle.tool_commands.specs.Kaem.{folded_plan, kaem_files}
 use Rattle.tool_commands.specs.KaemVerify.{kaem_verify_files, needs_script_report, script_verdict_plan}
 use Rattle.tool_commands.specs.Scripts.{and_files, file_line, needs_files, needs_script, needs_script_and_list, needs_unlisted, script_by_text, script_of}
-use Rattle.tool_commands.specs.ScriptTexts.{command_failed_line, commands_true_line, done_line, script_line}
-use Rattle.tool_commands.proofs.ListedFiles.{listed_files-are}
+use Rattle.tool_commands.specs.ScriptTexts.{command_failed_line, commands_true_line, script_line}
+use Rattle.tool_commands.proofs.ListedFiles.{listed-sound}
 use Rattle.ddc_app.specs.Accepting.{HoldBytes, is_compared}
 use Rattle.ddc_app.specs.Commands.{plan_of}
 use Rattle.ddc_app.specs.Holding.{AreHeld}
@@ -194,12 +194,12 @@ module _ (script list report : List ℕ) (files : NamedFiles) where
   Alone = ChangesReportAlone report files
 
   as_before : (given : Status) (text : List ℕ) → Alone (told files given text)
-  as_before given text = record { others = λ name other. refl; unless_yes = λ no. refl }
+  as_before given text = record { others = λ name other. refl; unless_yes = λ other. refl }
 
   by_fold : (said : Said) (listed : FilesListed) (f : Folded) → Alone (outcome (folded_plan report said listed f) files)
   by_fold said listed (RanAll ran world) = record {
     others = λ name other. (others-insert files report (script_report_text (script_report said listed ran world))).others name other;
-    unless_yes = λ no. absurd (no refl);
+    unless_yes = λ other. absurd (other refl);
   }
   by_fold said listed (Stopped number cause step) = as_before status.RunFailed (command_failed_line number cause step)
 
@@ -220,7 +220,7 @@ module _ (script list report : List ℕ) (files : NamedFiles) where
 -- ---- where they come to a yes
 
 no_yes : (given : Status) → is_compared given ≡ false → given ≡ status.Yes → ⊥
-no_yes given no yes = let both : false ≡ true = sym no ∙ ap is_compared yes in cc
+no_yes given refusal ends = let both : false ≡ true = sym refusal ∙ ap is_compared ends in cc
 
 module _ (script list report : List ℕ) (files : NamedFiles) where
   -- the report that is held says what its commands come to
@@ -243,30 +243,30 @@ module _ (script list report : List ℕ) (files : NamedFiles) where
   pub kaem_verifies : (kaem_verify script list report files).status ≡ status.Yes → ScriptVerified script list report files (kaem_verify script list report files)
   kaem_verifies =
       kaem_verify_keeps script list report files (λ o. o.status ≡ status.Yes → ScriptVerified script list report files o)
-      (λ given text refusal yes. absurd (no_yes given refusal.1 yes)) (λ said listed text made holds held reads.
+      (λ given text refusal ends. absurd (no_yes given refusal.1 ends)) (λ said listed text made holds held reads.
       by said listed text made holds held reads (first_script_fault said listed made) refl)
     where
       by : (said : Said) (listed : FilesListed) (text : List ℕ) (made : ScriptReport) → HoldsScript script list report files said listed
           → loaded files report 1_073_741_824 ≡ Bytes text → script_report_of text ≡ Ok made → (fault : Option (ScriptPart × ℕ)) → first_script_fault said listed made ≡ fault
           → (outcome (script_verdict_plan (length said.commands) fault) files).status ≡ status.Yes
           → ScriptVerified script list report files (outcome (script_verdict_plan (length said.commands) fault) files)
-      by said listed text made holds held reads None none yes =
+      by said listed text made holds held reads None none ends =
           record { said = said; listed = listed; holds = holds; is_true = shows_true said listed text made held reads none; text = refl }
-      by said listed text made holds held reads (Some (part, place)) none yes = absurd cc
+      by said listed text made holds held reads (Some (part, place)) none ends = absurd cc
 
   pub kaem_reports : (steps : List ℕ) → (outcome (plan_of (codes "kaem" ∷ script ∷ list ∷ report ∷ steps ∷ [])) files).status ≡ status.Yes
       → ScriptReported script list report steps files (outcome (plan_of (codes "kaem" ∷ script ∷ list ∷ report ∷ steps ∷ [])) files)
   kaem_reports steps =
       kaem_keeps script list report files (λ o. o.status ≡ status.Yes → ScriptReported script list report steps files o)
-      (λ given text refusal yes. absurd (no_yes given refusal.1 yes)) steps (λ most said listed count holds.
+      (λ given text refusal ends. absurd (no_yes given refusal.1 ends)) steps (λ most said listed count holds.
       by most said listed count holds (folded most listed.world said.commands) refl)
     where
       by : (most : ℕ) (said : Said) (listed : FilesListed) → as_steps steps ≡ Some most → HoldsScript script list report files said listed
           → (f : Folded) → folded most listed.world said.commands ≡ f → (outcome (folded_plan report said listed f) files).status ≡ status.Yes
           → ScriptReported script list report steps files (outcome (folded_plan report said listed f) files)
-      by most said listed count holds (RanAll ran world) was yes =
+      by most said listed count holds (RanAll ran world) was ends =
           record { most = most; counted = count; said = said; listed = listed; holds = holds; ran = ran; world = world; all_ran = was; answer_is = refl }
-      by most said listed count holds (Stopped number cause step) was yes = absurd cc
+      by most said listed count holds (Stopped number cause step) was ends = absurd cc
 
 -- ---- over files that hold a script
 
@@ -338,7 +338,7 @@ module _ (script list report : List ℕ) (files : NamedFiles) (said : Said) (lis
   pub listed_sound : HoldBytes files → IsList listed × IsSound listed.world
   listed_sound bytes =
       subst (λ (l : FilesListed). IsList l × IsSound l.world) (sym h.listed_are)
-      (listed_files-are h.list_bytes h.words h.contents h.list_reads (as_many 268_435_456 536_870_912 files h.words h.contents h.contents_held)
+      (listed-sound h.list_bytes h.words h.contents h.list_reads (as_many 268_435_456 536_870_912 files h.words h.contents h.contents_held)
       (are_contents 536_870_912 files h.words h.contents bytes h.contents_held) (are_small 536_870_912 h.words h.contents h.contents_held))
 
   script_good : AreBytes h.script_bytes → IsScript said × All (All AreBytes) said.commands
@@ -386,13 +386,13 @@ module _ (script list report : List ℕ) (files : NamedFiles) (said : Said) (lis
   yes_shows : Shows (kaem_verify script list report files)
   yes_shows =
       subst Shows (sym report_opens)
-      (report_keeps script list report files Shows (λ given text refusal yes. absurd (no_yes given refusal.1 yes)) (loads said h.words) (λ text made held reads.
+      (report_keeps script list report files Shows (λ given text refusal ends. absurd (no_yes given refusal.1 ends)) (loads said h.words) (λ text made held reads.
       subst Shows (sym (judges made)) (by text made held reads (first_script_fault said listed made) refl)))
     where
       by : (text : List ℕ) (made : ScriptReport) → loaded files report 1_073_741_824 ≡ Bytes text → script_report_of text ≡ Ok made → (fault : Option (ScriptPart × ℕ))
           → first_script_fault said listed made ≡ fault → Shows (outcome (script_verdict_plan (length said.commands) fault) files)
-      by text made held reads None none yes = (shows_true script list report files said listed text made held reads none, refl)
-      by text made held reads (Some (part, place)) none yes = absurd cc
+      by text made held reads None none ends = (shows_true script list report files said listed text made held reads none, refl)
+      by text made held reads (Some (part, place)) none ends = absurd cc
 
   true_yes : HoldBytes files → IsScriptTrue report files said listed → (kaem_verify script list report files).status ≡ status.Yes
   true_yes bytes t =
@@ -400,10 +400,10 @@ module _ (script list report : List ℕ) (files : NamedFiles) (said : Said) (lis
       (accepts_report (2 ^ 48) t.ran t.world (omega arith) t.all_ran (report_good bytes (2 ^ 48) t.ran t.world (omega arith) t.all_ran) t.held)
 
   pub script_verified : HoldBytes files → ((kaem_verify script list report files).status ≡ status.Yes) ↔ IsScriptTrue report files said listed
-  script_verified bytes = (λ yes. (yes_shows yes).0, true_yes bytes)
+  script_verified bytes = (λ ends. (yes_shows ends).0, true_yes bytes)
 
   pub script_text : (kaem_verify script list report files).status ≡ status.Yes → (kaem_verify script list report files).text ≡ commands_true_line (length said.commands)
-  script_text yes = (yes_shows yes).1
+  script_text ends = (yes_shows ends).1
 
   -- also once a report was set
   pub holds_again : (content : List ℕ) → HoldsScript script list report (finite.insert files report content) said listed
@@ -445,8 +445,8 @@ few_steps steps most is = by_count (as_decimal steps) is
 
 pub script_accepted : (script list report : List ℕ) (steps : ℕ) (files : NamedFiles) → HoldBytes files → (kaem script list report steps files).status ≡ status.Yes
     → (kaem_verify script list report (kaem script list report steps files).files).status ≡ status.Yes
-script_accepted script list report steps files bytes yes =
-    let r = kaem_reports script list report files (decimal steps) yes in
+script_accepted script list report steps files bytes ends =
+    let r = kaem_reports script list report files (decimal steps) ends in
     let text : List ℕ = script_report_text (script_report r.said r.listed r.ran r.world) in
     let few = few_steps (decimal steps) r.most r.counted in
     let good = report_good script list report files r.said r.listed r.holds bytes r.most r.ran r.world few r.all_ran in
@@ -454,3 +454,15 @@ script_accepted script list report steps files bytes yes =
     subst (λ (o : Outcome). (kaem_verify script list report o.files).status ≡ status.Yes) (sym r.answer_is)
     (ap (λ (o : Outcome). o.status)
     (accepts_report script list report (finite.insert files report text) r.said r.listed again r.most r.ran r.world few r.all_ran good (set_held files report text)))
+
+pub accepted_text : (script list report : List ℕ) (steps : ℕ) (files : NamedFiles) (said : Said) (listed : FilesListed) → HoldsScript script list report files said listed → HoldBytes files
+    → (kaem script list report steps files).status ≡ status.Yes
+    → (kaem_verify script list report (kaem script list report steps files).files).text ≡ commands_true_line (length said.commands)
+accepted_text script list report steps files said listed h bytes ends =
+    let r = kaem_reports script list report files (decimal steps) ends in
+    let text : List ℕ = script_report_text (script_report r.said r.listed r.ran r.world) in
+    let after : NamedFiles = finite.insert files report text in
+    let left : (kaem script list report steps files).files ≡ after = ap (λ (o : Outcome). o.files) r.answer_is in
+    subst (λ (now : NamedFiles). (kaem_verify script list report now).text ≡ commands_true_line (length said.commands)) (sym left)
+    (script_text script list report after said listed (holds_again script list report files said listed h text)
+    (subst (λ (now : NamedFiles). (kaem_verify script list report now).status ≡ status.Yes) left (script_accepted script list report steps files bytes ends)))

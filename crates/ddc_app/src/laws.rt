@@ -185,10 +185,13 @@ pub fn scripts_shown()
 {}
 
 /// A script's own report is accepted: where `kaem` over files of bytes comes to 0, `kaem-verify` over the files afterwards does too, and says how many
-/// commands ran.
+/// commands the script has.
 pub fn scripts_accepted()
-    ensures { (script list report : List ℕ) (steps : ℕ) (files : NamedFiles) → HoldBytes files → (kaem script list report steps files).status ≡ Yes
+    ensures yes { (script list report : List ℕ) (steps : ℕ) (files : NamedFiles) → HoldBytes files → (kaem script list report steps files).status ≡ Yes
         → (kaem_verify script list report (kaem script list report steps files).files).status ≡ Yes }
+    ensures text { (script list report : List ℕ) (steps : ℕ) (files : NamedFiles) (said : Said) (listed : FilesListed)
+        → HoldsScript script list report files said listed → HoldBytes files → (kaem script list report steps files).status ≡ Yes
+        → (kaem_verify script list report (kaem script list report steps files).files).text ≡ commands_true_line (length said.commands) }
 {}
 
 /// `kaem` changes no name but REPORT, and that only where it comes to 0; `kaem-verify` changes nothing. This holds whatever the files hold.

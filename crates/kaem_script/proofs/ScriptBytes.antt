@@ -1,8 +1,8 @@
 -- The words of a script of bytes are bytes.
-use Rattle.std.proofs.Common.{◌≡◌, ℕ, zero, suc, ◌+◌, ◌-◌, ◌<◌, ◌==◌, ◌&&◌, Bool, true, false, cond, not, List, [], ◌∷◌, ◌++◌, length, drop, take, Result, Ok, Err, All}
+use Rattle.std.proofs.Common.{ℕ, zero, suc, ◌+◌, ◌-◌, ◌<◌, ◌==◌, ◌&&◌, Bool, true, false, cond, not, List, [], ◌∷◌, ◌++◌, length, drop, take, Result, Ok, Err, All}
 use Rattle.std.specs.List.{list_any, position_or_len}
 use Rattle.std.specs.Prelude.{nat_le, nat_lt}
-use Rattle.std.proofs.lemmas.List.Elements.{All-cons, All-drop, All-nil, All-push, All-tail, All-take}
+use Rattle.std.proofs.lemmas.List.Elements.{All-drop, All-nil, All-push, All-tail, All-take}
 use Rattle.mem_files.specs.Sound.{AreBytes}
 use Rattle.kaem_script.specs.declared.refusal.ScriptFault.{ScriptFault}
 use Rattle.kaem_script.specs.declared.refusal.ScriptFault.TheVariants.{BadWord, LongWord, OpenQuote, TooMany, TooManyWords}
@@ -66,7 +66,7 @@ next-bytes commands words here are = by (words == most_words) (nat_le words 0 &&
 
 -- ---- all commands
 
-abbrev AllBytes : Commands → Type 0
+abbrev pub AllBytes : Commands → Type 0
 AllBytes (Ok commands) = All (All AreBytes) commands
 AllBytes (Err fault) = Unit {0}
 

@@ -45,18 +45,18 @@ returns g c =
           subst (Chained g.M.Meaning.prescribes g.M.Meaning.compiles list files) (sym same)
           (c.chained.ensures list files (subst (λ (w : List (List ℕ)). LoadsBytes (plan_of w) files) words bytes)
           (sym (ap (λ o. o.status) same) ∙ sym status ∙ yes));
-      reported = λ settled script list report steps words yes.
+      reported = λ settled script list report steps words ends.
           let files = (g.S.Shelf.state c.args.shelf.now).files in
           let same = ap (λ (w : List (List ℕ)). outcome (plan_of w) files) words in
-          let status = sessions.status _ _ _ _ _ _ _ _ _ l settled (ap is_answer yes) in
+          let status = sessions.status _ _ _ _ _ _ _ _ _ l settled (ap is_answer ends) in
           subst (ScriptReported script list report steps files) (sym same)
-          (kaem_reports script list report files steps (sym (ap (λ o. o.status) same) ∙ sym status ∙ yes));
-      replayed = λ settled script list report words yes.
+          (kaem_reports script list report files steps (sym (ap (λ o. o.status) same) ∙ sym status ∙ ends));
+      replayed = λ settled script list report words ends.
           let files = (g.S.Shelf.state c.args.shelf.now).files in
           let same = ap (λ (w : List (List ℕ)). outcome (plan_of w) files) words in
-          let status = sessions.status _ _ _ _ _ _ _ _ _ l settled (ap is_answer yes) in
+          let status = sessions.status _ _ _ _ _ _ _ _ _ l settled (ap is_answer ends) in
           subst (ScriptVerified script list report files) (sym same)
-          (kaem_verifies script list report files (sym (ap (λ o. o.status) same) ∙ sym status ∙ yes));
+          (kaem_verifies script list report files (sym (ap (λ o. o.status) same) ∙ sym status ∙ ends));
       prompt_stays = sessions.prompt_stays _ _ _ _ _ _ _ _ _ l;
       shelf_tells = sessions.shelf_tells _ _ _ _ _ _ _ _ _ l;
       out_tells = sessions.out_tells _ _ _ _ _ _ _ _ _ l;
