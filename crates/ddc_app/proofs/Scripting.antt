@@ -1,18 +1,15 @@
 -- What the commands on scripts come to.
-use Rattle.std.proofs.Common.{◌≡◌, ℕ, ◌-◌, ◌≤◌, ◌^◌, ◌↔◌, ◌&&◌, Bool, true, false, cond, IsTrue, Option, Some, None, Result, Ok, Err, List, [], ◌∷◌, ◌+◌, length, decimal, sum_by, codes, min, refl, sym, ap, ◌∙◌, subst, arith, All}
+use Rattle.std.proofs.Common.{◌≡◌, ℕ, ◌≤◌, ◌^◌, ◌↔◌, ◌&&◌, Bool, true, false, cond, IsTrue, Option, Some, None, Result, Ok, List, [], ◌∷◌, length, decimal, codes, refl, sym, ap, ◌∙◌, subst, arith}
 use Rattle.std.specs.FinMap as finite
 use Rattle.std.specs.List.{list_any}
 use Rattle.std.specs.Prelude.{nat_le}
-use Rattle.std.proofs.Math.Nat.{min-le_right}
 use Rattle.std.proofs.lemmas.Bool.{and_parts, leb-true}
 use Rattle.std.proofs.lemmas.List.{map-id}
-use Rattle.std.proofs.lemmas.List.Sums.{sum_by-cons}
+use Rattle.ddc_base.specs.Decimals.{as_decimal}
 use Rattle.ddc_base.specs.declared.outside.Loaded.TheVariants.{Bytes}
 use Rattle.ddc_base.specs.Outside.{NamedFiles, loaded}
-use Rattle.ddc_base.specs.declared.digests.Digest.{Digest}
-use Rattle.sha2.specs.Sha256.{sha256}
 use Rattle.ddc_base.proofs.StoredFiles.{others-insert}
-use Rattle.mem_files.specs.Sound.{AreBytes, IsSound}
+use Rattle.mem_files.specs.Sound.{IsSound}
 use Rattle.mem_files.specs.World.{World}
 use Rattle.report.specs.Script.Reading.{script_report_of}
 use Rattle.report.specs.Script.Reports.{IsScriptReport, script_report_text}
@@ -25,26 +22,22 @@ use Rattle.kaem_script.specs.declared.verdict.ScriptPart.{ScriptPart}
 use Rattle.kaem_script.specs.Faults.{first_script_fault}
 use Rattle.kaem_script.specs.FilesListed.{FilesListed, IsList, no_files}
 use Rattle.kaem_script.specs.Fold.{Folded, Ran, RanAll, Stopped, folded}
-use Rattle.kaem_script.specs.Kept.{IsScript}
 use Rattle.kaem_script.specs.Reported.{script_ended, script_report}
-use Rattle.kaem_script.specs.Script.{Commands, Said, commands_of}
+use Rattle.kaem_script.specs.Script.{Said}
 use Rattle.kaem_script.proofs.DoneReports.{done-report}
-use Rattle.kaem_script.proofs.Kept.{script-kept}
 use Rattle.kaem_script.proofs.OneReport.{no_fault_reports, reported_without_fault}
-use Rattle.kaem_script.proofs.ScriptBytes.{AllBytes, commands-bytes}
-use Rattle.kaem_script.proofs.WellFormed.{script-whole}
 use Rattle.command_plan.specs.declared.status.Status.{Status}
 use Rattle.command_plan.specs.declared.status.Status.TheVariants as status
-use Rattle.ddc_base.specs.Decimals.{as_decimal}
 use Rattle.command_plan.specs.Lists.{list_of, needs_list}
 use Rattle.command_plan.specs.Plan.{Outcome, Plan, answers, needs, outcome, unless_refused}
 use Rattle.command_plan.specs.Texts.{list_line, report_line, usage_line}
 use Rattle.command_plan.specs.Words.{are_three_files, as_steps, is_one_file, or_usage, usage, within_steps}
 use Rattle.tool_commands.specs.Kaem.{folded_plan, kaem_files}
 use Rattle.tool_commands.specs.KaemVerify.{kaem_verify_files, needs_script_report, script_verdict_plan}
-use Rattle.tool_commands.specs.Scripts.{and_files, file_line, needs_files, needs_script, needs_script_and_list, needs_unlisted, script_by_text, script_of}
+use Rattle.tool_commands.specs.Scripts.{and_files, file_line, needs_files, needs_script, needs_script_and_list, needs_unlisted, script_of}
 use Rattle.tool_commands.specs.ScriptTexts.{command_failed_line, commands_true_line, script_line}
 use Rattle.tool_commands.proofs.ListedFiles.{listed-sound}
+use Rattle.tool_commands.proofs.ReadScripts.{read-good}
 use Rattle.ddc_app.specs.Accepting.{HoldBytes, is_compared}
 use Rattle.ddc_app.specs.Commands.{plan_of}
 use Rattle.ddc_app.specs.Holding.{AreHeld}
@@ -52,7 +45,7 @@ use Rattle.ddc_app.specs.Pausing.{IsStepCount}
 use Rattle.ddc_app.specs.Scripted.{ChangesReportAlone, HoldsScript, IsScriptTrue, ScriptReported, ScriptVerified, kaem, kaem_ended, kaem_verify}
 use Rattle.ddc_app.proofs.Beginnings.{three_apart}
 use Rattle.ddc_app.proofs.CountWords.{count-again}
-use Rattle.ddc_app.proofs.Loads.{are_contents, as_many, follow_all, follows, found_again, is_loaded, other_held, set_held, within}
+use Rattle.ddc_app.proofs.Loads.{are_contents, as_many, follow_all, follows, found_again, held_small, is_loaded, other_held, set_held, within}
 use Rattle.ddc_app.proofs.Walks.{IsRefusal, both_need, both_need_all, both_read, told}
 
 -- ---- what holds of every refusal and of what the loads lead to holds of both commands
@@ -322,41 +315,16 @@ module _ (script list report : List ℕ) (files : NamedFiles) (said : Said) (lis
 
   -- ---- the report of what ran
 
-  are_small : (room : ℕ) (names contents : List (List ℕ)) → AreHeld 268_435_456 room files names contents → sum_by length contents ≤ room
-  are_small room [] [] held = omega arith
-  are_small room (name ∷ names) [] held = absurd held
-  are_small room [] (content ∷ contents) held = absurd held
-  are_small room (name ∷ names) (content ∷ contents) held =
-      let one = (within (min 268_435_456 room) (finite.get files name) content held.0).1 in
-      let rest = are_small (room - length content) names contents held.1 in
-      more (length content) (sum_by length contents) room (sum_by length (content ∷ contents)) (sum_by-cons length content contents) rest
-      (omega (arith, one, min-le_right 268_435_456 room))
-    where
-      more : (a b c sum : ℕ) → sum ≡ a + b → b ≤ c - a → a ≤ c → sum ≤ c
-      more a b c sum is rest first = omega (arith, is, rest, first)
-
   pub listed_sound : HoldBytes files → IsList listed × IsSound listed.world
   listed_sound bytes =
       subst (λ (l : FilesListed). IsList l × IsSound l.world) (sym h.listed_are)
       (listed-sound h.list_bytes h.words h.contents h.list_reads (as_many 268_435_456 536_870_912 files h.words h.contents h.contents_held)
-      (are_contents 536_870_912 files h.words h.contents bytes h.contents_held) (are_small 536_870_912 h.words h.contents h.contents_held))
-
-  script_good : AreBytes h.script_bytes → IsScript said × All (All AreBytes) said.commands
-  unfolding script_of
-  script_good bytes = by (commands_of h.script_bytes) refl h.script_reads (commands-bytes h.script_bytes bytes)
-    where
-      by : (c : Commands) → commands_of h.script_bytes ≡ c → script_by_text h.script_bytes c ≡ Ok said → AllBytes c → IsScript said × All (All AreBytes) said.commands
-      by (Err fault) read is good = absurd cc
-      by (Ok commands) read is good =
-          let digest : Digest = record { 0 = sha256 h.script_bytes } in
-          let same : record { digest = digest; commands = commands } ≡ said = cc in
-          subst (λ (s : Said). IsScript s × All (All AreBytes) s.commands) same
-          (script-whole h.script_bytes digest commands refl (script-kept h.script_bytes commands read), good)
+      (are_contents 536_870_912 files h.words h.contents bytes h.contents_held) (held_small 536_870_912 files h.words h.contents h.contents_held))
 
   pub report_good : HoldBytes files → (most : ℕ) (ran : List Ran) (world : World) → most ≤ 2 ^ 48 → folded most listed.world said.commands ≡ RanAll ran world
       → IsScriptReport (script_report said listed ran world)
   report_good bytes most ran world few all_ran =
-      let good = script_good (bytes script h.script_bytes (within 1_048_576 (finite.get files script) h.script_bytes h.script_held).0) in
+      let good = read-good h.script_bytes said h.script_reads (bytes script h.script_bytes (within 1_048_576 (finite.get files script) h.script_bytes h.script_held).0) in
       let sound = listed_sound bytes in
       done-report most said listed ran world few good.0 good.1 sound.0 sound.1 all_ran
 

@@ -3,6 +3,7 @@ pub mod LeftNames
 pub mod Arguments
 pub mod Making
 pub mod ListedFiles
+pub mod ReadScripts
 mod FilePlaces
 mod FileWords
 mod ScriptEnds
