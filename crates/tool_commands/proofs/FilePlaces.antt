@@ -113,6 +113,9 @@ files_left room listed words next = needs_all 268_435_456 room words (λ content
 pub wants_on : {A : Type 0} (plan rest : (A → Plan) → Plan) (old now : ShelfState) → LeadsOn plan rest old now → Obtains plan old now (Err stop.OutOfMemory)
 wants_on plan rest old now leads = record { by_result = λ next. led_to plan rest old now leads next now (Err stop.OutOfMemory) (wants_memory (rest next) now) }
 
+pub at-front : (words : List (List ℕ)) (index : ℕ) (word : List ℕ) → index < length words → word ≡ get_or words index word → drop index words ≡ word ∷ drop (index + 1) words
+at-front words index word less is = at_drop_more (λ (l : List (List ℕ)). l) words index word less ∙ ap (λ w. w ∷ drop (index + 1) words) (sym is)
+
 module _ (plan : (FilesListed → Plan) → Plan) (listed : FilesListed) (room : ℕ) (words : List (List ℕ)) (index : ℕ) (old now : ShelfState)
     (leads : LeadsOn plan (files_left room listed (drop index words)) old now) where
   -- no word is left
@@ -140,3 +143,11 @@ module _ (plan : (FilesListed → Plan) → Plan) (listed : FilesListed) (room :
     pub file-more : (mid : ShelfState) (content : List ℕ) → Obtains (needs text limit) now mid (Ok content)
         → LeadsOn plan (files_left (room - length content) (and_file listed word content) (drop (index + 1) words)) old mid
     file-more mid content o = λ next final ending e. here next final ending (o.by_result (behind next) final ending e)
+
+    pub file-added : (mid : ShelfState) (content : List ℕ) (left : ℕ) (grown : FilesListed) → Obtains (needs text limit) now mid (Ok content)
+        → HasRoom (and_file listed word content) (room - length content) (drop (index + 1) words) → left ≡ room - length content → grown ≡ and_file listed word content
+        → LeadsOn plan (files_left left grown (drop (index + 1) words)) old mid × HasRoom grown left (drop (index + 1) words)
+    file-added mid content left grown o has fell added =
+        subst (λ r. LeadsOn plan (files_left r grown (drop (index + 1) words)) old mid × HasRoom grown r (drop (index + 1) words)) (sym fell)
+        (subst (λ (l : FilesListed). LeadsOn plan (files_left (room - length content) l (drop (index + 1) words)) old mid × HasRoom l (room - length content) (drop (index + 1) words)) (sym added)
+        (file-more mid content o, has))

@@ -1,5 +1,5 @@
 -- The words of a list of files: each stands for a file, and no two of them for one.
-use Rattle.std.proofs.Common.{◌≡◌, ℕ, ◌==◌, ◌&&◌, ◌||◌, Bool, true, false, if◌then◌else◌, IsTrue, not, Option, None, Some, List, [], ◌∷◌, ◌++◌, length, nat_le, sym, ap, ◌∙◌, arith}
+use Rattle.std.proofs.Common.{◌≡◌, ℕ, ◌==◌, ◌&&◌, ◌||◌, Bool, true, false, if◌then◌else◌, IsTrue, not, Option, None, Some, List, [], ◌∷◌, ◌++◌, length, nat_le, refl, sym, ap, ◌∙◌, subst, arith}
 use Rattle.std.specs.Prelude.{bytes_eq}
 use Rattle.std.specs.List.{list_all, list_any}
 use Rattle.std.proofs.lemmas.Bool.{and_parts, leb-true, ne_eqb, or_parts}
@@ -21,7 +21,7 @@ no-zero (byte ∷ bytes) is =
     ap (λ b. b || has_zero bytes) (ne_eqb byte 0 (λ zero. omega (arith, low, zero))) ∙ no-zero bytes parts.1
 
 -- a listed word that stands for a file names one
-pub file-named : (earlier : List (List ℕ)) (word : List ℕ) → is_listed_word word ≡ true → stands_for_another earlier word ≡ true → IsTrue (is_file_name (stripped word))
+file-named : (earlier : List (List ℕ)) (word : List ℕ) → is_listed_word word ≡ true → stands_for_another earlier word ≡ true → IsTrue (is_file_name (stripped word))
 file-named earlier word is stands =
     let parts = parts-of word is in
     let short = parts.1 in
@@ -29,12 +29,19 @@ file-named earlier word is stands =
     let named = name_of_text word (omega (arith, short)) (no-zero word parts.2) (λ none. omega (arith, some, none)) in
     (and_parts (is_file_name (stripped word)) (not (begins_with_dot_slash (stripped word))) named).0
 
+pub word-named : (earlier : List (List ℕ)) (line word : List ℕ) → Some word ≡ listed_word line → is_listed_word word ≡ true → stands_for_another earlier line ≡ true
+    → IsTrue (is_file_name (stripped word))
+word-named earlier line word is listed stands = file-named earlier word listed (subst (λ w. stands_for_another earlier w ≡ true) (by (is_listed_word line) is) stands) where
+  by : (b : Bool) → Some word ≡ (if b then Some line else None) → line ≡ word
+  by true is = cc
+  by false is = absurd cc
+
 -- ---- a line
 
 module _ (earlier : List (List ℕ)) (line : List ℕ) where
   pub no-other : stands_for_another earlier line ≡ false → file_line earlier line ≡ None
   unfolding file_line
-  no-other not = by (is_listed_word line) (stands_for_another earlier line) not where
+  no-other stands = by (is_listed_word line) (stands_for_another earlier line) stands where
     by : (listed another : Bool) → another ≡ false → (if listed && another then Some line else None) ≡ None
     by true another is = ap (λ b. if b then Some line else None) is
     by false another is = refl

@@ -1,6 +1,7 @@
 //! A line of a list of files.
 
 ghost use Rattle.std.specs.Prelude.{◌≡◌, IsTrue, bytes_eq};
+ghost use Rattle.std.specs.List.{list_any};
 ghost use Rattle.ddc_base.specs.Outside.{IsFileName};
 ghost use Rattle.mem_files.specs.Names.{is_file_name, stripped};
 ghost use Rattle.tool_commands.specs.Scripts.{stands_for_another};
@@ -70,12 +71,19 @@ fn stands_for_another(earlier: &[ListedFile], word: &[u8]) -> bool
     ensures { result ≡ stands_for_another earlier.now word.now }
 {
     let name = strip(word);
-    !name.is_empty() && !earlier.iter().any(|listed| stands_for(listed, name))
+    !name.is_empty() && !is_named(earlier, name)
 }
 
-/// Whether a listed word stands for the file of this name.
-fn stands_for(listed: &ListedFile, name: &[u8]) -> bool
-    ensures { result ≡ bytes_eq (stripped listed.now) name.now }
+/// Whether one of these words stands for the file of this name.
+fn is_named(words: &[ListedFile], name: &[u8]) -> bool
+    ensures { result ≡ list_any (λ word. bytes_eq (stripped word) name.now) words.now }
 {
-    strip(listed.as_str().as_bytes()) == name
+    words.iter().any(|word| stands_for(word, name))
+}
+
+/// Whether a word stands for the file of this name.
+fn stands_for(word: &ListedFile, name: &[u8]) -> bool
+    ensures { result ≡ bytes_eq (stripped word.now) name.now }
+{
+    strip(word.as_str().as_bytes()) == name
 }

@@ -1,6 +1,6 @@
 //! What the commands on scripts begin with: a script, a list of files, and these files.
 
-ghost use Rattle.std.specs.Prelude.{◌≡◌, ◌≤◌, IfOk, IsTrue, OnOk, length};
+ghost use Rattle.std.specs.Prelude.{◌≡◌, ◌≤◌, IfOk, OnOk, length, ℕ};
 ghost use Rattle.std.specs.List.{list_any};
 ghost use Rattle.ddc_base.specs.Outside.{IsFileName, ShelfState};
 ghost use Rattle.kaem_script.specs.declared.refusal.ScriptFault.{ScriptFault as Fault};
