@@ -1,5 +1,5 @@
 -- The words of a list of files: each stands for a file, and no two of them for one.
-use Rattle.std.proofs.Common.{◌≡◌, ℕ, ◌==◌, ◌&&◌, ◌||◌, Bool, true, false, if◌then◌else◌, IsTrue, not, Option, None, Some, List, [], ◌∷◌, ◌++◌, length, nat_le, refl, sym, ap, ◌∙◌, subst, arith}
+use Rattle.std.proofs.Common.{◌≡◌, ℕ, ◌&&◌, ◌||◌, Bool, true, false, if◌then◌else◌, IsTrue, not, None, Some, List, [], ◌∷◌, ◌++◌, length, nat_le, refl, ap, ◌∙◌, subst, arith}
 use Rattle.std.specs.Prelude.{bytes_eq}
 use Rattle.std.specs.List.{list_all, list_any}
 use Rattle.std.proofs.lemmas.Bool.{and_parts, leb-true, ne_eqb, or_parts}
@@ -35,23 +35,6 @@ word-named earlier line word is listed stands = file-named earlier word listed (
   by : (b : Bool) → Some word ≡ (if b then Some line else None) → line ≡ word
   by true is = cc
   by false is = absurd cc
-
--- ---- a line
-
-module _ (earlier : List (List ℕ)) (line : List ℕ) where
-  pub no-other : stands_for_another earlier line ≡ false → file_line earlier line ≡ None
-  unfolding file_line
-  no-other stands = by (is_listed_word line) (stands_for_another earlier line) stands where
-    by : (listed another : Bool) → another ≡ false → (if listed && another then Some line else None) ≡ None
-    by true another is = ap (λ b. if b then Some line else None) is
-    by false another is = refl
-
-  pub the-line : (word : Option (List ℕ)) → stands_for_another earlier line ≡ true → word ≡ listed_word line → word ≡ file_line earlier line
-  unfolding file_line
-  the-line word stands is = is ∙ by (is_listed_word line) (stands_for_another earlier line) stands where
-    by : (listed another : Bool) → another ≡ true → (if listed then Some line else None) ≡ (if listed && another then Some line else None)
-    by true another is = ap (λ b. if b then Some line else None) (sym is)
-    by false another is = refl
 
 -- ---- a list
 

@@ -88,11 +88,7 @@ pub(crate) fn fetch_words<S: Shelf>(
 
 /// Ends the command where a listed word stands for a file that is to be written.
 #[tactic(auto, unfolding(crate::specs::Scripts::needs_unlisted))]
-pub(crate) fn unlisted(
-    alloc: Global,
-    words: &ListOf<ListedFile>,
-    report: &str,
-) -> Result<(), Stop>
+pub(crate) fn unlisted(alloc: Global, words: &ListOf<ListedFile>, report: &str) -> Result<(), Stop>
     ensures { (shelf : ShelfState) → Obtains (needs_unlisted words.now report.now) shelf shelf result }
 {
     if is_listed(words, report) {

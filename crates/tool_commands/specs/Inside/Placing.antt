@@ -1,5 +1,5 @@
 -- What the files of a list rest on, which are placed one after the other. No promise rests on its being read.
-use Rattle.std.specs.Prelude.{◌≡◌, ℕ, false, bytes_eq, All, Result, Ok, List, [], ◌∷◌}
+use Rattle.std.specs.Prelude.{◌≡◌, ℕ, false, bytes_eq, All, Ok, List, [], ◌∷◌}
 use Rattle.mem_files.specs.Calls.{placed}
 use Rattle.mem_files.specs.Names.{stripped}
 use Rattle.kaem_script.specs.FilesListed.{FilesListed}

@@ -1,9 +1,8 @@
-use Rattle.std.proofs.Common.{◌+◌, ◌≤◌, ◌*◌, ◌^◌, [], length, take, get_or, arith}
+use Rattle.std.proofs.Common.{◌≤◌, ◌^◌, [], arith}
 use Rattle.std.proofs.lemmas.List.Elements.{All-weaker}
 use Rattle.std.proofs.lemmas.List.Sums.{sum_by-le, sum_by_more_le}
 use Rattle.report.specs.Script.Reports.{IsCommandLine}
 use Rattle.report.specs.declared.script.types.CommandLine.{CommandLine}
-use Rattle.tool_commands.proofs.ScriptEnds.{steps_in}
 use Rattle.tool_commands.proofs.kaem.steps_in_all.Goals as goal
 
 pub overflow_add-steps : goal.overflow_add-steps

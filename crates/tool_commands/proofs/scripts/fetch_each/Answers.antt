@@ -1,4 +1,4 @@
-use Rattle.std.proofs.Common.{◌+◌, ◌-◌, sym, ap, ◌∙◌, subst, drop, length}
+use Rattle.std.proofs.Common.{◌+◌, ◌-◌, sym, ap, ◌∙◌, subst, drop}
 use Rattle.command_plan.specs.Steps.{LeadsOn}
 use Rattle.command_plan.proofs.Gathering.{fetched_within}
 use Rattle.command_plan.proofs.Obtaining.{stops_with, wants_at_once}

@@ -1,4 +1,4 @@
-use Rattle.std.proofs.Common.{sym, subst, ◌∙◌}
+use Rattle.std.proofs.Common.{sym, ◌∙◌}
 use Rattle.tool_commands.proofs.FileWords.{word-named}
 use Rattle.tool_commands.proofs.listed_file.ListedFileListed.read.Goals as goal
 
