@@ -21,7 +21,7 @@ no-zero (byte ∷ bytes) is =
     ap (λ b. b || has_zero bytes) (ne_eqb byte 0 (λ zero. omega (arith, low, zero))) ∙ no-zero bytes parts.1
 
 -- a listed word that stands for a file names one
-file-named : (earlier : List (List ℕ)) (word : List ℕ) → is_listed_word word ≡ true → stands_for_another earlier word ≡ true → IsTrue (is_file_name (stripped word))
+pub file-named : (earlier : List (List ℕ)) (word : List ℕ) → is_listed_word word ≡ true → stands_for_another earlier word ≡ true → IsTrue (is_file_name (stripped word))
 file-named earlier word is stands =
     let parts = parts-of word is in
     let short = parts.1 in
