@@ -243,7 +243,11 @@ fn report_refused(alloc: Global, number: u32, line: u64) -> Result<Answer, Stop>
 {
     Ok(Answer {
         status: Status::ReportRefused,
-        text: chain_texts::of_audit(alloc, number, command_plan::texts::report(alloc, line)?.as_slice())?,
+        text: chain_texts::of_audit(
+            alloc,
+            number,
+            command_plan::texts::report(alloc, line)?.as_slice(),
+        )?,
     })
 }
 

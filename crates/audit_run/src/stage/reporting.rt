@@ -12,8 +12,8 @@ use ddc_base::languages::Language;
 use ddc_base::{Bytes, Name, OutOfMemory, first_difference};
 use recipe::{Input, Recipe, Stage};
 use report::{
-    CompareLine, CompareLines, Compared, InputLine, InputLines, LeftLine, LeftLines, Mark,
-    Report, StageLine, StageLines,
+    CompareLine, CompareLines, Compared, InputLine, InputLines, LeftLine, LeftLines, Mark, Report,
+    StageLine, StageLines,
 };
 use std::alloc::Global;
 
