@@ -1,5 +1,5 @@
 -- A text that is cut into lines, and its words.
-use Rattle.std.proofs.Common.{◌≡◌, ℕ, zero, suc, ◌+◌, ◌<◌, ◌≤◌, ◌&&◌, true, false, cond, IsTrue, Option, None, Some, Result, Err, List, [], ◌∷◌, ◌++◌, length, take, drop, get_or, nat_le, nat_lt, eq-eqb, ne_eqb, take_all, refl, sym, ap, ◌∙◌, subst, arith, All}
+use Rattle.std.proofs.Common.{◌≡◌, ℕ, zero, suc, ◌+◌, ◌==◌, ◌<◌, ◌≤◌, ◌&&◌, Bool, true, false, cond, IsTrue, Option, None, Some, Result, Ok, Err, List, [], ◌∷◌, ◌++◌, length, take, drop, get_or, nat_le, nat_lt, eq-eqb, ne_eqb, take_all, refl, sym, ap, ◌∙◌, subst, arith, All}
 use Rattle.std.specs.List.{list_all, slice_split}
 use Rattle.std.specs.Str.{IsAscii, IsUtf8}
 use Rattle.std.proofs.lemmas.Bool.{and_parts, leb-true}
@@ -9,7 +9,7 @@ use Rattle.std.proofs.lemmas.List.Elements.{All-push}
 use Rattle.std.proofs.lemmas.List.Splits.{length-slice_split, slice_split_at, slice_split_none}
 use Rattle.std.proofs.lemmas.Str.{IsUtf8-from_ascii}
 use Rattle.ddc_base.specs.Outside.{IsFileName}
-use Rattle.command_plan.specs.Lists.{is_line_feed, is_listed_word, is_listed_byte, listed_after, with_line_item}
+use Rattle.command_plan.specs.Lists.{IsListed, is_line_feed, is_listed_word, is_listed_byte, list_of, listed_after, with_line_item}
 
 abbrev pub NoLF : ℕ → Type 0
 NoLF byte = is_line_feed byte ≡ false
@@ -33,7 +33,7 @@ uncut text at past clear = slice_split_none is_line_feed text (subst (All NoLF) 
 
 -- ---- words
 
-parts-of : (word : List ℕ) → is_listed_word word ≡ true → (1 ≤ length word) × (length word ≤ 255) × (list_all is_listed_byte word ≡ true)
+pub parts-of : (word : List ℕ) → is_listed_word word ≡ true → (1 ≤ length word) × (length word ≤ 255) × (list_all is_listed_byte word ≡ true)
 unfolding is_listed_word
 parts-of word is =
     let parts = and_parts (nat_le 1 (length word) && nat_le (length word) 255) (list_all is_listed_byte word) is in
@@ -106,3 +106,33 @@ module _ {A : Type 0} (form : List A → List ℕ → Option A) (most : ℕ) (it
         ∙ within rest before cut (omega (arith, counted, few)),
     omega (arith, counted, few, ap length pushed ∙ length-append items (item ∷ [])),
   )
+
+-- ---- what is listed
+
+-- what holds of no items, and with some items also of those and one more that the form reads behind them, holds of all that a text lists
+module _ {A : Type 0} (form : List A → List ℕ → Option A) (most : ℕ) (P : List A → Type 0)
+    (more : (earlier : List A) (line : List ℕ) (item : A) → P earlier → form earlier line ≡ Some item → P (earlier ++ item ∷ [])) where
+  same-items : (first second : List A) → ◌≡◌ {A = Result (List A) ℕ} (Ok first) (Ok second) → first ≡ second
+  same-items first second is = cc
+
+  after-last : (b : Bool) (earlier items : List A) → P earlier → cond {A = Result (List A) ℕ} b (Ok earlier) (Err (length earlier + 1)) ≡ Ok items → P items
+  after-last true earlier items holds is = subst P (same-items earlier items is) holds
+  after-last false earlier items holds is = absurd cc
+
+  after-line : (room : Bool) (found : Option A) (earlier items : List A) (line : List ℕ) (rest : A → Result (List A) ℕ) → P earlier → form earlier line ≡ found
+      → ((item : A) → P (earlier ++ item ∷ []) → rest item ≡ Ok items → P items)
+      → cond room (with_line_item found (length earlier + 1) rest) (Err (length earlier + 1)) ≡ Ok items → P items
+  after-line true (Some item) earlier items line rest holds found later is = later item (more earlier line item holds found) is
+  after-line true None earlier items line rest holds found later is = absurd cc
+  after-line false found earlier items line rest holds was later is = absurd cc
+
+  holds-after : (lines : List (List ℕ)) (earlier items : List A) → P earlier → listed_after form most earlier lines ≡ Ok items → P items
+  holds-after [] earlier items holds is = subst P (same-items earlier items is) holds
+  holds-after (last ∷ []) earlier items holds is = after-last (length last == 0) earlier items holds is
+  holds-after (line ∷ next ∷ lines) earlier items holds is =
+      after-line (nat_lt (length earlier) most) (form earlier line) earlier items line (λ item. listed_after form most (earlier ++ item ∷ []) (next ∷ lines)) holds refl
+      (λ item kept. holds-after (next ∷ lines) (earlier ++ item ∷ []) items kept) is
+
+  pub holds-listed : (items : List A) → P [] → IsListed form most items → P items
+  unfolding list_of
+  holds-listed items none is = holds-after (slice_split is_line_feed is.0) [] items none is.1

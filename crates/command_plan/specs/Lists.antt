@@ -1,5 +1,5 @@
 -- Files that list things, one a line. docs/reference/command-line.md says the same for people.
-use Rattle.std.specs.Prelude.{ℕ, ◌+◌, ◌==◌, ◌&&◌, Bool, List, [], ◌∷◌, ◌++◌, length, nat_le, nat_lt, Option, None, Some, Result, Ok, Err, if◌then◌else◌}
+use Rattle.std.specs.Prelude.{◌≡◌, ℕ, ◌+◌, ◌==◌, ◌&&◌, Bool, List, [], ◌∷◌, ◌++◌, length, nat_le, nat_lt, Option, None, Some, Result, Ok, Err, if◌then◌else◌}
 use Rattle.std.specs.List.{list_all, slice_split}
 use Rattle.command_plan.specs.declared.status.Status.TheVariants.{ListRefused}
 use Rattle.command_plan.specs.Plan.{Plan, answers, needs, unless_refused}
@@ -39,6 +39,10 @@ listed_after form most earlier (line ∷ next ∷ lines) =
 -- what a text lists
 unfoldable pub list_of : {A : Type 0} → (List A → List ℕ → Option A) → ℕ → List ℕ → Result (List A) ℕ
 list_of form most text = listed_after form most [] (slice_split is_line_feed text)
+
+-- some text lists these
+abbrev pub IsListed : {A : Type 0} → (List A → List ℕ → Option A) → ℕ → List A → Type 0
+IsListed form most items = (text : List ℕ) × (list_of form most text ≡ Ok items)
 
 -- a list is needed, of at most 1,048,576 bytes, and read
 abbrev pub needs_list : {A : Type 0} → (List A → List ℕ → Option A) → ℕ → List ℕ → (List A → Plan) → Plan

@@ -2,11 +2,11 @@
 //!
 //! Their rules for people: docs/reference/command-line.md.
 
-ghost use Rattle.std.specs.Prelude.{◌≡◌, ◌<◌, ◌≤◌, ◌∷◌, [], IfOk, IfSome, List, MatchOption, Option, length, ℕ};
+ghost use Rattle.std.specs.Prelude.{◌≡◌, ◌<◌, ◌≤◌, ◌∷◌, [], IfOk, IfSome, List, MatchOption, Ok, Option, length, ℕ};
 ghost use Rattle.std.specs.List.{slice_split};
 ghost use Rattle.ddc_base.specs.Outside.{IsFileName, ShelfState};
 ghost use Rattle.command_plan.specs.declared.status.Status.TheVariants.{ListRefused};
-ghost use Rattle.command_plan.specs.Lists.{is_line_feed, list_of, needs_list};
+ghost use Rattle.command_plan.specs.Lists.{IsListed, is_line_feed, list_of, needs_list};
 ghost use Rattle.command_plan.specs.Plan.{answers, unless_refused};
 ghost use Rattle.command_plan.specs.Steps.{Obtains, Says};
 ghost use Rattle.command_plan.specs.Texts.{list_line};
@@ -42,6 +42,7 @@ pub fn fetch_list<T: Listed, S: Shelf>(
     requires { IsFileName file.now }
     ensures obtained { Obtains (needs_list T.form most file.now) (S.state shelf.old) (S.state shelf.new) result }
     ensures few { IfOk result (λ items. length items ≤ most) }
+    ensures listed { IfOk result (IsListed T.form most) }
 {
     let text = fetch(alloc, shelf, file, LIST_LIMIT)?;
     read(alloc, text, most)
@@ -52,6 +53,7 @@ fn read<T: Listed>(alloc: Global, text: Bytes, most: u32) -> Result<ListOf<T>, S
     ensures obtained { (shelf : ShelfState) → Obtains (unless_refused (list_of T.form most text) (λ number. answers ListRefused (list_line number)))
         shelf shelf result }
     ensures few { IfOk result (λ items. length items ≤ most) }
+    ensures value { IfOk result (λ items. list_of T.form most text ≡ Ok items) }
 {
     match read_lines::<T>(alloc, text.as_slice(), most)? {
         Ok(items) => Ok(items),

@@ -5,9 +5,8 @@ use Rattle.ddc_base.specs.Outside.{NamedFiles}
 use Rattle.recipe.specs.Kept.{IsRecipe}
 use Rattle.recipe.specs.declared.contents.Said.{Said}
 use Rattle.save_text.specs.Spelled.{text_of_save}
-use Rattle.audit_run.specs.Delta.Deltas.{IsBaseAt, IsResumedBesideAs, delta_text_of}
+use Rattle.audit_run.specs.Delta.Deltas.{IsResumedBesideAs, delta_text_of}
 use Rattle.audit_run.specs.Delta.Judged.{behind_base, judged_beside}
-use Rattle.audit_run.specs.Save.Judged.{judged}
 use Rattle.audit_run.specs.Save.Saves.{save_of}
 use Rattle.audit_run.specs.declared.delta.reading.DeltaRefusal.{DeltaRefusal}
 use Rattle.audit_run.specs.declared.delta.reading.DeltaRefusal.TheVariants as delta
@@ -17,7 +16,7 @@ use Rattle.audit_run.proofs.DeltaLemmas.DeltaLengths as delta_lengths
 use Rattle.audit_run.proofs.DeltaLemmas.Exactly as exactly
 use Rattle.audit_run.proofs.SaveLemmas.SaveLengths.{short}
 use Rattle.wheeler.specs.Bench.{bench}
-use Rattle.wheeler.specs.Positions.{Position, Standing, On, forward, position}
+use Rattle.wheeler.specs.Positions.{Position, On, forward, position}
 use Rattle.wheeler.specs.Valid.{IsInputs, IsPosition}
 use Rattle.command_plan.specs.declared.status.Status.TheVariants.{SaveRefused}
 use Rattle.command_plan.specs.Plan.{Plan, Outcome, answers, needs, outcome, unless_refused}

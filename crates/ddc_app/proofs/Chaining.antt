@@ -1,5 +1,5 @@
 -- What an answer of `chain` says.
-use Rattle.std.proofs.Common.{◌≡◌, ℕ, zero, suc, ◌+◌, ◌-◌, ◌<◌, ◌≤◌, Bool, true, false, cond, Option, Some, None, Result, Ok, Err, List, [], ◌∷◌, ◌++◌, length, codes, min, sum_by, refl, sym, ap, ◌∙◌, subst, append_assoc, append-nil, arith, All}
+use Rattle.std.proofs.Common.{◌≡◌, ℕ, suc, ◌+◌, ◌-◌, ◌<◌, ◌≤◌, Bool, true, false, cond, Option, Some, None, Result, Ok, Err, List, [], ◌∷◌, ◌++◌, length, codes, min, sum_by, refl, sym, ap, ◌∙◌, append_assoc, append-nil, arith, All}
 use Rattle.std.specs.FinMap as finite
 use Rattle.std.specs.List.{AllZip}
 use Rattle.std.proofs.Math.Nat.{min-le_left, min-le_right}
@@ -12,15 +12,12 @@ use Rattle.ddc_base.specs.Outside.{NamedFiles, loaded}
 use Rattle.mem_files.specs.Outputs.{IsContent}
 use Rattle.recipe.specs.declared.contents.Said.{Said}
 use Rattle.recipe.specs.declared.parts.Input.{Input}
-use Rattle.recipe.specs.declared.text.refusal.RecipeRefusal.{RecipeRefusal}
-use Rattle.recipe.specs.Kept.{IsRecipe}
 use Rattle.recipe.specs.Reading.{recipe_of}
 use Rattle.recipe.proofs.Keeps.{reads_keep}
 use Rattle.report.specs.declared.types.CompareLine.{CompareLine}
 use Rattle.report.specs.declared.types.Report.{Report}
 use Rattle.report.specs.Reading.{report_of}
 use Rattle.wheeler.specs.Bench.{all_equal}
-use Rattle.wheeler.specs.Valid.{IsInputs}
 use Rattle.verifier.specs.declared.part.Part.{Part}
 use Rattle.verifier.specs.Faults.{first_fault}
 use Rattle.meaning.specs.Meaning.{Compiles, Prescribes}
@@ -37,11 +34,9 @@ use Rattle.recipe_plan.specs.Texts.{compared_lines, recipe_line}
 use Rattle.verify_commands.specs.declared.pair.Pair.{Pair}
 use Rattle.verify_commands.specs.Chain.{chain_files, chained, chained_lines, needs_audit, needs_report_of, needs_true, needs_two_files, pair_of, room_behind}
 use Rattle.verify_commands.specs.ChainTexts.{audit_line, chain_text}
-use Rattle.verify_commands.specs.Texts.{refuted_line}
 use Rattle.ddc_app.specs.Chained.{Chained, HoldsAudit, bytes_of_inputs, chain}
 use Rattle.ddc_app.specs.Commands.{plan_of}
-use Rattle.ddc_app.specs.Holding.{AreHeld}
-use Rattle.ddc_app.proofs.Loads.{as_many, within}
+use Rattle.ddc_app.proofs.Loads.{within}
 use Rattle.ddc_app.proofs.Walks.{told}
 
 module _ (files : NamedFiles) (P : Outcome → Type 0) where

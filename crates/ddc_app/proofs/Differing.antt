@@ -1,6 +1,6 @@
 -- An audit by differences comes to the same as the undivided audit, and its report is accepted.
-use Rattle.std.proofs.Common.{◌≡◌, ℕ, ◌+◌, Bool, false, cond, IsTrue, ◌⊎◌, inl, inr, List, [], ◌∷◌, refl, sym, ap, ◌∙◌, subst, arith, All}
-use Rattle.std.specs.List.{fold, sum}
+use Rattle.std.proofs.Common.{◌≡◌, ℕ, ◌+◌, false, cond, IsTrue, ◌⊎◌, inl, inr, List, [], ◌∷◌, refl, sym, ap, ◌∙◌, subst, arith, All}
+use Rattle.std.specs.List.{fold}
 use Rattle.std.proofs.lemmas.List.Elements.{All-head, All-tail}
 use Rattle.ddc_base.specs.Outside.{NamedFiles}
 use Rattle.wheeler.specs.Bench.{bench}
@@ -13,13 +13,13 @@ use Rattle.audit_commands.specs.Audit.{audited}
 use Rattle.audit_commands.specs.Pause.{whole_save}
 use Rattle.ddc_app.specs.Accepting.{HoldBytes, audit, is_compared, verify}
 use Rattle.ddc_app.specs.Differences.{AreDeltaWords, AreKept, Differences, IsSavedBeside, behind_save, delta_resume, delta_start, differing_in_turn, in_differences}
-use Rattle.ddc_app.specs.Pausing.{AreSame, IsStepCount, IsSavedAt, is_paused, part}
+use Rattle.ddc_app.specs.Pausing.{AreSame, IsStepCount, is_paused, part}
 use Rattle.ddc_app.proofs.Accepting.{accepts}
 use Rattle.ddc_app.proofs.Beginnings.{Begun, Case, Refused, begins, four_of, three_apart}
 use Rattle.ddc_app.proofs.Beside.{Behind, IsBaseHeld, kept_beside, kept_of, resume_leaves_base, resumes_at, start_leaves_base, starts_at}
 use Rattle.ddc_app.proofs.Openings.{are_inputs}
 use Rattle.ddc_app.proofs.Pausing.{compared, first_settles}
-use Rattle.ddc_app.proofs.Pieces.{Ends, Pauses, Settles, alike, saved_of, settles}
+use Rattle.ddc_app.proofs.Pieces.{Ends, Settles, alike, saved_of, settles}
 
 -- ---- the pieces behind the whole save
 

@@ -14,3 +14,4 @@ pub mod Pausing
 pub mod Leaving
 pub mod Beside
 pub mod Differing
+pub mod Scripting

@@ -1,13 +1,14 @@
 -- What a plan's loads find, and find again after another name was set.
-use Rattle.std.proofs.Common.{◌≡◌, ◌≢◌, ℕ, ◌-◌, ◌<◌, ◌≤◌, ◌&&◌, ◌||◌, not, Bool, true, false, cond, Option, Some, None, List, [], ◌∷◌, length, map, min, nat_le, le_trans, refl, ap, ◌∙◌, subst, arith}
+use Rattle.std.proofs.Common.{◌≡◌, ◌≢◌, ℕ, ◌+◌, ◌-◌, ◌<◌, ◌≤◌, ◌&&◌, ◌||◌, not, Bool, true, false, cond, Option, Some, None, List, [], ◌∷◌, length, map, min, sum_by, nat_le, le_trans, refl, ap, ◌∙◌, subst, arith}
 use Rattle.std.specs.List.{list_any}
 use Rattle.std.specs.Prelude.{All}
 use Rattle.std.specs.Cmp.Lexicographic.{nat_list_cmp_total}
 use Rattle.std.specs.FinMap as finite
-use Rattle.std.proofs.Math.Nat.{min-le_left}
+use Rattle.std.proofs.Math.Nat.{min-le_left, min-le_right}
 use Rattle.std.proofs.lemmas.Bool.{and_parts, leb-true}
 use Rattle.std.proofs.lemmas.Bool.Decides.{nat_tests}
 use Rattle.std.proofs.lemmas.List.Elements.{All-cons, All-nil}
+use Rattle.std.proofs.lemmas.List.Sums.{sum_by-cons}
 use Rattle.std.proofs.lemmas.Map.Text.{is_eq-slice_cmp}
 use Rattle.std.proofs.lemmas.Slice.Eq.{bytes_eq-Decides}
 use Rattle.ddc_base.specs.declared.outside.Loaded.TheVariants.{Bytes, TooLong}
@@ -109,6 +110,19 @@ as_many most room files [] [] held = refl
 as_many most room files (name ∷ names) [] held = absurd held
 as_many most room files [] (content ∷ contents) held = absurd held
 as_many most room files (name ∷ names) (content ∷ contents) held = omega (arith, as_many most (room - length content) files names contents held.1)
+
+-- and as many bytes as there is room for
+pub held_small : (room : ℕ) (files : NamedFiles) (names contents : List (List ℕ)) → AreHeld 268_435_456 room files names contents → sum_by length contents ≤ room
+held_small room files [] [] held = omega arith
+held_small room files (name ∷ names) [] held = absurd held
+held_small room files [] (content ∷ contents) held = absurd held
+held_small room files (name ∷ names) (content ∷ contents) held =
+    let one = (within (min 268_435_456 room) (finite.get files name) content held.0).1 in
+    more (length content) (sum_by length contents) room (sum_by length (content ∷ contents)) (sum_by-cons length content contents)
+    (held_small (room - length content) files names contents held.1) (omega (arith, one, min-le_right 268_435_456 room))
+  where
+    more : (a b c sum : ℕ) → sum ≡ a + b → b ≤ c - a → a ≤ c → sum ≤ c
+    more a b c sum is rest first = omega (arith, is, rest, first)
 
 pub are_contents : (room : ℕ) (files : NamedFiles) (names contents : List (List ℕ)) → HoldBytes files → AreHeld 268_435_456 room files names contents → All IsContent contents
 are_contents room files names [] bytes held = All-nil IsContent

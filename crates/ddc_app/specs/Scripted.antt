@@ -1,5 +1,5 @@
 -- What `kaem SCRIPT LIST REPORT STEPS` and `kaem-verify SCRIPT LIST REPORT` come to. docs/reference/kaem.md says the same for people.
-use Rattle.std.specs.Prelude.{◌≡◌, ℕ, ◌^◌, IsTrue, false, Some, Ok, List, [], ◌∷◌, codes, decimal, length}
+use Rattle.std.specs.Prelude.{◌≡◌, ◌≢◌, ℕ, ◌^◌, IsTrue, false, Some, Ok, List, [], ◌∷◌, codes, decimal, length}
 use Rattle.std.specs.List.{list_any}
 use Rattle.std.specs.FinMap as map
 use Rattle.ddc_base.specs.declared.outside.Loaded.TheVariants.{Bytes}
@@ -13,7 +13,7 @@ use Rattle.kaem_script.specs.Script.{Said}
 use Rattle.command_plan.specs.declared.status.Status.TheVariants.{RunFailed, Yes}
 use Rattle.command_plan.specs.Lists.{list_of}
 use Rattle.command_plan.specs.Plan.{Outcome, outcome}
-use Rattle.command_plan.specs.Words.{are_three_files, is_one_file}
+use Rattle.command_plan.specs.Words.{are_three_files, as_steps, is_one_file}
 use Rattle.tool_commands.specs.Kaem.{steps_of_commands}
 use Rattle.tool_commands.specs.Scripts.{and_files, file_line, script_of}
 use Rattle.tool_commands.specs.ScriptTexts.{command_failed_line, commands_true_line, done_line}
@@ -72,3 +72,20 @@ pub record ScriptVerified (script list report : List ℕ) (files : NamedFiles) (
   pub holds : HoldsScript script list report files said listed
   pub is_true : IsScriptTrue report files said listed
   pub text : answer.text ≡ commands_true_line (length said.commands)
+
+-- what a yes of `kaem` shows: the files hold such a script and such a list, and all commands ran, each within the steps that the word says
+pub record ScriptReported (script list report steps : List ℕ) (files : NamedFiles) (answer : Outcome) : Type 0 where
+  pub most : ℕ
+  pub counted : as_steps steps ≡ Some most
+  pub said : Said
+  pub listed : FilesListed
+  pub holds : HoldsScript script list report files said listed
+  pub ran : List Ran
+  pub world : World
+  pub all_ran : folded most listed.world said.commands ≡ RanAll ran world
+  pub answer_is : answer ≡ kaem_ended report files said listed (RanAll ran world)
+
+-- a command leaves every name as it was but the report's, and that too unless it comes to a yes
+pub record ChangesReportAlone (report : List ℕ) (files : NamedFiles) (answer : Outcome) : Type 0 where
+  pub others : (name : List ℕ) → name ≢ report → map.get answer.files name ≡ map.get files name
+  pub unless_yes : answer.status ≢ Yes → answer.files ≡ files

@@ -5,16 +5,21 @@ ghost use Rattle.ddc_app.specs.Chained.{Chained, chain};
 ghost use Rattle.ddc_app.specs.Commands.{plan_of};
 ghost use Rattle.ddc_app.specs.Differences.{AreDeltaWords, DeltaPieces, Differences, IsSavedBeside, LeavesAllBut, delta_resume, delta_start, in_differences};
 ghost use Rattle.ddc_app.specs.Pausing.{AreWords, IsStepCount, LeavesOthers, LeavesUnwritten, Pieces, IsSavedAt, in_pieces, part, resume};
+ghost use Rattle.ddc_app.specs.Scripted.{ChangesReportAlone, HoldsScript, IsScriptTrue, ScriptReported, ScriptVerified, kaem, kaem_ended, kaem_verify};
 ghost use Rattle.ddc_app.specs.Verified.{Verified};
 ghost use Rattle.command_plan.specs.Plan.{LoadsBytes};
 ghost use Rattle.command_plan.specs.declared.status.Status.TheVariants.{Paused, Yes};
 ghost use Rattle.ddc_base.specs.Outside.{NamedFiles};
 ghost use Rattle.ddc_base.specs.Lines.{line};
+ghost use Rattle.kaem_script.specs.FilesListed.{FilesListed};
+ghost use Rattle.kaem_script.specs.Fold.{folded};
+ghost use Rattle.kaem_script.specs.Script.{Said};
 ghost use Rattle.report.specs.Lines.{line_words};
 ghost use Rattle.report.specs.declared.line.Line.TheVariants.{Left, Stream1, Stream2};
 ghost use Rattle.std.specs.FinMap as map;
-ghost use Rattle.std.specs.Prelude.{◌≡◌, ◌+◌, [], ◌∷◌, All, IsTrue, List, codes, sum, ℕ};
+ghost use Rattle.std.specs.Prelude.{◌≡◌, ◌+◌, ◌↔◌, [], ◌∷◌, All, IsTrue, List, codes, decimal, length, sum, ℕ};
 ghost use Rattle.tool_commands.specs.RunProgram.{left_line, stream_line};
+ghost use Rattle.tool_commands.specs.ScriptTexts.{commands_true_line};
 ghost use Rattle.report.specs.Marks.{mark_of};
 
 use audit_chain::laws::composed;
@@ -149,6 +154,50 @@ pub fn differences()
         → IsTrue (is_compared (in_differences recipe base patch report steps counts files).status)
         → (verify recipe report (in_differences recipe base patch report steps counts files).files).status
         ≡ (in_differences recipe base patch report steps counts files).status }
+{}
+
+/// `kaem` ends exactly as the fold of its script's commands over the listed files does, each command within STEPS: where all ran, their report is
+/// held, and where one stopped the script, nothing is changed.
+pub fn scripts_fold()
+    ensures { (script list report : List ℕ) (steps : ℕ) (files : NamedFiles) (said : Said) (listed : FilesListed)
+        → HoldsScript script list report files said listed → IsStepCount steps
+        → kaem script list report steps files ≡ kaem_ended report files said listed (folded steps listed.world said.commands) }
+{}
+
+/// `kaem-verify` over files of bytes that hold a script says yes exactly where what is held as the report is the text of what the script's commands
+/// come to, and its yes says how many they are.
+pub fn scripts_verified()
+    ensures yes { (script list report : List ℕ) (files : NamedFiles) (said : Said) (listed : FilesListed)
+        → HoldsScript script list report files said listed → HoldBytes files
+        → ((kaem_verify script list report files).status ≡ Yes) ↔ IsScriptTrue report files said listed }
+    ensures text { (script list report : List ℕ) (files : NamedFiles) (said : Said) (listed : FilesListed)
+        → HoldsScript script list report files said listed → (kaem_verify script list report files).status ≡ Yes
+        → (kaem_verify script list report files).text ≡ commands_true_line (length said.commands) }
+{}
+
+/// A yes of either command comes only where the files hold such a script: of `kaem`, where all commands ran, and of `kaem-verify`, where the report
+/// is true.
+pub fn scripts_shown()
+    ensures reported { (script list report : List ℕ) (steps : ℕ) (files : NamedFiles) → (kaem script list report steps files).status ≡ Yes
+        → ScriptReported script list report (decimal steps) files (kaem script list report steps files) }
+    ensures verified { (script list report : List ℕ) (files : NamedFiles) → (kaem_verify script list report files).status ≡ Yes
+        → ScriptVerified script list report files (kaem_verify script list report files) }
+{}
+
+/// A script's own report is accepted: where `kaem` over files of bytes comes to 0, `kaem-verify` over the files afterwards does too, and says how many
+/// commands the script has.
+pub fn scripts_accepted()
+    ensures yes { (script list report : List ℕ) (steps : ℕ) (files : NamedFiles) → HoldBytes files → (kaem script list report steps files).status ≡ Yes
+        → (kaem_verify script list report (kaem script list report steps files).files).status ≡ Yes }
+    ensures text { (script list report : List ℕ) (steps : ℕ) (files : NamedFiles) (said : Said) (listed : FilesListed)
+        → HoldsScript script list report files said listed → HoldBytes files → (kaem script list report steps files).status ≡ Yes
+        → (kaem_verify script list report (kaem script list report steps files).files).text ≡ commands_true_line (length said.commands) }
+{}
+
+/// `kaem` changes no name but REPORT, and that only where it comes to 0; `kaem-verify` changes nothing. This holds whatever the files hold.
+pub fn scripts_leave_others()
+    ensures report { (script list report : List ℕ) (steps : ℕ) (files : NamedFiles) → ChangesReportAlone report files (kaem script list report steps files) }
+    ensures none { (script list report : List ℕ) (files : NamedFiles) → (kaem_verify script list report files).files ≡ files }
 {}
 
 /// What `run` prints of a stream or of a file that is left is the line of a report, with the mark of its content.

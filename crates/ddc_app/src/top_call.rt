@@ -10,6 +10,7 @@ ghost use Rattle.command_plan.specs.Plan.{talk_of};
 ghost use Rattle.ddc_app.specs.Accepting.{is_compared};
 ghost use Rattle.ddc_app.specs.Commands.{is_step, text_plan};
 ghost use Rattle.ddc_app.specs.Chained.{Chained};
+ghost use Rattle.ddc_app.specs.Scripted.{ScriptReported, ScriptVerified};
 ghost use Rattle.ddc_app.specs.Verified.{Verified};
 ghost use Rattle.ddc_app.specs.Run.{plan_for, due, IsDue, IsOneText, LosesText, NamesFault, TakesOne};
 ghost use Rattle.ddc_app.specs.Inside.Concluding.{Closes, Leaves, PutEnds, SaysEnding, unless_lost};
@@ -22,7 +23,7 @@ use meaning::Meaning;
 use prompt::Prompt;
 use segment_commands::{cut, ends, segment};
 use std::alloc::Global;
-use tool_commands::{asm, hex0, list, run};
+use tool_commands::{asm, hex0, kaem, kaem_verify, list, run};
 use verify_commands::{chain, verify};
 
 /// Everything that the program does: it takes the words of the command line, without the program's own name, and answers the
@@ -92,6 +93,14 @@ pub fn run<M: Meaning, S: Shelf, K: Sink, P: Prompt>(
     ensures chained { IsDue words.now (S.state shelf.old) → (list : List ℕ) → map (λ word. word.now) words.now ≡ codes "chain" ∷ list ∷ []
         → result ≡ Status.Yes
         → Chained M.prescribes M.compiles list (S.state shelf.old).files (due words.now (S.state shelf.old)) }
+
+    // What a yes of `kaem` and of `kaem-verify` shows.
+    ensures reported { IsDue words.now (S.state shelf.old) → (script list report steps : List ℕ)
+        → map (λ word. word.now) words.now ≡ codes "kaem" ∷ script ∷ list ∷ report ∷ steps ∷ [] → result ≡ Status.Yes
+        → ScriptReported script list report steps (S.state shelf.old).files (due words.now (S.state shelf.old)) }
+    ensures replayed { IsDue words.now (S.state shelf.old) → (script list report : List ℕ)
+        → map (λ word. word.now) words.now ≡ codes "kaem-verify" ∷ script ∷ list ∷ report ∷ [] → result ≡ Status.Yes
+        → ScriptVerified script list report (S.state shelf.old).files (due words.now (S.state shelf.old)) }
 
     // The prompt is asked in a session alone.
     ensures prompt_stays { IsOneText words.now (S.state shelf.old) ⊎ (result ≡ Status.ShelfFault)
@@ -171,6 +180,8 @@ fn perform<M: Meaning, S: Shelf>(
         "segment" => segment::perform(alloc, words, shelf),
         "ends" => ends::perform(alloc, words, shelf),
         "chain" => chain::perform(alloc, words, shelf),
+        "kaem" => kaem::perform(alloc, words, shelf),
+        "kaem-verify" => kaem_verify::perform(alloc, words, shelf),
         _ => usage(alloc),
     }
 }

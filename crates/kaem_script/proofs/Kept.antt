@@ -93,7 +93,7 @@ record Fits (first : Bool) (word : ScriptWord) : Type 0 where
 no-zero : (text : List ℕ) → has_zero text ≡ false → IsTrue (not (has_zero text))
 no-zero text free = rw free refl
 
-file-name : (text : List ℕ) → has_zero text ≡ false → length text ≤ 255 → names_nothing text ≡ false → IsTrue (is_file_name (stripped text))
+pub file-name : (text : List ℕ) → has_zero text ≡ false → length text ≤ 255 → names_nothing text ≡ false → IsTrue (is_file_name (stripped text))
 file-name text free short names =
     let some : 0 < length (stripped text) = leb-false _ _ names in
     let few : length (stripped text) ≤ 255 = omega (arith, stripped-short text) in

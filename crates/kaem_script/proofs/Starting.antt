@@ -48,7 +48,7 @@ texts-fit words is =
 
 -- ---- the files of a world fit
 
-entries-left : (w : World) → IsSound w → fin.entries (fin.from_entries {R = bytes_cmp} (left w)) ≡ left w
+pub entries-left : (w : World) → IsSound w → fin.entries (fin.from_entries {R = bytes_cmp} (left w)) ≡ left w
 entries-left w sound = entries_risen nat_list_cmp_total bytes_cmp-IsAntisymmetric (left w) (left-are w sound).ascending
 
 pub files-fit : (w : World) → IsSound w → files_size (fin.from_entries (left w)) ≤ most_total

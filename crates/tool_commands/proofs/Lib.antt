@@ -2,3 +2,8 @@ pub mod Listing
 pub mod LeftNames
 pub mod Arguments
 pub mod Making
+pub mod ListedFiles
+pub mod ReadScripts
+mod FilePlaces
+mod FileWords
+mod ScriptEnds

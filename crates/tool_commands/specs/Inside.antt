@@ -1,2 +1,3 @@
 -- What serves the split of the code. No promise rests on its being read.
 pub mod Refusing
+pub mod Placing

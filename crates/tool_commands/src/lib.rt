@@ -1,11 +1,16 @@
-//! The commands on single files, which name no recipe: `hex0` and `asm` of the languages, `list` and `run` of the machine.
+//! The commands which name no recipe: `hex0` and `asm` of the languages, `list` and `run` of the machine, `kaem` and `kaem-verify` of scripts.
 //!
 //! Their rules for people: docs/reference/command-line.md.
 #![tactic(auto)]
 
 pub mod asm;
 pub mod hex0;
+pub mod kaem;
+pub mod kaem_verify;
 pub mod list;
+mod listed_file;
 pub mod run;
 pub mod run_texts;
+mod script_texts;
+mod scripts;
 mod words;

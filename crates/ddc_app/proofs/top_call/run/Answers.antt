@@ -4,7 +4,9 @@ use Rattle.command_plan.specs.Answered.{is_answer}
 use Rattle.ddc_app.specs.Accepting.{is_compared}
 use Rattle.ddc_app.specs.Chained.{Chained}
 use Rattle.ddc_app.specs.Commands.{plan_of}
+use Rattle.ddc_app.specs.Scripted.{ScriptReported, ScriptVerified}
 use Rattle.ddc_app.specs.Verified.{Verified}
+use Rattle.ddc_app.proofs.Scripting.{kaem_reports, kaem_verifies}
 use Rattle.ddc_app.proofs.Sessions as sessions
 use Rattle.ddc_app.proofs.Verifying.{compared_answers}
 use Rattle.ddc_app.proofs.top_call.run.Goals as goal
@@ -43,6 +45,18 @@ returns g c =
           subst (Chained g.M.Meaning.prescribes g.M.Meaning.compiles list files) (sym same)
           (c.chained.ensures list files (subst (λ (w : List (List ℕ)). LoadsBytes (plan_of w) files) words bytes)
           (sym (ap (λ o. o.status) same) ∙ sym status ∙ yes));
+      reported = λ settled script list report steps words ends.
+          let files = (g.S.Shelf.state c.args.shelf.now).files in
+          let same = ap (λ (w : List (List ℕ)). outcome (plan_of w) files) words in
+          let status = sessions.status _ _ _ _ _ _ _ _ _ l settled (ap is_answer ends) in
+          subst (ScriptReported script list report steps files) (sym same)
+          (kaem_reports script list report files steps (sym (ap (λ o. o.status) same) ∙ sym status ∙ ends));
+      replayed = λ settled script list report words ends.
+          let files = (g.S.Shelf.state c.args.shelf.now).files in
+          let same = ap (λ (w : List (List ℕ)). outcome (plan_of w) files) words in
+          let status = sessions.status _ _ _ _ _ _ _ _ _ l settled (ap is_answer ends) in
+          subst (ScriptVerified script list report files) (sym same)
+          (kaem_verifies script list report files (sym (ap (λ o. o.status) same) ∙ sym status ∙ ends));
       prompt_stays = sessions.prompt_stays _ _ _ _ _ _ _ _ _ l;
       shelf_tells = sessions.shelf_tells _ _ _ _ _ _ _ _ _ l;
       out_tells = sessions.out_tells _ _ _ _ _ _ _ _ _ l;

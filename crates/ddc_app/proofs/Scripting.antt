@@ -1,0 +1,436 @@
+-- What the commands on scripts come to.
+use Rattle.std.proofs.Common.{◌≡◌, ℕ, ◌≤◌, ◌^◌, ◌↔◌, ◌&&◌, Bool, true, false, cond, IsTrue, Option, Some, None, Result, Ok, List, [], ◌∷◌, length, decimal, codes, refl, sym, ap, ◌∙◌, subst, arith}
+use Rattle.std.specs.FinMap as finite
+use Rattle.std.specs.List.{list_any}
+use Rattle.std.specs.Prelude.{nat_le}
+use Rattle.std.proofs.lemmas.Bool.{and_parts, leb-true}
+use Rattle.std.proofs.lemmas.List.{map-id}
+use Rattle.ddc_base.specs.Decimals.{as_decimal}
+use Rattle.ddc_base.specs.declared.outside.Loaded.TheVariants.{Bytes}
+use Rattle.ddc_base.specs.Outside.{NamedFiles, loaded}
+use Rattle.ddc_base.proofs.StoredFiles.{others-insert}
+use Rattle.mem_files.specs.Sound.{IsSound}
+use Rattle.mem_files.specs.World.{World}
+use Rattle.report.specs.Script.Reading.{script_report_of}
+use Rattle.report.specs.Script.Reports.{IsScriptReport, script_report_text}
+use Rattle.report.specs.declared.script.types.ScriptReport.{ScriptReport}
+use Rattle.report.proofs.ScriptLemmas.Lengths.{short}
+use Rattle.report.proofs.ScriptLemmas.Readings.{is_reading, read_text}
+use Rattle.kaem_script.specs.declared.auditing.ScriptEnd.TheVariants.{Done}
+use Rattle.kaem_script.specs.declared.refusal.ScriptFault.{ScriptFault}
+use Rattle.kaem_script.specs.declared.verdict.ScriptPart.{ScriptPart}
+use Rattle.kaem_script.specs.Faults.{first_script_fault}
+use Rattle.kaem_script.specs.FilesListed.{FilesListed, IsList, no_files}
+use Rattle.kaem_script.specs.Fold.{Folded, Ran, RanAll, Stopped, folded}
+use Rattle.kaem_script.specs.Reported.{script_ended, script_report}
+use Rattle.kaem_script.specs.Script.{Said}
+use Rattle.kaem_script.proofs.DoneReports.{done-report}
+use Rattle.kaem_script.proofs.OneReport.{no_fault_reports, reported_without_fault}
+use Rattle.command_plan.specs.declared.status.Status.{Status}
+use Rattle.command_plan.specs.declared.status.Status.TheVariants as status
+use Rattle.command_plan.specs.Lists.{list_of, needs_list}
+use Rattle.command_plan.specs.Plan.{Outcome, Plan, answers, needs, outcome, unless_refused}
+use Rattle.command_plan.specs.Texts.{list_line, report_line, usage_line}
+use Rattle.command_plan.specs.Words.{are_three_files, as_steps, is_one_file, or_usage, usage, within_steps}
+use Rattle.tool_commands.specs.Kaem.{folded_plan, kaem_files}
+use Rattle.tool_commands.specs.KaemVerify.{kaem_verify_files, needs_script_report, script_verdict_plan}
+use Rattle.tool_commands.specs.Scripts.{and_files, file_line, needs_files, needs_script, needs_script_and_list, needs_unlisted, script_of}
+use Rattle.tool_commands.specs.ScriptTexts.{command_failed_line, commands_true_line, script_line}
+use Rattle.tool_commands.proofs.ListedFiles.{listed-sound}
+use Rattle.tool_commands.proofs.ReadScripts.{read-good}
+use Rattle.ddc_app.specs.Accepting.{HoldBytes, is_compared}
+use Rattle.ddc_app.specs.Commands.{plan_of}
+use Rattle.ddc_app.specs.Holding.{AreHeld}
+use Rattle.ddc_app.specs.Pausing.{IsStepCount}
+use Rattle.ddc_app.specs.Scripted.{ChangesReportAlone, HoldsScript, IsScriptTrue, ScriptReported, ScriptVerified, kaem, kaem_ended, kaem_verify}
+use Rattle.ddc_app.proofs.Beginnings.{three_apart}
+use Rattle.ddc_app.proofs.CountWords.{count-again}
+use Rattle.ddc_app.proofs.Loads.{are_contents, as_many, follow_all, follows, found_again, held_small, is_loaded, other_held, set_held, within}
+use Rattle.ddc_app.proofs.Walks.{IsRefusal, both_need, both_need_all, both_read, told}
+
+-- ---- what holds of every refusal and of what the loads lead to holds of both commands
+
+-- a script and a list that read, none of whose words stands for the report's file
+record Opens (script list report : List ℕ) (files : NamedFiles) (said : Said) (words : List (List ℕ)) : Type 0 where
+  script_bytes : List ℕ
+  script_held : loaded files script 1_048_576 ≡ Bytes script_bytes
+  script_reads : script_of script_bytes ≡ Ok said
+  list_bytes : List ℕ
+  list_held : loaded files list 1_048_576 ≡ Bytes list_bytes
+  list_reads : list_of file_line 4_096 list_bytes ≡ Ok words
+  apart : list_any (λ word. is_one_file word report) words ≡ false
+
+module _ (script list report : List ℕ) (files : NamedFiles) (P : Outcome → Type 0) (refused : (given : Status) (text : List ℕ) → IsRefusal given → P (told files given text)) where
+  -- the second outcome serves walks of two plans
+  abbrev First : Outcome → Outcome → Type 0
+  First o _ = P o
+
+  abbrev Keeps : Plan → Type 0
+  Keeps plan = P (outcome plan files)
+
+  need_keeps : (name : List ℕ) (limit : ℕ) (next : List ℕ → Plan) → ((content : List ℕ) → loaded files name limit ≡ Bytes content → Keeps (next content)) → Keeps (needs name limit next)
+  need_keeps name limit next = both_need First files refused name limit next next
+
+  read_keeps : {A E : Type 0} (reading : Result A E) (given : Status) (text : E → List ℕ) (next : A → Plan) → IsRefusal given
+      → ((value : A) → reading ≡ Ok value → Keeps (next value)) → Keeps (unless_refused reading (λ e. answers given (text e)) next)
+  read_keeps reading given text next = both_read First files refused reading given text next next
+
+  unlisted_keeps : (words : List (List ℕ)) (next : Unit {0} → Plan) → (list_any (λ word. is_one_file word report) words ≡ false → Keeps (next tt))
+      → Keeps (needs_unlisted words report next)
+  unfolding needs_unlisted
+  unlisted_keeps words next keeps = by (list_any (λ word. is_one_file word report) words) refl
+    where
+      by : (clash : Bool) → list_any (λ word. is_one_file word report) words ≡ clash → Keeps (cond clash usage (next tt))
+      by true is = refused status.Usage usage_line (refl, refl)
+      by false is = keeps is
+
+  script_keeps : (next : Said → Plan) → ((bytes : List ℕ) (said : Said) → loaded files script 1_048_576 ≡ Bytes bytes → script_of bytes ≡ Ok said → Keeps (next said))
+      → Keeps (needs_script script next)
+  script_keeps next keeps =
+      let text : ScriptFault × ℕ → List ℕ = λ fault. script_line fault.0 fault.1 in
+      need_keeps script 1_048_576 (λ bytes. unless_refused (script_of bytes) (λ fault. answers status.ScriptRefused (text fault)) next)
+      (λ bytes held. read_keeps (script_of bytes) status.ScriptRefused text next (refl, refl) (λ said reads. keeps bytes said held reads))
+
+  list_keeps : (next : List (List ℕ) → Plan) → ((bytes : List ℕ) (words : List (List ℕ)) → loaded files list 1_048_576 ≡ Bytes bytes → list_of file_line 4_096 bytes ≡ Ok words → Keeps (next words))
+      → Keeps (needs_list file_line 4_096 list next)
+  list_keeps next keeps =
+      need_keeps list 1_048_576 (λ bytes. unless_refused (list_of file_line 4_096 bytes) (λ number. answers status.ListRefused (list_line number)) next)
+      (λ bytes held. read_keeps (list_of file_line 4_096 bytes) status.ListRefused list_line next (refl, refl) (λ words reads. keeps bytes words held reads))
+
+  front_keeps : (next : Said → List (List ℕ) → Plan) → ((said : Said) (words : List (List ℕ)) → Opens script list report files said words → Keeps (next said words))
+      → Keeps (needs_script_and_list script list report next)
+  front_keeps next keeps =
+      let behind : Said → List (List ℕ) → Plan = λ said words. needs_unlisted words report (λ _. next said words) in
+      script_keeps (λ said. needs_list file_line 4_096 list (behind said)) (λ bytes said held reads.
+      list_keeps (behind said) (λ text words text_held words_read.
+      unlisted_keeps words (λ _. next said words) (λ apart.
+      keeps said words (record {
+        script_bytes = bytes;
+        script_held = held;
+        script_reads = reads;
+        list_bytes = text;
+        list_held = text_held;
+        list_reads = words_read;
+        apart = apart;
+      }))))
+
+  report_keeps : (next : ScriptReport → Plan) → ((text : List ℕ) (made : ScriptReport) → loaded files report 1_073_741_824 ≡ Bytes text → script_report_of text ≡ Ok made → Keeps (next made))
+      → Keeps (needs_script_report report next)
+  report_keeps next keeps =
+      need_keeps report 1_073_741_824 (λ text. unless_refused (script_report_of text) (λ number. answers status.ReportRefused (report_line number)) next)
+      (λ text held. read_keeps (script_report_of text) status.ReportRefused report_line next (refl, refl) (λ made reads. keeps text made held reads))
+
+  files_keep : (three : IsTrue (are_three_files script list report)) (said : Said) (words : List (List ℕ)) → Opens script list report files said words → (next : FilesListed → Plan)
+      → ((listed : FilesListed) → HoldsScript script list report files said listed → Keeps (next listed)) → Keeps (needs_files words next)
+  unfolding needs_files
+  files_keep three said words o next keeps =
+      let last : List (List ℕ) → Plan = λ contents. next (and_files no_files words contents) in
+      both_need_all First files refused 268_435_456 536_870_912 words last last (λ contents held.
+      keeps (and_files no_files words contents) (record {
+        three = three;
+        script_bytes = o.script_bytes;
+        script_held = o.script_held;
+        script_reads = o.script_reads;
+        list_bytes = o.list_bytes;
+        list_held = o.list_held;
+        words = words;
+        list_reads = o.list_reads;
+        apart = o.apart;
+        contents = contents;
+        contents_held = held;
+        listed_are = refl;
+      }))
+
+  -- `kaem`
+  abbrev Folds : List ℕ → Type 0
+  Folds steps =
+      (most : ℕ) (said : Said) (listed : FilesListed) → as_steps steps ≡ Some most → HoldsScript script list report files said listed
+      → Keeps (folded_plan report said listed (folded most listed.world said.commands))
+
+  pub kaem_keeps : (steps : List ℕ) → Folds steps → Keeps (plan_of (codes "kaem" ∷ script ∷ list ∷ report ∷ steps ∷ []))
+  unfolding kaem_files
+  kaem_keeps steps keeps = by (as_steps steps) refl (are_three_files script list report) refl
+    where
+      by : (count : Option ℕ) → as_steps steps ≡ count → (three : Bool) → are_three_files script list report ≡ three
+          → Keeps (or_usage count (λ most. cond three (kaem_files script list report most) usage))
+      by None is three are = refused status.Usage usage_line (refl, refl)
+      by (Some most) is false are = refused status.Usage usage_line (refl, refl)
+      by (Some most) is true are =
+          let last : Said → FilesListed → Plan = λ said listed. folded_plan report said listed (folded most listed.world said.commands) in
+          front_keeps (λ said words. needs_files words (last said)) (λ said words o.
+          files_keep are said words o (last said) (λ listed holds. keeps most said listed is holds))
+
+  -- `kaem-verify`
+  abbrev Judges : Type 0
+  Judges =
+      (said : Said) (listed : FilesListed) (text : List ℕ) (made : ScriptReport) → HoldsScript script list report files said listed
+      → loaded files report 1_073_741_824 ≡ Bytes text → script_report_of text ≡ Ok made
+      → Keeps (script_verdict_plan (length said.commands) (first_script_fault said listed made))
+
+  pub kaem_verify_keeps : Judges → Keeps (plan_of (codes "kaem-verify" ∷ script ∷ list ∷ report ∷ []))
+  unfolding kaem_verify_files
+  kaem_verify_keeps keeps = by (are_three_files script list report) refl
+    where
+      by : (three : Bool) → are_three_files script list report ≡ three → Keeps (cond three (kaem_verify_files script list report) usage)
+      by false are = refused status.Usage usage_line (refl, refl)
+      by true are =
+          let last : Said → ScriptReport → FilesListed → Plan = λ said made listed. script_verdict_plan (length said.commands) (first_script_fault said listed made) in
+          let loads : Said → List (List ℕ) → ScriptReport → Plan = λ said words made. needs_files words (last said made) in
+          front_keeps (λ said words. needs_script_report report (loads said words)) (λ said words o.
+          report_keeps (loads said words) (λ text made held reads.
+          files_keep are said words o (last said made) (λ listed holds. keeps said listed text made holds held reads)))
+
+-- ---- what they leave
+
+module _ (script list report : List ℕ) (files : NamedFiles) where
+  abbrev Alone : Outcome → Type 0
+  Alone = ChangesReportAlone report files
+
+  as_before : (given : Status) (text : List ℕ) → Alone (told files given text)
+  as_before given text = record { others = λ name other. refl; unless_yes = λ other. refl }
+
+  by_fold : (said : Said) (listed : FilesListed) (f : Folded) → Alone (outcome (folded_plan report said listed f) files)
+  by_fold said listed (RanAll ran world) = record {
+    others = λ name other. (others-insert files report (script_report_text (script_report said listed ran world))).others name other;
+    unless_yes = λ other. absurd (other refl);
+  }
+  by_fold said listed (Stopped number cause step) = as_before status.RunFailed (command_failed_line number cause step)
+
+  pub kaem_leaves : (most : ℕ) → ChangesReportAlone report files (kaem script list report most files)
+  kaem_leaves most =
+      kaem_keeps script list report files Alone (λ given text _. as_before given text) (decimal most)
+      (λ n said listed count holds. by_fold said listed (folded n listed.world said.commands))
+
+  by_verdict : (count : ℕ) (fault : Option (ScriptPart × ℕ)) → (outcome (script_verdict_plan count fault) files).files ≡ files
+  by_verdict count None = refl
+  by_verdict count (Some (part, place)) = refl
+
+  pub kaem_verify_leaves : (kaem_verify script list report files).files ≡ files
+  kaem_verify_leaves =
+      kaem_verify_keeps script list report files (λ o. o.files ≡ files) (λ given text _. refl)
+      (λ said listed text made holds held reads. by_verdict (length said.commands) (first_script_fault said listed made))
+
+-- ---- where they come to a yes
+
+no_yes : (given : Status) → is_compared given ≡ false → given ≡ status.Yes → ⊥
+no_yes given refusal ends = let both : false ≡ true = sym refusal ∙ ap is_compared ends in cc
+
+module _ (script list report : List ℕ) (files : NamedFiles) where
+  -- the report that is held says what its commands come to
+  pub shows_true : (said : Said) (listed : FilesListed) (text : List ℕ) (made : ScriptReport) → loaded files report 1_073_741_824 ≡ Bytes text → script_report_of text ≡ Ok made
+      → first_script_fault said listed made ≡ None → IsScriptTrue report files said listed
+  shows_true said listed text made held reads none =
+      by (folded (2 ^ 48) listed.world said.commands) refl (no_fault_reports said listed made none)
+    where
+      by : (f : Folded) → folded (2 ^ 48) listed.world said.commands ≡ f → script_ended said listed f ≡ Done made → IsScriptTrue report files said listed
+      by (Stopped number cause step) was ends = absurd cc
+      by (RanAll ran world) was ends =
+          let same : script_report said listed ran world ≡ made = cc in
+          record {
+            ran = ran;
+            world = world;
+            all_ran = was;
+            held = (within 1_073_741_824 (finite.get files report) text held).0 ∙ ap Some ((is_reading text (Ok made) reads).1 ∙ ap script_report_text (sym same));
+          }
+
+  pub kaem_verifies : (kaem_verify script list report files).status ≡ status.Yes → ScriptVerified script list report files (kaem_verify script list report files)
+  kaem_verifies =
+      kaem_verify_keeps script list report files (λ o. o.status ≡ status.Yes → ScriptVerified script list report files o)
+      (λ given text refusal ends. absurd (no_yes given refusal.1 ends)) (λ said listed text made holds held reads.
+      by said listed text made holds held reads (first_script_fault said listed made) refl)
+    where
+      by : (said : Said) (listed : FilesListed) (text : List ℕ) (made : ScriptReport) → HoldsScript script list report files said listed
+          → loaded files report 1_073_741_824 ≡ Bytes text → script_report_of text ≡ Ok made → (fault : Option (ScriptPart × ℕ)) → first_script_fault said listed made ≡ fault
+          → (outcome (script_verdict_plan (length said.commands) fault) files).status ≡ status.Yes
+          → ScriptVerified script list report files (outcome (script_verdict_plan (length said.commands) fault) files)
+      by said listed text made holds held reads None none ends =
+          record { said = said; listed = listed; holds = holds; is_true = shows_true said listed text made held reads none; text = refl }
+      by said listed text made holds held reads (Some (part, place)) none ends = absurd cc
+
+  pub kaem_reports : (steps : List ℕ) → (outcome (plan_of (codes "kaem" ∷ script ∷ list ∷ report ∷ steps ∷ [])) files).status ≡ status.Yes
+      → ScriptReported script list report steps files (outcome (plan_of (codes "kaem" ∷ script ∷ list ∷ report ∷ steps ∷ [])) files)
+  kaem_reports steps =
+      kaem_keeps script list report files (λ o. o.status ≡ status.Yes → ScriptReported script list report steps files o)
+      (λ given text refusal ends. absurd (no_yes given refusal.1 ends)) steps (λ most said listed count holds.
+      by most said listed count holds (folded most listed.world said.commands) refl)
+    where
+      by : (most : ℕ) (said : Said) (listed : FilesListed) → as_steps steps ≡ Some most → HoldsScript script list report files said listed
+          → (f : Folded) → folded most listed.world said.commands ≡ f → (outcome (folded_plan report said listed f) files).status ≡ status.Yes
+          → ScriptReported script list report steps files (outcome (folded_plan report said listed f) files)
+      by most said listed count holds (RanAll ran world) was ends =
+          record { most = most; counted = count; said = said; listed = listed; holds = holds; ran = ran; world = world; all_ran = was; answer_is = refl }
+      by most said listed count holds (Stopped number cause step) was ends = absurd cc
+
+-- ---- over files that hold a script
+
+module _ (script list report : List ℕ) (files : NamedFiles) (said : Said) (listed : FilesListed) (h : HoldsScript script list report files said listed) where
+  front_opens : (next : Said → List (List ℕ) → Plan) → outcome (needs_script_and_list script list report next) files ≡ outcome (next said h.words) files
+  unfolding needs_unlisted
+  front_opens next =
+      let behind : Said → List (List ℕ) → Plan = λ s words. needs_unlisted words report (λ _. next s words) in
+      let lists : Said → Plan = λ s. needs_list file_line 4_096 list (behind s) in
+      let refuse : ScriptFault × ℕ → Plan = λ fault. answers status.ScriptRefused (script_line fault.0 fault.1) in
+      let refuse_list : ℕ → Plan = λ number. answers status.ListRefused (list_line number) in
+      follows script 1_048_576 (λ bytes. unless_refused (script_of bytes) refuse lists) files h.script_bytes h.script_held
+      ∙ ap (λ reading. outcome (unless_refused reading refuse lists) files) h.script_reads
+      ∙ follows list 1_048_576 (λ bytes. unless_refused (list_of file_line 4_096 bytes) refuse_list (behind said)) files h.list_bytes h.list_held
+      ∙ ap (λ reading. outcome (unless_refused reading refuse_list (behind said)) files) h.list_reads
+      ∙ ap (λ clash. outcome (cond clash usage (next said h.words)) files) h.apart
+
+  files_open : (next : FilesListed → Plan) → outcome (needs_files h.words next) files ≡ outcome (next listed) files
+  unfolding needs_files
+  files_open next =
+      follow_all 268_435_456 536_870_912 files h.words h.contents (λ contents. next (and_files no_files h.words contents)) h.contents_held
+      ∙ ap (λ l. outcome (next l) files) (sym h.listed_are)
+
+  ends_so : (f : Folded) → outcome (folded_plan report said listed f) files ≡ kaem_ended report files said listed f
+  ends_so (RanAll ran world) = refl
+  ends_so (Stopped number cause step) = refl
+
+  pub kaem_folds : (most : ℕ) → IsStepCount most → kaem script list report most files ≡ kaem_ended report files said listed (folded most listed.world said.commands)
+  unfolding kaem_files
+  kaem_folds most count =
+      let last : Said → FilesListed → Plan = λ s l. folded_plan report s l (folded most l.world s.commands) in
+      ap (λ steps. outcome (or_usage steps (λ n. cond (are_three_files script list report) (kaem_files script list report n) usage)) files) (count-again most count)
+      ∙ ap (λ three. outcome (cond three (kaem_files script list report most) usage) files) h.three
+      ∙ front_opens (λ s words. needs_files words (last s))
+      ∙ files_open (last said)
+      ∙ ends_so (folded most listed.world said.commands)
+
+  -- the judgement of a report
+  abbrev judged : ScriptReport → Plan
+  judged made = script_verdict_plan (length said.commands) (first_script_fault said listed made)
+
+  abbrev loads : Said → List (List ℕ) → ScriptReport → Plan
+  loads s words made = needs_files words (λ l. script_verdict_plan (length s.commands) (first_script_fault s l made))
+
+  report_opens : kaem_verify script list report files ≡ outcome (needs_script_report report (loads said h.words)) files
+  unfolding kaem_verify_files
+  report_opens =
+      ap (λ three. outcome (cond three (kaem_verify_files script list report) usage) files) h.three
+      ∙ front_opens (λ s words. needs_script_report report (loads s words))
+
+  judges : (made : ScriptReport) → outcome (loads said h.words made) files ≡ outcome (judged made) files
+  judges made = files_open (λ l. script_verdict_plan (length said.commands) (first_script_fault said l made))
+
+  -- ---- the report of what ran
+
+  pub listed_sound : HoldBytes files → IsList listed × IsSound listed.world
+  listed_sound bytes =
+      subst (λ (l : FilesListed). IsList l × IsSound l.world) (sym h.listed_are)
+      (listed-sound h.list_bytes h.words h.contents h.list_reads (as_many 268_435_456 536_870_912 files h.words h.contents h.contents_held)
+      (are_contents 536_870_912 files h.words h.contents bytes h.contents_held) (held_small 536_870_912 files h.words h.contents h.contents_held))
+
+  pub report_good : HoldBytes files → (most : ℕ) (ran : List Ran) (world : World) → most ≤ 2 ^ 48 → folded most listed.world said.commands ≡ RanAll ran world
+      → IsScriptReport (script_report said listed ran world)
+  report_good bytes most ran world few all_ran =
+      let good = read-good h.script_bytes said h.script_reads (bytes script h.script_bytes (within 1_048_576 (finite.get files script) h.script_bytes h.script_held).0) in
+      let sound = listed_sound bytes in
+      done-report most said listed ran world few good.0 good.1 sound.0 sound.1 all_ran
+
+  -- ---- a report that is held
+
+  abbrev Accepted : Outcome
+  Accepted = record { status = status.Yes; text = commands_true_line (length said.commands); files = files }
+
+  pub accepts_report : (most : ℕ) (ran : List Ran) (world : World) → most ≤ 2 ^ 48 → folded most listed.world said.commands ≡ RanAll ran world
+      → IsScriptReport (script_report said listed ran world) → finite.get files report ≡ Some (script_report_text (script_report said listed ran world))
+      → kaem_verify script list report files ≡ Accepted
+  accepts_report most ran world few all_ran good held =
+      let made = script_report said listed ran world in
+      let text : List ℕ = script_report_text made in
+      let refuse : ℕ → Plan = λ number. answers status.ReportRefused (report_line number) in
+      report_opens
+      ∙ follows report 1_073_741_824 (λ t. unless_refused (script_report_of t) refuse (loads said h.words)) files text (is_loaded files report text 1_073_741_824 held (short made good))
+      ∙ ap (λ reading. outcome (unless_refused reading refuse (loads said h.words)) files) (read_text text made good refl)
+      ∙ judges made
+      ∙ ap (λ fault. outcome (script_verdict_plan (length said.commands) fault) files)
+      (reported_without_fault most said listed made few (ap (script_ended said listed) all_ran))
+
+  -- a yes shows that the report is true
+  abbrev Shows : Outcome → Type 0
+  Shows answer = answer.status ≡ status.Yes → IsScriptTrue report files said listed × (answer.text ≡ commands_true_line (length said.commands))
+
+  yes_shows : Shows (kaem_verify script list report files)
+  yes_shows =
+      subst Shows (sym report_opens)
+      (report_keeps script list report files Shows (λ given text refusal ends. absurd (no_yes given refusal.1 ends)) (loads said h.words) (λ text made held reads.
+      subst Shows (sym (judges made)) (by text made held reads (first_script_fault said listed made) refl)))
+    where
+      by : (text : List ℕ) (made : ScriptReport) → loaded files report 1_073_741_824 ≡ Bytes text → script_report_of text ≡ Ok made → (fault : Option (ScriptPart × ℕ))
+          → first_script_fault said listed made ≡ fault → Shows (outcome (script_verdict_plan (length said.commands) fault) files)
+      by text made held reads None none ends = (shows_true script list report files said listed text made held reads none, refl)
+      by text made held reads (Some (part, place)) none ends = absurd cc
+
+  true_yes : HoldBytes files → IsScriptTrue report files said listed → (kaem_verify script list report files).status ≡ status.Yes
+  true_yes bytes t =
+      ap (λ (o : Outcome). o.status)
+      (accepts_report (2 ^ 48) t.ran t.world (omega arith) t.all_ran (report_good bytes (2 ^ 48) t.ran t.world (omega arith) t.all_ran) t.held)
+
+  pub script_verified : HoldBytes files → ((kaem_verify script list report files).status ≡ status.Yes) ↔ IsScriptTrue report files said listed
+  script_verified bytes = (λ ends. (yes_shows ends).0, true_yes bytes)
+
+  pub script_text : (kaem_verify script list report files).status ≡ status.Yes → (kaem_verify script list report files).text ≡ commands_true_line (length said.commands)
+  script_text ends = (yes_shows ends).1
+
+  -- also once a report was set
+  pub holds_again : (content : List ℕ) → HoldsScript script list report (finite.insert files report content) said listed
+  holds_again content =
+      let apart = three_apart script list report h.three in
+      let after : NamedFiles = finite.insert files report content in
+      record {
+        three = h.three;
+        script_bytes = h.script_bytes;
+        script_held = other_held files report content script 1_048_576 apart.recipe_report ∙ h.script_held;
+        script_reads = h.script_reads;
+        list_bytes = h.list_bytes;
+        list_held = other_held files report content list 1_048_576 apart.save_report ∙ h.list_held;
+        words = h.words;
+        list_reads = h.list_reads;
+        apart = h.apart;
+        contents = h.contents;
+        contents_held = subst (λ names. AreHeld 268_435_456 536_870_912 after names h.contents) (map-id h.words)
+            (found_again 268_435_456 536_870_912 files report content (λ (word : List ℕ). word) h.words h.contents h.apart
+            (subst (λ names. AreHeld 268_435_456 536_870_912 files names h.contents) (sym (map-id h.words)) h.contents_held));
+        listed_are = h.listed_are;
+      }
+
+-- ---- the report of `kaem` is accepted
+
+few_steps : (steps : List ℕ) (most : ℕ) → as_steps steps ≡ Some most → most ≤ 2 ^ 48
+unfolding as_steps
+few_steps steps most is = by_count (as_decimal steps) is
+  where
+    by_limits : (count : ℕ) (b : Bool) → (nat_le 1 count && nat_le count (2 ^ 48)) ≡ b → cond b (Some count) None ≡ Some most → most ≤ 2 ^ 48
+    by_limits count false is here = absurd cc
+    by_limits count true is here =
+        let same : count ≡ most = cc in
+        subst (λ (n : ℕ). n ≤ 2 ^ 48) same (leb-true count (2 ^ 48) (and_parts (nat_le 1 count) (nat_le count (2 ^ 48)) is).1)
+
+    by_count : (count : Option ℕ) → within_steps count ≡ Some most → most ≤ 2 ^ 48
+    by_count None here = absurd cc
+    by_count (Some count) here = by_limits count (nat_le 1 count && nat_le count (2 ^ 48)) refl here
+
+pub script_accepted : (script list report : List ℕ) (steps : ℕ) (files : NamedFiles) → HoldBytes files → (kaem script list report steps files).status ≡ status.Yes
+    → (kaem_verify script list report (kaem script list report steps files).files).status ≡ status.Yes
+script_accepted script list report steps files bytes ends =
+    let r = kaem_reports script list report files (decimal steps) ends in
+    let text : List ℕ = script_report_text (script_report r.said r.listed r.ran r.world) in
+    let few = few_steps (decimal steps) r.most r.counted in
+    let good = report_good script list report files r.said r.listed r.holds bytes r.most r.ran r.world few r.all_ran in
+    let again = holds_again script list report files r.said r.listed r.holds text in
+    subst (λ (o : Outcome). (kaem_verify script list report o.files).status ≡ status.Yes) (sym r.answer_is)
+    (ap (λ (o : Outcome). o.status)
+    (accepts_report script list report (finite.insert files report text) r.said r.listed again r.most r.ran r.world few r.all_ran good (set_held files report text)))
+
+pub accepted_text : (script list report : List ℕ) (steps : ℕ) (files : NamedFiles) (said : Said) (listed : FilesListed) → HoldsScript script list report files said listed → HoldBytes files
+    → (kaem script list report steps files).status ≡ status.Yes
+    → (kaem_verify script list report (kaem script list report steps files).files).text ≡ commands_true_line (length said.commands)
+accepted_text script list report steps files said listed h bytes ends =
+    let r = kaem_reports script list report files (decimal steps) ends in
+    let text : List ℕ = script_report_text (script_report r.said r.listed r.ran r.world) in
+    let after : NamedFiles = finite.insert files report text in
+    let left : (kaem script list report steps files).files ≡ after = ap (λ (o : Outcome). o.files) r.answer_is in
+    subst (λ (now : NamedFiles). (kaem_verify script list report now).text ≡ commands_true_line (length said.commands)) (sym left)
+    (script_text script list report after said listed (holds_again script list report files said listed h text)
+    (subst (λ (now : NamedFiles). (kaem_verify script list report now).status ≡ status.Yes) left (script_accepted script list report steps files bytes ends)))

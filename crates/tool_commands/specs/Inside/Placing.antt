@@ -1,0 +1,17 @@
+-- What the files of a list rest on, which are placed one after the other. No promise rests on its being read.
+use Rattle.std.specs.Prelude.{◌≡◌, ℕ, false, bytes_eq, All, Ok, List, [], ◌∷◌}
+use Rattle.mem_files.specs.Calls.{placed}
+use Rattle.mem_files.specs.Names.{stripped}
+use Rattle.kaem_script.specs.FilesListed.{FilesListed}
+
+-- words that stand for files, no two of them for one
+abbrev pub IsApart : List ℕ → List ℕ → Type 0
+IsApart word other = bytes_eq (stripped word) (stripped other) ≡ false
+
+abbrev pub AreApart : List (List ℕ) → Type 0
+AreApart [] = Unit {0}
+AreApart (word ∷ words) = All (IsApart word) words × AreApart words
+
+-- no rule refuses this file
+abbrev pub IsPlaced : FilesListed → List ℕ → List ℕ → Type 0
+IsPlaced listed word content = (placed listed.world word content).0 ≡ Ok tt

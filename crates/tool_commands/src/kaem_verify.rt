@@ -1,0 +1,129 @@
+//! `kaem-verify SCRIPT LIST REPORT`: the report of a script is judged by a replay of its commands.
+
+ghost use Rattle.std.specs.Prelude.{length, map};
+ghost use Rattle.ddc_base.specs.Outside.{IsFileName, ShelfState};
+ghost use Rattle.report.specs.Script.Reading.{script_report_of};
+ghost use Rattle.kaem_script.specs.Faults.{first_script_fault};
+ghost use Rattle.command_plan.specs.declared.status.Status.TheVariants.{Refuted, ReportRefused, Yes};
+ghost use Rattle.command_plan.specs.Performs.{Performs};
+ghost use Rattle.command_plan.specs.Plan.{answers, unless_refused};
+ghost use Rattle.command_plan.specs.Steps.{Obtains, Says};
+ghost use Rattle.command_plan.specs.Texts.{report_line};
+ghost use Rattle.tool_commands.specs.KaemVerify.{kaem_verify_files, kaem_verify_plan, needs_script_report, script_verdict_plan};
+ghost use Rattle.tool_commands.specs.ScriptTexts.{commands_true_line, script_refuted_line};
+
+use crate::script_texts;
+use crate::scripts::{fetch_files, fetch_script, fetch_words, unlisted};
+use command_plan::words::are_three_files;
+use command_plan::{Answer, Status, Stop, fetch, texts, usage};
+use ddc_base::{Bytes, Shelf};
+use kaem_script::{FileList, Script, ScriptPart, ScriptVerdict};
+use report::script::{ScriptReport, ScriptReportRefusal};
+use std::alloc::Global;
+
+/// The most bytes of a report that is loaded. The text of every report has fewer.
+const REPORT_LIMIT: u64 = 1_073_741_824;
+
+/// Performs the command on the words after its name.
+#[tactic(auto, using(command_plan::proofs::Performing::performing))]
+pub fn perform<S: Shelf>(alloc: Global, words: &[&str], shelf: &mut S) -> Result<Answer, Stop>
+    ensures { Performs (kaem_verify_plan (map (λ w. w.now) words.now)) (S.state shelf.old) (S.state shelf.new) result }
+{
+    match words {
+        [script, list, report] if are_three_files(script, list, report) => {
+            verify(alloc, shelf, script, list, report)
+        }
+        _ => usage(alloc),
+    }
+}
+
+/// The command on three files.
+#[tactic(auto, using(command_plan::proofs::Obtaining::obtaining), unfolding(crate::specs::KaemVerify::kaem_verify_files))]
+fn verify<S: Shelf>(
+    alloc: Global,
+    shelf: &mut S,
+    script: &str,
+    list: &str,
+    report: &str,
+) -> Result<Answer, Stop>
+    requires script { IsFileName script.now }
+    requires list { IsFileName list.now }
+    requires report { IsFileName report.now }
+    ensures { Performs (kaem_verify_files script.now list.now report.now) (S.state shelf.old) (S.state shelf.new) result }
+{
+    let script = fetch_script(alloc, shelf, script)?;
+    let words = fetch_words(alloc, shelf, list)?;
+    unlisted(alloc, &words, report)?;
+    let report = fetch_report(alloc, shelf, report)?;
+    let files = fetch_files(alloc, shelf, &words)?;
+    judge(alloc, &script, &files, &report)
+}
+
+/// Fetches the report of a script and reads it.
+fn fetch_report<S: Shelf>(alloc: Global, shelf: &mut S, file: &str) -> Result<ScriptReport, Stop>
+    requires { IsFileName file.now }
+    ensures { Obtains (needs_script_report file.now) (S.state shelf.old) (S.state shelf.new) result }
+{
+    let text = fetch(alloc, shelf, file, REPORT_LIMIT)?;
+    read_report(alloc, text)
+}
+
+/// Reads a report, and lets its text go.
+fn read_report(alloc: Global, text: Bytes) -> Result<ScriptReport, Stop>
+    ensures { (shelf : ShelfState) → Obtains (unless_refused (script_report_of text) (λ number. answers ReportRefused (report_line number)))
+        shelf shelf result }
+{
+    match report::script::read(alloc, text.as_slice()) {
+        Ok(report) => Ok(report),
+        Err(ScriptReportRefusal::Form(number)) => {
+            Err(Stop::Answered(report_refused(alloc, number)?))
+        }
+        Err(ScriptReportRefusal::OutOfMemory) => Err(Stop::OutOfMemory),
+    }
+}
+
+/// The answer to a file that is no report, from this line on.
+fn report_refused(alloc: Global, number: u64) -> Result<Answer, Stop>
+    ensures { Says (answers ReportRefused (report_line number)) result }
+{
+    Ok(Answer {
+        status: Status::ReportRefused,
+        text: texts::report(alloc, number)?,
+    })
+}
+
+/// Replays the report, and says what it comes to.
+fn judge(
+    alloc: Global,
+    script: &Script,
+    files: &FileList,
+    report: &ScriptReport,
+) -> Result<Answer, Stop>
+    ensures { Says (script_verdict_plan (length script.now.commands) (first_script_fault script.now files.now report.now)) result }
+{
+    match kaem_script::verify(alloc, script, files, report) {
+        ScriptVerdict::Yes => accepted(alloc, script.commands().len()),
+        ScriptVerdict::Refuted { part, place } => refuted(alloc, part, place),
+        ScriptVerdict::OutOfMemory => Err(Stop::OutOfMemory),
+    }
+}
+
+/// The answer to a report that is true, of so many commands.
+fn accepted(alloc: Global, commands: usize) -> Result<Answer, Stop>
+    ensures { Says (answers Yes (commands_true_line commands)) result }
+{
+    Ok(Answer {
+        status: Status::Yes,
+        text: script_texts::commands_true(alloc, commands)?,
+    })
+}
+
+/// The answer to a report of which this part is not true.
+fn refuted(alloc: Global, part: ScriptPart, place: u32) -> Result<Answer, Stop>
+    ensures { Says (answers Refuted (script_refuted_line part place)) result }
+{
+    Ok(Answer {
+        status: Status::Refuted,
+        text: script_texts::refuted(alloc, part, place)?,
+    })
+}

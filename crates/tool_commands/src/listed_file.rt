@@ -1,0 +1,89 @@
+//! A line of a list of files.
+
+ghost use Rattle.std.specs.Prelude.{◌≡◌, IsTrue, bytes_eq};
+ghost use Rattle.std.specs.List.{list_any};
+ghost use Rattle.ddc_base.specs.Outside.{IsFileName};
+ghost use Rattle.mem_files.specs.Names.{is_file_name, stripped};
+ghost use Rattle.tool_commands.specs.Scripts.{stands_for_another};
+
+use command_plan::ListedWord;
+use command_plan::lists::Listed;
+use ddc_base::OutOfMemory;
+use mem_files::strip;
+use std::alloc::Global;
+use std::marker::Model;
+
+/// A word that stands for a file, by its name without the `./` that it begins with. Contracts see it as its bytes.
+#[derive(Debug, Drop)]
+pub struct ListedFile {
+    word: ListedWord,
+}
+
+impl Model for ListedFile {
+    ghost use Rattle.std.specs.Prelude.{List, ℕ, IsTrue};
+    ghost use Rattle.mem_files.specs.Names.{is_file_name, stripped};
+
+    ghost Value = { List ℕ };
+
+    ghost view = { λ file. file.word };
+
+    ghost invariant = { λ file. IsTrue (is_file_name (stripped file.word)) };
+}
+
+impl Listed for ListedFile {
+    ghost use Rattle.tool_commands.specs.Scripts.{file_line};
+
+    ghost form = { file_line };
+
+    #[tactic(auto, unfolding(crate::specs::Scripts::file_line))]
+    fn read(
+        alloc: Global,
+        earlier: &[ListedFile],
+        line: &[u8],
+    ) -> Result<Option<ListedFile>, OutOfMemory> {
+        if !stands_for_another(earlier, line) {
+            return Ok(None);
+        }
+        match ListedWord::read(alloc, line)? {
+            Some(word) => {
+                // What a word keeps is told by a call of its own.
+                word.as_str();
+                Ok(Some(ListedFile { word }))
+            }
+            None => Ok(None),
+        }
+    }
+}
+
+impl ListedFile {
+    /// The word as text, by which a shelf loads.
+    pub fn as_str(&self) -> &str
+        ensures value { result.now ≡ self.now }
+        ensures name { IsFileName self.now }
+        ensures file { IsTrue (is_file_name (stripped self.now)) }
+    {
+        self.word.as_str()
+    }
+}
+
+/// Whether a word stands for a file, and for none of those for which the earlier words stand.
+fn stands_for_another(earlier: &[ListedFile], word: &[u8]) -> bool
+    ensures { result ≡ stands_for_another earlier.now word.now }
+{
+    let name = strip(word);
+    !name.is_empty() && !is_named(earlier, name)
+}
+
+/// Whether one of these words stands for the file of this name.
+fn is_named(words: &[ListedFile], name: &[u8]) -> bool
+    ensures { result ≡ list_any (λ word. bytes_eq (stripped word) name.now) words.now }
+{
+    words.iter().any(|word| stands_for(word, name))
+}
+
+/// Whether a word stands for the file of this name.
+fn stands_for(word: &ListedFile, name: &[u8]) -> bool
+    ensures { result ≡ bytes_eq (stripped word.now) name.now }
+{
+    strip(word.as_str().as_bytes()) == name
+}

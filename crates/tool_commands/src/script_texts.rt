@@ -1,0 +1,79 @@
+//! The texts of the commands on scripts.
+
+ghost use Rattle.std.specs.Prelude.{◌≡◌, IfOk, string_bytes};
+ghost use Rattle.tool_commands.specs.ScriptTexts.{command_cause_text, command_failed_line, commands_true_line, done_line, script_fault_number, script_line, script_refuted_line};
+
+use command_plan::causes;
+use ddc_base::{Bytes, OutOfMemory};
+use kaem_script::{CommandCause, ScriptFault, ScriptPart};
+use std::alloc::Global;
+
+/// The number of a fault.
+fn number(fault: ScriptFault) -> u8
+    ensures { result ≡ script_fault_number fault }
+{
+    fault as u8
+}
+
+/// A file is no script: its first fault, and the offset of the word.
+#[tactic(auto, unfolding(crate::specs::ScriptTexts::script_line))]
+pub(crate) fn refused(alloc: Global, fault: ScriptFault, offset: u64) -> Result<Bytes, OutOfMemory>
+    ensures { IfOk result (λ text. text ≡ script_line fault offset) }
+{
+    let fault = number(fault);
+    Ok(Bytes::from_vec(format!(in alloc; "script refused {fault} {offset}\n")?.into_bytes()))
+}
+
+/// All commands ran, in so many steps together.
+#[tactic(auto, unfolding(crate::specs::ScriptTexts::done_line))]
+pub(crate) fn done(alloc: Global, commands: usize, steps: u64) -> Result<Bytes, OutOfMemory>
+    ensures { IfOk result (λ text. text ≡ done_line commands steps) }
+{
+    Ok(Bytes::from_vec(format!(in alloc; "done {commands} steps {steps}\n")?.into_bytes()))
+}
+
+/// Why a command stopped its script.
+fn cause_text(alloc: Global, cause: CommandCause) -> Result<String, OutOfMemory>
+    ensures { IfOk result (λ text. string_bytes text ≡ command_cause_text cause) }
+{
+    match cause {
+        CommandCause::NoProgram => Ok(String::from_str(alloc, "no-program")?),
+        CommandCause::Elf(refusal) => causes::elf(alloc, refusal),
+        CommandCause::Trap(cause) => causes::trap(alloc, cause),
+        CommandCause::Call(number) => causes::call(alloc, number),
+        CommandCause::Status(status) => causes::status(alloc, status),
+        CommandCause::Spent => Ok(String::from_str(alloc, causes::spent())?),
+    }
+}
+
+/// The command of this number stopped the script, at this step.
+#[tactic(auto, unfolding(crate::specs::ScriptTexts::command_failed_line))]
+pub(crate) fn command_failed(
+    alloc: Global,
+    number: u32,
+    cause: CommandCause,
+    step: u64,
+) -> Result<Bytes, OutOfMemory>
+    ensures { IfOk result (λ text. text ≡ command_failed_line number cause step) }
+{
+    let cause = cause_text(alloc, cause)?;
+    let text = format!(in alloc; "run failed {number} {cause} step {step}\n")?;
+    Ok(Bytes::from_vec(text.into_bytes()))
+}
+
+/// Every word of a report is true, which has so many commands.
+#[tactic(auto, unfolding(crate::specs::ScriptTexts::commands_true_line))]
+pub(crate) fn commands_true(alloc: Global, commands: usize) -> Result<Bytes, OutOfMemory>
+    ensures { IfOk result (λ text. text ≡ commands_true_line commands) }
+{
+    Ok(Bytes::from_vec(format!(in alloc; "yes {commands}\n")?.into_bytes()))
+}
+
+/// The first part of a report that is not true, and its place.
+#[tactic(auto, unfolding(crate::specs::ScriptTexts::script_refuted_line))]
+pub(crate) fn refuted(alloc: Global, part: ScriptPart, place: u32) -> Result<Bytes, OutOfMemory>
+    ensures { IfOk result (λ text. text ≡ script_refuted_line part place) }
+{
+    let part = part.word();
+    Ok(Bytes::from_vec(format!(in alloc; "refuted {part} {place}\n")?.into_bytes()))
+}

@@ -1,0 +1,153 @@
+//! What the commands on scripts begin with: a script, a list of files, and these files.
+
+ghost use Rattle.std.specs.Prelude.{◌≡◌, ◌≤◌, IfOk, OnOk, length, ℕ};
+ghost use Rattle.std.specs.List.{list_any};
+ghost use Rattle.ddc_base.specs.Outside.{IsFileName, ShelfState};
+ghost use Rattle.kaem_script.specs.declared.refusal.ScriptFault.{ScriptFault as Fault};
+ghost use Rattle.command_plan.specs.declared.status.Status.TheVariants.{ScriptRefused};
+ghost use Rattle.command_plan.specs.Lists.{needs_list};
+ghost use Rattle.command_plan.specs.Plan.{answers, unless_refused};
+ghost use Rattle.command_plan.specs.Steps.{Obtains, Says};
+ghost use Rattle.command_plan.specs.Words.{is_one_file};
+ghost use Rattle.tool_commands.specs.Inside.Placing.{AreApart, IsPlaced};
+ghost use Rattle.tool_commands.specs.Scripts.{and_file, file_line, needs_files, needs_script, needs_unlisted, script_of};
+ghost use Rattle.tool_commands.specs.ScriptTexts.{script_line};
+
+use crate::listed_file::ListedFile;
+use crate::script_texts;
+use command_plan::lists::fetch_list;
+use command_plan::words::is_one_file;
+use command_plan::{Answer, Status, Stop, fetch, usage};
+use ddc_base::{Bytes, ListOf, OutOfMemory, Shelf};
+use kaem_script::{FileList, Script, ScriptFault, ScriptRefusal};
+use mem_files::PlaceRefusal;
+use std::alloc::Global;
+
+/// The most bytes of a script that is loaded.
+const SCRIPT_LIMIT: u64 = 1_048_576;
+
+/// The most lines of a list of files.
+const MOST_FILES: u32 = 4_096;
+
+/// The most bytes of a listed file.
+const FILE_LIMIT: u64 = 268_435_456;
+
+/// The most bytes of all listed files together.
+const FILES_LIMIT: u64 = 536_870_912;
+
+/// Fetches a script and reads it.
+pub(crate) fn fetch_script<S: Shelf>(
+    alloc: Global,
+    shelf: &mut S,
+    file: &str,
+) -> Result<Script, Stop>
+    requires { IsFileName file.now }
+    ensures { Obtains (needs_script file.now) (S.state shelf.old) (S.state shelf.new) result }
+{
+    let text = fetch(alloc, shelf, file, SCRIPT_LIMIT)?;
+    read_script(alloc, text)
+}
+
+/// Reads a script, and lets its text go.
+fn read_script(alloc: Global, text: Bytes) -> Result<Script, Stop>
+    ensures { (shelf : ShelfState) → Obtains (unless_refused (script_of text) (λ (fault : Fault × ℕ). answers ScriptRefused (script_line fault.0 fault.1)))
+        shelf shelf result }
+{
+    match kaem_script::read(alloc, text.as_slice()) {
+        Ok(script) => Ok(script),
+        Err(ScriptRefusal::At(fault, offset)) => {
+            Err(Stop::Answered(script_refused(alloc, fault, offset)?))
+        }
+        Err(ScriptRefusal::OutOfMemory) => Err(Stop::OutOfMemory),
+    }
+}
+
+/// The answer to a file that is no script, by its first fault.
+fn script_refused(alloc: Global, fault: ScriptFault, offset: u64) -> Result<Answer, Stop>
+    ensures { Says (answers ScriptRefused (script_line fault offset)) result }
+{
+    Ok(Answer {
+        status: Status::ScriptRefused,
+        text: script_texts::refused(alloc, fault, offset)?,
+    })
+}
+
+/// Fetches a list of files and reads it.
+pub(crate) fn fetch_words<S: Shelf>(
+    alloc: Global,
+    shelf: &mut S,
+    list: &str,
+) -> Result<ListOf<ListedFile>, Stop>
+    requires { IsFileName list.now }
+    ensures obtained { Obtains (needs_list file_line 4096 list.now) (S.state shelf.old) (S.state shelf.new) result }
+    ensures few { IfOk result (λ words. length words ≤ 4096) }
+    ensures apart { IfOk result AreApart }
+{
+    fetch_list::<ListedFile, S>(alloc, shelf, list, MOST_FILES)
+}
+
+/// Ends the command where a listed word stands for a file that is to be written.
+#[tactic(auto, unfolding(crate::specs::Scripts::needs_unlisted))]
+pub(crate) fn unlisted(alloc: Global, words: &ListOf<ListedFile>, report: &str) -> Result<(), Stop>
+    ensures { (shelf : ShelfState) → Obtains (needs_unlisted words.now report.now) shelf shelf result }
+{
+    if is_listed(words, report) {
+        return Err(Stop::Answered(usage(alloc)?));
+    }
+    Ok(())
+}
+
+/// Whether a listed word stands for a file.
+fn is_listed(words: &ListOf<ListedFile>, file: &str) -> bool
+    ensures { result ≡ list_any (λ word. is_one_file word file.now) words.now }
+{
+    words
+        .as_slice()
+        .iter()
+        .any(|word| is_one_file(word.as_str(), file))
+}
+
+/// Fetches the files for which listed words stand, in order.
+pub(crate) fn fetch_files<S: Shelf>(
+    alloc: Global,
+    shelf: &mut S,
+    words: &ListOf<ListedFile>,
+) -> Result<FileList, Stop>
+    requires apart { AreApart words.now }
+    requires few { length words.now ≤ 4096 }
+    ensures { Obtains (needs_files words.now) (S.state shelf.old) (S.state shelf.new) result }
+{
+    fetch_each(alloc, shelf, words.as_slice())
+}
+
+/// Fetches the files of these words, in order. The bytes of one of them stand twice, while it is added.
+fn fetch_each<S: Shelf>(
+    alloc: Global,
+    shelf: &mut S,
+    words: &[ListedFile],
+) -> Result<FileList, Stop>
+    requires apart { AreApart words.now }
+    requires few { length words.now ≤ 4096 }
+    ensures { Obtains (needs_files words.now) (S.state shelf.old) (S.state shelf.new) result }
+{
+    let mut files = FileList::new(alloc)?;
+    let mut room = FILES_LIMIT;
+    for word in words {
+        let content = fetch(alloc, shelf, word.as_str(), FILE_LIMIT.min(room))?;
+        room -= content.len() as u64;
+        add(&mut files, word, content.as_slice())?;
+    }
+    Ok(files)
+}
+
+/// Adds a file for which there is room.
+fn add(files: &mut FileList, word: &ListedFile, content: &[u8]) -> Result<(), OutOfMemory>
+    requires { IsPlaced files.old word.now content.now }
+    ensures { OnOk result (files.new ≡ and_file files.old word.now content.now) }
+{
+    match files.push(word.as_str().as_bytes(), content) {
+        Ok(()) => Ok(()),
+        Err(PlaceRefusal::OutOfMemory) => Err(OutOfMemory),
+        Err(PlaceRefusal::BadName | PlaceRefusal::Twice | PlaceRefusal::Full) => unreachable!(),
+    }
+}
