@@ -65,10 +65,10 @@ scripted '4,097 commands' 15 'script refused 5 36864\n' "$(copies 4097 'exit.elf
 rm -f report
 truncate -s 1048576 long
 check 'a script as long as may be' 15 'script refused 2 0\n' "$ddc" kaem long l report 9
+printf 'exit.elf' >s
 check 'a list as long as may be' 16 'list refused 1\n' "$ddc" kaem s long report 9
 truncate -s 1048577 long
 check 'a script of one byte too many' 10 'file refused long too long\n' "$ddc" kaem long l report 9
-printf 'exit.elf' >s
 check 'a list of one byte too many' 10 'file refused long too long\n' "$ddc" kaem s long report 9
 check 'so for a replay' 10 'file refused long too long\n' "$ddc" kaem-verify s long report
 rm long
