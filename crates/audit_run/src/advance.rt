@@ -57,7 +57,15 @@ pub(crate) fn take_piece(
     ensures err { OnErr result (WantsWithin (record { recipe = recipe.now; inputs = inputs.now; stands = seen done.old.items place.old }) most) }
 {
     begin(alloc, recipe, inputs, done.as_slice(), place)?;
-    advance_started(alloc, recipe, inputs, done, place, most, EndedGuest::GivenUp)
+    advance_started(
+        alloc,
+        recipe,
+        inputs,
+        done,
+        place,
+        most,
+        EndedGuest::GivenUp,
+    )
 }
 
 /// Enters the first stage, where it was not entered yet. Want of memory leaves the audit as it was.

@@ -146,7 +146,10 @@ fn an_audit_that_is_handed_on_stands_there_too(rt: HostRuntime) -> Result<(), Fa
     let text = whole_text(alloc)?;
     for steps in [1, 31, 32, 33, 63, 64, 65] {
         let audit = worked(alloc)?;
-        assert!(rt; takes_pieces(alloc, audit, steps, text.as_slice())?, "{steps}");
+        assert!(rt;
+            takes_pieces(alloc, audit, steps, text.as_slice())?,
+            "{steps}"
+        );
     }
     Ok(())
 }
