@@ -153,8 +153,12 @@ check 'a folder to save a report under' 11 'shelf fault folder\n' "$ddc" kaem s 
 check 'a folder that is not there to save in' 11 'shelf fault none/report\n' "$ddc" kaem s l none/report 99
 check 'none of them is saved' 1 '' test -e report
 printf kept >report
+printf '%b' "$(copies 20 'exit.elf\\n')" >s
+printf 'exit.elf\n' >l
 check 'a report that is longer than a file may be' 11 'shelf fault report\n' short "$ddc" kaem s l report 99
 check 'what stood there is kept' 0 'kept' cat report
+printf '%b' "$worked" >s
+printf 'copy.elf\nin\n' >l
 check 'a script whose output is closed' 12 '' closed "$ddc" kaem s l report 99
 check 'its report is saved all the same' 0 '' cmp report worked.report
 if [ -e /dev/full ]; then
