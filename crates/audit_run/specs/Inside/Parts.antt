@@ -5,7 +5,7 @@ use Rattle.guest_run.specs.State.{GuestState}
 use Rattle.recipe.specs.declared.contents.Said.{Said}
 use Rattle.recipe.specs.declared.parts.Stage.{Stage}
 use Rattle.wheeler.specs.declared.answer.Finished.{Finished}
-use Rattle.wheeler.specs.Positions.{Position, Standing, On, Over, at, beginning, stage_closed, forward, forward_from}
+use Rattle.wheeler.specs.Positions.{Position, Standing, On, Over, at, beginning, stage_closed, forward}
 use Rattle.wheeler.specs.Valid.{AreDone, IsInputs, IsStanding}
 use Rattle.audit_run.specs.declared.place.Place.{Place}
 use Rattle.audit_run.specs.declared.place.Place.TheVariants as place

@@ -1,11 +1,9 @@
-use Rattle.std.proofs.Common.{ap, subst}
+use Rattle.std.proofs.Common.{ap}
 use Rattle.std.proofs.lemmas.Result.{err_from_is_err_and}
 use Rattle.wheeler.specs.Positions.{forward_from}
 use Rattle.audit_run.specs.Seen.{AuditState, standing}
-use Rattle.command_plan.specs.Performs.{Performs}
 use Rattle.command_plan.proofs.Performing.{wants_memory}
 use Rattle.audit_commands.specs.Inside.Keeping.{Keeps}
-use Rattle.audit_commands.specs.Pause.{came_to}
 use Rattle.audit_commands.proofs.going.go_on.Goals as goal
 
 pub settle-requires-clause-stands : goal.settle-requires-clause-stands
