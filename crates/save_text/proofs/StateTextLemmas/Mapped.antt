@@ -6,7 +6,7 @@ use Rattle.std.proofs.lemmas.List.Elements.{All-append, All-cons, All-head, All-
 use Rattle.std.proofs.lemmas.List.Sums.{sum_by_push}
 use Rattle.save_text.specs.declared.byte_fields.cursor.WrongField.{WrongField}
 use Rattle.save_text.specs.declared.state_text.parts.Run.{Run}
-use Rattle.save_text.specs.ByteFields.Reader.{Read, Reader, done, read_onward, several, whole}
+use Rattle.save_text.specs.ByteFields.Reader.{Read, Reader, ◌>>=◌, done, read_onward, several, whole}
 use Rattle.save_text.specs.Inside.Mapping.{IsLeftBehind, PassesRuns, TellsRuns}
 use Rattle.save_text.specs.StateText.Mappable.{AreMappable}
 use Rattle.save_text.specs.StateText.StateText.{after_run, run_at}
