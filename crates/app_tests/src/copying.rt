@@ -1,6 +1,5 @@
 //! A command that saves what it loaded under two names.
 
-ghost use Rattle.std.specs.Prelude.{◌≡◌, length};
 ghost use Rattle.ddc_base.specs.Outside.{IsFileName};
 ghost use Rattle.command_plan.specs.Performs.{Performs};
 ghost use Rattle.command_plan.specs.Plan.{answers, sets};

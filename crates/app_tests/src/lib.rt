@@ -23,6 +23,12 @@ mod pieces;
 #[cfg(test)]
 mod routes;
 #[cfg(test)]
+mod script_calls;
+#[cfg(test)]
+mod script_reports;
+#[cfg(test)]
+mod scripts;
+#[cfg(test)]
 mod sessions;
 #[cfg(test)]
 mod tests;

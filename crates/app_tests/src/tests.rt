@@ -267,7 +267,7 @@ fn faults_of_the_outside(rt: HostRuntime) -> Result<(), Fail> {
 
 #[test]
 fn statuses_have_their_numbers(rt: HostRuntime) {
-    let table: [(Status, u8); 9] = [
+    let table: [(Status, u8); 11] = [
         (Status::Yes, 0),
         (Status::Usage, 2),
         (Status::Differs, 3),
@@ -277,6 +277,8 @@ fn statuses_have_their_numbers(rt: HostRuntime) {
         (Status::OutFault, 12),
         (Status::OutOfMemory, 13),
         (Status::TooManySegments, 14),
+        (Status::ScriptRefused, 15),
+        (Status::ListRefused, 16),
     ];
     for (status, number) in table {
         assert_eq!(rt; status.number(), number);

@@ -1,5 +1,5 @@
 -- What audits in a row show together: an induction over them.
-use Rattle.std.proofs.Common.{◌≡◌, ℕ, ◌+◌, ◌-◌, ◌==◌, ◌&&◌, ◌||◌, not, Bool, true, false, cond, Option, None, Some, List, [], ◌∷◌, ◌++◌, length, map, filter, refl, sym, ap, ap₂, ◌∙◌, subst, append_assoc, append-nil, arith, All}
+use Rattle.std.proofs.Common.{◌≡◌, ℕ, ◌+◌, ◌-◌, ◌==◌, ◌&&◌, ◌||◌, not, Bool, true, false, cond, Option, None, Some, List, [], ◌∷◌, ◌++◌, length, map, filter, refl, sym, ap, ap₂, ◌∙◌, subst, append_assoc, arith, All}
 use Rattle.std.specs.Prelude.{IfSome, IsSome, bytes_eq, is_some, option_and_then, option_map, slice_get}
 use Rattle.std.specs.List.{list_all, list_any}
 use Rattle.std.specs.Option.{option_or}
@@ -13,7 +13,7 @@ use Rattle.recipe.specs.declared.parts.Source.{Source}
 use Rattle.recipe.specs.declared.parts.SourceLanguage.{SourceLanguage}
 use Rattle.recipe.specs.declared.parts.SourceLanguage.TheVariants.{Defined, Other}
 use Rattle.recipe.specs.Lookups.{content_named, input_at, source_named, source_of, stage_at}
-use Rattle.wheeler.specs.Contents.{Contents, SourceText, bytes_named, content, defined, text_of}
+use Rattle.wheeler.specs.Contents.{SourceText, bytes_named, content, defined, text_of}
 use Rattle.verifier.specs.Faults.{same_language}
 use Rattle.meaning.specs.AllContents.{all_contents, text_by}
 use Rattle.meaning.specs.AllContents as full

@@ -5,7 +5,7 @@ use Rattle.std.proofs.lemmas.List.Elements.{filter-append}
 use Rattle.meaning.specs.declared.assumption.Assumption.{Assumption}
 use Rattle.audit_chain.specs.declared.link.Link.{Link}
 use Rattle.audit_chain.specs.declared.link.ChainLine.{ChainLine}
-use Rattle.audit_chain.specs.Chain.{is_struck, chain_line, remaining, remaining_after, unstruck}
+use Rattle.audit_chain.specs.Chain.{is_struck, chain_line, remaining_after, unstruck}
 
 -- those of some lines that remain
 abbrev pub kept : List Link → Link → List Assumption → List ChainLine

@@ -1,5 +1,5 @@
 -- What audits in a row show together. docs/reference/chain.md says the same for people.
-use Rattle.std.specs.Prelude.{◌≡◌, ℕ, ◌-◌, true, None, IfSome, List, All, slice_get}
+use Rattle.std.specs.Prelude.{◌≡◌, ◌-◌, true, None, IfSome, List, All, slice_get}
 use Rattle.recipe.specs.Kept.{IsRecipe}
 use Rattle.report.specs.declared.types.Report.{Report}
 use Rattle.wheeler.specs.Bench.{all_equal}

@@ -1,28 +1,44 @@
--- What an advance comes to.
-use Rattle.std.proofs.Common.{◌≡◌, ℕ, List, Option, None, Some, Result, ap, subst, ◌∙◌}
+-- Where an audit came to that went on.
+use Rattle.std.proofs.Common.{◌≡◌, ℕ, List, Option, None, Some, Result, ap, sym, subst, ◌∙◌}
+use Rattle.std.proofs.lemmas.Option.{same_Some}
 use Rattle.recipe.specs.declared.contents.Said.{Said}
-use Rattle.wheeler.specs.Positions.{Standing, forward_from, position}
-use Rattle.audit_run.specs.Advances.{Advances, said_of}
+use Rattle.wheeler.specs.declared.answer.Answer.{Answer as Outcome}
+use Rattle.wheeler.specs.Positions.{Position, Standing, On, Over, forward_from, position}
+use Rattle.audit_run.specs.Saved.{IsOn}
 use Rattle.audit_run.specs.Seen as seen
-use Rattle.audit_run.specs.Seen.{AuditState}
-use Rattle.audit_run.specs.declared.place.Progress.{Progress}
-use Rattle.audit_run.specs.declared.place.Progress.TheVariants as said
+use Rattle.audit_run.specs.Seen.{AuditState, finished_answer}
 use Rattle.ddc_base.specs.Outside.{ShelfState}
 use Rattle.command_plan.specs.declared.answer.Answer.{Answer}
 use Rattle.command_plan.specs.declared.stop.Stop.{Stop}
 use Rattle.command_plan.specs.Performs.{Performs}
-use Rattle.audit_commands.specs.Pause.{came_to, whole_save}
-use Rattle.audit_commands.specs.Inside.Finishing.{Comes}
+use Rattle.audit_commands.specs.Audit.{audited}
+use Rattle.audit_commands.specs.Pause.{came_to, paused, whole_save}
 
--- an advance comes to where so many steps lead
-pub comes : (old : AuditState) (most : ℕ) (answer : Progress) (new : Option Standing) (standing : Standing)
-    → forward_from old.recipe old.inputs (seen.standing old) most ≡ standing → Advances old most answer new → Comes standing answer new
-comes old most said.OutOfMemory new standing leads a = tt
-comes old most said.Equal new standing leads a = (a.0 ∙ ap Some leads, a.1 ∙ ap said_of leads)
-comes old most said.Differs new standing leads a = (a.0 ∙ ap Some leads, a.1 ∙ ap said_of leads)
-comes old most said.Paused new standing leads a = (a.0 ∙ ap Some leads, a.1 ∙ ap said_of leads)
-comes old most (said.RunFailed stage cause step) new standing leads a = (a.0 ∙ ap Some leads, a.1 ∙ ap said_of leads)
-comes old most (said.CheckFailed stage cause) new standing leads a = (a.0 ∙ ap Some leads, a.1 ∙ ap said_of leads)
+module _ (now : Option Standing) where
+  -- an audit that has no answer stands at a position
+  pub is_on : (stands : Standing) → now ≡ Some stands → None ≡ finished_answer now → IsOn now
+  is_on (On p) is none = subst IsOn (sym is) tt
+  is_on (Over answer) is none =
+      let no : None ≡ Some answer = none ∙ ap finished_answer is in
+      absurd cc
+
+  module _ (recipe : Said) (text : Position → List ℕ) (name report : List ℕ) (old new : ShelfState) (result : Result Answer Stop) where
+    pub pauses : (stands : Standing) → now ≡ Some stands → None ≡ finished_answer now → ((p : Position) → now ≡ Some (On p) → Performs (paused recipe text name p) old new result)
+        → Performs (came_to recipe text name report stands) old new result
+    pauses (On p) is none performs = performs p is
+    pauses (Over answer) is none performs =
+        let no : None ≡ Some answer = none ∙ ap finished_answer is in
+        absurd cc
+
+    -- one that has an answer is over with it
+    pub ends : (stands : Standing) (answer : Outcome) → now ≡ Some stands → Some answer ≡ finished_answer now → Performs (audited recipe report answer) old new result
+        → Performs (came_to recipe text name report stands) old new result
+    ends (On p) answer is some performs =
+        let no : Some answer ≡ None = some ∙ ap finished_answer is in
+        absurd cc
+    ends (Over other) answer is some performs =
+        let both : Some answer ≡ Some other = some ∙ ap finished_answer is in
+        subst (λ a. Performs (audited recipe report a) old new result) (same_Some answer other both) performs
 
 -- where an audit that begins comes to
 pub begun : (recipe : Said) (inputs : List (List ℕ)) (audit : AuditState) (save report : List ℕ) (steps : ℕ) (old new : ShelfState) (result : Result Answer Stop)

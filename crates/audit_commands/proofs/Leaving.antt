@@ -1,5 +1,5 @@
 -- The stage whose program is run, and its start.
-use Rattle.std.proofs.Common.{◌≡◌, ◌∙◌, ◌+◌, ℕ, None, Some, Result, Ok, Err, List, length, refl, sym, ap, subst}
+use Rattle.std.proofs.Common.{◌≡◌, ◌+◌, ℕ, None, Some, Result, Ok, Err, List, length, refl, sym, ap, subst}
 use Rattle.std.specs.Prelude.{slice_get}
 use Rattle.guest_run.specs.Start.{ArgsTooLong, BoxTooLarge, Elf, Refusal}
 use Rattle.guest_run.specs.State.{GuestState}

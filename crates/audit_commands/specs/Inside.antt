@@ -1,4 +1,3 @@
 -- What serves the split of the code. No promise of a command rests on these files being read.
-pub mod Finishing
 pub mod Keeping
 pub mod Refusing

@@ -1,6 +1,6 @@
 -- `part RECIPE SAVE REPORT STEPS` and `resume RECIPE SAVE REPORT STEPS`: an audit goes on by at most so many steps, from its beginning or from
 -- where a save says that it stands. docs/reference/command-line.md and docs/reference/save.md say the same for people.
-use Rattle.std.specs.Prelude.{ℕ, ◌+◌, Bool, ◌&&◌, Result, List, [], ◌∷◌, length, if◌then◌else◌}
+use Rattle.std.specs.Prelude.{ℕ, ◌+◌, Result, List, [], ◌∷◌, length, if◌then◌else◌}
 use Rattle.recipe.specs.declared.contents.Said.{Said}
 use Rattle.wheeler.specs.Positions.{Position, Standing, On, Over, forward, position}
 use Rattle.save_text.specs.Spelled.{text_of_save}

@@ -4,8 +4,6 @@ ghost use Rattle.std.specs.Prelude.{◌≡◌, map, IfOk};
 ghost use Rattle.ddc_base.specs.Outside.{IsFileName};
 ghost use Rattle.report.specs.Reports.{IsReport};
 ghost use Rattle.wheeler.specs.Bench.{bench};
-ghost use Rattle.wheeler.specs.declared.answer.Answer.{Answer as Outcome};
-ghost use Rattle.wheeler.specs.Positions.{Over};
 ghost use Rattle.wheeler.specs.Valid.{IsAuditAnswer, IsInputs};
 ghost use Rattle.command_plan.specs.declared.status.Status.TheVariants.{RunFailed, CheckFailed};
 ghost use Rattle.command_plan.specs.Performs.{Performs};
@@ -14,11 +12,10 @@ ghost use Rattle.command_plan.specs.Steps.{Says};
 ghost use Rattle.recipe_plan.specs.Reports.{compared_status};
 ghost use Rattle.recipe_plan.specs.Texts.{compared_lines};
 ghost use Rattle.audit_commands.specs.Audit.{audited, audit_files, audit_plan, completed, undone};
-ghost use Rattle.audit_commands.specs.Inside.Finishing.{Comes};
 ghost use Rattle.audit_commands.specs.Texts.{stage_name, run_failed_line, check_failed_line};
 
 use crate::texts;
-use audit_run::{Audit, Progress, run_bench};
+use audit_run::run_bench;
 use command_plan::words::are_two_files;
 use command_plan::{Answer, Status, Stop, keep, usage};
 use ddc_base::{Bytes, OutOfMemory, Shelf};
@@ -86,7 +83,7 @@ fn run_over<S: Shelf>(
 }
 
 /// Saves the report that an audit comes to, or says which stage is not done.
-fn tell<S: Shelf>(
+pub fn tell<S: Shelf>(
     alloc: Global,
     recipe: &Recipe,
     answer: &wheeler::Answer,
@@ -100,35 +97,6 @@ fn tell<S: Shelf>(
     match answer {
         wheeler::Answer::Completes(made) => keep_report(alloc, made, report, shelf),
         wheeler::Answer::Fails(stage, fault) => undone(alloc, recipe, *stage, *fault),
-    }
-}
-
-/// Saves the report of an audit that is over, or says which stage is not done.
-pub fn conclude<S: Shelf>(
-    alloc: Global,
-    audit: &Audit,
-    progress: Progress,
-    report: &str,
-    shelf: &mut S,
-) -> Result<Answer, Stop>
-    requires over { (answer : Outcome) × Comes (Over answer) progress audit.now.stands }
-    requires report { IsFileName report.now }
-    ensures { (answer : Outcome) → Comes (Over answer) progress audit.now.stands
-        → Performs (audited audit.now.recipe report.now answer) (S.state shelf.old) (S.state shelf.new) result }
-{
-    match progress {
-        Progress::Equal | Progress::Differs => match audit.report() {
-            Some(made) => keep_report(alloc, made, report, shelf),
-            None => unreachable!(),
-        },
-        Progress::RunFailed { stage, cause, step } => {
-            run_failed(alloc, audit.recipe(), stage, cause, step)
-        }
-        Progress::CheckFailed { stage, cause } => {
-            check_failed(alloc, audit.recipe(), stage, cause)
-        }
-        Progress::Paused => unreachable!(),
-        Progress::OutOfMemory => Err(Stop::OutOfMemory),
     }
 }
 

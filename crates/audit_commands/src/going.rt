@@ -5,15 +5,14 @@ ghost use Rattle.ddc_base.specs.Outside.{IsFileName};
 ghost use Rattle.wheeler.specs.Positions.{Position, Standing, On, forward_from};
 ghost use Rattle.audit_run.specs.Saved.{IsOn};
 ghost use Rattle.audit_run.specs.Seen.{standing};
-ghost use Rattle.audit_commands.specs.Inside.Finishing.{Comes};
 ghost use Rattle.audit_commands.specs.Inside.Keeping.{Keeps};
 ghost use Rattle.command_plan.specs.Performs.{Performs};
 ghost use Rattle.audit_commands.specs.Pause.{came_to, paused};
 
-use crate::audit::conclude;
+use crate::audit::tell;
 use crate::pause_texts;
 use crate::texts::stage_name;
-use audit_run::{Audit, Progress};
+use audit_run::Audit;
 use command_plan::{Answer, Status, Stop, keep};
 use ddc_base::{Bytes, OutOfMemory, Shelf};
 use std::alloc::Global;
@@ -45,35 +44,29 @@ pub(crate) fn go_on<S: Shelf>(
         → Performs (came_to audit.recipe text name.now report.now (forward_from audit.recipe audit.inputs (standing audit) steps))
         (S.state shelf.old) (S.state shelf.new) result }
 {
-    let mut audit = audit;
-    let progress = audit.advance(steps);
-    settle(alloc, &audit, progress, kept, name, report, shelf)
+    let audit = audit.advanced(steps)?;
+    settle(alloc, &audit, kept, name, report, shelf)
 }
 
 /// Keeps where an audit stands that is not over, or tells one that is over.
 fn settle<S: Shelf>(
     alloc: Global,
     audit: &Audit,
-    progress: Progress,
     kept: Kept<'_>,
     name: &str,
     report: &str,
     shelf: &mut S,
 ) -> Result<Answer, Stop>
-    requires came { (stands : Standing) × Comes stands progress audit.now.stands }
+    requires stands { (stands : Standing) × (audit.now.stands ≡ Some stands) }
     requires keeps { (text : Position → List ℕ) × Keeps audit.now.recipe audit.now.inputs kept text }
     requires name { IsFileName name.now }
     requires report { IsFileName report.now }
-    ensures { (stands : Standing) (text : Position → List ℕ) → Comes stands progress audit.now.stands → Keeps audit.now.recipe audit.now.inputs kept.entry text
+    ensures { (stands : Standing) (text : Position → List ℕ) → audit.now.stands ≡ Some stands → Keeps audit.now.recipe audit.now.inputs kept.entry text
         → Performs (came_to audit.now.recipe text name.now report.now stands) (S.state shelf.old) (S.state shelf.new) result }
 {
-    match progress {
-        Progress::Paused => keep_place(alloc, audit, kept, name, shelf),
-        Progress::Equal
-        | Progress::Differs
-        | Progress::RunFailed { .. }
-        | Progress::CheckFailed { .. } => conclude(alloc, audit, progress, report, shelf),
-        Progress::OutOfMemory => Err(Stop::OutOfMemory),
+    match audit.answer() {
+        Some(answer) => tell(alloc, audit.recipe(), answer, report, shelf),
+        None => keep_place(alloc, audit, kept, name, shelf),
     }
 }
 

@@ -1,22 +1,26 @@
 -- Stretches in a row, and where they leave an audit.
-use Rattle.std.proofs.Common.{◌≡◌, ℕ, ◌+◌, ◌-◌, ◌≤◌, Result, Ok, List, [], refl, sym, ap, ◌∙◌, arith, subst}
+use Rattle.std.proofs.Common.{◌≡◌, ℕ, ◌+◌, ◌-◌, ◌≤◌, Some, Result, Ok, Err, OnErr, List, [], refl, sym, ap, ◌∙◌, arith, subst}
+use Rattle.ddc_base.specs.declared.byte_list.OutOfMemory.{OutOfMemory}
 use Rattle.guest_run.specs.State.{GuestState}
 use Rattle.recipe.specs.declared.contents.Said.{Said}
 use Rattle.recipe.specs.Kept as kept
 use Rattle.wheeler.specs.declared.answer.Fault.{Fault}
 use Rattle.wheeler.specs.declared.answer.Finished.{Finished}
-use Rattle.wheeler.specs.Positions.{Standing, On, Over, at, stage_closed, enter, forward, forward_from, todo}
+use Rattle.wheeler.specs.Positions.{Position, Standing, On, Over, at, stage_closed, enter, forward, forward_from, todo}
 use Rattle.wheeler.specs.Valid.{AreDone, IsInputs, IsPosition, IsStanding}
 use Rattle.wheeler.proofs.Forwards.{forward_from-sum}
 use Rattle.wheeler.proofs.Places.{enter-standing}
 use Rattle.wheeler.proofs.Rules.{rules}
+use Rattle.audit_run.specs.declared.place.EndedGuest.{EndedGuest}
+use Rattle.audit_run.specs.declared.place.EndedGuest.TheVariants.{Kept, GivenUp}
 use Rattle.audit_run.specs.declared.place.Entry.{Entry}
 use Rattle.audit_run.specs.declared.place.Moved.{Moved}
 use Rattle.audit_run.specs.declared.place.Moved.TheVariants as moved
 use Rattle.audit_run.specs.declared.place.Place.{Place}
 use Rattle.audit_run.specs.declared.place.Place.TheVariants as place
-use Rattle.audit_run.specs.Advances.{StopsAt}
-use Rattle.audit_run.specs.Inside.Parts.{entry_standing, IsPlace, IsStarted, later, SlicesBy, stands, StopsIn}
+use Rattle.audit_run.specs.Advances.{StopsAt, WantsWithin}
+use Rattle.audit_run.specs.Seen.{standing}
+use Rattle.audit_run.specs.Inside.Parts.{entry_standing, IsPlace, IsStarted, KeepsPlace, later, seen, SlicesBy, stands, StopsIn, WantsBehind}
 use Rattle.audit_run.proofs.Present.{stays}
 
 -- where an audit stands that has started
@@ -38,7 +42,7 @@ ready-done recipe done where_it_is ready ok =
     subst (AreDone recipe) (sym none) (record { each = tt; small = omega arith })
 
 -- want of memory behind some steps more
-pub stops-later : (recipe : Said) (inputs : List (List ℕ)) (from between to : Standing) (first most left : ℕ) → between ≡ forward_from recipe inputs from first → first + left ≤ most
+stops-later : (recipe : Said) (inputs : List (List ℕ)) (from between to : Standing) (first most left : ℕ) → between ≡ forward_from recipe inputs from first → first + left ≤ most
     → StopsIn recipe inputs between left to → StopsIn recipe inputs from most to
 stops-later recipe inputs from between (Over answer) first most left is le stops = absurd stops
 stops-later recipe inputs from between (On p) first most left is le stops = record {
@@ -47,6 +51,29 @@ stops-later recipe inputs from between (On p) first most left is le stops = reco
   reached = sym (forward_from-sum recipe inputs from first stops.count (first + stops.count) refl) ∙ ap (λ s. forward_from recipe inputs s stops.count) (sym is) ∙ stops.reached;
   wants = stops.wants;
 }
+
+pub wants-later : (ended : EndedGuest) (recipe : Said) (inputs : List (List ℕ)) (from between : Standing) (done : List Finished) (where_it_is : Place) (first most left : ℕ)
+    → between ≡ forward_from recipe inputs from first → first + left ≤ most → WantsBehind ended recipe inputs between left done where_it_is
+    → WantsBehind ended recipe inputs from most done where_it_is
+wants-later Kept recipe inputs from between done where_it_is first most left is le wants =
+    (wants.0, wants.1, stops-later recipe inputs from between (stands recipe inputs done where_it_is) first most left is le wants.2)
+wants-later GivenUp recipe inputs from between done where_it_is first most left is le wants =
+    (wants.0, stops-later recipe inputs from between (On wants.0) first most left is le wants.1)
+
+-- where an audit stopped that was entered, the audit may stop
+pub wants-within : (recipe : Said) (inputs : List (List ℕ)) (done shown : List Finished) (where_it_is entered : Place) (most : ℕ) (result : Result (Unit {0}) OutOfMemory) → shown ≡ done
+    → stands recipe inputs shown entered ≡ stands recipe inputs shown where_it_is
+    → OnErr result ((p : Position) × StopsAt recipe inputs (stands recipe inputs done entered) most p)
+    → OnErr result (WantsWithin (record { recipe = recipe; inputs = inputs; stands = seen done where_it_is }) most)
+wants-within recipe inputs done shown where_it_is entered most (Ok done_with) same stood stops = tt
+wants-within recipe inputs done shown where_it_is entered most (Err error) same stood stops =
+    let from : stands recipe inputs done entered ≡ stands recipe inputs done where_it_is =
+    subst (λ d. stands recipe inputs d entered ≡ stands recipe inputs d where_it_is) same stood in
+    (Some (On stops.0), subst (λ s. StopsAt recipe inputs s most stops.0) (from ∙ by_place where_it_is) stops.1) where
+      by_place : (q : Place) → stands recipe inputs done q ≡ standing (record { recipe = recipe; inputs = inputs; stands = seen done q })
+      by_place place.Ready = refl
+      by_place (place.Running guest) = refl
+      by_place (place.Over answer) = refl
 
 module _ (recipe : Said) (inputs : List (List ℕ)) (is : kept.IsRecipe recipe) (given : IsInputs recipe inputs) (done shown : List Finished) (same : shown ≡ done)
     (where_it_is : Place) (guest new : GuestState) (at_place : where_it_is ≡ place.Running guest) (ok : IsPlace recipe done where_it_is) where
@@ -73,29 +100,31 @@ module _ (recipe : Said) (inputs : List (List ℕ)) (is : kept.IsRecipe recipe) 
       place-of recipe inputs done' place' started
       (subst (IsStanding recipe) (sym stood) (stays recipe inputs (at done guest) taken (stage_closed recipe inputs done (later recipe done) (Ok f)) is given here by.0))
 
-  pub closing-stops : (most taken : ℕ) (step : Moved) (r : Result Finished Fault) (f : Finished) (done' : List Finished) (place' : Place) → step ≡ moved.Ended r → r ≡ Ok f
-      → SlicesBy recipe inputs shown (later recipe shown) guest taken step new → 1 ≤ taken → taken ≤ most → done' ≡ done → place' ≡ place.Running new
-      → StopsIn recipe inputs (stands recipe inputs done where_it_is) most (stands recipe inputs done' place')
-  closing-stops most taken step r f done' place' ends good slices some le back back' =
-      let by = ended-by taken step r f ends good slices in
-      let Goal : Standing → Type 0 = StopsIn recipe inputs (stands recipe inputs done where_it_is) most in
-      let at_new : stands recipe inputs done' place' ≡ On (at done new) = ap (stands recipe inputs done') back' ∙ ap (λ d. On (at d new)) back in
-      let stop : StopsAt recipe inputs (stands recipe inputs done where_it_is) most (at done new) = record {
-        count = taken - 1;
-        fewer = omega (arith, some, le);
-        reached = ap (λ (q : Place). forward_from recipe inputs (stands recipe inputs done q) (taken - 1)) at_place ∙ by.1;
-        wants = by.2;
-      } in
-      subst Goal (sym at_new) stop
+  -- memory was wanting for a step, or where the stage is done
+  from-here : (ended : EndedGuest) (most : ℕ) (done' : List Finished) (place' : Place) → StopsAt recipe inputs (On (at done guest)) most (at done new) → done' ≡ done
+      → KeepsPlace ended (place.Running new) place' → WantsBehind ended recipe inputs (stands recipe inputs done where_it_is) most done' place'
+  from-here ended most done' place' stops back left = by_ended ended left where
+    stopped : StopsAt recipe inputs (stands recipe inputs done where_it_is) most (at done new)
+    stopped = subst (λ (q : Place). StopsAt recipe inputs (stands recipe inputs done q) most (at done new)) (sym at_place) stops
 
-  pub closing-stands : (taken : ℕ) (step : Moved) (r : Result Finished Fault) (f : Finished) (done' : List Finished) (place' : Place) → step ≡ moved.Ended r → r ≡ Ok f
-      → SlicesBy recipe inputs shown (later recipe shown) guest taken step new → done' ≡ done → place' ≡ place.Running new → IsPlace recipe done' place'
-  closing-stands taken step r f done' place' ends good slices back back' =
-      let by = ended-by taken step r f ends good slices in
-      subst (λ d. IsPlace recipe d place') (sym back)
-      (subst (IsPlace recipe done) (sym back') (stays recipe inputs (at done guest) (taken - 1) (On (at done new)) is given here by.1))
+    by_ended : (ended : EndedGuest) → KeepsPlace ended (place.Running new) place' → WantsBehind ended recipe inputs (stands recipe inputs done where_it_is) most done' place'
+    by_ended GivenUp left = (at done new, stopped)
+    by_ended Kept left =
+        subst (λ d. WantsBehind Kept recipe inputs (stands recipe inputs done where_it_is) most d place') (sym back)
+        (subst (WantsBehind Kept recipe inputs (stands recipe inputs done where_it_is) most done) (sym left)
+        (tt, stays recipe inputs (at done guest) stops.count (On (at done new)) is given here stops.reached, stopped))
 
-  pub out-stands : (most : ℕ) → StopsAt recipe inputs (On (at shown guest)) most (at shown new) → IsPosition recipe (at done new)
-  out-stands most stops =
-      let by = subst (λ d. StopsAt recipe inputs (On (at d guest)) most (at d new)) same stops in
-      stays recipe inputs (at done guest) by.count (On (at done new)) is given here by.reached
+  pub closing-wants : (ended : EndedGuest) (most taken : ℕ) (step : Moved) (r : Result Finished Fault) (f : Finished) (done' : List Finished) (place' : Place)
+      → step ≡ moved.Ended r → r ≡ Ok f → SlicesBy recipe inputs shown (later recipe shown) guest taken step new → 1 ≤ taken → taken ≤ most → done' ≡ done
+      → KeepsPlace ended (place.Running new) place' → WantsBehind ended recipe inputs (stands recipe inputs done where_it_is) most done' place'
+  closing-wants ended most taken step r f done' place' ends good slices some le back left =
+      let by = ended-by taken step r f ends good slices in
+      from-here ended most done' place' (record { count = taken - 1; fewer = omega (arith, some, le); reached = by.1; wants = by.2 }) back left
+
+  pub running-wants : (ended : EndedGuest) (most : ℕ) → StopsAt recipe inputs (On (at shown guest)) most (at shown new)
+      → WantsBehind ended recipe inputs (stands recipe inputs done where_it_is) most done (place.Running new)
+  running-wants ended most stops =
+      from-here ended most done (place.Running new) (subst (λ d. StopsAt recipe inputs (On (at d guest)) most (at d new)) same stops) refl (unmoved ended) where
+        unmoved : (ended : EndedGuest) → KeepsPlace ended (place.Running new) (place.Running new)
+        unmoved Kept = refl
+        unmoved GivenUp = tt

@@ -1,5 +1,6 @@
 -- What an advance does. docs/reference/audit.md says the same for people.
-use Rattle.std.specs.Prelude.{◌≡◌, ◌<◌, ℕ, Option, None, Some, List, ◌∷◌, if◌then◌else◌}
+use Rattle.std.specs.Prelude.{◌≡◌, ◌<◌, ℕ, Option, None, Some, Result, Ok, Err, List, ◌∷◌, if◌then◌else◌}
+use Rattle.ddc_base.specs.declared.byte_list.OutOfMemory.{OutOfMemory}
 use Rattle.guest_run.specs.Run.{Next, Goes, Ends, Exited, Trapped, UnknownCall, StepTakesMemory, next}
 use Rattle.recipe.specs.declared.contents.Said.{Said}
 use Rattle.recipe.specs.declared.parts.Stage.{Stage}
@@ -57,3 +58,13 @@ Advances old most said.OutOfMemory new = StopsAudit old most new
 Advances old most answer new =
     (new ≡ Some (forward_from old.recipe old.inputs (standing old) most))
     × (answer ≡ said_of (forward_from old.recipe old.inputs (standing old) most))
+
+-- memory was wanting where such an advance may stop
+abbrev pub WantsWithin : AuditState → ℕ → Type 0
+WantsWithin old most = (stops : Option Standing) × StopsAudit old most stops
+
+-- the audit so many steps further on, or at its end; or memory was wanting on the way
+abbrev pub IsAdvanced : AuditState → ℕ → Result AuditState OutOfMemory → Type 0
+IsAdvanced old most (Ok audit) =
+    audit ≡ record { recipe = old.recipe; inputs = old.inputs; stands = Some (forward_from old.recipe old.inputs (standing old) most) }
+IsAdvanced old most (Err error) = WantsWithin old most

@@ -4,6 +4,7 @@ use Rattle.guest_run.specs.Setting.{Setting}
 use Rattle.recipe.specs.declared.contents.Said.{Said}
 use Rattle.recipe.specs.declared.parts.Stage.{Stage}
 use Rattle.report.specs.declared.types.Report.{Report}
+use Rattle.wheeler.specs.declared.answer.Answer.{Answer}
 use Rattle.wheeler.specs.declared.answer.Answer.TheVariants.{Completes}
 use Rattle.wheeler.specs.Contents.{Contents, box_of, program_of}
 use Rattle.wheeler.specs.Positions.{Standing, On, Over, beginning, todo}
@@ -23,7 +24,11 @@ standing_of audit (Some standing) = standing
 abbrev pub standing : AuditState → Standing
 standing audit = standing_of audit audit.stands
 
--- the report of an audit that is over with one
+-- the answer of an audit that is over, and its report where it has one
+abbrev pub finished_answer : Option Standing → Option Answer
+finished_answer (Some (Over answer)) = Some answer
+finished_answer _ = None
+
 abbrev pub finished_report : Option Standing → Option Report
 finished_report (Some (Over (Completes report))) = Some report
 finished_report _ = None

@@ -1,12 +1,13 @@
 //! An advance, over the parts of an audit.
 
-ghost use Rattle.audit_run.specs.Advances.{Advances, said_of_answer, said_of_comparisons};
+ghost use Rattle.audit_run.specs.Advances.{Advances, WantsWithin, said_of_answer, said_of_comparisons};
 ghost use Rattle.audit_run.specs.Inside.Parts.{IsAtRest, IsPlace, IsStarted, SaysOf, seen, stands};
-ghost use Rattle.std.specs.Prelude.{◌≡◌, ◌≤◌, None, OnErr, OnOk};
+ghost use Rattle.std.specs.Prelude.{◌≡◌, ◌≤◌, None, OnErr, OnOk, Some};
+ghost use Rattle.wheeler.specs.Positions.{forward_from};
 ghost use Rattle.wheeler.specs.Valid.{IsInputs};
 
 use crate::entering::enter;
-use crate::place::{Entry, Place, Progress};
+use crate::place::{EndedGuest, Entry, Place, Progress};
 use crate::stage::Done;
 use crate::stretch::advance_started;
 use ddc_base::{Bytes, OutOfMemory};
@@ -15,7 +16,7 @@ use report::CompareLine;
 use std::alloc::Global;
 use wheeler::{Answer, Fault, all_equal};
 
-/// At most `most` steps.
+/// At most `most` steps, of an audit that is to stand where memory is wanting.
 pub(crate) fn advance_parts(
     alloc: Global,
     recipe: &Recipe,
@@ -34,10 +35,37 @@ pub(crate) fn advance_parts(
         Ok(()) => {}
         Err(OutOfMemory) => return Progress::OutOfMemory,
     }
-    match advance_started(alloc, recipe, inputs, done, place, most) {
+    match advance_started(alloc, recipe, inputs, done, place, most, EndedGuest::Kept) {
         Ok(()) => said_of(place),
         Err(OutOfMemory) => Progress::OutOfMemory,
     }
+}
+
+/// At most `most` steps, of an audit that want of memory ends.
+pub(crate) fn take_piece(
+    alloc: Global,
+    recipe: &Recipe,
+    inputs: &[Bytes],
+    done: &mut Vec<Done>,
+    place: &mut Place,
+    most: u64,
+) -> Result<(), OutOfMemory>
+    requires rest { IsAtRest recipe.now inputs.now done.old.items place.old }
+    ensures ok { OnOk result (seen done.new.items place.new
+        ≡ Some (forward_from recipe.now inputs.now (stands recipe.now inputs.now done.old.items place.old) most)) }
+    ensures rest { OnOk result (IsAtRest recipe.now inputs.now done.new.items place.new) }
+    ensures err { OnErr result (WantsWithin (record { recipe = recipe.now; inputs = inputs.now; stands = seen done.old.items place.old }) most) }
+{
+    begin(alloc, recipe, inputs, done.as_slice(), place)?;
+    advance_started(
+        alloc,
+        recipe,
+        inputs,
+        done,
+        place,
+        most,
+        EndedGuest::GivenUp,
+    )
 }
 
 /// Enters the first stage, where it was not entered yet. Want of memory leaves the audit as it was.

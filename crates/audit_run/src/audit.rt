@@ -1,10 +1,10 @@
 //! The audit as callers see it.
 
-ghost use Rattle.audit_run.specs.Advances.{Advances};
+ghost use Rattle.audit_run.specs.Advances.{Advances, IsAdvanced};
 ghost use Rattle.audit_run.specs.Saved.{IsOn, IsResumed, IsResumedAt, IsSave, ResumesAudit, standing_at};
 ghost use Rattle.audit_run.specs.Delta.Audits.{IsDeltaBetween, IsDeltaFrom, IsResumedBeside, IsResumedBesideAt, ResumesAuditBeside};
 ghost use Rattle.audit_run.specs.Delta.Deltas.{IsBaseAt, delta_text_of};
-ghost use Rattle.audit_run.specs.Seen.{place_of, finished_report, present_setting};
+ghost use Rattle.audit_run.specs.Seen.{finished_answer, finished_report, place_of, present_setting};
 ghost use Rattle.audit_run.specs.Save.Saves.{save_of};
 ghost use Rattle.report.specs.Reports.{IsReport};
 ghost use Rattle.save_text.specs.Spelled.{IsTextOfSave};
@@ -12,9 +12,9 @@ ghost use Rattle.std.specs.Option.{option_copied};
 ghost use Rattle.std.specs.Prelude.{◌≡◌, ◌<◌, ◌≤◌, ◌+◌, length, None, Some, IsOk, IfOk, IfSome, option_map};
 ghost use Rattle.wheeler.specs.declared.answer.Answer.{Answer as AuditAnswer};
 ghost use Rattle.wheeler.specs.Positions.{Position, On, Over};
-ghost use Rattle.wheeler.specs.Valid.{IsInputs, IsPosition};
+ghost use Rattle.wheeler.specs.Valid.{IsAuditAnswer, IsInputs, IsPosition};
 
-use crate::advance::advance_parts;
+use crate::advance::{advance_parts, take_piece};
 use crate::delta::DeltaRefusal;
 use crate::place::{Place, Progress};
 use crate::save::{Resumed, SaveRefusal};
@@ -88,6 +88,48 @@ impl Audit {
             &mut self.place,
             most,
         )
+    }
+
+    /// The audit `most` steps further on, or at its end, where `advance` would lead it.
+    ///
+    /// A stage's guest is given up before the next stage starts, so that one guest is in memory at a time; want of memory leaves no audit.
+    pub fn advanced(self, most: u64) -> Result<Audit, OutOfMemory>
+        requires { 1 ≤ most }
+        ensures { IsAdvanced self most result }
+    {
+        let Audit {
+            recipe,
+            inputs,
+            mut done,
+            mut place,
+            alloc,
+        } = self;
+        take_piece(
+            alloc,
+            &recipe,
+            inputs.as_slice(),
+            &mut done,
+            &mut place,
+            most,
+        )?;
+        Ok(Audit {
+            recipe,
+            inputs,
+            done,
+            place,
+            alloc,
+        })
+    }
+
+    /// The answer of an audit that is over.
+    pub fn answer(&self) -> Option<&Answer>
+        ensures answer { option_copied result ≡ finished_answer self.now.stands }
+        ensures form { IfSome (option_copied result) IsAuditAnswer }
+    {
+        match &self.place {
+            Place::Over(answer) => Some(answer),
+            Place::Ready | Place::Running(_) => None,
+        }
     }
 
     /// The report, exactly after `Equal` and `Differs`.

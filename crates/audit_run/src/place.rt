@@ -34,6 +34,15 @@ pub(crate) enum Moved {
     Ended(Result<Done, Fault>),
 }
 
+/// What becomes of the guest of a stage that is done.
+#[derive(Clone, Copy, Debug)]
+pub(crate) enum EndedGuest {
+    /// It is kept until the next stage has started, so that want of memory leaves an audit.
+    Kept,
+    /// It is given up before, so that one guest is in memory at a time.
+    GivenUp,
+}
+
 /// What an advance answers.
 #[derive(Clone, Copy, Debug, PartialEq, Eq)]
 pub enum Progress {

@@ -7,7 +7,6 @@ mod done;
 mod ending;
 mod given;
 mod left;
-mod marks;
 mod reporting;
 mod sources;
 

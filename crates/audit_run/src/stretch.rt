@@ -1,13 +1,13 @@
 //! An audit's steps, over its parts.
 
-ghost use Rattle.audit_run.specs.Inside.Parts.{IsPlace, IsStarted, later, Slices, stands, StopsIn, Stretches};
+ghost use Rattle.audit_run.specs.Inside.Parts.{IsPlace, IsStarted, KeepsPlace, later, Slices, stands, WantsBehind};
 ghost use Rattle.recipe.specs.Kept.{IsRecipe};
-ghost use Rattle.std.specs.Prelude.{◌≡◌, ◌++◌, ◌∷◌, [], ◌≤◌, OnErr, OnOk, Ok};
+ghost use Rattle.std.specs.Prelude.{◌≡◌, ◌++◌, ◌∷◌, [], ◌≤◌, IfOk, OnErr, OnOk, Ok};
 ghost use Rattle.wheeler.specs.Positions.{at, stage_closed, forward_from, todo};
 ghost use Rattle.wheeler.specs.Valid.{AreDone, IsInputs, IsPosition};
 
 use crate::entering::enter;
-use crate::place::{Entry, Moved, Place};
+use crate::place::{EndedGuest, Entry, Moved, Place};
 use crate::stage::Done;
 use crate::stage_run::run_slice;
 use ddc_base::{Bytes, OutOfMemory};
@@ -16,7 +16,17 @@ use recipe::Recipe;
 use std::alloc::Global;
 use wheeler::Answer;
 
-/// A stage is done: the next one starts, or the audit is over. Want of memory leaves all as it was.
+/// A stage is done: its guest is given up where it is not to be kept.
+fn leave(place: &mut Place, ended: EndedGuest)
+    ensures { KeepsPlace ended place.old place.new }
+{
+    match ended {
+        EndedGuest::Kept => {}
+        EndedGuest::GivenUp => *place = Place::Ready,
+    }
+}
+
+/// A stage is done: the next one starts, or the audit is over. Want of memory leaves the stages as they were, and a guest that is kept.
 fn close(
     alloc: Global,
     recipe: &Recipe,
@@ -24,6 +34,7 @@ fn close(
     done: &mut Vec<Done>,
     place: &mut Place,
     finished: Done,
+    ended: EndedGuest,
 ) -> Result<(), OutOfMemory>
     requires given { IsInputs recipe.now inputs.now }
     requires done { AreDone recipe.now (done.old.items ++ finished ∷ []) }
@@ -31,9 +42,10 @@ fn close(
     ensures ok { OnOk result (stands recipe.now inputs.now done.new.items place.new
         ≡ stage_closed recipe.now inputs.now done.old.items (later recipe.now done.old.items) (Ok finished)) }
     ensures started { OnOk result (IsStarted place.new) }
-    ensures place { OnErr result (place.new ≡ place.old) }
+    ensures place { OnErr result (KeepsPlace ended place.old place.new) }
     ensures done { OnErr result (done.new.items ≡ done.old.items) }
 {
+    leave(place, ended);
     done.push(finished)?;
     match enter(alloc, recipe, inputs, done.as_slice()) {
         Ok(Entry::Started(guest)) => {
@@ -78,15 +90,20 @@ fn stretch(
     done: &mut Vec<Done>,
     place: &mut Place,
     most: u64,
+    ended: EndedGuest,
 ) -> Result<u64, OutOfMemory>
     requires some { 1 ≤ most }
     requires given { IsInputs recipe.now inputs.now }
     requires stands { IsPlace recipe.now done.old.items place.old }
     requires started { IsStarted place.old }
-    ensures steps { Stretches recipe.now inputs.now (stands recipe.now inputs.now done.old.items place.old) most result
-        (stands recipe.now inputs.now done.new.items place.new) }
-    ensures started { IsStarted place.new }
-    ensures stands { IsPlace recipe.now done.new.items place.new }
+    ensures ok { IfOk result (λ taken. stands recipe.now inputs.now done.new.items place.new
+        ≡ forward_from recipe.now inputs.now (stands recipe.now inputs.now done.old.items place.old) taken) }
+    ensures some { IfOk result (λ taken. 1 ≤ taken) }
+    ensures most { IfOk result (λ taken. taken ≤ most) }
+    ensures started { OnOk result (IsStarted place.new) }
+    ensures stands { OnOk result (IsPlace recipe.now done.new.items place.new) }
+    ensures err { OnErr result (WantsBehind ended recipe.now inputs.now (stands recipe.now inputs.now done.old.items place.old) most
+        done.new.items place.new) }
 {
     let (taken, moved) = match place {
         Place::Running(guest) => run_present(alloc, recipe, inputs, done.as_slice(), guest, most)?,
@@ -95,7 +112,7 @@ fn stretch(
     match moved {
         Moved::Goes => Ok(taken),
         Moved::Ended(Ok(finished)) => {
-            close(alloc, recipe, inputs, done, place, finished)?;
+            close(alloc, recipe, inputs, done, place, finished, ended)?;
             Ok(taken)
         }
         Moved::Ended(Err(fault)) => {
@@ -113,20 +130,21 @@ pub(crate) fn advance_started(
     done: &mut Vec<Done>,
     place: &mut Place,
     most: u64,
+    ended: EndedGuest,
 ) -> Result<(), OutOfMemory>
     requires given { IsInputs recipe.now inputs.now }
     requires stands { IsPlace recipe.now done.old.items place.old }
     requires started { IsStarted place.old }
     ensures ok { OnOk result (stands recipe.now inputs.now done.new.items place.new
         ≡ forward_from recipe.now inputs.now (stands recipe.now inputs.now done.old.items place.old) most) }
-    ensures err { OnErr result (StopsIn recipe.now inputs.now (stands recipe.now inputs.now done.old.items place.old) most
-        (stands recipe.now inputs.now done.new.items place.new)) }
-    ensures started { IsStarted place.new }
-    ensures stands { IsPlace recipe.now done.new.items place.new }
+    ensures started { OnOk result (IsStarted place.new) }
+    ensures stands { OnOk result (IsPlace recipe.now done.new.items place.new) }
+    ensures err { OnErr result (WantsBehind ended recipe.now inputs.now (stands recipe.now inputs.now done.old.items place.old) most
+        done.new.items place.new) }
 {
     let mut left = most;
     while left > 0 {
-        left -= stretch(alloc, recipe, inputs, done, place, left)?;
+        left -= stretch(alloc, recipe, inputs, done, place, left, ended)?;
     }
     Ok(())
 }

@@ -129,6 +129,31 @@ fn an_audit_stands_where_its_steps_lead(rt: HostRuntime) -> Result<(), Fail> {
     Ok(())
 }
 
+/// Whether an audit that is handed on stands after so many steps where they lead, and then comes to its end with this report.
+fn takes_pieces(alloc: Global, audit: Audit, steps: u64, text: &[u8]) -> Result<bool, OutOfMemory>
+    requires { 1 ≤ steps }
+{
+    let audit = audit.advanced(steps)?;
+    let stands = audit.place() == place_after(steps) && audit.answer().is_some() == (steps >= 64);
+    let audit = audit.advanced(64)?;
+    let is_over = audit.place() == (0, 0);
+    Ok(stands && is_over && report_text(alloc, &audit)?.as_slice() == text)
+}
+
+#[test]
+fn an_audit_that_is_handed_on_stands_there_too(rt: HostRuntime) -> Result<(), Fail> {
+    let alloc = rt.alloc();
+    let text = whole_text(alloc)?;
+    for steps in [1, 31, 32, 33, 63, 64, 65] {
+        let audit = worked(alloc)?;
+        assert!(rt;
+            takes_pieces(alloc, audit, steps, text.as_slice())?,
+            "{steps}"
+        );
+    }
+    Ok(())
+}
+
 /// A program that is started with the present setting has the stage's file; there is no setting where the audit is over.
 #[test]
 fn a_setting_is_the_present_stage(rt: HostRuntime) -> Result<(), Fail> {

@@ -1,6 +1,6 @@
 //! Tests of saving and resuming audits. What they come to was written down from docs/reference/save.md and audit.md.
 
-ghost use Rattle.std.specs.Prelude.{◌≡◌, ◌↔◌, All, IsTrue};
+ghost use Rattle.std.specs.Prelude.{◌↔◌, All, IsTrue};
 ghost use Rattle.mem_files.specs.Outputs.{IsContent};
 ghost use Rattle.wheeler.specs.Valid.{IsInputs};
 

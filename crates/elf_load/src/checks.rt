@@ -1,10 +1,10 @@
 //! The checks of the header, of where the segments lie, and of the entry.
 
 ghost use Rattle.elf_load.specs.Fields.{e_phoff, e_phnum};
-ghost use Rattle.elf_load.specs.Image.{first_refusal, header_rules, placing_rules, entry_rules};
+ghost use Rattle.elf_load.specs.Image.{header_rules, placing_rules, entry_rules};
 ghost use Rattle.elf_load.specs.Inside.Checks.{HoldsTable, Judges, IsLow};
 ghost use Rattle.paged_mem.specs.Memory.{page_up};
-ghost use Rattle.elf_load.specs.Segments.{is_out_of_range, paged_size, first_page, page_end, segment_end, share_page, any_share, holds_address, break_after};
+ghost use Rattle.elf_load.specs.Segments.{is_out_of_range, paged_size, first_page, page_end, share_page, any_share, holds_address, break_after};
 ghost use Rattle.std.specs.List.{list_any};
 ghost use Rattle.std.specs.Prelude.{◌≡◌, ◌+◌, ◌*◌, ◌^◌, ◌<◌, ◌≤◌, length, nat_le, OnOk, All, sum_by};
 

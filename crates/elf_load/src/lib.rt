@@ -3,9 +3,7 @@
 //! The rules, with their public sources, are in docs/reference/loader.md.
 #![tactic(auto)]
 
-ghost use Rattle.elf_load.specs.Fields.{e_entry};
-ghost use Rattle.elf_load.specs.Image.{image_of, header_rules, IsLoadable};
-ghost use Rattle.elf_load.specs.Inside.Checks.{Judges};
+ghost use Rattle.elf_load.specs.Image.{image_of, IsLoadable};
 ghost use Rattle.std.specs.Prelude.{◌≡◌, length, IfOk};
 
 use arrayvec::ArrayVec;

@@ -1,11 +1,11 @@
 //! The header table: the segments that it lists, in order.
 
 ghost use Rattle.elf_load.specs.Fields.{headers, e_phoff, e_phnum};
-ghost use Rattle.elf_load.specs.Image.{first_refusal, table_rules};
+ghost use Rattle.elf_load.specs.Image.{table_rules};
 ghost use Rattle.elf_load.specs.Inside.Checks.{HoldsTable, Judges};
 ghost use Rattle.elf_load.specs.Segments.{is_interpreter, is_load, loads_among, segments_of};
 ghost use Rattle.std.specs.List.{list_any};
-ghost use Rattle.std.specs.Prelude.{◌≡◌, ◌+◌, ◌*◌, ◌<◌, ◌≤◌, [], ◌∷◌, ◌++◌, length, None, Some, IfOk, MatchResult};
+ghost use Rattle.std.specs.Prelude.{◌≡◌, ◌+◌, ◌*◌, ◌<◌, ◌≤◌, [], ◌∷◌, ◌++◌, length, IfOk, MatchResult};
 
 use super::{ElfRefusal, Segment, fields};
 use arrayvec::ArrayVec;

@@ -3,7 +3,7 @@ use Rattle.std.proofs.Common.{◌≡◌, ℕ, zero, suc, Option, None, Some, Lis
 use Rattle.std.specs.Prelude.{option_and_then, ◌↔◌}
 use Rattle.std.proofs.lemmas.Option.{same_Some}
 use Rattle.mem_files.specs.World.{World}
-use Rattle.rv64_machine.specs.Hart.{Act, HartState, act}
+use Rattle.rv64_machine.specs.Hart.{Act, act}
 use Rattle.rv64_machine.specs.Hart as hart
 use Rattle.rv64_machine.specs.WithoutAtomics.{act_without_atomics}
 use Rattle.rv64_machine.proofs.ActsWithoutAtomics.{acts-stand}

@@ -2,14 +2,14 @@
 use Rattle.std.proofs.Common.{◌≡◌, ℕ, ◌+◌, true, false, List, refl, sym, ap, subst}
 use Rattle.std.specs.Prelude.{IsTrue}
 use Rattle.paged_mem.specs.Memory.{Memory}
-use Rattle.rv64_machine.specs.Hart.{Act, HartState, act, effect_at, goes_on, is_store}
+use Rattle.rv64_machine.specs.Hart.{Act, HartState, act, goes_on}
 use Rattle.rv64_machine.specs.Hart as hart
 use Rattle.rv64_machine.specs.declared.answer.Cause.{Cause}
 use Rattle.linux_calls.specs.declared.CallEnd.{CallEnd}
 use Rattle.linux_calls.specs.declared.CallEnd.TheVariants.{Back, Exit, Unknown}
 use Rattle.linux_calls.specs.declared.CallEnd.TheVariants as end
 use Rattle.linux_calls.specs.Answer.{IsAnswer}
-use Rattle.linux_calls.specs.Calls.{CallOutcome, CallState, answer_of, state, syscall}
+use Rattle.linux_calls.specs.Calls.{CallOutcome, CallState, state, syscall}
 use Rattle.linux_calls.specs.Calls as call
 use Rattle.guest_run.specs.State.{GuestState, guest_state}
 use Rattle.guest_run.specs.Run.{Exited, Trapped, UnknownCall, Next, Goes, Ends, step_of_act, step_of_call, answered, call_arguments, call_number, CallTakesMemory, step_goes_on, next, outcome_of}

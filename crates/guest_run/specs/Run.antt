@@ -3,7 +3,7 @@
 use Rattle.std.specs.Prelude.{◌≡◌, ℕ, zero, suc, ◌+◌, ◌-◌, ◌<◌, ◌⊎◌, Bool, true, false, IsTrue, Option, None, Some, option_and_then, List, [], ◌∷◌, slice_index}
 use Rattle.std.specs.Option.{option_or}
 use Rattle.rv64_machine.specs.declared.answer.Cause.{Cause}
-use Rattle.rv64_machine.specs.Hart.{Act, HartState, act, effect_at, following, goes_on, is_store, with_register}
+use Rattle.rv64_machine.specs.Hart.{Act, HartState, act, effect_at, following, is_store, with_register}
 use Rattle.rv64_machine.specs.Hart as hart
 use Rattle.linux_calls.specs.Calls.{CallOutcome, answer_of, state, syscall}
 use Rattle.linux_calls.specs.Calls as call

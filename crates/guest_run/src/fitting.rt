@@ -3,7 +3,7 @@
 ghost use Rattle.guest_run.specs.Valid.{Fits, pages_beside, pages_from};
 ghost use Rattle.guest_run.specs.Inside.Bounds.{HasBounds};
 ghost use Rattle.linux_calls.specs.HeapOf.{IsHeapOf, is_beside_heap};
-ghost use Rattle.paged_mem.specs.Memory.{IsFree, maps, page_up};
+ghost use Rattle.paged_mem.specs.Memory.{IsFree, page_up};
 ghost use Rattle.std.specs.Prelude.{◌≡◌, ◌+◌, ◌-◌, ◌*◌, ◌%◌, ◌^◌, ◌≤◌, ◌↔◌, count_by, true, IsTrue};
 
 use crate::stack;

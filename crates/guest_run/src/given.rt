@@ -1,7 +1,7 @@
 //! The files that a program is given.
 
 ghost use Rattle.guest_run.specs.Setting.{files_size, IsBoxFile};
-ghost use Rattle.guest_run.specs.Start.{start_world, with_given};
+ghost use Rattle.guest_run.specs.Start.{start_world};
 ghost use Rattle.mem_files.specs.Calls.{placed, with_file};
 ghost use Rattle.mem_files.specs.Limits.{most_content, most_names, most_total};
 ghost use Rattle.mem_files.specs.Names.{is_stripped_name};

@@ -1,11 +1,11 @@
 //! The memory of a program that starts.
 
-ghost use Rattle.elf_load.specs.Segments.{first_page, page_end, paged_size, AreApart, IsPlaced};
+ghost use Rattle.elf_load.specs.Segments.{first_page, paged_size, AreApart, IsPlaced};
 ghost use Rattle.guest_run.specs.Placed.{with_segment, with_segments, with_stack};
 ghost use Rattle.guest_run.specs.Stack.{stack_end, stack_size};
-ghost use Rattle.paged_mem.specs.Memory.{with_bytes, maps, IsFree, zeros};
+ghost use Rattle.paged_mem.specs.Memory.{with_bytes, maps, IsFree};
 ghost use Rattle.std.specs.FinMap as map;
-ghost use Rattle.std.specs.Prelude.{◌≡◌, ◌+◌, ◌-◌, ◌*◌, ◌^◌, ◌<◌, ◌≤◌, length, true, All, AllPairs, OnOk};
+ghost use Rattle.std.specs.Prelude.{◌≡◌, ◌+◌, ◌-◌, ◌*◌, ◌<◌, ◌≤◌, length, true, All, AllPairs, OnOk};
 
 use crate::stack;
 use ddc_base::OutOfMemory;

@@ -1,6 +1,6 @@
 //! The stack of a program that starts.
 
-ghost use Rattle.guest_run.specs.Stack.{addresses, gap, ended_texts, stack_bytes, stack_pointer, start_size, texts_at, stack_words};
+ghost use Rattle.guest_run.specs.Stack.{addresses, ended_texts, stack_bytes, stack_pointer, start_size};
 ghost use Rattle.guest_run.specs.Inside.Bounds.{cost};
 ghost use Rattle.paged_mem.specs.Memory.{bytes_of, zeros};
 ghost use Rattle.std.specs.List.{flat_map};

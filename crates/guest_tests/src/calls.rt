@@ -1,6 +1,6 @@
 //! Calls in a row: what Linux answers (tests/calls/expected.txt), and this project's own limits and orders.
 
-ghost use Rattle.std.specs.Prelude.{◌≡◌, ◌<◌};
+ghost use Rattle.std.specs.Prelude.{◌<◌};
 ghost use Rattle.std.proofs.Props.{props};
 ghost use Rattle.linux_calls.specs.HeapOf.{IsHeapOf};
 

@@ -1,12 +1,10 @@
 -- The first fault of a script's report, part by part in the order of docs/reference/kaem.md, which says the same for people. A command's
 -- recorded step is judged and not searched for, and its program and its files are the bytes that the commands before it left. Digests are
 -- SHA-256 (FIPS 180-4).
-use Rattle.std.specs.Prelude.{ℕ, ◌+◌, ◌^◌, ◌==◌, Bool, true, false, ◌&&◌, if◌then◌else◌, nat_le, bytes_eq, Option, None, Some, Result, Ok, Err, List, [], ◌∷◌, length, option_map}
-use Rattle.sha2.specs.Sha256.{sha256}
+use Rattle.std.specs.Prelude.{ℕ, ◌+◌, ◌^◌, ◌==◌, Bool, true, false, ◌&&◌, if◌then◌else◌, nat_le, bytes_eq, Option, None, Some, Result, Ok, Err, List, [], ◌∷◌, option_map}
 use Rattle.mem_files.specs.World.{World}
 use Rattle.mem_files.specs.Outputs.{left}
 use Rattle.report.specs.declared.types.LeftLine.{LeftLine}
-use Rattle.report.specs.declared.types.Mark.{Mark}
 use Rattle.report.specs.declared.script.types.CommandLine.{CommandLine}
 use Rattle.report.specs.declared.script.types.ScriptReport.{ScriptReport}
 use Rattle.report.specs.Marks.{is_mark_of}

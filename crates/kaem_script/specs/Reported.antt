@@ -1,7 +1,6 @@
 -- What is reported of a script's commands, and how an audit of a script ends. docs/reference/kaem.md says the same for people. Digests are
 -- SHA-256 (FIPS 180-4).
-use Rattle.std.specs.Prelude.{◌≡◌, ℕ, List, length, map}
-use Rattle.sha2.specs.Sha256.{sha256}
+use Rattle.std.specs.Prelude.{◌≡◌, ℕ, List, map}
 use Rattle.mem_files.specs.World.{World}
 use Rattle.mem_files.specs.Outputs.{left}
 use Rattle.report.specs.Script.Reports.{IsScriptReport}

@@ -9,13 +9,13 @@ ghost use Rattle.kaem_script.specs.Reported.{command_line};
 ghost use Rattle.std.specs.Prelude.{◌≡◌, ◌+◌, ◌<◌, ◌≤◌, ◌^◌, IfOk};
 
 use crate::cause::CommandCause;
-use crate::marks::mark_of;
 use crate::present::{Present, files_in, renewed};
 use crate::reading::Command;
 use ddc_base::OutOfMemory;
 use elf_load::ElfRefusal;
 use guest_run::{Guest, RunBox, RunEnd, RunRam, StartRefusal};
 use mem_files::{Files, strip};
+use report::Mark;
 use report::script::CommandLine;
 use std::alloc::Global;
 
@@ -124,7 +124,7 @@ fn line_of(guest: &Guest<RunRam>) -> CommandLine
 {
     CommandLine {
         steps: guest.steps() + 1,
-        stream1: mark_of(guest.files().stream(1)),
-        stream2: mark_of(guest.files().stream(2)),
+        stream1: Mark::of(guest.files().stream(1)),
+        stream2: Mark::of(guest.files().stream(2)),
     }
 }

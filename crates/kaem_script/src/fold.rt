@@ -3,7 +3,7 @@
 ghost use Rattle.kaem_script.specs.Fold.{folded};
 ghost use Rattle.kaem_script.specs.Inside.Commands.{Folds, HasLines};
 ghost use Rattle.kaem_script.specs.Kept.{AreCommands};
-ghost use Rattle.std.specs.Prelude.{◌≡◌, ◌≤◌, ◌^◌, IfOk, length};
+ghost use Rattle.std.specs.Prelude.{◌≤◌, ◌^◌, IfOk, length};
 
 use crate::command::{Stop, run_command};
 use crate::present::Present;

@@ -1,7 +1,6 @@
-//! Marks, and the lines of files.
+//! The lines of files.
 
-ghost use Rattle.kaem_script.specs.FilesListed.{AreNames, listed_files, named_in};
-ghost use Rattle.report.specs.Marks.{mark_of};
+ghost use Rattle.kaem_script.specs.FilesListed.{listed_files, named_in};
 ghost use Rattle.kaem_script.specs.Reported.{marked};
 ghost use Rattle.mem_files.specs.Names.{is_stripped_name};
 ghost use Rattle.mem_files.specs.Outputs.{left};
@@ -9,20 +8,10 @@ ghost use Rattle.std.specs.Prelude.{◌≡◌, IfOk, IsTrue, map};
 
 use crate::files::FileList;
 use crate::present::bytes_of;
-use ddc_base::{Bytes, OutOfMemory, digest};
+use ddc_base::{Bytes, OutOfMemory};
 use mem_files::Files;
 use report::{LeftLine, LeftLines, Mark};
 use std::alloc::Global;
-
-/// The mark of bytes. It takes no memory.
-pub(crate) fn mark_of(bytes: &[u8]) -> Mark
-    ensures { result ≡ mark_of bytes.now }
-{
-    Mark {
-        length: bytes.len() as u64,
-        digest: digest(bytes),
-    }
-}
 
 /// The lines of the files of a list, in its order.
 pub(crate) fn listed_lines(alloc: Global, list: &FileList) -> Result<LeftLines, OutOfMemory>
@@ -55,7 +44,7 @@ fn line_of(alloc: Global, files: &Files, name: &[u8]) -> Result<LeftLine, OutOfM
     requires { IsTrue (is_stripped_name name.now) }
     ensures { IfOk result (λ line. line ≡ marked (named_in files.now name.now)) }
 {
-    let mark = mark_of(bytes_of(files, name));
+    let mark = Mark::of(bytes_of(files, name));
     Ok(LeftLine {
         name: Bytes::from_slice(alloc, name)?,
         mark,

@@ -1,6 +1,6 @@
 //! The commands of a script.
-ghost use Rattle.std.specs.Prelude.{◌≡◌, ◌+◌, ◌≤◌, ◌<◌, ◌∷◌, [], ◌++◌, false, length, drop, Err, OnOk, IfOk, IfErr};
-ghost use Rattle.kaem_script.specs.Script.{Reads, commands_from, commands_of, ends_or_begins, ends_word, next_word, with_line};
+ghost use Rattle.std.specs.Prelude.{◌≡◌, ◌+◌, ◌≤◌, ◌<◌, [], false, length, Err, OnOk, IfOk};
+ghost use Rattle.kaem_script.specs.Script.{Reads, commands_of, ends_or_begins, ends_word, next_word, with_line};
 
 use crate::refusal::{ScriptFault, ScriptRefusal};
 use crate::words::{ScriptWord, parts_words, until_line_end, word_at};

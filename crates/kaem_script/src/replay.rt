@@ -1,7 +1,6 @@
 //! A command's line, judged by a replay. How a command is started is the audit's too; where it ends, and what it left, is found here.
 
 ghost use Rattle.guest_run.specs.Run.{first_end};
-ghost use Rattle.report.specs.Marks.{is_mark_of};
 ghost use Rattle.kaem_script.specs.Faults.{left_after_steps, left_at_step, replayed_command, says_streams};
 ghost use Rattle.kaem_script.specs.Fold.{by_first_end, command};
 ghost use Rattle.kaem_script.specs.Inside.Commands.{world_in};
@@ -14,10 +13,8 @@ use crate::command::{program_name, start};
 use crate::present::{Present, files_in, renewed};
 use crate::reading::Command;
 use crate::verdict::ScriptPart;
-use ddc_base::digest;
 use guest_run::{Guest, RunEnd, RunRam};
 use mem_files::Files;
-use report::Mark;
 use report::script::CommandLine;
 use std::alloc::Global;
 
@@ -129,13 +126,5 @@ fn run_to(guest: Guest<RunRam>, step: u64) -> Result<Guest<RunRam>, Stop>
 fn says_streams(line: &CommandLine, files: &Files) -> bool
     ensures { result ≡ says_streams line.now files.now }
 {
-    is_mark_of(&line.stream1, files.stream(1)) && is_mark_of(&line.stream2, files.stream(2))
-}
-
-/// Whether a mark says how many bytes these are, and their digest. The digest is made only where the length is right.
-#[tactic(auto, unfolding(report::specs::Marks::is_mark_of))]
-pub(crate) fn is_mark_of(mark: &Mark, bytes: &[u8]) -> bool
-    ensures { result ≡ is_mark_of mark.now bytes.now }
-{
-    mark.length == bytes.len() as u64 && mark.digest.0 == digest(bytes).0
+    line.stream1.is_of(files.stream(1)) && line.stream2.is_of(files.stream(2))
 }

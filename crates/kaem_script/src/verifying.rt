@@ -10,7 +10,7 @@ ghost use Rattle.std.specs.Prelude.{◌≡◌, ◌≤◌, IfOk, length};
 use crate::files::FileList;
 use crate::present::{Present, bytes_of, files_in};
 use crate::reading::Command;
-use crate::replay::{Stop, is_mark_of, replay};
+use crate::replay::{Stop, replay};
 use crate::script::Script;
 use crate::verdict::{ScriptPart, ScriptVerdict};
 use ddc_base::{Bytes, OutOfMemory};
@@ -162,5 +162,5 @@ fn says_left(files: &Files, lines: &[LeftLine]) -> bool
 fn says_file(line: &LeftLine, name: &[u8], content: &[u8]) -> bool
     ensures { result ≡ says_file line.now (name.now, content.now) }
 {
-    line.name.as_slice() == name && is_mark_of(&line.mark, content)
+    line.name.as_slice() == name && line.mark.is_of(content)
 }

@@ -1,7 +1,7 @@
 //! One word of a script.
-ghost use Rattle.std.specs.Prelude.{◌≡◌, ◌+◌, ◌-◌, ◌<◌, ◌≤◌, ◌==◌, ◌∷◌, false, length, Ok, Err, IfOk};
+ghost use Rattle.std.specs.Prelude.{◌≡◌, ◌+◌, ◌-◌, ◌<◌, ◌≤◌, ◌==◌, false, length, Ok, Err, IfOk};
 ghost use Rattle.std.specs.List.{list_any, position_or_len};
-ghost use Rattle.kaem_script.specs.Script.{begins, between_quotes, ends_line, ends_or_begins, ends_quoted, ends_word, parts_words, is_wrong, names_nothing, plain_text, plain_word, quoted_word, word_at};
+ghost use Rattle.kaem_script.specs.Script.{begins, ends_line, ends_or_begins, ends_quoted, ends_word, parts_words, is_wrong, plain_word, quoted_word, word_at};
 
 use crate::refusal::ScriptFault;
 use mem_files::strip;

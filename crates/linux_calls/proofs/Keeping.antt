@@ -12,7 +12,7 @@ use Rattle.mem_files.specs.World.{World}
 use Rattle.mem_files.specs.Calls.{write_place, ready}
 use Rattle.linux_calls.specs.declared.Heap.{Heap}
 use Rattle.linux_calls.specs.HeapOf.{is_beside_heap, is_outside, IsHeapOf, resized}
-use Rattle.linux_calls.specs.Calls.{CallOutcome, CallState, back, read_at, moved_break, syscall, written_at, written_from}
+use Rattle.linux_calls.specs.Calls.{CallOutcome, CallState, read_at, moved_break, syscall, written_at, written_from}
 use Rattle.linux_calls.specs.Calls as call
 use Rattle.linux_calls.specs.Paths.{low}
 use Rattle.linux_calls.specs.Linux.{sys_unlinkat, sys_faccessat, sys_fchmodat, sys_openat, sys_close, sys_lseek, sys_read, sys_write, sys_exit, sys_exit_group, sys_brk}

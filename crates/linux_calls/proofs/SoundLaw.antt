@@ -12,7 +12,7 @@ use Rattle.mem_files.specs.Linux.{ebadf, einval, o_accmode}
 use Rattle.mem_files.specs.Access.{is_read}
 use Rattle.mem_files.specs.Names.{stripped, is_stripped_name}
 use Rattle.mem_files.specs.World.{World, content_of}
-use Rattle.mem_files.specs.Calls.{has, closed, ready, ready_at, removed, write_place, written}
+use Rattle.mem_files.specs.Calls.{closed, ready, ready_at, removed, write_place, written}
 use Rattle.mem_files.specs.Sound.{AreBytes, IsSound}
 use Rattle.mem_files.proofs.Rules.{closed-sound, removed-sound, opened-sound, skipped-sound, sought-sound, stripped-bytes, written-sound}
 use Rattle.linux_calls.specs.Linux.{at_fdcwd, enotdir, sys_unlinkat, sys_faccessat, sys_fchmodat, sys_openat, sys_close, sys_lseek, sys_read, sys_write, sys_exit, sys_exit_group, sys_brk}

@@ -1,5 +1,5 @@
 -- The heap of a guest in its memory (docs/reference/calls.md, "The heap").
-use Rattle.std.specs.Prelude.{◌≡◌, ℕ, ◌+◌, ◌-◌, ◌*◌, ◌/◌, ◌%◌, ◌^◌, ◌≤◌, Bool, true, nat_le, nat_lt, ◌||◌, if◌then◌else◌}
+use Rattle.std.specs.Prelude.{◌≡◌, ℕ, ◌+◌, ◌-◌, ◌/◌, ◌%◌, ◌^◌, ◌≤◌, Bool, true, nat_le, nat_lt, ◌||◌, if◌then◌else◌}
 use Rattle.paged_mem.specs.Memory.{Memory, maps, page_up, IsFree, with_bytes, without, zeros}
 use Rattle.linux_calls.specs.declared.Heap.{Heap}
 

@@ -1,6 +1,6 @@
 //! The calls that move bytes between memory and files.
 
-ghost use Rattle.std.specs.Prelude.{◌≡◌, ℕ, true, IfOk, Some};
+ghost use Rattle.std.specs.Prelude.{◌≡◌, true, IfOk, Some};
 ghost use Rattle.std.specs.FinMap.{get};
 ghost use Rattle.paged_mem.specs.Memory.{bytes_at, maps};
 ghost use Rattle.mem_files.specs.Calls.{ready, write_place};

@@ -11,7 +11,7 @@ use Rattle.meaning.specs.declared.assumption.Assumption.{Assumption}
 use Rattle.meaning.specs.AllContents.{all_contents}
 use Rattle.meaning.specs.Assumptions.{Holds, LinesHold, assumed, checked_line, compiles_line, implements_line, input_assumption, is_trusted, line_by_check, stage_assumption, trust_lines}
 use Rattle.meaning.specs.Meaning.{Compiles, Prescribes}
-use Rattle.meaning.specs.Routes.{RouteHolds, about, assumed_for, assumed_named, is_on, route, route_named}
+use Rattle.meaning.specs.Routes.{RouteHolds, about, assumed_for, is_on, route, route_named}
 use Rattle.meaning.proofs.RouteSuffices.{named-trusted, on-trusted}
 
 -- ---- what a line is about

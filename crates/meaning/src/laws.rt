@@ -10,7 +10,7 @@ ghost use Rattle.recipe.specs.Kept.{IsRecipe};
 ghost use Rattle.recipe.specs.declared.contents.Said.{Said};
 ghost use Rattle.recipe.specs.declared.parts.Stage.{Stage};
 ghost use Rattle.report.specs.declared.types.Report.{Report};
-ghost use Rattle.std.specs.Prelude.{◌≡◌, ◌≤◌, ◌-◌, ◌∷◌, [], ℕ, All, List, None, Some, filter, slice_get, true};
+ghost use Rattle.std.specs.Prelude.{◌≡◌, ◌-◌, ◌∷◌, [], ℕ, All, List, None, Some, filter, slice_get, true};
 ghost use Rattle.wheeler.specs.Bench.{all_equal, bench};
 ghost use Rattle.wheeler.specs.Valid.{IsInputs};
 ghost use Rattle.wheeler.specs.declared.answer.Answer.TheVariants.{Completes};

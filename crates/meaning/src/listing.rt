@@ -1,6 +1,6 @@
 //! The assumptions of an audit.
 
-ghost use Rattle.meaning.specs.Assumptions.{assumed, checked_line, compiles_line, implements_line, input_assumption, is_trusted, line_by_check, stage_assumption, trust_lines};
+ghost use Rattle.meaning.specs.Assumptions.{assumed, checked_line, compiles_line, implements_line, input_assumption, is_trusted, stage_assumption, trust_lines};
 ghost use Rattle.meaning.specs.Inside.Trusting.{trusts};
 ghost use Rattle.meaning.specs.Listed.{counts, lines_listed};
 ghost use Rattle.meaning.specs.Routes.{assumed_for, is_on};

@@ -1,6 +1,6 @@
 //! Of each file number, how many descriptors stand for the file. Past the end of a list of counts there are none.
 
-ghost use Rattle.std.specs.Prelude.{◌≡◌, ◌+◌, ◌<◌, ◌≤◌, ◌^◌, ℕ, OnOk, OnErr, Some, ◌++◌, length, replicate, slice_index_or};
+ghost use Rattle.std.specs.Prelude.{◌≡◌, ◌+◌, ◌<◌, ◌≤◌, ◌^◌, ℕ, OnOk, OnErr, Some, slice_index_or};
 ghost use Rattle.mem_files.specs.Inside.Counts.{opens_in};
 
 use crate::Slot;

@@ -1,6 +1,6 @@
 //! The entries of pages: reading and writing over several of them.
 
-ghost use Rattle.std.specs.Prelude.{◌≡◌, ◌≢◌, ℕ, ◌+◌, ◌-◌, ◌*◌, ◌%◌, ◌^◌, ◌<◌, ◌≤◌, length, take, drop, is_some, IsSome, OnOk, OnErr, None, List, slice_index, slice_index_or};
+ghost use Rattle.std.specs.Prelude.{◌≡◌, ℕ, ◌+◌, ◌-◌, ◌*◌, ◌%◌, ◌^◌, ◌<◌, ◌≤◌, length, take, drop, is_some, IsSome, OnOk, OnErr, None, List, slice_index, slice_index_or};
 ghost use Rattle.paged_mem.specs.Inside.Entries.{AreFull, page_content, flat, held_pages};
 ghost use Rattle.paged_mem.specs.Inside.Flat.{number_at, overwritten};
 ghost use Rattle.paged_mem.specs.Ram.{count_of};

@@ -1,4 +1,4 @@
-ghost use Rattle.std.specs.Prelude.{◌≡◌, ◌≢◌, ◌*◌, Err};
+ghost use Rattle.std.specs.Prelude.{◌≢◌, ◌*◌, Err};
 ghost use Rattle.paged_mem.specs.Ram.{count_of, Stores, Writes};
 ghost use Rattle.paged_mem.specs.Inside.Flat.{AreFlatPages};
 ghost use Rattle.paged_mem.specs.Inside.Wholeness.{AreFlatPages-prop};

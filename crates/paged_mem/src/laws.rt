@@ -1,7 +1,7 @@
 //! What the definitions of a memory imply, in the subject's words. Each law is the contract of a function that does
 //! nothing.
 
-ghost use Rattle.std.specs.Prelude.{◌≡◌, ℕ, ◌+◌, ◌*◌, ◌/◌, ◌%◌, ◌^◌, ◌<◌, ◌≤◌, ◌⊎◌, true, false, Some, List, length};
+ghost use Rattle.std.specs.Prelude.{◌≡◌, ℕ, ◌+◌, ◌/◌, ◌%◌, ◌^◌, ◌<◌, ◌≤◌, ◌⊎◌, true, false, Some};
 ghost use Rattle.std.specs.FinMap as map;
 ghost use Rattle.paged_mem.specs.Memory.{Memory, IsWhole, IsFree, maps, page_size, reads, writes, with_bytes, without, zeros};
 

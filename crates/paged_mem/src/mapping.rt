@@ -1,4 +1,4 @@
-ghost use Rattle.std.specs.Prelude.{◌≡◌, ℕ, ◌+◌, ◌*◌, ◌%◌, ◌^◌, ◌<◌, ◌≤◌, IsTrue, OnOk, OnErr, length};
+ghost use Rattle.std.specs.Prelude.{◌≡◌, ◌+◌, ◌*◌, ◌%◌, ◌^◌, ◌<◌, ◌≤◌, IsTrue, OnOk, OnErr, length};
 ghost use Rattle.paged_mem.specs.Memory.{IsFree, maps, with_bytes, without, zeros};
 ghost use Rattle.paged_mem.specs.Inside.Entries.{ArePages, flat, held_pages};
 ghost use Rattle.paged_mem.specs.Inside.Flat.{AreFlatPages, memory_of};

@@ -1,4 +1,4 @@
-ghost use Rattle.std.specs.Prelude.{◌≡◌, ℕ, ◌+◌, ◌*◌, ◌^◌, ◌<◌, ◌≤◌, ◌==◌, ◌&&◌, nat_lt, length, slice_index, take, drop};
+ghost use Rattle.std.specs.Prelude.{◌≡◌, ◌+◌, ◌*◌, ◌^◌, ◌<◌, ◌≤◌, ◌==◌, ◌&&◌, nat_lt, length, slice_index, take, drop};
 ghost use Rattle.std.specs.Vec.{vec_len};
 ghost use Rattle.paged_mem.specs.Inside.Flat.{Rises, AreLow, IsRank, IsRow, Spans, place, number_at, overwritten};
 ghost use Rattle.paged_mem.specs.Memory.{bytes_of};

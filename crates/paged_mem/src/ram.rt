@@ -1,4 +1,4 @@
-ghost use Rattle.std.specs.Prelude.{◌≡◌, ℕ, ◌+◌, ◌*◌, ◌%◌, ◌^◌, ◌<◌, ◌≤◌, length, IsTrue, unwrap_or, IfSome, OnOk, OnErr, Some};
+ghost use Rattle.std.specs.Prelude.{◌≡◌, ◌+◌, ◌*◌, ◌%◌, ◌^◌, ◌<◌, ◌≤◌, length, IsTrue, unwrap_or, IfSome, OnOk, OnErr, Some};
 ghost use Rattle.std.specs.FinMap as map;
 ghost use Rattle.paged_mem.specs.Memory.{Memory, IsWhole, IsFree, bytes_at, maps, reads, with_bytes, without, zeros};
 ghost use Rattle.paged_mem.specs.Ram.{count_of, Stores, StoresNear, Writes, RunsFrom, shown_bytes};

@@ -2,7 +2,7 @@ ghost use Rattle.std.specs.Prelude.{◌≡◌, ◌++◌, ◌∷◌, ◌≤◌, �
 ghost use Rattle.std.specs.Bool.{OnTrue};
 ghost use Rattle.std.specs.List.{list_any, position};
 ghost use Rattle.prompt.specs.Memory.{AsksHeld, prompt_over, prompt_state};
-ghost use Rattle.prompt.specs.Prompts.{LineLeaves, asked_of, left_after, line_size, bytes_taken};
+ghost use Rattle.prompt.specs.Prompts.{LineLeaves, asked_of, line_size, bytes_taken};
 
 use crate::asking::{Asked, Failed, Line, Prompt};
 use ddc_base::{Bytes, OutOfMemory};

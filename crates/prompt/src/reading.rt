@@ -1,5 +1,5 @@
 ghost use Rattle.std.specs.Prelude.{◌≡◌, ◌<◌, IfOk, length};
-ghost use Rattle.prompt.specs.Prompts.{LineLeaves, PromptState};
+ghost use Rattle.prompt.specs.Prompts.{LineLeaves};
 ghost use Rattle.prompt.specs.Reading.{GivesLine, TakesByte};
 ghost use Rattle.prompt.specs.Inside.Read.{kept_with, whole_line};
 

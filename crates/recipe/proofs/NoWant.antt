@@ -18,7 +18,7 @@ use Rattle.recipe.specs.declared.parts.Input.{Input}
 use Rattle.recipe.specs.declared.parts.Source.{Source}
 use Rattle.recipe.specs.declared.parts.Stage.{Stage}
 use Rattle.recipe.specs.declared.parts.StageFile.{StageFile}
-use Rattle.recipe.specs.Lookups.{source_named, content_named, content_source, stage_at, input_at}
+use Rattle.recipe.specs.Lookups.{source_named, content_named, content_source, input_at}
 use Rattle.recipe.specs.Reading.{first_walk, recipe_of}
 use Rattle.recipe.specs.SecondWalk.{is_content, refers_to_source, input_refers, source_refers, is_defined, checks_source, check_refers, stage_refers_after, stage_refers, compare_refers, has_source, is_argued, program_has_source, is_stage, second_walk}
 use Rattle.recipe.specs.Tables.{top_place, input_place, source_place, stage_place, compare_place, top_table, is_taken, a_new_name, input_table, next_input, source_language, a_language, source_table, next_source, guest_path, is_file_path, entry_text, next_file, some_files, output_said, an_output, stage_table, next_stage, stages_key, is_among, next_stage_name, some_stage_names, one_stage, compared_stages, compare_table}

@@ -2,7 +2,7 @@
 -- bytes (FIPS 180-4).
 use Rattle.std.specs.Prelude.{ℕ, List, [], Result, Ok}
 use Rattle.sha2.specs.Sha256.{sha256}
-use Rattle.recipe.specs.Text.Reading.{◌>>=◌, ◌>>◌, gathered, document_of}
+use Rattle.recipe.specs.Text.Reading.{gathered, document_of}
 use Rattle.recipe.specs.declared.text.refusal.RecipeRefusal.{RecipeRefusal}
 use Rattle.recipe.specs.declared.contents.Said.{Said}
 use Rattle.recipe.specs.SecondWalk.{second_walk}

@@ -1,7 +1,7 @@
 -- The second walk: what the names of a recipe refer to (docs/reference/recipe.md, "The second walk").
 use Rattle.std.specs.Prelude.{ℕ, ◌+◌, ◌-◌, Bool, true, false, List, take, Option, Some, None, is_some, Result, Ok, Err}
 use Rattle.std.specs.List.{list_all}
-use Rattle.recipe.specs.Text.Reading.{◌>>◌, refused_unless, each_passes}
+use Rattle.recipe.specs.Text.Reading.{refused_unless, each_passes}
 use Rattle.recipe.specs.declared.text.keys.Key.{Key}
 use Rattle.recipe.specs.declared.text.keys.Key.TheVariants as key
 use Rattle.recipe.specs.declared.text.keys.Place.{Place}

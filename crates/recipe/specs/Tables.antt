@@ -6,7 +6,7 @@ use Rattle.ddc_base.specs.Names.{name_of}
 use Rattle.ddc_base.specs.Languages.Words.{language_named}
 use Rattle.mem_files.specs.Names.{stripped}
 use Rattle.recipe.specs.Text.Keys.{key_word}
-use Rattle.recipe.specs.Text.Reading.{◌>>=◌, ◌>>◌, or_refused, refused_unless, gathered, a_text, a_name, a_path, a_word, a_number, a_table, an_array, a_list, path_of, required, optional, no_other_key}
+use Rattle.recipe.specs.Text.Reading.{or_refused, refused_unless, gathered, a_text, a_name, a_path, a_word, a_number, a_table, an_array, a_list, path_of, required, optional, no_other_key}
 use Rattle.recipe.specs.declared.text.keys.Key.{Key}
 use Rattle.recipe.specs.declared.text.keys.Key.TheVariants as key
 use Rattle.recipe.specs.declared.text.keys.Place.{Place}

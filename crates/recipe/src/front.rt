@@ -1,4 +1,4 @@
-ghost use Rattle.std.specs.Prelude.{◌≡◌, ◌≤◌, IfOk, IfSome, length, option_map};
+ghost use Rattle.std.specs.Prelude.{◌≤◌, IfOk, IfSome, length, option_map};
 ghost use Rattle.toml.specs.View.{table_view};
 ghost use Rattle.recipe.specs.Text.Inside.Views.{tables_view};
 ghost use Rattle.recipe.specs.Text.Reading.{Gives, a_list, a_number, a_table, optional, required};

@@ -1,5 +1,5 @@
-ghost use Rattle.std.specs.Prelude.{◌≡◌, ◌<◌, ◌≤◌, ◌^◌, ◌-◌, [], IfOk, length};
-ghost use Rattle.toml.specs.View.{table_view, view};
+ghost use Rattle.std.specs.Prelude.{◌<◌, ◌≤◌, ◌^◌, ◌-◌, [], IfOk, length};
+ghost use Rattle.toml.specs.View.{table_view};
 ghost use Rattle.recipe.specs.Text.Inside.Views.{tables_view};
 ghost use Rattle.recipe.specs.Text.Reading.{Gives, a_path, gathered, required};
 ghost use Rattle.recipe.specs.Tables.{input_table, next_input};

@@ -1,4 +1,4 @@
-ghost use Rattle.std.specs.Prelude.{◌≡◌, ◌≤◌, IfOk, length};
+ghost use Rattle.std.specs.Prelude.{◌≤◌, IfOk, length};
 ghost use Rattle.recipe.specs.Text.Reading.{Gives};
 ghost use Rattle.recipe.specs.Reading.{first_walk, recipe_of};
 

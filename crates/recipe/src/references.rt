@@ -6,7 +6,7 @@ ghost use Rattle.recipe.specs.Text.Reading.{Gives, each_passes, refused_unless};
 ghost use Rattle.recipe.specs.declared.text.refusal.RecipeRefusal.TheVariants.{NotMadeYet as NotYet};
 ghost use Rattle.recipe.specs.Lookups as spec;
 ghost use Rattle.recipe.specs.Lookups.{IsIndex};
-ghost use Rattle.recipe.specs.SecondWalk.{check_refers, checks_source, compare_refers, has_source, input_refers, is_argued, is_content, is_defined, is_stage, program_has_source, refers_to_source, second_walk, source_refers, stage_refers, stage_refers_after};
+ghost use Rattle.recipe.specs.SecondWalk.{check_refers, checks_source, compare_refers, has_source, input_refers, is_content, is_stage, program_has_source, refers_to_source, second_walk, source_refers, stage_refers, stage_refers_after};
 
 use crate::comparison::{COMPARE, stages_key};
 use crate::contents::Said;

@@ -1,6 +1,6 @@
 //! The files of a stage and what it makes: the paths of its program.
 
-ghost use Rattle.std.specs.Prelude.{◌≡◌, [], IfOk, map, option_map, unwrap_or};
+ghost use Rattle.std.specs.Prelude.{◌≡◌, [], IfOk, map, option_map};
 ghost use Rattle.toml.specs.View.{table_view, view};
 ghost use Rattle.recipe.specs.Text.Reading.{Gives, gathered, optional, required};
 ghost use Rattle.recipe.specs.Tables.{an_output, entry_text, guest_path, is_file_path, next_file, output_said, some_files};

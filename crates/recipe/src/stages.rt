@@ -1,5 +1,5 @@
-ghost use Rattle.std.specs.Prelude.{◌≡◌, ◌<◌, ◌≤◌, ◌^◌, ◌-◌, [], IfOk, length, unwrap_or};
-ghost use Rattle.toml.specs.View.{table_view, view};
+ghost use Rattle.std.specs.Prelude.{◌<◌, ◌≤◌, ◌^◌, ◌-◌, [], IfOk, length, unwrap_or};
+ghost use Rattle.toml.specs.View.{table_view};
 ghost use Rattle.recipe.specs.Text.Inside.Views.{tables_view};
 ghost use Rattle.recipe.specs.Text.Reading.{Gives, a_list, a_word, gathered, optional, required};
 ghost use Rattle.recipe.specs.Tables.{next_stage, stage_table};

@@ -1,6 +1,9 @@
+ghost use Rattle.report.specs.Marks.{is_mark_of, mark_of};
+ghost use Rattle.std.specs.Prelude.{◌≡◌};
+
 use ddc_base::digests::Digest;
 use ddc_base::languages::Language;
-use ddc_base::{Bytes, ListOf, Name};
+use ddc_base::{Bytes, ListOf, Name, digest};
 
 /// The lines of the inputs, in the recipe's order.
 pub type InputLines = ListOf<InputLine>;
@@ -16,6 +19,26 @@ pub type StageLines = ListOf<StageLine>;
 pub struct Mark {
     pub length: u64,
     pub digest: Digest,
+}
+
+impl Mark {
+    /// The mark of bytes. It takes no memory.
+    pub fn of(bytes: &[u8]) -> Mark
+        ensures { result ≡ mark_of bytes.now }
+    {
+        Mark {
+            length: bytes.len() as u64,
+            digest: digest(bytes),
+        }
+    }
+
+    /// Whether it says how many bytes these are, and their digest. The digest is made only where the length is right.
+    #[tactic(auto, unfolding(crate::specs::Marks::is_mark_of))]
+    pub fn is_of(&self, bytes: &[u8]) -> bool
+        ensures { result ≡ is_mark_of self.now bytes.now }
+    {
+        self.length == bytes.len() as u64 && self.digest.0 == digest(bytes).0
+    }
 }
 
 /// An input of the recipe, and what its file held.

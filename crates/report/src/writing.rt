@@ -2,7 +2,6 @@
 
 ghost use Rattle.std.specs.Prelude.{◌≡◌, ◌++◌, ◌∷◌, ◌<◌, [], decimal, map, length, OnOk, IfOk};
 ghost use Rattle.std.specs.List.{flat_map};
-ghost use Rattle.hex.specs.Hex.{encode_lower};
 ghost use Rattle.ddc_base.specs.Lines.{line as line_text};
 ghost use Rattle.report.specs.Lines.{line_words, mark_words, compared_words, checked_words, form_word, lines_text};
 ghost use Rattle.report.specs.Reports.{IsReport, stage_block, report_text};

@@ -1,6 +1,6 @@
 //! The word of an instruction.
 
-ghost use Rattle.std.specs.Prelude.{if◌then◌else◌, ◌≡◌, ◌+◌, ◌*◌, ◌%◌, ◌^◌, ◌<◌, ◌&&◌, ℕ, Some, IsTrue, nat_lt, int_le, int_lt};
+ghost use Rattle.std.specs.Prelude.{if◌then◌else◌, ◌≡◌, ◌+◌, ◌%◌, ◌^◌, ◌<◌, ◌&&◌, ℕ, Some, IsTrue, nat_lt, int_le, int_lt};
 ghost use Rattle.std.specs.Int.{w64, cast_unsigned};
 ghost use Rattle.rv64_decode.specs.Decode.{decoded};
 ghost use Rattle.rv64_decode.specs.Encode as encoding;

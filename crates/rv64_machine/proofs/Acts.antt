@@ -7,7 +7,7 @@ use Rattle.std.proofs.lemmas.Option.{same_Some}
 use Rattle.rv64_machine.specs.declared.answer.StepEnd.{StepEnd}
 use Rattle.rv64_machine.specs.declared.answer.StepEnd.TheVariants as end
 use Rattle.rv64_machine.specs.Inside.Down.{ActsDown}
-use Rattle.rv64_machine.specs.Hart.{Act, ActsInARow, ActsTo, ComesTo, GoesOn, Calls, Traps, HartState, act, acted, is_stop, passed, went_on, went_past}
+use Rattle.rv64_machine.specs.Hart.{Act, ActsInARow, ActsTo, GoesOn, Calls, Traps, HartState, act, acted, is_stop, passed, went_on, went_past}
 
 pub acted-none : (hart : HartState) → acted hart 0 ≡ Some hart
 unfolding acted

@@ -1,5 +1,5 @@
 -- A hart and one act of it (docs/reference/machine.md).
-use Rattle.std.specs.Prelude.{◌≡◌, ℕ, zero, suc, ◌+◌, ◌*◌, ◌%◌, ◌^◌, ◌<◌, ◌==◌, ◌&&◌, ◌⊎◌, Bool, true, false, if◌then◌else◌, IsTrue, length, All, List, slice_index, slice_set, Option, None, Some, option_map, option_and_then, refl}
+use Rattle.std.specs.Prelude.{◌≡◌, ℕ, zero, suc, ◌+◌, ◌*◌, ◌%◌, ◌^◌, ◌<◌, ◌==◌, ◌&&◌, ◌⊎◌, Bool, true, false, if◌then◌else◌, IsTrue, length, All, List, slice_index, slice_set, Option, None, Some, option_map, option_and_then}
 use Rattle.paged_mem.specs.Memory.{IsWhole, Memory, maps, reads, writes}
 use Rattle.paged_mem.specs.Ram.{count_of}
 use Rattle.paged_mem.specs.declared.ram.Width.{Width}

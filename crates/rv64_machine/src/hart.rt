@@ -1,9 +1,8 @@
-ghost use Rattle.std.specs.Prelude.{All, None, ◌==◌, ◌≡◌, ℕ, ◌+◌, ◌-◌, ◌*◌, ◌%◌, ◌^◌, ◌<◌, ◌≤◌, IfSome, Some, option_map, replicate, slice_index, if◌then◌else◌};
+ghost use Rattle.std.specs.Prelude.{All, None, ◌==◌, ◌≡◌, ℕ, ◌-◌, ◌*◌, ◌%◌, ◌^◌, ◌<◌, IfSome, Some, option_map, replicate, slice_index, if◌then◌else◌};
 ghost use Rattle.rv64_decode.specs.Decode.{decoded};
 ghost use Rattle.rv64_table.specs.Table.{row_for};
 ghost use Rattle.paged_mem.specs.Memory.{reads};
 ghost use Rattle.paged_mem.specs.Ram.{count_of, Stores};
-ghost use Rattle.rv64_machine.specs.Arithmetic.{sign_extended};
 ghost use Rattle.rv64_machine.specs.Inside.Down.{ActsDown};
 ghost use Rattle.rv64_machine.specs.Inside.FlatEnds.{step_end};
 ghost use Rattle.rv64_machine.specs.Hart.{IsReservation, IsReservable, ReservesReservable, reads_aligned, is_reserved, reserved_bytes, carried, effect_of, EndsStep, following, HartState, HasNumbers, IsHart, runs, ActsInARow, ActsTo, Acts, with_register};

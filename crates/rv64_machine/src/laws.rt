@@ -8,7 +8,7 @@ ghost use Rattle.rv64_machine.specs.Hart.{act, effect_at, following, GoesOn, Har
 ghost use Rattle.rv64_machine.specs.WithoutAtomics.{ActsWithoutAtomicsStand};
 ghost use Rattle.rv64_machine.specs.declared.effect.Effect.TheVariants.{Store};
 ghost use Rattle.std.specs.FinMap.{contains_key, get};
-ghost use Rattle.std.specs.Prelude.{◌≡◌, ◌≢◌, ℕ, ◌+◌, ◌*◌, ◌%◌, ◌^◌, ◌<◌, ◌≤◌, ◌⊎◌, false, Some, None};
+ghost use Rattle.std.specs.Prelude.{◌≡◌, ◌≢◌, ℕ, ◌+◌, ◌%◌, ◌^◌, ◌<◌, ◌≤◌, ◌⊎◌, false, Some, None};
 
 use crate::answer::StepEnd;
 use crate::hart::Hart;

@@ -1,7 +1,7 @@
 -- The table of instructions, and the row of a word.
 -- The source: RISC-V Unprivileged ISA, "RV32/64G Instruction Set Listings", the tables RV32I, RV64I, RV32M, RV64M, RV32A and RV64A.
 -- docs/reference/instructions.md says the same for readers.
-use Rattle.std.specs.Prelude.{ℕ, ◌+◌, ◌*◌, ◌^◌, ◌≡◌, Bool, nat_le, ◌==◌, IsTrue, List, [], ◌∷◌, Option, None, Some, if◌then◌else◌, find, slice_get, bit_and}
+use Rattle.std.specs.Prelude.{ℕ, ◌+◌, ◌*◌, ◌^◌, ◌≡◌, Bool, nat_le, ◌==◌, IsTrue, List, [], ◌∷◌, Option, Some, find, slice_get, bit_and}
 use Rattle.rv64_table.specs.declared.Row.{Row}
 use Rattle.rv64_table.specs.declared.Form.{Form}
 use Rattle.rv64_table.specs.declared.Form.TheVariants.{R, I, H, K, S, B, U, J, E, L, A}

@@ -1,6 +1,6 @@
 //! The row of a word, by its opcode and its fields funct3, funct7 and, of a load-reserved, rs2.
 
-ghost use Rattle.std.specs.Prelude.{◌≡◌, ◌==◌, ℕ, ◌+◌, ◌*◌, ◌/◌, ◌%◌, ◌^◌, IfSome, Some, option_map, find};
+ghost use Rattle.std.specs.Prelude.{◌≡◌, ◌==◌, ℕ, ◌+◌, ◌*◌, ◌/◌, ◌%◌, IfSome, Some, option_map, find};
 ghost use Rattle.rv64_table.specs.Table.{matches, row_for, table};
 ghost use Rattle.rv64_table.specs.Inside.Lookup.{found_at, pick, rows_of};
 

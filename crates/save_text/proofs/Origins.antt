@@ -1,7 +1,7 @@
 -- Of which recipe and inputs a save's text is, read at its front.
-use Rattle.std.proofs.Common.{◌≡◌, ℕ, zero, suc, ◌+◌, List, [], ◌∷◌, length, Ok, Err, refl, sym, ap, subst, ◌∙◌}
+use Rattle.std.proofs.Common.{◌≡◌, ℕ, zero, suc, List, [], ◌∷◌, length, Ok, Err, refl, sym, ap, subst, ◌∙◌}
 use Rattle.ddc_base.specs.declared.digests.Digest.{Digest}
-use Rattle.save_text.specs.ByteFields.Reader.{Read, begun_in, counted, done, read_onward, several, u32}
+use Rattle.save_text.specs.ByteFields.Reader.{Read, begun_in, counted, done, several, u32}
 use Rattle.save_text.specs.SaveText.{SaveText, digest_at, fields_at, origin_at, save_at, save_magic, saved_stage_at}
 use Rattle.save_text.specs.StateText.StateText.{state_in}
 use Rattle.save_text.specs.declared.byte_fields.form.TextForm.{TextForm}

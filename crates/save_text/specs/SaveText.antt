@@ -6,7 +6,7 @@ use Rattle.std.specs.Cmp.Lexicographic.{slice_cmp}
 use Rattle.ddc_base.specs.declared.digests.Digest.{Digest}
 use Rattle.report.specs.declared.types.LeftLine.{LeftLine}
 use Rattle.report.specs.declared.types.Mark.{Mark}
-use Rattle.save_text.specs.ByteFields.Reader.{Reader, ◌>>=◌, begun_in, blob, bytes, counted, done, that, u16, u32, u64, whole}
+use Rattle.save_text.specs.ByteFields.Reader.{Reader, begun_in, blob, bytes, counted, done, that, u16, u32, u64, whole}
 use Rattle.save_text.specs.declared.byte_fields.form.TextForm.{TextForm}
 use Rattle.save_text.specs.declared.byte_fields.form.TextForm.TheVariants.{First, Second}
 use Rattle.save_text.specs.StateText.StateText.{StateText, state_in}

@@ -3,8 +3,7 @@
 ghost use Rattle.std.specs.Prelude.{◌≡◌, ◌<◌, ◌^◌, ◌++◌, All, None, OnErr, OnOk, length, map};
 ghost use Rattle.std.specs.Io.{StartsWith};
 ghost use Rattle.std.specs.Option.{option_copied};
-ghost use Rattle.std.specs.Ordering.{is_lt, nat_cmp};
-ghost use Rattle.std.specs.Cmp.Lexicographic.{slice_cmp};
+ghost use Rattle.std.specs.Ordering.{is_lt};
 ghost use Rattle.save_text.specs.ByteFields.Reader.{Finds, GivesField, counted, several};
 ghost use Rattle.save_text.specs.ByteFields.Spelling.{list_text};
 ghost use Rattle.save_text.specs.SaveText.{after_left, digest_at, is_behind, saved_left_at, saved_stage_at, mark_at, saved_name_at};

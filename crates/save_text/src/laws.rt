@@ -1,6 +1,5 @@
 //! A save is read as it is spelled, in each form. Each law is the contract of a function that does nothing.
 
-ghost use Rattle.std.specs.Prelude.{◌≡◌};
 ghost use Rattle.save_text.specs.ByteFields.Law.{IsReadInForms};
 ghost use Rattle.save_text.specs.SaveText.{save_at};
 ghost use Rattle.save_text.specs.Spelled.{IsSaveText, save_text_in};

@@ -1,4 +1,4 @@
-ghost use Rattle.std.specs.Prelude.{◌≡◌, IfOk, Ok};
+ghost use Rattle.std.specs.Prelude.{IfOk, Ok};
 ghost use Rattle.save_text.specs.ByteFields.Reader.{GivesField};
 ghost use Rattle.save_text.specs.SaveText.{SaveText, fields_at, parsed_save, save_at};
 ghost use Rattle.save_text.specs.Spelled.{IsSaveText, IsTextOfSave};

@@ -1,6 +1,6 @@
 //! `cut RECIPE STAGE EVERY PREFIX`: states along a stage's run are saved.
 
-ghost use Rattle.std.specs.Prelude.{◌≡◌, ◌≤◌, ◌<◌, ◌+◌, ◌^◌, IsTrue, map};
+ghost use Rattle.std.specs.Prelude.{◌≤◌, ◌<◌, ◌+◌, ◌^◌, IsTrue, map};
 ghost use Rattle.ddc_base.specs.Outside.{IsFileName};
 ghost use Rattle.guest_run.specs.Run.{first_end};
 ghost use Rattle.segments.specs.Segments.{second_text};

@@ -9,7 +9,7 @@ ghost use Rattle.segments.specs.Faults.{start_refusal_of, state_fault_number};
 ghost use Rattle.segments.specs.Segments.{EndsWith};
 ghost use Rattle.command_plan.specs.declared.status.Status.TheVariants.{Refuted, Yes};
 ghost use Rattle.command_plan.specs.Performs.{Performs};
-ghost use Rattle.command_plan.specs.Plan.{Plan, answers, unless_refused};
+ghost use Rattle.command_plan.specs.Plan.{answers, unless_refused};
 ghost use Rattle.command_plan.specs.Steps.{Says};
 ghost use Rattle.segment_commands.specs.Ends.{ends_files, ends_judged, ends_plan, needs_first, needs_last};
 ghost use Rattle.segment_commands.specs.Exits.{output_left, run_failed};

@@ -1,6 +1,6 @@
 //! How the run of a stage ended.
 
-ghost use Rattle.std.specs.Prelude.{◌≡◌, ◌+◌, ◌<◌, ◌^◌};
+ghost use Rattle.std.specs.Prelude.{◌≡◌, ◌<◌};
 ghost use Rattle.std.specs.Option.{option_copied};
 ghost use Rattle.mem_files.specs.Outputs.{out};
 ghost use Rattle.recipe.specs.Kept as kept;

@@ -1,6 +1,5 @@
 //! The last text.
 
-ghost use Rattle.std.specs.Prelude.{◌≡◌};
 ghost use Rattle.segments.specs.Ending.{EndChecks};
 ghost use Rattle.segments.specs.Segments.{IsStateOf};
 

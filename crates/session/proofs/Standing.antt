@@ -1,5 +1,5 @@
 -- Where a session stands.
-use Rattle.std.proofs.Common.{◌≡◌, ◌∙◌, ℕ, zero, suc, ◌+◌, ◌-◌, ◌<◌, ◌≤◌, ◌^◌, Bool, true, false, min, refl, inl, inr, Option, Some, None, Result, Ok, Err, IfOk, List, sym, ap, subst, arith}
+use Rattle.std.proofs.Common.{◌≡◌, ◌∙◌, ℕ, zero, suc, ◌+◌, ◌-◌, ◌<◌, ◌≤◌, ◌^◌, false, min, refl, Option, Some, None, Result, Ok, Err, IfOk, List, sym, ap, subst, arith}
 use Rattle.guest_run.specs.declared.run.RunEnd.{RunEnd}
 use Rattle.guest_run.specs.Setting.{Setting}
 use Rattle.guest_run.specs.Start.{Refusal, start_of}

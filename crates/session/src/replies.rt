@@ -1,6 +1,6 @@
 //! The replies of a session, a line each.
 
-ghost use Rattle.std.specs.Prelude.{◌≡◌, ◌++◌, ◌∷◌, ◌<◌, ◌≤◌, ◌^◌, IfOk, OnOk, Some, codes, drop, length};
+ghost use Rattle.std.specs.Prelude.{◌≡◌, ◌++◌, ◌∷◌, ◌<◌, IfOk, OnOk, Some};
 ghost use Rattle.std.specs.List.{flat_map};
 ghost use Rattle.guest_run.specs.Run.{Exited, Trapped, UnknownCall};
 ghost use Rattle.paged_mem.specs.Memory.{bytes_at, reads};

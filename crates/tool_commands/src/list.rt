@@ -1,8 +1,7 @@
 //! `list BINARY`: the file's words by offset, each with its value and its instruction.
 
-ghost use Rattle.std.specs.Prelude.{◌≡◌, ◌≤◌, ◌+◌, ◌*◌, ◌<◌, ◌^◌, ◌++◌, ◌∷◌, [], IfOk, OnOk, length, map, codes};
-ghost use Rattle.hex.specs.Hex.{encode_lower};
-ghost use Rattle.byteorder.specs.Endian.{little_number, big_bytes};
+ghost use Rattle.std.specs.Prelude.{◌≡◌, ◌+◌, ◌*◌, ◌<◌, ◌^◌, ◌++◌, ◌∷◌, [], IfOk, OnOk, length, map};
+ghost use Rattle.byteorder.specs.Endian.{little_number};
 ghost use Rattle.rv64_decode.specs.Decode.{decoded};
 ghost use Rattle.ddc_base.specs.Outside.{IsFileName};
 ghost use Rattle.command_plan.specs.declared.status.Status.TheVariants.{Yes};

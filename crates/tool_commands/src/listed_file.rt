@@ -13,24 +13,24 @@ use mem_files::strip;
 use std::alloc::Global;
 use std::marker::Model;
 
-/// A word that stands for a file, by its name without the `./` that it begins with. Contracts see it as its bytes.
+/// The word of a line, which stands for a file by its name without the `./` that it begins with. Contracts see it as its bytes.
 #[derive(Debug, Drop)]
-pub struct ListedFile {
+pub struct FileLine {
     word: ListedWord,
 }
 
-impl Model for ListedFile {
+impl Model for FileLine {
     ghost use Rattle.std.specs.Prelude.{List, ℕ, IsTrue};
     ghost use Rattle.mem_files.specs.Names.{is_file_name, stripped};
 
     ghost Value = { List ℕ };
 
-    ghost view = { λ file. file.word };
+    ghost view = { λ line. line.word };
 
-    ghost invariant = { λ file. IsTrue (is_file_name (stripped file.word)) };
+    ghost invariant = { λ line. IsTrue (is_file_name (stripped line.word)) };
 }
 
-impl Listed for ListedFile {
+impl Listed for FileLine {
     ghost use Rattle.tool_commands.specs.Scripts.{file_line};
 
     ghost form = { file_line };
@@ -38,9 +38,9 @@ impl Listed for ListedFile {
     #[tactic(auto, unfolding(crate::specs::Scripts::file_line))]
     fn read(
         alloc: Global,
-        earlier: &[ListedFile],
+        earlier: &[FileLine],
         line: &[u8],
-    ) -> Result<Option<ListedFile>, OutOfMemory> {
+    ) -> Result<Option<FileLine>, OutOfMemory> {
         if !stands_for_another(earlier, line) {
             return Ok(None);
         }
@@ -48,14 +48,14 @@ impl Listed for ListedFile {
             Some(word) => {
                 // What a word keeps is told by a call of its own.
                 word.as_str();
-                Ok(Some(ListedFile { word }))
+                Ok(Some(FileLine { word }))
             }
             None => Ok(None),
         }
     }
 }
 
-impl ListedFile {
+impl FileLine {
     /// The word as text, by which a shelf loads.
     pub fn as_str(&self) -> &str
         ensures value { result.now ≡ self.now }
@@ -67,7 +67,7 @@ impl ListedFile {
 }
 
 /// Whether a word stands for a file, and for none of those for which the earlier words stand.
-fn stands_for_another(earlier: &[ListedFile], word: &[u8]) -> bool
+fn stands_for_another(earlier: &[FileLine], word: &[u8]) -> bool
     ensures { result ≡ stands_for_another earlier.now word.now }
 {
     let name = strip(word);
@@ -75,14 +75,14 @@ fn stands_for_another(earlier: &[ListedFile], word: &[u8]) -> bool
 }
 
 /// Whether one of these words stands for the file of this name.
-fn is_named(words: &[ListedFile], name: &[u8]) -> bool
+fn is_named(words: &[FileLine], name: &[u8]) -> bool
     ensures { result ≡ list_any (λ word. bytes_eq (stripped word) name.now) words.now }
 {
     words.iter().any(|word| stands_for(word, name))
 }
 
 /// Whether a word stands for the file of this name.
-fn stands_for(word: &ListedFile, name: &[u8]) -> bool
+fn stands_for(word: &FileLine, name: &[u8]) -> bool
     ensures { result ≡ bytes_eq (stripped word.now) name.now }
 {
     strip(word.as_str().as_bytes()) == name

@@ -13,7 +13,7 @@ ghost use Rattle.tool_commands.specs.Inside.Placing.{AreApart, IsPlaced};
 ghost use Rattle.tool_commands.specs.Scripts.{and_file, file_line, needs_files, needs_script, needs_unlisted, script_of};
 ghost use Rattle.tool_commands.specs.ScriptTexts.{script_line};
 
-use crate::listed_file::ListedFile;
+use crate::listed_file::FileLine;
 use crate::script_texts;
 use command_plan::lists::fetch_list;
 use command_plan::words::is_one_file;
@@ -77,18 +77,18 @@ pub(crate) fn fetch_words<S: Shelf>(
     alloc: Global,
     shelf: &mut S,
     list: &str,
-) -> Result<ListOf<ListedFile>, Stop>
+) -> Result<ListOf<FileLine>, Stop>
     requires { IsFileName list.now }
     ensures obtained { Obtains (needs_list file_line 4096 list.now) (S.state shelf.old) (S.state shelf.new) result }
     ensures few { IfOk result (λ words. length words ≤ 4096) }
     ensures apart { IfOk result AreApart }
 {
-    fetch_list::<ListedFile, S>(alloc, shelf, list, MOST_FILES)
+    fetch_list::<FileLine, S>(alloc, shelf, list, MOST_FILES)
 }
 
 /// Ends the command where a listed word stands for a file that is to be written.
 #[tactic(auto, unfolding(crate::specs::Scripts::needs_unlisted))]
-pub(crate) fn unlisted(alloc: Global, words: &ListOf<ListedFile>, report: &str) -> Result<(), Stop>
+pub(crate) fn unlisted(alloc: Global, words: &ListOf<FileLine>, report: &str) -> Result<(), Stop>
     ensures { (shelf : ShelfState) → Obtains (needs_unlisted words.now report.now) shelf shelf result }
 {
     if is_listed(words, report) {
@@ -98,7 +98,7 @@ pub(crate) fn unlisted(alloc: Global, words: &ListOf<ListedFile>, report: &str) 
 }
 
 /// Whether a listed word stands for a file.
-fn is_listed(words: &ListOf<ListedFile>, file: &str) -> bool
+fn is_listed(words: &ListOf<FileLine>, file: &str) -> bool
     ensures { result ≡ list_any (λ word. is_one_file word file.now) words.now }
 {
     words
@@ -111,7 +111,7 @@ fn is_listed(words: &ListOf<ListedFile>, file: &str) -> bool
 pub(crate) fn fetch_files<S: Shelf>(
     alloc: Global,
     shelf: &mut S,
-    words: &ListOf<ListedFile>,
+    words: &ListOf<FileLine>,
 ) -> Result<FileList, Stop>
     requires apart { AreApart words.now }
     requires few { length words.now ≤ 4096 }
@@ -121,11 +121,7 @@ pub(crate) fn fetch_files<S: Shelf>(
 }
 
 /// Fetches the files of these words, in order. The bytes of one of them stand twice, while it is added.
-fn fetch_each<S: Shelf>(
-    alloc: Global,
-    shelf: &mut S,
-    words: &[ListedFile],
-) -> Result<FileList, Stop>
+fn fetch_each<S: Shelf>(alloc: Global, shelf: &mut S, words: &[FileLine]) -> Result<FileList, Stop>
     requires apart { AreApart words.now }
     requires few { length words.now ≤ 4096 }
     ensures { Obtains (needs_files words.now) (S.state shelf.old) (S.state shelf.new) result }
@@ -141,7 +137,7 @@ fn fetch_each<S: Shelf>(
 }
 
 /// Adds a file for which there is room.
-fn add(files: &mut FileList, word: &ListedFile, content: &[u8]) -> Result<(), OutOfMemory>
+fn add(files: &mut FileList, word: &FileLine, content: &[u8]) -> Result<(), OutOfMemory>
     requires { IsPlaced files.old word.now content.now }
     ensures { OnOk result (files.new ≡ and_file files.old word.now content.now) }
 {

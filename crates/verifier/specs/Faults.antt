@@ -1,7 +1,6 @@
 -- The first fault of a report, part by part in the order of docs/reference/verify.md, which says the same for people.
 -- A stage's recorded step is judged and not searched for, and programs and files are the bytes that the earlier runs left. Digests are SHA-256 (FIPS 180-4).
 use Rattle.std.specs.Prelude.{ℕ, ◌+◌, ◌==◌, Bool, true, false, ◌&&◌, if◌then◌else◌, nat_le, bytes_eq, Option, None, Some, Result, Ok, Err, List, [], ◌∷◌, ◌++◌, length, option_map, sum_by}
-use Rattle.sha2.specs.Sha256.{sha256}
 use Rattle.ddc_base.specs.Difference.{first_difference}
 use Rattle.ddc_base.specs.declared.languages.Language.{Language}
 use Rattle.ddc_base.specs.declared.languages.Language.TheVariants.{Hex0, Hex1, Hex2, M1}
@@ -18,7 +17,6 @@ use Rattle.report.specs.declared.types.Compared.{Compared}
 use Rattle.report.specs.declared.types.Compared.TheVariants.{Equal, Differs}
 use Rattle.report.specs.declared.types.InputLine.{InputLine}
 use Rattle.report.specs.declared.types.LeftLine.{LeftLine}
-use Rattle.report.specs.declared.types.Mark.{Mark}
 use Rattle.report.specs.declared.types.Report.{Report}
 use Rattle.report.specs.declared.types.StageLine.{StageLine}
 use Rattle.report.specs.Marks.{is_mark_of}

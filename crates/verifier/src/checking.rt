@@ -6,8 +6,7 @@ ghost use Rattle.hex_langs.specs.declared.items.reader.HexRefusal.{HexRefusal as
 ghost use Rattle.hex_langs.specs.declared.items.token.Dialect.TheVariants as dialect;
 ghost use Rattle.hex_langs.specs.Link.Link.{Links};
 ghost use Rattle.hex_langs.specs.Link.Values.{linked};
-ghost use Rattle.wheeler.specs.SourceCheck.Causes.{cause_of_hex, cause_of_m1};
-ghost use Rattle.wheeler.specs.SourceCheck.Checks.{check, checked, first_other_item, hex_value, items_against, joined_files, m1_value, same_item};
+ghost use Rattle.wheeler.specs.SourceCheck.Checks.{check, checked, first_other_item, hex_value, items_against, joined_files, same_item};
 ghost use Rattle.std.specs.Prelude.{◌≡◌, ◌≤◌, ◌^◌, is_none, ℕ, List, Result, IfOk};
 ghost use Rattle.verifier.specs.Inside.Holdings.{IsHeld, so_far};
 ghost use Rattle.wheeler.specs.Contents.{check_of, text_of};

@@ -2,7 +2,7 @@
 
 ghost use Rattle.std.specs.Prelude.{◌≡◌};
 ghost use Rattle.verifier.specs.Faults.{is_header, names_compared, names_inputs, names_stages, same_language};
-ghost use Rattle.wheeler.specs.Contents.{check_language, defined};
+ghost use Rattle.wheeler.specs.Contents.{check_language};
 
 use ddc_base::Name;
 use ddc_base::languages::Language;

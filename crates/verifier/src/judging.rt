@@ -5,7 +5,7 @@ ghost use Rattle.recipe.specs.Kept.{IsRecipe};
 ghost use Rattle.std.specs.Option.{option_map};
 ghost use Rattle.std.specs.Prelude.{◌≡◌, ◌+◌, ◌<◌, ◌≤◌, ◌^◌, length, All};
 ghost use Rattle.verifier.specs.Faults.{compare_fault, first_fault, inputs_fault, is_at, line_place, says, wrong_line};
-ghost use Rattle.verifier.specs.Inside.Holdings.{IsHeld, so_far};
+ghost use Rattle.verifier.specs.Inside.Holdings.{so_far};
 ghost use Rattle.verifier.specs.Inside.Replays.{Replays};
 ghost use Rattle.verifier.specs.Verdicts.{IsReplaying, Judges, OnWant, verdict_of};
 ghost use Rattle.verifier.specs.declared.part.Part.TheVariants as part;
@@ -13,7 +13,6 @@ ghost use Rattle.wheeler.specs.Valid.{IsInputs};
 
 use crate::header::is_header;
 use crate::held::Held;
-use crate::marks::is_mark_of;
 use crate::part::{Part, Verdict};
 use crate::replay::replay;
 use crate::stop::Stop;
@@ -81,7 +80,7 @@ fn wrong_input(number: u32, inputs: &[Bytes], lines: &[InputLine]) -> Option<u32
         [bytes, inputs @ ..] => match lines {
             [] => None,
             [line, lines @ ..] => {
-                if is_mark_of(&line.mark, bytes.as_slice()) {
+                if line.mark.is_of(bytes.as_slice()) {
                     wrong_input(number + 1, inputs, lines)
                 } else {
                     Some(number)

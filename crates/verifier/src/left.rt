@@ -4,10 +4,9 @@ ghost use Rattle.mem_files.specs.Calls.{content_at};
 ghost use Rattle.mem_files.specs.Names.{is_stripped_name};
 ghost use Rattle.mem_files.specs.Outputs.{left};
 ghost use Rattle.mem_files.specs.Sound.{IsSound};
-ghost use Rattle.std.specs.Prelude.{◌≡◌, IsTrue, IsSome, Some, [], unwrap_or};
+ghost use Rattle.std.specs.Prelude.{◌≡◌, IsTrue, Some, [], unwrap_or};
 ghost use Rattle.verifier.specs.Faults.{has_left, names_left};
 
-use crate::marks::is_mark_of;
 use mem_files::Files;
 use report::{LeftLine, StageLine};
 
@@ -16,8 +15,8 @@ use report::{LeftLine, StageLine};
 pub(crate) fn has_left(line: &StageLine, files: &Files) -> bool
     ensures { result ≡ has_left line.now files.now }
 {
-    is_mark_of(&line.stream1, files.stream(1))
-        && is_mark_of(&line.stream2, files.stream(2))
+    line.stream1.is_of(files.stream(1))
+        && line.stream2.is_of(files.stream(2))
         && names_left(line.left.as_slice(), files)
 }
 
@@ -34,7 +33,7 @@ fn names_left(lines: &[LeftLine], files: &Files) -> bool
         if line.name.as_slice() != name {
             return false;
         }
-        if !is_mark_of(&line.mark, bytes_of(files, name)) {
+        if !line.mark.is_of(bytes_of(files, name)) {
             return false;
         }
         last = Some(name);

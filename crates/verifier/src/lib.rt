@@ -12,7 +12,6 @@ mod held;
 mod judging;
 pub mod laws;
 mod left;
-mod marks;
 mod part;
 mod replay;
 mod stop;

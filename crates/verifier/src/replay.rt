@@ -4,7 +4,7 @@ ghost use Rattle.guest_run.specs.Run.{end_at};
 ghost use Rattle.guest_run.specs.Start.{start_of};
 ghost use Rattle.mem_files.specs.Outputs.{out};
 ghost use Rattle.std.specs.Option.{option_copied};
-ghost use Rattle.std.specs.Prelude.{◌≡◌, ◌+◌, ◌≤◌, ◌^◌, Contains, IfOk};
+ghost use Rattle.std.specs.Prelude.{◌≡◌, ◌+◌, ◌≤◌, ◌^◌, Contains};
 ghost use Rattle.verifier.specs.Faults.{exit_of, left_at, or_fails, recorded, replayed, size_of};
 ghost use Rattle.verifier.specs.Inside.Holdings.{IsHeld, IsOutputName, Judged, so_far};
 ghost use Rattle.verifier.specs.declared.part.Part.TheVariants as part;
@@ -15,7 +15,6 @@ use crate::checking::is_right;
 use crate::given::box_of;
 use crate::held::Held;
 use crate::left::has_left;
-use crate::marks::is_mark_of;
 use crate::part::Part;
 use crate::stop::Stop;
 use ddc_base::{Bytes, OutOfMemory};
@@ -105,7 +104,7 @@ fn recorded<'f>(stage: &Stage, line: &StageLine, total: u64, files: &'f Files) -
         return None;
     }
     let made = artefact(&stage.output, files)?;
-    if is_mark_of(&line.made, made) && total + made.len() as u64 <= MAX_ARTEFACTS {
+    if line.made.is_of(made) && total + made.len() as u64 <= MAX_ARTEFACTS {
         Some(made)
     } else {
         None

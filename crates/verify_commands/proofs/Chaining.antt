@@ -1,5 +1,5 @@
 -- Audits in a row, as a plan and as a loop.
-use Rattle.std.proofs.Common.{◌≡◌, ℕ, Bool, true, false, if◌then◌else◌, Option, Some, None, ◌+◌, ◌<◌, ◌≤◌, Result, Ok, Err, List, [], ◌∷◌, ◌++◌, length, drop, get_or, refl, sym, ap, ◌∙◌, subst, arith}
+use Rattle.std.proofs.Common.{◌≡◌, ℕ, Bool, true, false, if◌then◌else◌, Option, Some, None, ◌+◌, ◌<◌, ◌≤◌, Result, Ok, Err, List, [], ◌∷◌, ◌++◌, length, drop, get_or, refl, sym, ap, ◌∙◌, subst}
 use Rattle.std.proofs.lemmas.List.{at_drop_more, drop_all, length-append}
 use Rattle.ddc_base.specs.Outside.{ShelfState}
 use Rattle.report.specs.declared.types.CompareLine.{CompareLine}

@@ -1,6 +1,6 @@
 //! `chain LIST`: audits in a row are verified, and what remains to be believed of all of them is said.
 
-ghost use Rattle.std.specs.Prelude.{◌≡◌, ◌+◌, ◌++◌, ◌-◌, ◌<◌, ◌≤◌, ◌^◌, [], length, map, sum_by};
+ghost use Rattle.std.specs.Prelude.{◌≡◌, ◌+◌, ◌++◌, ◌-◌, ◌<◌, ◌≤◌, ◌^◌, [], length, map};
 ghost use Rattle.ddc_base.specs.Outside.{IsFileName, ShelfState};
 ghost use Rattle.recipe.specs.Reading.{recipe_of};
 ghost use Rattle.report.specs.Reading.{report_of};
@@ -13,7 +13,7 @@ ghost use Rattle.command_plan.specs.Steps.{Obtains, Says};
 ghost use Rattle.command_plan.specs.Texts.{report_line};
 ghost use Rattle.recipe_plan.specs.Texts.{compared_lines, recipe_line};
 ghost use Rattle.verify_commands.specs.Chain.{chain_files, chain_plan, chained, chained_lines, needs_audit, needs_recipe_of, needs_report_of, needs_true, needs_two_files, room_behind};
-ghost use Rattle.verify_commands.specs.ChainTexts.{audit_line, chain_text};
+ghost use Rattle.verify_commands.specs.ChainTexts.{audit_line};
 ghost use Rattle.verify_commands.specs.Inside.Ends.{EndsWith};
 ghost use Rattle.verify_commands.specs.Texts.{refuted_line};
 
@@ -243,7 +243,11 @@ fn report_refused(alloc: Global, number: u32, line: u64) -> Result<Answer, Stop>
 {
     Ok(Answer {
         status: Status::ReportRefused,
-        text: chain_texts::of_audit(alloc, number, command_plan::texts::report(alloc, line)?.as_slice())?,
+        text: chain_texts::of_audit(
+            alloc,
+            number,
+            command_plan::texts::report(alloc, line)?.as_slice(),
+        )?,
     })
 }
 

@@ -1,7 +1,6 @@
 -- One stage: the start of its program, its run, and what its end comes to. docs/reference/audit.md says the same for people. Digests are
 -- SHA-256 (FIPS 180-4).
 use Rattle.std.specs.Prelude.{ℕ, ◌+◌, ◌==◌, if◌then◌else◌, nat_lt, Option, None, Some, Result, Ok, Err, List, length, map, sum_by}
-use Rattle.sha2.specs.Sha256.{sha256}
 use Rattle.mem_files.specs.World.{World}
 use Rattle.mem_files.specs.Outputs.{FirstStream, AtPath, left, out}
 use Rattle.mem_files.specs.Outputs as outputs
@@ -13,7 +12,6 @@ use Rattle.recipe.specs.declared.parts.Output.{Output}
 use Rattle.recipe.specs.declared.parts.Output.TheVariants.{Stream, File}
 use Rattle.recipe.specs.declared.parts.Stage.{Stage}
 use Rattle.report.specs.declared.types.LeftLine.{LeftLine}
-use Rattle.report.specs.declared.types.Mark.{Mark}
 use Rattle.report.specs.Marks.{mark_of}
 use Rattle.wheeler.specs.declared.source_check.cause.CheckCause.{CheckCause}
 use Rattle.wheeler.specs.declared.answer.Fault.{Fault}

@@ -1,9 +1,9 @@
 -- The delta of every position is short.
-use Rattle.std.proofs.Common.{◌≡◌, ℕ, zero, suc, ◌+◌, ◌<◌, ◌≤◌, List, [], ◌∷◌, length, map, drop, refl, arith, length-append}
+use Rattle.std.proofs.Common.{ℕ, zero, suc, ◌<◌, List, [], ◌∷◌, length, map, drop, arith, length-append}
 use Rattle.std.specs.List.{flat_map}
 use Rattle.checkpoints.specs.Checkpoint.{state_of}
 use Rattle.checkpoints.proofs.PatchLengths.{patches_short}
-use Rattle.checkpoints.proofs.TextLengths.{HasAtMost, counted, itself, joined, number32, within}
+use Rattle.checkpoints.proofs.TextLengths.{HasAtMost, counted, itself, joined, number32}
 use Rattle.recipe.specs.declared.contents.Said.{Said}
 use Rattle.recipe.specs.Kept.{IsRecipe}
 use Rattle.report.proofs.Marks.{is_digest}

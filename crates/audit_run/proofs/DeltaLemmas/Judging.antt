@@ -1,5 +1,5 @@
 -- A base is judged by itself, and then the text beside what it says.
-use Rattle.std.proofs.Common.{◌≡◌, ℕ, List, Result, Ok, Err, refl, sym, ap, subst, ◌∙◌}
+use Rattle.std.proofs.Common.{◌≡◌, ℕ, List, Result, Ok, Err, sym, ap, subst, ◌∙◌}
 use Rattle.recipe.specs.declared.contents.Said.{Said}
 use Rattle.save_text.specs.SaveText.{SaveText, parsed_save}
 use Rattle.save_text.specs.Spelled.{IsSaveText}

@@ -5,10 +5,12 @@ use Rattle.guest_run.specs.State.{GuestState}
 use Rattle.recipe.specs.declared.contents.Said.{Said}
 use Rattle.recipe.specs.declared.parts.Stage.{Stage}
 use Rattle.wheeler.specs.declared.answer.Finished.{Finished}
-use Rattle.wheeler.specs.Positions.{Standing, On, Over, at, beginning, stage_closed, forward, forward_from}
+use Rattle.wheeler.specs.Positions.{Position, Standing, On, Over, at, beginning, stage_closed, forward}
 use Rattle.wheeler.specs.Valid.{AreDone, IsInputs, IsStanding}
 use Rattle.audit_run.specs.declared.place.Place.{Place}
 use Rattle.audit_run.specs.declared.place.Place.TheVariants as place
+use Rattle.audit_run.specs.declared.place.EndedGuest.{EndedGuest}
+use Rattle.audit_run.specs.declared.place.EndedGuest.TheVariants.{Kept, GivenUp}
 use Rattle.audit_run.specs.declared.place.Entry.{Entry}
 use Rattle.audit_run.specs.declared.place.Entry.TheVariants as entry
 use Rattle.audit_run.specs.declared.place.Moved.{Moved}
@@ -65,15 +67,21 @@ IsStarted place.Ready = ⊥
 IsStarted (place.Running guest) = Unit {0}
 IsStarted (place.Over answer) = Unit {0}
 
--- what want of memory leaves of an audit that has started
+-- what becomes of a guest whose stage is done
+abbrev pub KeepsPlace : EndedGuest → Place → Place → Type 0
+KeepsPlace Kept old new = new ≡ old
+KeepsPlace GivenUp old new = Unit {0}
+
+-- an audit that has started stopped here for want of memory
 abbrev pub StopsIn : Said → List (List ℕ) → Standing → ℕ → Standing → Type 0
 StopsIn recipe inputs from most (On p) = StopsAt recipe inputs from most p
 StopsIn recipe inputs from most (Over answer) = ⊥
 
--- what a stretch of at most so many steps does to where an audit stands
-abbrev pub Stretches : Said → List (List ℕ) → Standing → ℕ → Result ℕ OutOfMemory → Standing → Type 0
-Stretches recipe inputs from most (Ok taken) to = (to ≡ forward_from recipe inputs from taken) × (1 ≤ taken) × (taken ≤ most)
-Stretches recipe inputs from most (Err error) to = StopsIn recipe inputs from most to
+-- what want of memory leaves behind fewer steps than were asked for: an audit that stopped there, where guests are kept
+abbrev pub WantsBehind : EndedGuest → Said → List (List ℕ) → Standing → ℕ → List Finished → Place → Type 0
+WantsBehind Kept recipe inputs from most done where_it_is =
+    IsStarted where_it_is × IsPlace recipe done where_it_is × StopsIn recipe inputs from most (stands recipe inputs done where_it_is)
+WantsBehind GivenUp recipe inputs from most done where_it_is = (p : Position) × StopsAt recipe inputs from most p
 
 -- what is said of an audit that stands here
 abbrev pub SaysOf : Place → Progress → Type 0

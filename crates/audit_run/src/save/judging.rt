@@ -1,6 +1,6 @@
 //! Whether stages that a save says to be done can be: each stands for itself, by the recipe alone.
 
-ghost use Rattle.std.specs.Prelude.{◌≡◌, ◌+◌, ◌-◌, ◌≤◌, ◌↔◌, All, Contains, IsTrue, None, SomeIff, length};
+ghost use Rattle.std.specs.Prelude.{◌≡◌, ◌-◌, ◌≤◌, ◌↔◌, All, Contains, IsTrue, None, SomeIff, length};
 ghost use Rattle.save_text.specs.ByteFields.Spelling.{InTurn};
 ghost use Rattle.mem_files.specs.Names.{is_stripped_name};
 ghost use Rattle.mem_files.specs.Outputs.{IsContent};

@@ -1,4 +1,4 @@
-ghost use Rattle.std.specs.Prelude.{◌≡◌, [], get_or};
+ghost use Rattle.std.specs.Prelude.{◌≡◌, []};
 ghost use Rattle.wheeler.specs.Contents.{bytes_of_content, content};
 ghost use Rattle.wheeler.specs.Stages.{contents};
 

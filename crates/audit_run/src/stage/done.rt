@@ -1,7 +1,6 @@
 ghost use Rattle.std.specs.Prelude.{◌≡◌};
 ghost use Rattle.report.specs.Marks.{mark_of};
 
-use crate::stage::marks::mark_of;
 use report::Mark;
 use std::marker::Model;
 use wheeler::Finished;
@@ -38,7 +37,7 @@ impl Done {
     pub fn of(finished: Finished) -> Done
         ensures { result ≡ finished }
     {
-        let mark = mark_of(finished.made.as_slice());
+        let mark = Mark::of(finished.made.as_slice());
         Done { finished, mark }
     }
 

@@ -3,7 +3,6 @@
 ghost use Rattle.audit_run.specs.Stage.Makes.{Makes};
 ghost use Rattle.audit_run.specs.Stage.Rules.{IsStageOf};
 ghost use Rattle.mem_files.specs.Outputs.{out};
-ghost use Rattle.mem_files.specs.Sound.{IsSound};
 ghost use Rattle.recipe.specs.Kept as kept;
 ghost use Rattle.std.specs.Option.{option_copied};
 ghost use Rattle.std.specs.Prelude.{◌≡◌, ◌≤◌, IfOk, OnErr, Some};
@@ -11,11 +10,11 @@ ghost use Rattle.wheeler.specs.Stages.{artefact_bytes, exited_with, finished, ou
 
 use crate::stage::done::Done;
 use crate::stage::left::{Known, left_lines};
-use crate::stage::marks::mark_of;
 use crate::stage::sources::check_of;
 use ddc_base::{Bytes, OutOfMemory};
 use mem_files::Files;
 use recipe::{Output, Recipe, Stage};
+use report::Mark;
 use std::alloc::Global;
 use wheeler::{Fault, Finished, MAX_ARTEFACTS, RunCause};
 
@@ -88,14 +87,14 @@ fn finish(
     requires { out files.now (output_of stage.now.output) ≡ Some made.now }
     ensures { IfOk result (λ f. f ≡ finished steps files.now made.now) }
 {
-    let mark = mark_of(made);
-    let stream2 = mark_of(files.stream(2));
+    let mark = Mark::of(made);
+    let stream2 = Mark::of(files.stream(2));
     let (stream1, left) = match &stage.output {
         Output::Stream => (mark, left_lines(alloc, files, &None)?),
         Output::File(path) => {
             let path = path.as_slice();
             let known = Some(Known { path, mark });
-            (mark_of(files.stream(1)), left_lines(alloc, files, &known)?)
+            (Mark::of(files.stream(1)), left_lines(alloc, files, &known)?)
         }
     };
     let made = Bytes::from_slice(alloc, made)?;

@@ -8,7 +8,6 @@ ghost use Rattle.mem_files.specs.Sound.{IsSound};
 ghost use Rattle.report.specs.Marks.{mark_of};
 ghost use Rattle.wheeler.specs.Stages.{marked_left};
 
-use crate::stage::marks::mark_of;
 use ddc_base::{Bytes, OutOfMemory};
 use mem_files::Files;
 use report::{LeftLine, LeftLines, Mark};
@@ -53,7 +52,7 @@ fn line_of(
 {
     let mark = match known {
         Some(known) if known.path == name => known.mark,
-        _ => mark_of(files.content(name).unwrap_or(&[])),
+        _ => Mark::of(files.content(name).unwrap_or(&[])),
     };
     Ok(LeftLine {
         name: Bytes::from_slice(alloc, name)?,

@@ -1,21 +1,18 @@
 //! The report of all stages.
 
-ghost use Rattle.ddc_base.specs.Difference.{first_difference as difference_of};
-ghost use Rattle.std.specs.Prelude.{◌≡◌, IfOk, length};
+ghost use Rattle.std.specs.Prelude.{◌≡◌, IfOk};
 ghost use Rattle.wheeler.specs.Bench.{compared, compare_line, compare_lines, input_lines, bench_report, stage_line, stage_lines};
 ghost use Rattle.wheeler.specs.Contents.{check_language};
-ghost use Rattle.report.specs.Marks.{mark_of};
 ghost use Rattle.wheeler.specs.Stages.{contents};
 
 use crate::stage::contents::content;
 use crate::stage::done::Done;
-use crate::stage::marks::mark_of;
 use crate::stage::sources::{check_source, defined};
 use ddc_base::languages::Language;
 use ddc_base::{Bytes, Name, OutOfMemory, first_difference};
 use recipe::{Input, Recipe, Stage};
 use report::{
-    CompareLine, CompareLines, Compared, InputLine, InputLines, LeftLine, LeftLines, Report,
+    CompareLine, CompareLines, Compared, InputLine, InputLines, LeftLine, LeftLines, Mark, Report,
     StageLine, StageLines,
 };
 use std::alloc::Global;
@@ -47,7 +44,7 @@ fn input_lines(alloc: Global, inputs: &[Input], given: &[Bytes]) -> Result<Input
     for index in 0..inputs.len().min(given.len()) {
         lines.push(InputLine {
             name: inputs[index].name.copy(),
-            mark: mark_of(given[index].as_slice()),
+            mark: Mark::of(given[index].as_slice()),
         })?;
     }
     Ok(lines)

@@ -3,7 +3,7 @@
 ghost use Rattle.std.specs.Prelude.{◌≡◌, ◌≤◌, ◌^◌, IfOk, map, option_map};
 ghost use Rattle.recipe.specs.Kept as kept;
 ghost use Rattle.wheeler.specs.SourceCheck.Checks.{joined_files};
-ghost use Rattle.wheeler.specs.Contents.{check_language, check_of, check_source, content, defined, text_check, text_of};
+ghost use Rattle.wheeler.specs.Contents.{check_of, check_source, content, defined, text_check, text_of};
 ghost use Rattle.wheeler.specs.Stages.{contents};
 
 use crate::check::check;

@@ -1,7 +1,5 @@
 //! Deltas of the worked recipe. What they come to is what whole saves say, or was written down from docs/reference/delta.md.
 
-ghost use Rattle.std.specs.Prelude.{◌≤◌};
-
 use crate::saves::are_inputs;
 use crate::saves::kept::{delta_from, delta_of_none, save_beside};
 use crate::saves::saves::{old_save_at, recipe_of, save_at};

@@ -1,7 +1,6 @@
 //! Files made of parts.
 
-ghost use Rattle.std.specs.Prelude.{◌≡◌, ◌↔◌, IfOk, IsTrue, length};
-ghost use Rattle.mem_files.specs.Lists.{AreInRange, AreJoined, world_of};
+ghost use Rattle.std.specs.Prelude.{◌≡◌, length};
 ghost use Rattle.checkpoints.specs.FileParts.Restored.{Restores};
 
 use crate::file_parts::parts::FileParts;

@@ -3,7 +3,7 @@
 ghost use Rattle.hex_langs.specs.Items.Reading.{items_of, ReadsItems, fault_at, halted};
 ghost use Rattle.hex_langs.specs.Items.Refusals.{hex_refusal_number, hex_refusal_place};
 ghost use Rattle.hex_langs.specs.declared.items.token.Dialect.TheVariants.{Hex1, Hex2};
-ghost use Rattle.std.specs.Prelude.{◌≡◌, ◌++◌, ◌≤◌, ◌<◌, length};
+ghost use Rattle.std.specs.Prelude.{◌≡◌, ◌<◌};
 
 use crate::items::items::Items;
 use crate::items::token::{

@@ -5,7 +5,7 @@ ghost use Rattle.hex_langs.specs.Items.Tokens.{is_blank, gap_length, name_length
 ghost use Rattle.hex_langs.specs.Hex0.{begins_comment};
 ghost use Rattle.std.specs.List.{position_or_len};
 ghost use Rattle.hex_langs.specs.declared.items.token.Dialect.TheVariants.{Hex2};
-ghost use Rattle.std.specs.Prelude.{◌≡◌, ℕ, List, ◌<◌, ◌≤◌, ◌+◌, ◌-◌, length, IfOk, IfSome, Some, None, drop, true, slice_index};
+ghost use Rattle.std.specs.Prelude.{◌≡◌, ℕ, List, ◌<◌, ◌≤◌, ◌+◌, ◌-◌, length, IfOk, IfSome, Some, None, drop, true};
 
 use crate::items::item::{Item, Kind, Name};
 

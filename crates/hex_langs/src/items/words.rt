@@ -5,7 +5,7 @@ ghost use Rattle.hex_langs.specs.declared.items.item.Item.TheVariants.{Byte};
 ghost use Rattle.hex_langs.specs.declared.items.token.Token.TheVariants as token;
 ghost use Rattle.std.specs.Prelude.{ℕ, bit_xor};
 ghost use Rattle.std.specs.Int.{w32, from_le_bytes, to_le_bytes};
-ghost use Rattle.std.specs.Prelude.{◌≡◌, [], ◌∷◌, ◌++◌, ◌≤◌, ◌<◌, length, map, OnErr};
+ghost use Rattle.std.specs.Prelude.{◌≡◌, [], ◌∷◌, ◌≤◌, ◌<◌, length, map, OnErr};
 
 use crate::items::item::{Item, Kind, Name};
 use crate::items::items::{Items, MOST_ITEMS};

@@ -1,6 +1,6 @@
 //! The bytes of all items.
 
-ghost use Rattle.std.specs.Prelude.{◌≡◌, ◌<◌, ◌≤◌, ◌^◌, ◌++◌, ℕ, List, length, OnOk, OnErr, replicate};
+ghost use Rattle.std.specs.Prelude.{◌≡◌, ◌<◌, ◌≤◌, ◌^◌, ◌++◌, length, OnOk, OnErr, replicate};
 ghost use Rattle.hex_langs.specs.Link.Link.{bytes_from, Links, link_of, item_bytes};
 ghost use Rattle.hex_langs.specs.Link.Representation.Tables.{address_in, AreSmall, Puts};
 

@@ -1,6 +1,6 @@
 //! The table of labels: sorted by name, so that a source costs no more than sorting its labels, whatever their names.
 
-ghost use Rattle.std.specs.Prelude.{◌≡◌, ◌<◌, ◌≤◌, ◌^◌, ◌++◌, [], ℕ, List, length, slice_index_or, IfOk, OnOk};
+ghost use Rattle.std.specs.Prelude.{◌≡◌, ◌<◌, ◌≤◌, ◌^◌, ◌++◌, [], List, length, slice_index_or, IfOk, OnOk};
 ghost use Rattle.std.specs.List.Sorted.{IsSorted, IsStable};
 ghost use Rattle.hex_langs.specs.Link.Link.{first_repeat, size_at};
 ghost use Rattle.hex_langs.specs.Link.Representation.Tables.{Tables, address_in, Ascends, by_name, label_at, labels_from, Sees};

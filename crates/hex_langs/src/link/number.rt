@@ -1,8 +1,7 @@
 //! The numbers of items of four bytes.
 
-ghost use Rattle.std.specs.Prelude.{◌≡◌, ◌<◌, ◌≤◌, ◌-ℤ◌, ◌+ℤ◌, pos, nat_eq, List, ℕ, IfSome};
+ghost use Rattle.std.specs.Prelude.{◌≡◌, ◌<◌, ◌≤◌, ◌-ℤ◌, pos};
 ghost use Rattle.hex_langs.specs.declared.items.item.Kind.TheVariants.{U};
-ghost use Rattle.std.specs.Cmp.Lexicographic.{pointwise};
 ghost use Rattle.hex_langs.specs.Link.Link.{distance_number, word_number, written_number, i_field, b_field, j_field, modulo_word, fits_even};
 ghost use Rattle.hex_langs.specs.Link.Representation.Tables.{address_in, AreSmall};
 ghost use Rattle.std.specs.Prelude.{◌≤ℤ◌, ◌^◌, neg_ℤ, unsigned_abs};

@@ -1,6 +1,6 @@
 //! Numbers of any length.
 
-ghost use Rattle.std.specs.Prelude.{◌≡◌, ◌≤◌, ◌<◌, IfSome, drop, pos, neg_ℤ, ◌≤ℤ◌};
+ghost use Rattle.std.specs.Prelude.{◌≡◌, ◌≤◌, ◌<◌, IfSome, pos, neg_ℤ, ◌≤ℤ◌};
 ghost use Rattle.hex.specs.Hex.{hex_digit_value};
 ghost use Rattle.m1_lang.specs.Words.Numbers.{digit_below, digits_value, magnitude};
 ghost use Rattle.m1_lang.specs.Words.Representation.Capped.{capped_value, capped_number};

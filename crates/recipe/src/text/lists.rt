@@ -1,6 +1,6 @@
 //! Arrays, and lists of what their elements are.
 
-ghost use Rattle.std.specs.Prelude.{◌≡◌, ◌≤◌, IfOk, length, map, []};
+ghost use Rattle.std.specs.Prelude.{◌≤◌, IfOk, length, map, []};
 ghost use Rattle.toml.specs.View.{view};
 ghost use Rattle.recipe.specs.Text.Reading.{Gives, NeverWants, a_list, a_name, a_table, a_word, an_array, gathered};
 ghost use Rattle.recipe.specs.Text.Inside.Views.{tables_view};

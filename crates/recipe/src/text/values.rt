@@ -1,6 +1,6 @@
 //! The readers of one value: each takes the place of the table and the key, which its refusals name.
 
-ghost use Rattle.std.specs.Prelude.{◌≡◌, map};
+ghost use Rattle.std.specs.Prelude.{◌≡◌};
 ghost use Rattle.std.specs.List.{list_all};
 ghost use Rattle.toml.specs.View.{view, table_view};
 ghost use Rattle.recipe.specs.Text.Reading.{Gives, NeverWants, a_text, a_name, a_path, a_word, a_number, a_table, in_range, is_word, is_word_byte};

@@ -6,7 +6,7 @@ use Rattle.ddc_base.specs.Languages.Words.{language_named}
 use Rattle.report.specs.declared.line.Line.{Line}
 use Rattle.report.specs.declared.line.Line.TheVariants.{Header, Recipe, Input, Stage, Stream1, Stream2, Left, Made, Checked, Compare, End}
 use Rattle.report.specs.declared.types.Compared.{Compared}
-use Rattle.report.specs.Inside.Cuts.{◌>>=◌, cut_at}
+use Rattle.report.specs.Inside.Cuts.{cut_at}
 use Rattle.report.specs.Inside.Fields.{file_line_of, digest_of, mark_of, stream_line_of, compared_of}
 
 unfoldable pub header_of : List ℕ → Option Line

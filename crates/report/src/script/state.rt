@@ -1,6 +1,6 @@
 //! How far a script's report has been read, and which line may come next.
 
-ghost use Rattle.std.specs.Prelude.{◌≡◌, IfOk};
+ghost use Rattle.std.specs.Prelude.{IfOk};
 ghost use Rattle.report.specs.Inside.Script.States.{Takes};
 ghost use Rattle.report.specs.declared.script.line.ScriptLine.TheVariants as line;
 

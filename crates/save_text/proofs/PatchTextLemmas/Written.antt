@@ -1,5 +1,5 @@
 -- What the writer's calls want of states that have a patch.
-use Rattle.std.proofs.Common.{ℕ, ◌+◌, ◌*◌, ◌^◌, ◌<◌, ◌≤◌, ◌≡◌, List, length, append_assoc, arith, pow_mono, le_trans}
+use Rattle.std.proofs.Common.{ℕ, ◌^◌, ◌<◌, ◌≤◌, ◌≡◌, List, length, append_assoc, arith, pow_mono}
 use Rattle.save_text.specs.PatchText.Spelled.{marks_of}
 use Rattle.save_text.proofs.PatchTextLemmas.Texts.{marks_low}
 

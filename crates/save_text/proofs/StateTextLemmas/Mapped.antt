@@ -1,12 +1,12 @@
 -- Runs that are gone past one after the other, and what is known of them behind what is still read.
-use Rattle.std.proofs.Common.{◌≡◌, ℕ, suc, ◌+◌, ◌-◌, ◌^◌, ◌<◌, ◌≤◌, Bool, true, Option, None, Some, List, [], ◌∷◌, ◌++◌, length, All, sum_by, Result, Ok, Err, refl, sym, ap, subst, ◌∙◌, arith}
+use Rattle.std.proofs.Common.{◌≡◌, ℕ, ◌+◌, ◌-◌, ◌^◌, ◌<◌, ◌≤◌, Bool, Option, None, Some, List, [], ◌∷◌, ◌++◌, length, All, sum_by, Result, Ok, Err, refl, sym, ap, subst, ◌∙◌, arith}
 use Rattle.std.specs.Option.{is_some}
 use Rattle.std.specs.Prelude.{◌↔◌, IsTrue}
 use Rattle.std.proofs.lemmas.List.Elements.{All-append, All-cons, All-head, All-nil, All-tail}
 use Rattle.std.proofs.lemmas.List.Sums.{sum_by_push}
 use Rattle.save_text.specs.declared.byte_fields.cursor.WrongField.{WrongField}
 use Rattle.save_text.specs.declared.state_text.parts.Run.{Run}
-use Rattle.save_text.specs.ByteFields.Reader.{Read, Reader, ◌>>=◌, done, read_onward, several, whole}
+use Rattle.save_text.specs.ByteFields.Reader.{Read, Reader, done, read_onward, several, whole}
 use Rattle.save_text.specs.Inside.Mapping.{IsLeftBehind, PassesRuns, TellsRuns}
 use Rattle.save_text.specs.StateText.Mappable.{AreMappable}
 use Rattle.save_text.specs.StateText.StateText.{after_run, run_at}

@@ -2,7 +2,7 @@
 -- the same for people.
 use Rattle.std.specs.Prelude.{ℕ, List, [], ◌∷◌, ◌++◌, Result}
 use Rattle.ddc_base.specs.declared.digests.Digest.{Digest}
-use Rattle.save_text.specs.ByteFields.Reader.{Reader, ◌>>=◌, begun, done, whole}
+use Rattle.save_text.specs.ByteFields.Reader.{Reader, begun, done, whole}
 use Rattle.save_text.specs.StateText.StateText.{StateText}
 use Rattle.save_text.specs.SaveText.{SaveText, StageText, digest_at}
 use Rattle.save_text.specs.Spelled.{IsSavedDigest, digest_text}

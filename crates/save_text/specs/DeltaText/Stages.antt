@@ -2,7 +2,7 @@
 -- same for people.
 use Rattle.std.specs.Prelude.{ℕ, suc, ◌^◌, ◌<◌, Bool, true, false, ◌&&◌, ◌==◌, not, nat_le, bytes_eq, Option, None, Some, List, [], ◌∷◌, ◌++◌, All, length, take, drop, slice_get, if◌then◌else◌}
 use Rattle.std.specs.Int.{w32}
-use Rattle.save_text.specs.ByteFields.Reader.{Reader, ◌>>=◌, counted, done, that, u32}
+use Rattle.save_text.specs.ByteFields.Reader.{Reader, counted, done, that, u32}
 use Rattle.save_text.specs.ByteFields.Spelling.{list_text, number_text}
 use Rattle.report.specs.declared.types.LeftLine.{LeftLine}
 use Rattle.report.specs.declared.types.Mark.{Mark}

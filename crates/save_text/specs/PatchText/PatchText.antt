@@ -1,7 +1,7 @@
 -- What the text of a patch says: a state, beside the state that is its base. It is read field by field. docs/reference/delta.md says the same for people.
 use Rattle.std.specs.Prelude.{ℕ, zero, suc, ◌+◌, ◌/◌, ◌%◌, ◌^◌, Bool, true, false, ◌&&◌, not, ◌==◌, nat_le, bytes_eq, Option, None, Some, option_map, unwrap_or, List, [], ◌∷◌, Result}
 use Rattle.std.specs.Int.{w16}
-use Rattle.save_text.specs.ByteFields.Reader.{Reader, ◌>>=◌, begun, blob, byte, bytes, counted, done, that, u32, u32_from, u64, whole}
+use Rattle.save_text.specs.ByteFields.Reader.{Reader, begun, blob, byte, bytes, counted, done, that, u32, u32_from, u64, whole}
 use Rattle.mem_files.specs.Lists.{ListedFile}
 use Rattle.save_text.specs.StateText.StateText.{PageText, StateText, after_descriptor, after_file, after_run, descriptor_at, heap_at, is_page, optional_name, reservation_at, run_at}
 use Rattle.save_text.specs.declared.byte_fields.form.TextForm.TheVariants.{Second}

@@ -2,7 +2,7 @@
 use Rattle.std.specs.Prelude.{ℕ, zero, suc, ◌+◌, ◌%◌, Bool, ◌&&◌, ◌||◌, not, ◌==◌, nat_le, nat_lt, Option, None, Some, List, [], ◌∷◌, Result}
 use Rattle.std.specs.List.{list_all}
 use Rattle.std.specs.Int.{w16, w32}
-use Rattle.save_text.specs.ByteFields.Reader.{Reader, ◌>>=◌, alike, begun, begun_in, blob, byte, bytes, counted, done, that, u32, u32_from, u64, whole}
+use Rattle.save_text.specs.ByteFields.Reader.{Reader, alike, begun, begun_in, blob, byte, bytes, counted, done, that, u32, u32_from, u64, whole}
 use Rattle.mem_files.specs.Lists.{ListedFile}
 use Rattle.mem_files.specs.declared.slot.Slot.{Slot}
 use Rattle.mem_files.specs.declared.slot.Slot.TheVariants as slot

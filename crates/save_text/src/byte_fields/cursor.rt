@@ -1,5 +1,5 @@
-ghost use Rattle.std.specs.Prelude.{◌≡◌, ℕ, List, length, nat_le, ◌≤◌, IfOk};
-ghost use Rattle.std.specs.Int.{w16, w32, w64};
+ghost use Rattle.std.specs.Prelude.{◌≡◌, ℕ, List, length, IfOk};
+ghost use Rattle.std.specs.Int.{w16, w32};
 ghost use Rattle.save_text.specs.declared.byte_fields.cursor.Stop.TheVariants.{OutOfMemory, Wrong};
 ghost use Rattle.save_text.specs.ByteFields.Reader.{Finds, begun, begun_in, byte, bytes, blob, number_of_width, u16, u32, u32_from, u64};
 

@@ -1,5 +1,5 @@
 //! Going past the fields of a patch without keeping them: its form is judged so, with no memory.
-ghost use Rattle.std.specs.Prelude.{◌≡◌, map};
+ghost use Rattle.std.specs.Prelude.{map};
 ghost use Rattle.save_text.specs.ByteFields.Reader.{counted, several};
 ghost use Rattle.save_text.specs.ByteFields.Spelling.{InTurn};
 ghost use Rattle.save_text.specs.StateText.StateText.{after_file, after_page};

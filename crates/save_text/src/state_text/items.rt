@@ -4,7 +4,7 @@ ghost use Rattle.std.specs.Prelude.{◌≡◌, ◌++◌, ◌∷◌, ◌==◌, On
 ghost use Rattle.std.specs.Io.{StartsWith};
 ghost use Rattle.std.specs.List.{list_all};
 ghost use Rattle.save_text.specs.ByteFields.Reader.{Finds, byte, bytes, that};
-ghost use Rattle.save_text.specs.StateText.StateText.{access_at, access_of_code, are_flags, is_page, mode_of_code, slot_at};
+ghost use Rattle.save_text.specs.StateText.StateText.{access_at, are_flags, is_page, mode_of_code, slot_at};
 ghost use Rattle.save_text.specs.StateText.Spelled.{flags_of, kind_of, slot_text};
 
 use crate::byte_fields::{Cursor, Item, WrongField, put_blob16, put_blob32, put_u32, put_u64};

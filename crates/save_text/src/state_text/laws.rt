@@ -1,6 +1,5 @@
 //! A state is read as it is spelled, in each form. Each law is the contract of a function that does nothing.
 
-ghost use Rattle.std.specs.Prelude.{◌≡◌};
 ghost use Rattle.save_text.specs.ByteFields.Law.{IsReadInForms};
 ghost use Rattle.save_text.specs.StateText.StateText.{state_at};
 ghost use Rattle.save_text.specs.StateText.Spelled.{HasPlaceIn, IsStateText, state_text_in};

@@ -1,4 +1,4 @@
-ghost use Rattle.std.specs.Prelude.{◌≡◌, ◌≤◌, length, option_map, IfOk, Ok, Err};
+ghost use Rattle.std.specs.Prelude.{option_map, IfOk, Ok, Err};
 ghost use Rattle.save_text.specs.ByteFields.Reader.{Finds, GivesField, alike, begun, u64};
 ghost use Rattle.save_text.specs.StateText.StateText.{StateText, body_at, parsed_state, heap_at, reservation_at, state_at, state_in, state_magic};
 ghost use Rattle.save_text.specs.StateText.Spelled.{IsStateText, IsTextOfState};

@@ -1,24 +1,28 @@
-use Rattle.std.proofs.Common.{refl}
+use Rattle.std.proofs.Common.{ap}
+use Rattle.std.proofs.lemmas.Result.{err_from_is_err_and}
 use Rattle.wheeler.specs.Positions.{forward_from}
-use Rattle.audit_run.specs.Seen.{standing}
+use Rattle.audit_run.specs.Seen.{AuditState, standing}
+use Rattle.command_plan.proofs.Performing.{wants_memory}
 use Rattle.audit_commands.specs.Inside.Keeping.{Keeps}
-use Rattle.audit_commands.proofs.Finishing.{comes}
 use Rattle.audit_commands.proofs.going.go_on.Goals as goal
 
-pub settle-requires-clause-came : goal.settle-requires-clause-came
-settle-requires-clause-came g c =
+pub settle-requires-clause-stands : goal.settle-requires-clause-stands
+settle-requires-clause-stands g c =
     let old = c.args.audit in
-    let there = forward_from old.recipe old.inputs (standing old) c.args.steps in
-    (there, comes old c.args.steps c.advance-progress.result c.advance-progress.new.self.stands there refl c.advance-progress.ensures.answer)
+    (forward_from old.recipe old.inputs (standing old) c.args.steps, ap (λ (a : AuditState). a.stands) c.in_ok-audit.ensures)
 
 pub settle-requires-clause-keeps : goal.settle-requires-clause-keeps
-settle-requires-clause-keeps g c = rw (c.advance-progress.ensures.recipe, c.advance-progress.ensures.inputs) c.requires.keeps
+settle-requires-clause-keeps g c = rw c.in_ok-audit.ensures c.requires.keeps
+
+pub returns-in_err-audit : goal.returns-in_err-audit
+returns-in_err-audit g c = λ text keeps.
+    let e = err_from_is_err_and c.from_residual.result c.from_residual.ensures.1 in
+    rw (e.1, e.2) (wants_memory _ _)
 
 pub returns : goal.returns
 returns g c = λ text keeps.
     let old = c.args.audit in
-    let new = c.advance-progress.new.self in
+    let new = c.in_ok-audit.audit in
     let there = forward_from old.recipe old.inputs (standing old) c.args.steps in
-    let kept : Keeps new.recipe new.inputs c.args.kept text = rw (c.advance-progress.ensures.recipe, c.advance-progress.ensures.inputs) keeps in
-    rw c.advance-progress.ensures.recipe at
-    (c.settle.ensures there text (comes old c.args.steps c.advance-progress.result c.advance-progress.new.self.stands there refl c.advance-progress.ensures.answer) kept)
+    let kept : Keeps new.recipe new.inputs c.args.kept text = rw c.in_ok-audit.ensures keeps in
+    rw c.in_ok-audit.ensures at (c.settle.ensures there text (ap (λ (a : AuditState). a.stands) c.in_ok-audit.ensures) kept)

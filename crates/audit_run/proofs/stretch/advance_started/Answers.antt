@@ -2,7 +2,7 @@ use Rattle.std.proofs.Common.{◌-◌, arith, sym, ap, ◌∙◌}
 use Rattle.std.proofs.lemmas.Result.{err_from_is_err_and}
 use Rattle.wheeler.specs.Positions.{forward_from}
 use Rattle.wheeler.proofs.Forwards.{forward_from-none, forward_from-sum}
-use Rattle.audit_run.proofs.Stretching.{stops-later}
+use Rattle.audit_run.proofs.Stretching.{wants-later}
 use Rattle.audit_run.proofs.stretch.advance_started.Goals as goal
 
 pub loop-left-init : goal.loop-left-init
@@ -13,14 +13,15 @@ loop-left-preserved c = (
   omega (arith, c.loop-left.invariant.0),
   c.in_ok-left.ensures.started,
   c.in_ok-left.ensures.stands,
-  c.in_ok-left.ensures.steps.0
+  c.in_ok-left.ensures.ok
       ∙ ap (λ from. forward_from c.args.recipe.now c.args.inputs.now from c.in_ok-left.field-0) c.loop-left.invariant.3
       ∙ forward_from-sum _ _ _ (c.args.most - c.loop-left.left) c.in_ok-left.field-0 (c.args.most - (c.loop-left.left - c.in_ok-left.field-0))
-      (omega (arith, c.loop-left.invariant.0, c.in_ok-left.ensures.steps.2)),
+      (omega (arith, c.loop-left.invariant.0, c.in_ok-left.ensures.most)),
 )
 
 pub returns-in_err-left-clause-err : goal.returns-in_err-left-clause-err
 returns-in_err-left-clause-err c =
     let p = err_from_is_err_and c.from_residual.result c.from_residual.ensures.1 in
     rw (p.1) (
-    stops-later _ _ _ _ _ (c.args.most - c.loop-left.left) c.args.most c.loop-left.left c.loop-left.invariant.3 (omega (arith, c.loop-left.invariant.0)) c.in_err-left.ensures.steps)
+    wants-later c.args.ended _ _ _ _ _ _ (c.args.most - c.loop-left.left) c.args.most c.loop-left.left c.loop-left.invariant.3 (omega (arith, c.loop-left.invariant.0))
+    c.in_err-left.ensures.err)

@@ -1,4 +1,4 @@
-use Rattle.std.proofs.Common.{◌≡◌, ℕ, ◌^◌, ◌<◌, subst}
+use Rattle.std.proofs.Common.{◌≡◌, ◌^◌, ◌<◌, subst}
 use Rattle.std.specs.Prelude.{IfOk}
 use Rattle.guest_run.specs.State.{GuestState}
 use Rattle.guest_run.specs.Valid.{IsValid}

@@ -1,5 +1,4 @@
-use Rattle.std.proofs.Common.{◌≡◌, ◌∙◌, ◌-◌, ◌++◌, ◌∷◌, [], sym, ap, refl, arith, append_assoc, nat_eq}
-use Rattle.std.proofs.lemmas.List.{append-nil}
+use Rattle.std.proofs.Common.{◌≡◌, ◌∙◌, ◌-◌, ◌++◌, ◌∷◌, [], sym, ap, arith, append_assoc}
 use Rattle.meaning.specs.Routes.{unless_checked, route_from}
 use Rattle.meaning.proofs.RouteClosed.{route-first, route-made, route-other, read-at}
 use Rattle.meaning.proofs.routing.route_from.Goals as goal

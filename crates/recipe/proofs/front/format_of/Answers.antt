@@ -1,4 +1,4 @@
-use Rattle.std.proofs.Common.{◌<◌, ◌^◌, arith, Fits, w32}
+use Rattle.std.proofs.Common.{arith}
 use Rattle.recipe.specs.declared.text.keys.Key.TheVariants as key
 use Rattle.recipe.proofs.TextLemmas.Accepted.{required_ok, number_ok}
 use Rattle.recipe.specs.Text.Reading.{a_number}

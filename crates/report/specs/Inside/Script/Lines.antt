@@ -1,7 +1,7 @@
 -- No promise rests on this file being read: a line of a script's report by itself, read.
 use Rattle.std.specs.Prelude.{ℕ, ◌^◌, ◌&&◌, nat_le, List, Option, Some, None, codes, bytes_eq, if◌then◌else◌}
 use Rattle.ddc_base.specs.Decimals.{as_decimal}
-use Rattle.report.specs.Inside.Cuts.{◌>>=◌, cut_at}
+use Rattle.report.specs.Inside.Cuts.{cut_at}
 use Rattle.report.specs.Inside.Fields.{digest_of, file_line_of, stream_line_of}
 use Rattle.report.specs.declared.script.line.ScriptLine.{ScriptLine}
 use Rattle.report.specs.declared.script.line.ScriptLine.TheVariants.{Header, Script, File, Command, Stream1, Stream2, Left, End}

@@ -1,6 +1,6 @@
-use Rattle.std.proofs.Common.{List, sym, ap, subst, ◌++◌}
+use Rattle.std.proofs.Common.{List, subst, ◌++◌}
 use Rattle.report.specs.declared.types.CompareLine.{CompareLine}
-use Rattle.command_plan.specs.declared.status.Status.TheVariants.{Differs, Refuted}
+use Rattle.command_plan.specs.declared.status.Status.TheVariants.{Differs}
 use Rattle.command_plan.specs.Plan.{answers}
 use Rattle.command_plan.specs.Steps.{Says}
 use Rattle.command_plan.proofs.Obtaining.{wants_at_once}

@@ -1,4 +1,3 @@
-use Rattle.std.proofs.Common.{refl}
 use Rattle.command_plan.proofs.Obtaining.{ends_with}
 use Rattle.verify_commands.proofs.Chaining.{all_done, audit_ends, audit_more, audit_wants}
 use Rattle.verify_commands.proofs.chain.verify_each.Goals as goal

@@ -1,4 +1,4 @@
-use Rattle.std.proofs.Common.{sym, ◌∙◌, length, arith}
+use Rattle.std.proofs.Common.{sym, ◌∙◌, arith}
 use Rattle.mem_files.proofs.Keeping.{lowest_number-le}
 use Rattle.mem_files.proofs.KeepingCalls.{not_full}
 use Rattle.mem_files.proofs.Rules.{kept_of}

@@ -1,4 +1,4 @@
-use Rattle.std.proofs.Common.{◌≡◌, refl, sym, ap, ◌∙◌, ◌-◌, ◌%◌, arith, inl, inr, Some}
+use Rattle.std.proofs.Common.{◌≡◌, refl, sym, ap, ◌∙◌, ◌-◌, ◌%◌, arith, inr, Some}
 use Rattle.std.proofs.lemmas.Bool.{ne_eqb}
 use Rattle.rv64_machine.specs.Hart.{passed}
 use Rattle.rv64_machine.proofs.Acts.{is_equal, passed-none, passed-on}

@@ -1,6 +1,6 @@
 use Rattle.std.proofs.Common.{sym, ◌∙◌}
 use Rattle.tool_commands.proofs.FileWords.{word-named}
-use Rattle.tool_commands.proofs.listed_file.ListedFileListed.read.Goals as goal
+use Rattle.tool_commands.proofs.listed_file.FileLineListed.read.Goals as goal
 
 pub invariant_of-result : goal.invariant_of-result
 invariant_of-result c =
