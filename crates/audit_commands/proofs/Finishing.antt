@@ -6,7 +6,7 @@ use Rattle.wheeler.specs.declared.answer.Answer.{Answer as Outcome}
 use Rattle.wheeler.specs.Positions.{Position, Standing, On, Over, forward_from, position}
 use Rattle.audit_run.specs.Saved.{IsOn}
 use Rattle.audit_run.specs.Seen as seen
-use Rattle.audit_run.specs.Seen.{AuditState, answer_of}
+use Rattle.audit_run.specs.Seen.{AuditState, finished_answer}
 use Rattle.ddc_base.specs.Outside.{ShelfState}
 use Rattle.command_plan.specs.declared.answer.Answer.{Answer}
 use Rattle.command_plan.specs.declared.stop.Stop.{Stop}
@@ -16,28 +16,28 @@ use Rattle.audit_commands.specs.Pause.{came_to, paused, whole_save}
 
 module _ (now : Option Standing) where
   -- an audit that has no answer stands at a position
-  pub is_on : (stands : Standing) → now ≡ Some stands → None ≡ answer_of now → IsOn now
+  pub is_on : (stands : Standing) → now ≡ Some stands → None ≡ finished_answer now → IsOn now
   is_on (On p) is none = subst IsOn (sym is) tt
   is_on (Over answer) is none =
-      let no : None ≡ Some answer = none ∙ ap answer_of is in
+      let no : None ≡ Some answer = none ∙ ap finished_answer is in
       absurd cc
 
   module _ (recipe : Said) (text : Position → List ℕ) (name report : List ℕ) (old new : ShelfState) (result : Result Answer Stop) where
-    pub pauses : (stands : Standing) → now ≡ Some stands → None ≡ answer_of now → ((p : Position) → now ≡ Some (On p) → Performs (paused recipe text name p) old new result)
+    pub pauses : (stands : Standing) → now ≡ Some stands → None ≡ finished_answer now → ((p : Position) → now ≡ Some (On p) → Performs (paused recipe text name p) old new result)
         → Performs (came_to recipe text name report stands) old new result
     pauses (On p) is none performs = performs p is
     pauses (Over answer) is none performs =
-        let no : None ≡ Some answer = none ∙ ap answer_of is in
+        let no : None ≡ Some answer = none ∙ ap finished_answer is in
         absurd cc
 
     -- one that has an answer is over with it
-    pub ends : (stands : Standing) (answer : Outcome) → now ≡ Some stands → Some answer ≡ answer_of now → Performs (audited recipe report answer) old new result
+    pub ends : (stands : Standing) (answer : Outcome) → now ≡ Some stands → Some answer ≡ finished_answer now → Performs (audited recipe report answer) old new result
         → Performs (came_to recipe text name report stands) old new result
     ends (On p) answer is some performs =
-        let no : Some answer ≡ None = some ∙ ap answer_of is in
+        let no : Some answer ≡ None = some ∙ ap finished_answer is in
         absurd cc
     ends (Over other) answer is some performs =
-        let both : Some answer ≡ Some other = some ∙ ap answer_of is in
+        let both : Some answer ≡ Some other = some ∙ ap finished_answer is in
         subst (λ a. Performs (audited recipe report a) old new result) (same_Some answer other both) performs
 
 -- where an audit that begins comes to

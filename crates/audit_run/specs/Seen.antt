@@ -25,9 +25,9 @@ abbrev pub standing : AuditState → Standing
 standing audit = standing_of audit audit.stands
 
 -- the answer of an audit that is over, and its report where it has one
-abbrev pub answer_of : Option Standing → Option Answer
-answer_of (Some (Over answer)) = Some answer
-answer_of _ = None
+abbrev pub finished_answer : Option Standing → Option Answer
+finished_answer (Some (Over answer)) = Some answer
+finished_answer _ = None
 
 abbrev pub finished_report : Option Standing → Option Report
 finished_report (Some (Over (Completes report))) = Some report

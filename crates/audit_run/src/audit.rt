@@ -4,7 +4,7 @@ ghost use Rattle.audit_run.specs.Advances.{Advances, IsAdvanced};
 ghost use Rattle.audit_run.specs.Saved.{IsOn, IsResumed, IsResumedAt, IsSave, ResumesAudit, standing_at};
 ghost use Rattle.audit_run.specs.Delta.Audits.{IsDeltaBetween, IsDeltaFrom, IsResumedBeside, IsResumedBesideAt, ResumesAuditBeside};
 ghost use Rattle.audit_run.specs.Delta.Deltas.{IsBaseAt, delta_text_of};
-ghost use Rattle.audit_run.specs.Seen.{answer_of, place_of, finished_report, present_setting};
+ghost use Rattle.audit_run.specs.Seen.{finished_answer, finished_report, place_of, present_setting};
 ghost use Rattle.audit_run.specs.Save.Saves.{save_of};
 ghost use Rattle.report.specs.Reports.{IsReport};
 ghost use Rattle.save_text.specs.Spelled.{IsTextOfSave};
@@ -94,7 +94,6 @@ impl Audit {
     ///
     /// A stage's guest is given up before the next stage starts, so that one guest is in memory at a time; want of memory leaves no audit.
     pub fn advanced(self, most: u64) -> Result<Audit, OutOfMemory>
-        requires { 1 ≤ most }
         ensures { IsAdvanced self most result }
     {
         let Audit {
@@ -123,7 +122,7 @@ impl Audit {
 
     /// The answer of an audit that is over.
     pub fn answer(&self) -> Option<&Answer>
-        ensures answer { option_copied result ≡ answer_of self.now.stands }
+        ensures answer { option_copied result ≡ finished_answer self.now.stands }
         ensures form { IfSome (option_copied result) IsAuditAnswer }
     {
         match &self.place {
