@@ -94,7 +94,6 @@ impl Audit {
     ///
     /// A stage's guest is given up before the next stage starts, so that one guest is in memory at a time; want of memory leaves no audit.
     pub fn advanced(self, most: u64) -> Result<Audit, OutOfMemory>
-        requires { 1 ≤ most }
         ensures { IsAdvanced self most result }
     {
         let Audit {
