@@ -32,13 +32,13 @@ returns-then-ne c =
     (sym c.name_after.ensures ∙ ap option_copied c.in-Some.is)
     ∙ ap (λ b. b && is_mark_of c.line-item.result.mark bytes && rest) differ)
 
-pub returns-then-not-is_mark_of : goal.returns-then-not-is_mark_of
-returns-then-not-is_mark_of c =
+pub returns-then-not-is_of : goal.returns-then-not-is_of
+returns-then-not-is_of c =
     let bytes = unwrap_or (content_at c.args.files.now c.in-Some.name.now) [] in
     let rest = names_left (drop (c.loop-line.line-index + 1) c.args.lines.now) (left_after c.args.files.now (Some c.in-Some.name.now)) in
     let same : bytes_eq c.line-item.result.name c.in-Some.name.now ≡ true =
     ap (λ name. bytes_eq name c.in-Some.name.now) (sym c.as_slice.ensures) ∙ not-false (bytes_eq c.as_slice.result.now c.in-Some.name.now) c.if-ne.ensures in
-    let wrong : is_mark_of c.line-item.result.mark bytes ≡ false = ap (is_mark_of c.line-item.result.mark) (sym c.bytes_of.ensures) ∙ sym c.if-not-is_mark_of.ensures in
+    let wrong : is_mark_of c.line-item.result.mark bytes ≡ false = ap (is_mark_of c.line-item.result.mark) (sym c.bytes_of.ensures) ∙ sym c.if-not-is_of.ensures in
     sym (c.loop-line.invariant
     ∙ line-turn c.args.lines.now c.loop-line.line-index c.line-item.result c.args.files.now (option_copied c.loop-line.last) c.in-Some.name.now (omega arith) c.line-item.is
     (sym c.name_after.ensures ∙ ap option_copied c.in-Some.is)
@@ -50,7 +50,7 @@ loop-line-preserved c =
     let rest = names_left (drop (c.loop-line.line-index + 1) c.args.lines.now) (left_after c.args.files.now (Some c.in-Some.name.now)) in
     let same : bytes_eq c.line-item.result.name c.in-Some.name.now ≡ true =
     ap (λ name. bytes_eq name c.in-Some.name.now) (sym c.as_slice.ensures) ∙ not-false (bytes_eq c.as_slice.result.now c.in-Some.name.now) c.if-ne.ensures in
-    let right : is_mark_of c.line-item.result.mark bytes ≡ true = ap (is_mark_of c.line-item.result.mark) (sym c.bytes_of.ensures) ∙ sym c.if-not-is_mark_of.ensures in
+    let right : is_mark_of c.line-item.result.mark bytes ≡ true = ap (is_mark_of c.line-item.result.mark) (sym c.bytes_of.ensures) ∙ sym c.if-not-is_of.ensures in
     c.loop-line.invariant
     ∙ line-turn c.args.lines.now c.loop-line.line-index c.line-item.result c.args.files.now (option_copied c.loop-line.last) c.in-Some.name.now (omega arith) c.line-item.is
     (sym c.name_after.ensures ∙ ap option_copied c.in-Some.is)
