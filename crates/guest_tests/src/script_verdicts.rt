@@ -1,8 +1,8 @@
 //! Verdicts on reports of scripts: a true one, and one fault or two at each part.
 
 use crate::exit_program::EXIT;
-use crate::scripts::COPY;
-use ddc_base::{Bytes, OutOfMemory, read_hex};
+use crate::scripts::{copier, listed};
+use ddc_base::{Bytes, OutOfMemory};
 use kaem_script::{FileList, ScriptEnd, ScriptPart, ScriptVerdict, audit, read, verify};
 use report::script;
 use std::alloc::Global;
@@ -61,28 +61,11 @@ fn put_lines(out: &mut Bytes, first: u64, last: u64) -> Result<(), OutOfMemory> 
     Ok(())
 }
 
-/// Adds a file that is not refused.
-fn push(files: &mut FileList, name: &[u8], content: &[u8]) -> Result<(), Fail> {
-    match files.push(name, content) {
-        Ok(()) => Ok(()),
-        Err(_) => Err("a file is refused".into()),
-    }
-}
-
-/// copy.elf and this file `in`, in this order or the other.
-fn listed(alloc: Global, input: &[u8], reversed: bool) -> Result<FileList, Fail> {
-    let Ok(copy) = read_hex(alloc, COPY.as_bytes()) else {
-        return Err("no hexadecimal text".into());
-    };
-    let mut files = FileList::new(alloc)?;
-    if reversed {
-        push(&mut files, b"./in", input)?;
-        push(&mut files, b"copy.elf", copy.as_slice())?;
-    } else {
-        push(&mut files, b"./copy.elf", copy.as_slice())?;
-        push(&mut files, b"in", input)?;
-    }
-    Ok(files)
+/// Adds the example, where so many lines from this one on are replaced by a text.
+fn put_changed(out: &mut Bytes, first: u64, count: u64, change: &str) -> Result<(), OutOfMemory> {
+    put_lines(out, 1, first.saturating_sub(1))?;
+    put_text(out, change.as_bytes())?;
+    put_lines(out, first.saturating_add(count), LINES)
 }
 
 /// What a replay says of a report text of a script over files.
@@ -99,6 +82,26 @@ fn judged(
         return Err("no report".into());
     };
     Ok(verify(alloc, &script, files, &report))
+}
+
+/// What a replay says over files of the example with such a change.
+fn judged_change(
+    alloc: Global,
+    files: &FileList,
+    first: u64,
+    count: u64,
+    change: &str,
+) -> Result<ScriptVerdict, Fail> {
+    let mut text = Bytes::new(alloc);
+    put_changed(&mut text, first, count, change)?;
+    judged(alloc, SCRIPT, files, text.as_slice())
+}
+
+/// What a replay says of the example over copy.elf and a copy of it, in this order or the other.
+fn judged_example(alloc: Global, reversed: bool) -> Result<ScriptVerdict, Fail> {
+    let copy = copier(alloc)?;
+    let files = listed(alloc, copy.as_slice(), reversed)?;
+    judged_change(alloc, &files, 1, 0, "")
 }
 
 /// Changes of the example: from this line on so many lines are replaced by a text; the first part that is then not true, and its place.
@@ -160,41 +163,27 @@ static CHANGES: &[(u64, u64, &str, ScriptPart, u32)] = &[
 
 #[test]
 fn a_true_report_is_a_yes(rt: HostRuntime) -> Result<(), Fail> {
-    let alloc = rt.alloc();
-    let Ok(copy) = read_hex(alloc, COPY.as_bytes()) else {
-        panic!(rt; "no hexadecimal text");
-    };
-    let files = listed(alloc, copy.as_slice(), false)?;
-    let mut text = Bytes::new(alloc);
-    put_lines(&mut text, 1, LINES)?;
-    assert!(rt; judged(alloc, SCRIPT, &files, text.as_slice())? == ScriptVerdict::Yes);
+    assert!(rt; judged_example(rt.alloc(), false)? == ScriptVerdict::Yes);
     // The files that are given are another list in another order.
-    let files = listed(alloc, copy.as_slice(), true)?;
     let refuted = ScriptVerdict::Refuted {
         part: ScriptPart::File,
         place: 1,
     };
-    assert!(rt; judged(alloc, SCRIPT, &files, text.as_slice())? == refuted);
+    assert!(rt; judged_example(rt.alloc(), true)? == refuted);
     Ok(())
 }
 
 #[test]
 fn the_first_part_that_fails_is_named(rt: HostRuntime) -> Result<(), Fail> {
     let alloc = rt.alloc();
-    let Ok(copy) = read_hex(alloc, COPY.as_bytes()) else {
-        panic!(rt; "no hexadecimal text");
-    };
+    let copy = copier(alloc)?;
     let files = listed(alloc, copy.as_slice(), false)?;
     for (first, count, change, part, place) in CHANGES {
-        let mut text = Bytes::new(alloc);
-        put_lines(&mut text, 1, first.saturating_sub(1))?;
-        put_text(&mut text, change.as_bytes())?;
-        put_lines(&mut text, first.saturating_add(*count), LINES)?;
         let refuted = ScriptVerdict::Refuted {
             part: *part,
             place: *place,
         };
-        assert!(rt; judged(alloc, SCRIPT, &files, text.as_slice())? == refuted);
+        assert!(rt; judged_change(alloc, &files, *first, *count, change)? == refuted);
     }
     Ok(())
 }
@@ -223,22 +212,63 @@ left 696e 3 ba7816bf8f01cfea414140de5dae2223b00361a396177a9cb410ff61f20015ad\n\
 end\n\
 ";
 
+/// What a replay says over files of this claim of a script.
+fn judged_claim(
+    alloc: Global,
+    source: &[u8],
+    digest: &str,
+    files: &FileList,
+) -> Result<ScriptVerdict, Fail> {
+    let mut text = Bytes::new(alloc);
+    text.extend(b"kaem-report 1\nscript ")?;
+    text.extend(digest.as_bytes())?;
+    put_text(&mut text, CLAIM.as_bytes())?;
+    judged(alloc, source, files, text.as_slice())
+}
+
 #[test]
 fn a_program_that_does_not_start_has_no_run(rt: HostRuntime) -> Result<(), Fail> {
     let alloc = rt.alloc();
     let files = listed(alloc, b"abc", false)?;
     for (source, digest) in NO_RUNS {
-        let mut text = Bytes::new(alloc);
-        text.extend(b"kaem-report 1\nscript ")?;
-        text.extend(digest.as_bytes())?;
-        put_text(&mut text, CLAIM.as_bytes())?;
         let refuted = ScriptVerdict::Refuted {
             part: ScriptPart::Run,
             place: 1,
         };
-        assert!(rt; judged(alloc, source, &files, text.as_slice())? == refuted);
+        assert!(rt; judged_claim(alloc, source, digest, &files)? == refuted);
     }
     Ok(())
+}
+
+/// Whether what an audit of a script over files reports is verified over them, and not over others.
+fn is_verified(
+    alloc: Global,
+    source: &[u8],
+    files: &FileList,
+    others: &FileList,
+) -> Result<bool, Fail> {
+    let Ok(script) = read(alloc, source) else {
+        return Err("the script is refused".into());
+    };
+    let ScriptEnd::Done(report) = audit(alloc, &script, files, 100) else {
+        return Err("not done".into());
+    };
+    Ok(
+        verify(alloc, &script, files, &report) == ScriptVerdict::Yes
+            && verify(alloc, &script, others, &report) != ScriptVerdict::Yes,
+    )
+}
+
+/// The same of copy.elf and this file `in`, where the others have another `in`.
+fn is_verified_over(
+    alloc: Global,
+    source: &[u8],
+    input: &[u8],
+    reversed: bool,
+) -> Result<bool, Fail> {
+    let files = listed(alloc, input, reversed)?;
+    let others = listed(alloc, b"other", reversed)?;
+    is_verified(alloc, source, &files, &others)
 }
 
 #[test]
@@ -249,17 +279,7 @@ fn what_is_audited_is_verified(rt: HostRuntime) -> Result<(), Fail> {
         (b"copy.elf\n", b"abc", true),
         (b"copy.elf\nout\n./in\n", &EXIT, false),
     ] {
-        let files = listed(alloc, input, reversed)?;
-        let Ok(script) = read(alloc, source) else {
-            panic!(rt; "the script is refused");
-        };
-        let ScriptEnd::Done(report) = audit(alloc, &script, &files, 100) else {
-            panic!(rt; "not done");
-        };
-        assert!(rt; verify(alloc, &script, &files, &report) == ScriptVerdict::Yes);
-        // Over other files it is refuted.
-        let others = listed(alloc, b"other", reversed)?;
-        assert!(rt; verify(alloc, &script, &others, &report) != ScriptVerdict::Yes);
+        assert!(rt; is_verified_over(alloc, source, input, reversed)?);
     }
     Ok(())
 }

@@ -174,7 +174,7 @@ fn words_are_kept_as_written(rt: HostRuntime) -> Result<(), Fail> {
 }
 
 /// Copies the file `in` to `out` in 32 steps, and exits with 0: 232 bytes.
-pub(crate) const COPY: &str =
+const COPY: &str =
     "7f454c460201010000000000000000000200f30001000000780001000000000040000000000000000000000000000000000000004000380001000000000000000100000007000000000000000000000000000100000000000000010000000000e800000000000000e80000000000000000100000000000001305c0f9b70501009385050e1306000093088003730000001305c0f9b70501009385350e130610247300000037140000b30481401305300093850400130604009308f00373000000630c0500130605001305400093080004730000006ff09ffd9308d00573000000696e006f75740000";
 /// Of the 232 bytes, by sha256sum.
 const COPY_DIGEST: &str = "da8dcb705eb55cbf9f4852135f93a902f4584b973901f37abb829fd299d0b026";
@@ -183,21 +183,47 @@ const EMPTY_DIGEST: &str = "e3b0c44298fc1c149afbf4c8996fb92427ae41e4649b934ca495
 /// Of the script that is run twice, by sha256sum.
 const SCRIPT_DIGEST: &str = "5b544eaf879399c9d37e34356a8842f02a6cb537d69cfa52ec6a88eb0dc91427";
 
+/// copy.elf's bytes.
+pub(crate) fn copier(alloc: Global) -> Result<Bytes, Fail> {
+    match read_hex(alloc, COPY.as_bytes()) {
+        Ok(bytes) => Ok(bytes),
+        Err(_) => Err("no hexadecimal text".into()),
+    }
+}
+
+/// Adds a file that is not refused.
+fn push(files: &mut FileList, name: &[u8], content: &[u8]) -> Result<(), Fail> {
+    match files.push(name, content) {
+        Ok(()) => Ok(()),
+        Err(_) => Err("a file is refused".into()),
+    }
+}
+
+/// Adds copy.elf and this file `in`, in this order or the other.
+fn fill(files: &mut FileList, copy: &[u8], input: &[u8], reversed: bool) -> Result<(), Fail> {
+    if reversed {
+        push(files, b"./in", input)?;
+        push(files, b"copy.elf", copy)
+    } else {
+        push(files, b"./copy.elf", copy)?;
+        push(files, b"in", input)
+    }
+}
+
+/// The list of copy.elf and this file `in`, in this order or the other.
+pub(crate) fn listed(alloc: Global, input: &[u8], reversed: bool) -> Result<FileList, Fail> {
+    let copy = copier(alloc)?;
+    let mut files = FileList::new(alloc)?;
+    fill(&mut files, copy.as_slice(), input, reversed)?;
+    Ok(files)
+}
+
 /// How a script ends over copy.elf and a file `in`.
 fn audited(alloc: Global, script: &[u8], input: &[u8], most: u64) -> Result<ScriptEnd, Fail>
     requires some { 1 ≤ most }
     requires few { most ≤ 2 ^ 48 }
 {
-    let Ok(copy) = read_hex(alloc, COPY.as_bytes()) else {
-        return Err("no hexadecimal text".into());
-    };
-    let mut files = FileList::new(alloc)?;
-    let Ok(()) = files.push(b"./copy.elf", copy.as_slice()) else {
-        return Err("copy.elf is refused".into());
-    };
-    let Ok(()) = files.push(b"in", input) else {
-        return Err("in is refused".into());
-    };
+    let files = listed(alloc, input, false)?;
     let Ok(script) = read(alloc, script) else {
         return Err("the script is refused".into());
     };
@@ -328,9 +354,7 @@ fn is_of_two_copies(alloc: Global, report: &ScriptReport) -> bool {
 #[test]
 fn a_script_runs_what_it_made(rt: HostRuntime) -> Result<(), Fail> {
     let alloc = rt.alloc();
-    let Ok(copy) = read_hex(alloc, COPY.as_bytes()) else {
-        panic!(rt; "no hexadecimal text");
-    };
+    let copy = copier(alloc)?;
     let script = b"./copy.elf\n# made\n\"out\" x\n";
     match audited(alloc, script, copy.as_slice(), 100_000)? {
         ScriptEnd::Done(report) => assert!(rt; is_of_two_copies(alloc, &report)),
@@ -346,19 +370,30 @@ fn a_script_runs_what_it_made(rt: HostRuntime) -> Result<(), Fail> {
     Ok(())
 }
 
+/// Whether a list takes two files, and refuses a name that it has and one of which nothing is left.
+fn takes_two_of_four(files: &mut FileList) -> bool {
+    files.push(b"b", b"1") == Ok(())
+        && files.push(b"././a", b"2") == Ok(())
+        && files.push(b"./b", b"3") == Err(PlaceRefusal::Twice)
+        && files.push(b"./", b"4") == Err(PlaceRefusal::BadName)
+}
+
+/// Whether a list has these two files, in the order in which they were added.
+fn has_both(files: &FileList) -> bool {
+    match files.names() {
+        [first, second] => {
+            first.as_slice() == b"b".as_slice()
+                && second.as_slice() == b"a".as_slice()
+                && files.files().content(b"b") == Some(b"1".as_slice())
+        }
+        _ => false,
+    }
+}
+
 #[test]
 fn a_list_refuses_as_placing_does(rt: HostRuntime) -> Result<(), Fail> {
     let mut files = FileList::new(rt.alloc())?;
-    assert!(rt; files.push(b"b", b"1") == Ok(()));
-    assert!(rt; files.push(b"././a", b"2") == Ok(()));
-    assert!(rt; files.push(b"./b", b"3") == Err(PlaceRefusal::Twice));
-    assert!(rt; files.push(b"./", b"4") == Err(PlaceRefusal::BadName));
-    match files.names() {
-        [first, second] => assert!(rt;
-            first.as_slice() == b"b".as_slice() && second.as_slice() == b"a".as_slice()
-        ),
-        _ => panic!(rt; "other names"),
-    }
-    assert!(rt; files.files().content(b"b") == Some(b"1".as_slice()));
+    let taken = takes_two_of_four(&mut files);
+    assert!(rt; taken && has_both(&files));
     Ok(())
 }
