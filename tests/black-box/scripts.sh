@@ -14,14 +14,14 @@ listed='copy.elf\nin\nexit.elf\nseven.elf\nillegal.elf\ncall.elf\nempty\n'
 # All files with their digests, but those of `check`.
 held() { find . -type f ! -name '.*' -exec sha256sum {} + | sort; }
 
-# scripted NAME STATUS TEXT SCRIPT [LIST]: `kaem` over a script and a list, within 100 steps or `steps`. But on 0 all files are as before.
+# scripted NAME STATUS TEXT SCRIPT [LIST]: `kaem` over a script and a list, within 100 steps or `each`. But on 0 all files are as before.
 scripted() {
     printf '%b' "$4" >s
     printf '%b' "${5-$listed}" >l
     rm -f report
     local before
     before=$(held)
-    check "$1" "$2" "$3" "$ddc" kaem s l report "${steps:-100}"
+    check "$1" "$2" "$3" "$ddc" kaem s l report "${each:-100}"
     [ "$2" = 0 ] || check "$1: all files are as before" 0 "$before\n" held
 }
 copies() { printf "$2%.0s" $(seq "$1"); }
@@ -30,9 +30,9 @@ scripted 'a script that runs what it made' 0 'done 2 steps 64\n' "$worked" 'copy
 check 'its report' 0 '' cmp report worked.report
 check 'its report is true' 0 'yes 2\n' "$ddc" kaem-verify s l report
 check 'what it made stands in its report alone' 1 '' test -e out
-steps=281474976710656 scripted 'as many steps as may be' 0 'done 2 steps 64\n' "$worked"
-steps=32 scripted 'so many steps for each command' 0 'done 2 steps 64\n' "$worked"
-steps=31 scripted 'a step too few' 6 'run failed 1 spent step 31\n' "$worked"
+each=281474976710656 scripted 'as many steps as may be' 0 'done 2 steps 64\n' "$worked"
+each=32 scripted 'so many steps for each command' 0 'done 2 steps 64\n' "$worked"
+each=31 scripted 'a step too few' 6 'run failed 1 spent step 31\n' "$worked"
 scripted 'a command before that' 6 'run failed 2 spent step 100\n' 'exit.elf\n./copy.elf' 'exit.elf\ncopy.elf\n'
 scripted 'a name that no file has' 6 'run failed 1 no-program step 0\n' 'out\n'
 scripted 'a name that no file has any more' 6 'run failed 3 no-program step 0\n' 'copy.elf\nout\nouter\n'
@@ -118,6 +118,7 @@ large 'a byte more in all' 10 'file refused byte too long\n' 'one\ntwo\nnone\nby
 check 'a byte more for a replay' 10 'file refused byte too long\n' "$ddc" kaem-verify s l report
 large 'a byte more, in their order' 10 'file refused two too long\n' 'byte\none\ntwo\n'
 large 'a byte more in one' 10 'file refused more too long\n' 'none\nmore\n'
+printf 'one\ntwo\nnone\n' >l
 check 'files for which there is no memory' 13 '' small "$ddc" kaem s l report 9
 cd ..
 rm -r large
