@@ -13,14 +13,13 @@ use Rattle.wheeler.proofs.Places.{enter-standing}
 use Rattle.wheeler.proofs.Rules.{rules}
 use Rattle.audit_run.specs.declared.place.EndedGuest.{EndedGuest}
 use Rattle.audit_run.specs.declared.place.EndedGuest.TheVariants.{Kept, GivenUp}
-use Rattle.audit_run.specs.declared.place.Entry.{Entry}
 use Rattle.audit_run.specs.declared.place.Moved.{Moved}
 use Rattle.audit_run.specs.declared.place.Moved.TheVariants as moved
 use Rattle.audit_run.specs.declared.place.Place.{Place}
 use Rattle.audit_run.specs.declared.place.Place.TheVariants as place
 use Rattle.audit_run.specs.Advances.{StopsAt, WantsWithin}
 use Rattle.audit_run.specs.Seen.{standing}
-use Rattle.audit_run.specs.Inside.Parts.{entry_standing, IsPlace, IsStarted, KeepsPlace, later, seen, SlicesBy, stands, StopsIn, WantsBehind}
+use Rattle.audit_run.specs.Inside.Parts.{IsPlace, IsStarted, KeepsPlace, later, seen, SlicesBy, stands, StopsIn, WantsBehind}
 use Rattle.audit_run.proofs.Present.{stays}
 
 -- where an audit stands that has started
@@ -30,10 +29,11 @@ place-of recipe inputs done place.Ready started ok = absurd started
 place-of recipe inputs done (place.Running guest) started ok = ok
 place-of recipe inputs done (place.Over answer) started ok = ok
 
-pub entry-stands : (recipe : Said) (inputs : List (List ℕ)) (done : List Finished) (e : Entry) → kept.IsRecipe recipe → IsInputs recipe inputs → AreDone recipe done
-    → entry_standing done e ≡ enter recipe inputs done (todo recipe done) → IsStanding recipe (entry_standing done e)
-entry-stands recipe inputs done e is given are entered =
-    subst (IsStanding recipe) (sym entered) (enter-standing recipe (rules recipe is) inputs given done (todo recipe done) are refl)
+pub entered-place : (recipe : Said) (inputs : List (List ℕ)) (done : List Finished) (entered : Place) → kept.IsRecipe recipe → IsInputs recipe inputs → AreDone recipe done
+    → IsStarted entered → stands recipe inputs done entered ≡ enter recipe inputs done (todo recipe done) → IsPlace recipe done entered
+entered-place recipe inputs done entered is given are started stood =
+    place-of recipe inputs done entered started
+    (subst (IsStanding recipe) (sym stood) (enter-standing recipe (rules recipe is) inputs given done (todo recipe done) are refl))
 
 -- before the first advance nothing is done
 pub ready-done : (recipe : Said) (done : List Finished) (where_it_is : Place) → where_it_is ≡ place.Ready → IsPlace recipe done where_it_is → AreDone recipe done

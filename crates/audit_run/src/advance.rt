@@ -7,7 +7,7 @@ ghost use Rattle.wheeler.specs.Positions.{forward_from};
 ghost use Rattle.wheeler.specs.Valid.{IsInputs};
 
 use crate::entering::enter;
-use crate::place::{EndedGuest, Entry, Place, Progress};
+use crate::place::{EndedGuest, Place, Progress};
 use crate::stage::Done;
 use crate::stretch::advance_started;
 use ddc_base::{Bytes, OutOfMemory};
@@ -85,18 +85,11 @@ fn begin(
     ensures ready { OnErr result (seen done.now place.old ≡ None) }
 {
     match place {
-        Place::Running(_) => Ok(()),
-        Place::Over(_) => Ok(()),
-        Place::Ready => match enter(alloc, recipe, inputs, done)? {
-            Entry::Started(guest) => {
-                *place = Place::Running(guest);
-                Ok(())
-            }
-            Entry::Over(answer) => {
-                *place = Place::Over(answer);
-                Ok(())
-            }
-        },
+        Place::Running(_) | Place::Over(_) => Ok(()),
+        Place::Ready => {
+            place.set(enter(alloc, recipe, inputs, done)?);
+            Ok(())
+        }
     }
 }
 

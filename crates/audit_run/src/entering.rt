@@ -1,13 +1,13 @@
 //! The start of the next stage, or the report.
 
-ghost use Rattle.audit_run.specs.Inside.Parts.{entry_standing};
+ghost use Rattle.audit_run.specs.Inside.Parts.{IsStarted, stands};
 ghost use Rattle.mem_files.specs.Outputs.{IsContent};
 ghost use Rattle.recipe.specs.Kept.{IsRecipe};
 ghost use Rattle.std.specs.Prelude.{◌≡◌, All, IfOk};
 ghost use Rattle.wheeler.specs.Positions.{enter, todo};
 ghost use Rattle.wheeler.specs.Valid.{AreDone};
 
-use crate::place::Entry;
+use crate::place::Place;
 use crate::stage::{Done, report_of, start_stage};
 use ddc_base::{Bytes, OutOfMemory};
 use recipe::Recipe;
@@ -20,22 +20,23 @@ pub(crate) fn enter(
     recipe: &Recipe,
     inputs: &[Bytes],
     done: &[Done],
-) -> Result<Entry, OutOfMemory>
+) -> Result<Place, OutOfMemory>
     requires inputs { All IsContent inputs.now }
     requires done { AreDone recipe.now done.now }
     ensures kept { IsRecipe recipe.now }
-    ensures entered { IfOk result (λ e. entry_standing done.now e ≡ enter recipe.now inputs.now done.now (todo recipe.now done.now)) }
+    ensures started { IfOk result IsStarted }
+    ensures entered { IfOk result (λ place. stands recipe.now inputs.now done.now place ≡ enter recipe.now inputs.now done.now (todo recipe.now done.now)) }
 {
     let Some(stage) = recipe.stages().as_slice().get(done.len()) else {
         let report = report_of(alloc, recipe, inputs, done)?;
-        return Ok(Entry::Over(Answer::Completes(report)));
+        return Ok(Place::Over(Answer::Completes(report)));
     };
     match start_stage(alloc, recipe, stage, inputs, done)? {
-        Ok(guest) => Ok(Entry::Started(guest)),
+        Ok(guest) => Ok(Place::Running(guest)),
         Err(cause) => {
             let number = done.len() as u32 + 1;
             let fault = Fault::Runs(RunCause::Start(cause), 0);
-            Ok(Entry::Over(Answer::Fails(number, fault)))
+            Ok(Place::Over(Answer::Fails(number, fault)))
         }
     }
 }

@@ -1,5 +1,7 @@
 //! Where an audit stands.
 
+ghost use Rattle.std.specs.Prelude.{◌≡◌};
+
 use crate::stage::Done;
 use guest_run::{Guest, RunRam};
 use wheeler::source_check::CheckCause;
@@ -16,13 +18,13 @@ pub(crate) enum Place {
     Over(Answer),
 }
 
-/// What entering the next stage comes to.
-#[derive(Debug, Drop)]
-pub(crate) enum Entry {
-    /// Its program has started.
-    Started(Guest<RunRam>),
-    /// The audit is over.
-    Over(Answer),
+impl Place {
+    /// The audit goes on to stand there.
+    pub(crate) fn set(&mut self, next: Place)
+        ensures { self.new ≡ next }
+    {
+        *self = next;
+    }
 }
 
 /// What some steps come to.

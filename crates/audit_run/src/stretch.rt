@@ -7,7 +7,7 @@ ghost use Rattle.wheeler.specs.Positions.{at, stage_closed, forward_from, todo};
 ghost use Rattle.wheeler.specs.Valid.{AreDone, IsInputs, IsPosition};
 
 use crate::entering::enter;
-use crate::place::{EndedGuest, Entry, Moved, Place};
+use crate::place::{EndedGuest, Moved, Place};
 use crate::stage::Done;
 use crate::stage_run::run_slice;
 use ddc_base::{Bytes, OutOfMemory};
@@ -22,7 +22,7 @@ fn leave(place: &mut Place, ended: EndedGuest)
 {
     match ended {
         EndedGuest::Kept => {}
-        EndedGuest::GivenUp => *place = Place::Ready,
+        EndedGuest::GivenUp => place.set(Place::Ready),
     }
 }
 
@@ -48,12 +48,8 @@ fn close(
     leave(place, ended);
     done.push(finished)?;
     match enter(alloc, recipe, inputs, done.as_slice()) {
-        Ok(Entry::Started(guest)) => {
-            *place = Place::Running(guest);
-            Ok(())
-        }
-        Ok(Entry::Over(answer)) => {
-            *place = Place::Over(answer);
+        Ok(entered) => {
+            place.set(entered);
             Ok(())
         }
         Err(OutOfMemory) => {
@@ -116,7 +112,7 @@ fn stretch(
             Ok(taken)
         }
         Moved::Ended(Err(fault)) => {
-            *place = Place::Over(Answer::Fails(done.len() as u32 + 1, fault));
+            place.set(Place::Over(Answer::Fails(done.len() as u32 + 1, fault)));
             Ok(taken)
         }
     }

@@ -11,8 +11,6 @@ use Rattle.audit_run.specs.declared.place.Place.{Place}
 use Rattle.audit_run.specs.declared.place.Place.TheVariants as place
 use Rattle.audit_run.specs.declared.place.EndedGuest.{EndedGuest}
 use Rattle.audit_run.specs.declared.place.EndedGuest.TheVariants.{Kept, GivenUp}
-use Rattle.audit_run.specs.declared.place.Entry.{Entry}
-use Rattle.audit_run.specs.declared.place.Entry.TheVariants as entry
 use Rattle.audit_run.specs.declared.place.Moved.{Moved}
 use Rattle.audit_run.specs.declared.place.Moved.TheVariants as moved
 use Rattle.audit_run.specs.declared.place.Progress.{Progress}
@@ -28,10 +26,6 @@ abbrev pub stands : Said → List (List ℕ) → List Finished → Place → Sta
 stands recipe inputs done place.Ready = beginning recipe inputs
 stands recipe inputs done (place.Running guest) = On (at done guest)
 stands recipe inputs done (place.Over answer) = Over answer
-
-abbrev pub entry_standing : List Finished → Entry → Standing
-entry_standing done (entry.Started guest) = On (at done guest)
-entry_standing done (entry.Over answer) = Over answer
 
 -- the stages after the present one
 abbrev pub later : Said → List Finished → List Stage

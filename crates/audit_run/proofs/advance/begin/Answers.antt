@@ -1,11 +1,8 @@
-use Rattle.std.proofs.Common.{subst}
-use Rattle.wheeler.specs.Valid.{IsStanding}
-use Rattle.audit_run.specs.Inside.Parts.{entry_standing}
-use Rattle.audit_run.proofs.Stretching.{entry-stands, ready-done}
+use Rattle.audit_run.proofs.Stretching.{entered-place, ready-done}
 use Rattle.audit_run.proofs.advance.begin.Goals as goal
 
-pub returns-in-Started-clause-stands : goal.returns-in-Started-clause-stands
-returns-in-Started-clause-stands c =
-    subst (λ e. IsStanding c.args.recipe.now (entry_standing c.args.done.now e)) c.in-Started.is
-    (entry-stands c.args.recipe.now c.args.inputs.now c.args.done.now c.in_ok-guest-in-Ready.field-0 c.enter.ensures.kept c.requires.given
-    (ready-done c.args.recipe.now c.args.done.now c.args.place.now c.in-Ready.is c.requires.place) c.in_ok-guest-in-Ready.ensures.entered)
+pub returns-in_ok-enter-in-Ready-clause-stands : goal.returns-in_ok-enter-in-Ready-clause-stands
+returns-in_ok-enter-in-Ready-clause-stands c =
+    rw c.set.ensures (entered-place c.args.recipe.now c.args.inputs.now c.args.done.now c.in_ok-enter-in-Ready.field-0 c.enter.ensures.kept c.requires.given
+    (ready-done c.args.recipe.now c.args.done.now c.args.place.now c.in-Ready.is c.requires.place) c.in_ok-enter-in-Ready.ensures.started
+    c.in_ok-enter-in-Ready.ensures.entered)
