@@ -49,9 +49,10 @@ fn read_lines(alloc: Global, bytes: &[u8]) -> Result<(ScriptState, u64), ScriptR
     while !rest.is_empty() {
         match next_line(alloc, rest)? {
             Some((line, after)) => {
-                if !state.take(alloc, line)? {
+                let Some(next) = state.after(alloc, line)? else {
                     return Err(ScriptReportRefusal::Form(number + 1));
-                }
+                };
+                state = next;
                 rest = after;
                 number += 1;
             }
