@@ -1,5 +1,5 @@
 -- No promise rests on this file being read: which line of a script's report may follow which.
-use Rattle.std.specs.Prelude.{Bool, ◌+◌, ◌==◌, nat_lt, [], ◌∷◌, ◌++◌, length, Option, Some, None, if◌then◌else◌}
+use Rattle.std.specs.Prelude.{◌+◌, ◌==◌, nat_lt, [], ◌∷◌, ◌++◌, length, Option, Some, None, if◌then◌else◌}
 use Rattle.report.specs.Inside.States.{follows}
 use Rattle.report.specs.declared.types.LeftLine.{LeftLine}
 use Rattle.report.specs.declared.script.line.ScriptLine.{ScriptLine}
