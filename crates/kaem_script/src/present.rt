@@ -32,7 +32,7 @@ pub(crate) fn renewed(alloc: Global, present: Present<'_>) -> Result<Files, OutO
 {
     match present {
         Present::Given(files) => copied(alloc, files),
-        Present::Left(files) => moved(alloc, files),
+        Present::Left(mut files) => moved(alloc, &mut files),
     }
 }
 
@@ -60,12 +60,11 @@ fn copy_all(alloc: Global, given: &Files, files: &mut Files) -> Result<(), OutOf
     Ok(())
 }
 
-fn moved(alloc: Global, left: Files) -> Result<Files, OutOfMemory>
-    ensures { IfOk result (λ files. files ≡ renewed left) }
+fn moved(alloc: Global, left: &mut Files) -> Result<Files, OutOfMemory>
+    ensures { IfOk result (λ files. files ≡ renewed left.old) }
 {
-    let mut left = left;
     let mut files = Files::new(alloc)?;
-    move_all(alloc, &mut left, &mut files)?;
+    move_all(alloc, left, &mut files)?;
     Ok(files)
 }
 
