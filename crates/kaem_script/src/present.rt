@@ -1,7 +1,7 @@
 //! The files that are there before a command, and how the next guest gets them.
 
 ghost use Rattle.kaem_script.specs.Inside.Commands.{renewed, world_in};
-ghost use Rattle.mem_files.specs.Calls.{content_at, name_after, placed, with_file};
+ghost use Rattle.mem_files.specs.Calls.{content_at, first_world, name_after, placed, with_file};
 ghost use Rattle.mem_files.specs.Names.{is_stripped_name};
 ghost use Rattle.std.specs.Prelude.{◌≡◌, [], IfOk, IsTrue, Ok, OnOk, unwrap_or};
 
@@ -32,39 +32,56 @@ pub(crate) fn renewed(alloc: Global, present: Present<'_>) -> Result<Files, OutO
 {
     match present {
         Present::Given(files) => copied(alloc, files),
-        Present::Left(files) => moved(alloc, files),
+        Present::Left(mut files) => moved(alloc, &mut files),
     }
 }
 
 fn copied(alloc: Global, given: &Files) -> Result<Files, OutOfMemory>
     ensures { IfOk result (λ files. files ≡ renewed given.now) }
 {
-    // What files keep is told by a call of theirs.
-    given.stream(1);
     let mut files = Files::new(alloc)?;
-    let mut last: Option<&[u8]> = None;
-    while let Some(name) = given.name_after(last) {
-        let content = Vec::from_slice(alloc, bytes_of(given, name))?;
-        place(&mut files, name, content)?;
-        last = Some(name);
-    }
+    copy_all(alloc, given, &mut files)?;
     Ok(files)
 }
 
-fn moved(alloc: Global, left: Files) -> Result<Files, OutOfMemory>
-    ensures { IfOk result (λ files. files ≡ renewed left) }
+/// Copies all files to those of a start.
+fn copy_all(alloc: Global, given: &Files, files: &mut Files) -> Result<(), OutOfMemory>
+    requires { files.old ≡ first_world }
+    ensures { OnOk result (files.new ≡ renewed given.now) }
+{
+    // What files keep is told by a call of theirs.
+    given.stream(1);
+    let mut last: Option<&[u8]> = None;
+    while let Some(name) = given.name_after(last) {
+        let content = Vec::from_slice(alloc, bytes_of(given, name))?;
+        place(files, name, content)?;
+        last = Some(name);
+    }
+    Ok(())
+}
+
+fn moved(alloc: Global, left: &mut Files) -> Result<Files, OutOfMemory>
+    ensures { IfOk result (λ files. files ≡ renewed left.old) }
+{
+    let mut files = Files::new(alloc)?;
+    move_all(alloc, left, &mut files)?;
+    Ok(files)
+}
+
+/// Moves all files to those of a start.
+fn move_all(alloc: Global, left: &mut Files, files: &mut Files) -> Result<(), OutOfMemory>
+    requires { files.old ≡ first_world }
+    ensures { OnOk result (files.new ≡ renewed left.old) }
 {
     // What files keep is told by a call of theirs.
     left.stream(1);
-    let mut left = left;
-    let mut files = Files::new(alloc)?;
     let mut last: Option<Bytes> = None;
-    while let Some(name) = next_name(alloc, &left, &last)? {
+    while let Some(name) = next_name(alloc, left, &last)? {
         let content = left.take_content(alloc, name.as_slice());
-        place(&mut files, name.as_slice(), content)?;
+        place(files, name.as_slice(), content)?;
         last = Some(name);
     }
-    Ok(files)
+    Ok(())
 }
 
 /// The bytes of the file of a name.

@@ -106,10 +106,21 @@ fn run_to(guest: Guest<RunRam>, step: u64) -> Result<Guest<RunRam>, Stop>
     ensures { Judged (λ guest. guest.world) (or_no_run (left_after_steps step (by_first_end step (first_end guest step)))) result }
 {
     let mut guest = guest;
+    exit_at(&mut guest, step)?;
+    Ok(guest)
+}
+
+/// Runs a fresh guest up to its exit with 0 at exactly this step.
+fn exit_at(guest: &mut Guest<RunRam>, step: u64) -> Result<(), Stop>
+    requires fresh { guest.old.steps ≡ 0 }
+    requires some { 1 ≤ step }
+    requires few { step ≤ 2 ^ 48 }
+    ensures { Judged (λ _. guest.new.world) (or_no_run (left_after_steps step (by_first_end step (first_end guest.old step)))) result }
+{
     match guest.run(step) {
         RunEnd::Exited(0) => {
             if guest.steps() + 1 == step {
-                Ok(guest)
+                Ok(())
             } else {
                 Err(Stop::Refuted(ScriptPart::Run))
             }

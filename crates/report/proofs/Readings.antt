@@ -1,6 +1,6 @@
 -- What a text reads as, in the words of the report's text.
-use Rattle.std.proofs.Common.{◌≡◌, ℕ, ◌+◌, List, [], Some, None, Result, Ok, Err, refl, sym, ◌∙◌}
-use Rattle.std.specs.Prelude.{IfOk, IfErr}
+use Rattle.std.proofs.Common.{◌≡◌, ℕ, ◌+◌, ◌==◌, Bool, false, length, List, [], Some, None, Result, Ok, Err, refl, sym, ◌∙◌}
+use Rattle.std.specs.Prelude.{IfOk, IfErr, IsErrAnd}
 use Rattle.report.specs.declared.state.State.{State}
 use Rattle.report.specs.declared.state.State.TheVariants.{Ended}
 use Rattle.report.specs.declared.types.Report.{Report}
@@ -8,13 +8,15 @@ use Rattle.report.specs.declared.refusal.ReportRefusal.{ReportRefusal}
 use Rattle.report.specs.declared.refusal.ReportRefusal.TheVariants.{Form, OutOfMemory}
 use Rattle.report.specs.Inside.LineByLine.{Stands, Stops}
 use Rattle.report.specs.Inside.Reading.{ended_report, report_reader}
+use Rattle.report.specs.Inside.Loops.{HasNoLine, ReadsLines}
 use Rattle.report.specs.Lines.{line_words}
-use Rattle.report.specs.Reading.{report_of, ReadsReport}
+use Rattle.report.specs.Reading.{report_of, Refuses, ReadsReport}
 use Rattle.report.specs.Reports.{report_lines, report_text, IsReport, BeginsReport, IsFirstFault, IsRead, IsReading, IsFault}
 use Rattle.report.proofs.Keeps.{Good, step_keeps, finished, lines_are}
 use Rattle.report.proofs.LineByLine.Faults.{Begins, FirstFault}
 use Rattle.report.proofs.LineByLine.Readings.{read_its_text, text_that_reads, fault_that_reads, reads_its_fault, one_of_text, reads_whole, reads_short, reads_stopped}
 use Rattle.report.proofs.LineByLine.Rules.{Rules}
+use Rattle.report.proofs.LineByLine.Turns.{stops_at_line}
 use Rattle.report.proofs.LineTexts.{IsLine, next_again, next_takes}
 use Rattle.report.proofs.Runs.{run_report}
 use Rattle.report.proofs.Takes.{so_far, step_takes}
@@ -102,6 +104,17 @@ reads_unended bytes n number state is stands other = reads_short report_reader b
 pub reads_no_further : (bytes : List ℕ) (number : ℕ) → Stops report_reader bytes number → report_of bytes ≡ Err number
 unfolding report_of
 reads_no_further bytes number stops = reads_stopped report_reader bytes number stops
+
+pub refused_line : (bytes : List ℕ) (n : ℕ) (state : State) (rest : List ℕ) (empty : Bool) (refusal : ReportRefusal) → empty ≡ (length rest == 0) → empty ≡ false
+    → Stands report_reader bytes n state rest → HasNoLine rest (n + 1) refusal → Refuses (report_of bytes) refusal
+refused_line bytes n state rest empty (Form number) is not_empty stands none =
+    reads_no_further bytes number (rw none.0 (stops_at_line report_reader bytes n state rest empty is not_empty stands (sym none.1)))
+refused_line bytes n state rest empty OutOfMemory is not_empty stands none = tt
+
+pub hands_refusal : (bytes : List ℕ) (refusal : ReportRefusal) (result : Result (State × ℕ) ReportRefusal) → IsErrAnd result (λ handed. handed ≡ refusal)
+    → Refuses (report_of bytes) refusal → ReadsLines bytes result
+hands_refusal bytes refusal (Ok found) handed refuses = absurd handed
+hands_refusal bytes refusal (Err error) handed refuses = rw handed refuses
 
 -- ---- what a call that reads answers
 

@@ -146,13 +146,13 @@ pub(crate) fn compared_of(text: &[u8]) -> Option<Compared>
     ensures { result ≡ compared_of text.now }
 {
     let (how, numbers) = cut_at(b' ', text)?;
-    match how {
-        b"equal" => {
-            let length = read_decimal(numbers)?;
-            Some(Compared::Equal(length))
-        }
-        b"differs" => difference_of(numbers),
-        _ => None,
+    if how == "equal".as_bytes() {
+        let length = read_decimal(numbers)?;
+        Some(Compared::Equal(length))
+    } else if how == "differs".as_bytes() {
+        difference_of(numbers)
+    } else {
+        None
     }
 }
 

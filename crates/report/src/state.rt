@@ -3,9 +3,9 @@
 ghost use Rattle.std.specs.Prelude.{◌≡◌, IfOk};
 ghost use Rattle.std.specs.Ordering.{nat_cmp, is_lt};
 ghost use Rattle.std.specs.Cmp.Lexicographic.{slice_cmp};
-ghost use Rattle.report.specs.Inside.States.{Takes, follows};
+ghost use Rattle.report.specs.Inside.States.{step, follows};
 ghost use Rattle.report.specs.Reports.{most_comparisons};
-ghost use Rattle.report.specs.declared.line.Line.TheVariants as line;
+ghost use Rattle.report.specs.declared.state.State.TheVariants as state;
 
 use crate::line::Line;
 use crate::types::{
@@ -16,7 +16,6 @@ use ddc_base::digests::Digest;
 use ddc_base::languages::Language;
 use ddc_base::{ListOf, Name, OutOfMemory};
 use std::alloc::Global;
-use std::mem;
 
 /// The most inputs, and the most stages.
 const MANY: usize = 256;
@@ -72,226 +71,209 @@ pub enum State {
 }
 
 impl State {
-    /// Takes one more line, and says whether a report goes on with it. What is left where none does is of no use.
-    pub(crate) fn take(&mut self, alloc: Global, line: Line) -> Result<bool, OutOfMemory>
-        ensures { IfOk result (Takes self.old line self.new) }
-    {
-        match line {
-            Line::Header(form) => Ok(self.take_header(form)),
-            Line::Recipe(recipe) => Ok(self.take_recipe(alloc, recipe)),
-            Line::Input(input) => self.take_input(input),
-            Line::Stage(name, steps) => Ok(self.take_stage(alloc, name, steps)),
-            Line::Stream1(mark) => Ok(self.take_stream1(mark)),
-            Line::Stream2(mark) => Ok(self.take_stream2(alloc, mark)),
-            Line::Left(file) => self.take_left(file),
-            Line::Made(mark) => Ok(self.take_made(mark)),
-            Line::Checked(language) => self.take_checked(language),
-            Line::Compare(compare) => self.take_compare(alloc, compare),
-            Line::End => Ok(self.take_end()),
-        }
-    }
-
+    /// The state after one more line, if a report goes on with it.
     #[tactic(auto, unfolding(crate::specs::Inside::States::step))]
-    fn take_header(&mut self, form: u32) -> bool
-        ensures { Takes self.old (line.Header form) self.new result }
+    pub(crate) fn after(self, alloc: Global, line: Line) -> Result<Option<State>, OutOfMemory>
+        ensures { IfOk result (λ next. next ≡ step self line) }
     {
         match self {
-            State::Start => {
-                *self = State::Titled(form);
-                true
-            }
-            _ => false,
-        }
-    }
-
-    #[tactic(auto, unfolding(crate::specs::Inside::States::step))]
-    fn take_recipe(&mut self, alloc: Global, recipe: Digest) -> bool
-        ensures { Takes self.old (line.Recipe recipe) self.new result }
-    {
-        match self {
-            State::Titled(form) => {
-                *self = State::Inputs(*form, recipe, ListOf::new(alloc));
-                true
-            }
-            _ => false,
-        }
-    }
-
-    #[tactic(auto, unfolding(crate::specs::Inside::States::step))]
-    fn take_input(&mut self, input: InputLine) -> Result<bool, OutOfMemory>
-        ensures { IfOk result (Takes self.old (line.Input input) self.new) }
-    {
-        match self {
-            State::Inputs(_, _, inputs) => {
-                if inputs.len() < MANY {
-                    inputs.push(input)?;
-                    Ok(true)
-                } else {
-                    Ok(false)
-                }
-            }
-            _ => Ok(false),
-        }
-    }
-
-    #[tactic(auto, unfolding(crate::specs::Inside::States::step))]
-    fn take_stage(&mut self, alloc: Global, name: Name, steps: u64) -> bool
-        ensures { Takes self.old (line.Stage name steps) self.new result }
-    {
-        match mem::replace(self, State::Start) {
+            State::Start => Ok(after_nothing(line)),
+            State::Titled(form) => Ok(after_header(alloc, form, line)),
             State::Inputs(form, recipe, inputs) => {
-                if inputs.is_empty() {
-                    return false;
-                }
-                let front = Front {
-                    form,
-                    recipe,
-                    inputs,
-                    stages: ListOf::new(alloc),
-                };
-                *self = State::Named(front, name, steps);
-                true
+                after_inputs(alloc, form, recipe, inputs, line)
             }
-            State::Stages(front) => {
-                if front.stages.len() < MANY {
-                    *self = State::Named(front, name, steps);
-                    true
-                } else {
-                    false
-                }
-            }
-            _ => false,
-        }
-    }
-
-    #[tactic(auto, unfolding(crate::specs::Inside::States::step))]
-    fn take_stream1(&mut self, mark: Mark) -> bool
-        ensures { Takes self.old (line.Stream1 mark) self.new result }
-    {
-        match mem::replace(self, State::Start) {
-            State::Named(front, name, steps) => {
-                *self = State::Heard(front, name, steps, mark);
-                true
-            }
-            _ => false,
-        }
-    }
-
-    #[tactic(auto, unfolding(crate::specs::Inside::States::step))]
-    fn take_stream2(&mut self, alloc: Global, mark: Mark) -> bool
-        ensures { Takes self.old (line.Stream2 mark) self.new result }
-    {
-        match mem::replace(self, State::Start) {
+            State::Named(front, name, steps) => Ok(after_name(front, name, steps, line)),
             State::Heard(front, name, steps, stream1) => {
-                let opened = Opened {
-                    name,
-                    steps,
-                    stream1,
-                    stream2: mark,
-                    left: ListOf::new(alloc),
-                };
-                *self = State::Leaving(front, opened);
-                true
+                Ok(after_stream1(alloc, front, name, steps, stream1, line))
             }
-            _ => false,
+            State::Leaving(front, stage) => after_stream2(front, stage, line),
+            State::Closing(front, stage, made) => after_made(front, stage, made, line),
+            State::Stages(front) => after_stages(alloc, front, line),
+            State::Compared(report) => after_compared(report, line),
+            State::Ended(_) => Ok(None),
         }
     }
+}
 
-    #[tactic(auto, unfolding(crate::specs::Inside::States::step))]
-    fn take_left(&mut self, file: LeftLine) -> Result<bool, OutOfMemory>
-        ensures { IfOk result (Takes self.old (line.Left file) self.new) }
-    {
-        match self {
-            State::Leaving(_, stage) => {
-                if stage.left.len() < MANY_LEFT
-                    && follows(stage.left.as_slice(), file.name.as_slice())
-                {
-                    stage.left.push(file)?;
-                    Ok(true)
-                } else {
-                    Ok(false)
-                }
-            }
-            _ => Ok(false),
-        }
+#[tactic(auto, unfolding(crate::specs::Inside::States::step))]
+fn after_nothing(line: Line) -> Option<State>
+    ensures { result ≡ step state.Start line }
+{
+    match line {
+        Line::Header(form) => Some(State::Titled(form)),
+        _ => None,
     }
+}
 
-    #[tactic(auto, unfolding(crate::specs::Inside::States::step))]
-    fn take_made(&mut self, mark: Mark) -> bool
-        ensures { Takes self.old (line.Made mark) self.new result }
-    {
-        match mem::replace(self, State::Start) {
-            State::Leaving(front, stage) => {
-                *self = State::Closing(front, stage, mark);
-                true
-            }
-            _ => false,
-        }
+#[tactic(auto, unfolding(crate::specs::Inside::States::step))]
+fn after_header(alloc: Global, form: u32, line: Line) -> Option<State>
+    ensures { result ≡ step (state.Titled form) line }
+{
+    match line {
+        Line::Recipe(recipe) => Some(State::Inputs(form, recipe, ListOf::new(alloc))),
+        _ => None,
     }
+}
 
-    #[tactic(auto, unfolding(crate::specs::Inside::States::step))]
-    fn take_checked(&mut self, checked: Option<Language>) -> Result<bool, OutOfMemory>
-        ensures { IfOk result (Takes self.old (line.Checked checked) self.new) }
-    {
-        match mem::replace(self, State::Start) {
-            State::Closing(mut front, stage, made) => {
-                front.stages.push(StageLine {
-                    name: stage.name,
-                    steps: stage.steps,
-                    stream1: stage.stream1,
-                    stream2: stage.stream2,
-                    left: stage.left,
-                    made,
-                    checked,
-                })?;
-                *self = State::Stages(front);
-                Ok(true)
+#[tactic(auto, unfolding(crate::specs::Inside::States::step))]
+fn after_inputs(
+    alloc: Global,
+    form: u32,
+    recipe: Digest,
+    mut inputs: InputLines,
+    line: Line,
+) -> Result<Option<State>, OutOfMemory>
+    ensures { IfOk result (λ next. next ≡ step (state.Inputs form recipe inputs) line) }
+{
+    match line {
+        Line::Input(input) => {
+            if inputs.len() < MANY {
+                inputs.push(input)?;
+                Ok(Some(State::Inputs(form, recipe, inputs)))
+            } else {
+                Ok(None)
             }
-            _ => Ok(false),
         }
+        Line::Stage(name, steps) => {
+            if inputs.is_empty() {
+                return Ok(None);
+            }
+            let front = Front {
+                form,
+                recipe,
+                inputs,
+                stages: ListOf::new(alloc),
+            };
+            Ok(Some(State::Named(front, name, steps)))
+        }
+        _ => Ok(None),
     }
+}
 
-    #[tactic(auto, unfolding(crate::specs::Inside::States::step))]
-    fn take_compare(&mut self, alloc: Global, compare: CompareLine) -> Result<bool, OutOfMemory>
-        ensures { IfOk result (Takes self.old (line.Compare compare) self.new) }
-    {
-        match mem::replace(self, State::Start) {
-            State::Stages(front) => {
-                let mut compares: CompareLines = ListOf::new(alloc);
-                compares.push(compare)?;
-                *self = State::Compared(Report {
-                    form: front.form,
-                    recipe: front.recipe,
-                    inputs: front.inputs,
-                    stages: front.stages,
-                    compare: compares,
-                });
-                Ok(true)
-            }
-            State::Compared(mut report) => {
-                if report.compare.len() < most_comparisons(report.form) {
-                    report.compare.push(compare)?;
-                    *self = State::Compared(report);
-                    Ok(true)
-                } else {
-                    Ok(false)
-                }
-            }
-            _ => Ok(false),
-        }
+#[tactic(auto, unfolding(crate::specs::Inside::States::step))]
+fn after_name(front: Front, name: Name, steps: u64, line: Line) -> Option<State>
+    ensures { result ≡ step (state.Named front name steps) line }
+{
+    match line {
+        Line::Stream1(mark) => Some(State::Heard(front, name, steps, mark)),
+        _ => None,
     }
+}
 
-    #[tactic(auto, unfolding(crate::specs::Inside::States::step))]
-    fn take_end(&mut self) -> bool
-        ensures { Takes self.old line.End self.new result }
-    {
-        match mem::replace(self, State::Start) {
-            State::Compared(report) => {
-                *self = State::Ended(report);
-                true
-            }
-            _ => false,
+#[tactic(auto, unfolding(crate::specs::Inside::States::step))]
+fn after_stream1(
+    alloc: Global,
+    front: Front,
+    name: Name,
+    steps: u64,
+    stream1: Mark,
+    line: Line,
+) -> Option<State>
+    ensures { result ≡ step (state.Heard front name steps stream1) line }
+{
+    match line {
+        Line::Stream2(stream2) => {
+            let opened = Opened {
+                name,
+                steps,
+                stream1,
+                stream2,
+                left: ListOf::new(alloc),
+            };
+            Some(State::Leaving(front, opened))
         }
+        _ => None,
+    }
+}
+
+#[tactic(auto, unfolding(crate::specs::Inside::States::step))]
+fn after_stream2(front: Front, mut stage: Opened, line: Line) -> Result<Option<State>, OutOfMemory>
+    ensures { IfOk result (λ next. next ≡ step (state.Leaving front stage) line) }
+{
+    match line {
+        Line::Left(file) => {
+            if stage.left.len() < MANY_LEFT
+                && follows(stage.left.as_slice(), file.name.as_slice())
+            {
+                stage.left.push(file)?;
+                Ok(Some(State::Leaving(front, stage)))
+            } else {
+                Ok(None)
+            }
+        }
+        Line::Made(made) => Ok(Some(State::Closing(front, stage, made))),
+        _ => Ok(None),
+    }
+}
+
+#[tactic(auto, unfolding(crate::specs::Inside::States::step))]
+fn after_made(
+    mut front: Front,
+    stage: Opened,
+    made: Mark,
+    line: Line,
+) -> Result<Option<State>, OutOfMemory>
+    ensures { IfOk result (λ next. next ≡ step (state.Closing front stage made) line) }
+{
+    match line {
+        Line::Checked(checked) => {
+            front.stages.push(StageLine {
+                name: stage.name,
+                steps: stage.steps,
+                stream1: stage.stream1,
+                stream2: stage.stream2,
+                left: stage.left,
+                made,
+                checked,
+            })?;
+            Ok(Some(State::Stages(front)))
+        }
+        _ => Ok(None),
+    }
+}
+
+#[tactic(auto, unfolding(crate::specs::Inside::States::step))]
+fn after_stages(alloc: Global, front: Front, line: Line) -> Result<Option<State>, OutOfMemory>
+    ensures { IfOk result (λ next. next ≡ step (state.Stages front) line) }
+{
+    match line {
+        Line::Stage(name, steps) => {
+            if front.stages.len() < MANY {
+                Ok(Some(State::Named(front, name, steps)))
+            } else {
+                Ok(None)
+            }
+        }
+        Line::Compare(compare) => {
+            let mut compares: CompareLines = ListOf::new(alloc);
+            compares.push(compare)?;
+            Ok(Some(State::Compared(Report {
+                form: front.form,
+                recipe: front.recipe,
+                inputs: front.inputs,
+                stages: front.stages,
+                compare: compares,
+            })))
+        }
+        _ => Ok(None),
+    }
+}
+
+#[tactic(auto, unfolding(crate::specs::Inside::States::step))]
+fn after_compared(mut report: Report, line: Line) -> Result<Option<State>, OutOfMemory>
+    ensures { IfOk result (λ next. next ≡ step (state.Compared report) line) }
+{
+    match line {
+        Line::Compare(compare) => {
+            if report.compare.len() < most_comparisons(report.form) {
+                report.compare.push(compare)?;
+                Ok(Some(State::Compared(report)))
+            } else {
+                Ok(None)
+            }
+        }
+        Line::End => Ok(Some(State::Ended(report))),
+        _ => Ok(None),
     }
 }
 

@@ -1,7 +1,7 @@
 -- One line more, whatever the lines are.
 use Rattle.std.proofs.Common.{◌≡◌, ℕ, suc, ◌+◌, ◌==◌, Bool, true, false, List, [], length, Option, Some, None, refl, ap, ◌∙◌, arith}
 use Rattle.report.specs.Inside.Cuts.{◌>>=◌, cut_at}
-use Rattle.report.specs.Inside.LineByLine.{Reader, TakesBy, next_line, one_more, after, Stands, Stops}
+use Rattle.report.specs.Inside.LineByLine.{Reader, next_line, one_more, after, Stands, Stops}
 
 pub stands_first : {L S R : Type 0} (reader : Reader L S R) (bytes : List ℕ) → Stands reader bytes 0 reader.start bytes
 unfolding after
@@ -13,20 +13,11 @@ after_more reader n bytes =
     let up : n + 1 ≡ suc n = omega arith in
     ap (λ (k : ℕ). after reader k bytes) up
 
-went_on : {L S : Type 0} (step : S → L → Option S) (state : S) (line : L) (next : S) (taken : Bool) → TakesBy step state line next taken → taken ≡ true → step state line ≡ Some next
-went_on step state line next true takes is = takes
-went_on step state line next false takes is = absurd cc
-
-stopped : {L S : Type 0} (step : S → L → Option S) (state : S) (line : L) (next : S) (taken : Bool) → TakesBy step state line next taken → taken ≡ false → step state line ≡ None
-stopped step state line next true takes is = absurd cc
-stopped step state line next false takes is = takes
-
-pub stands_more : {L S R : Type 0} (reader : Reader L S R) (bytes : List ℕ) (n : ℕ) (state : S) (rest : List ℕ) (line : L) (left : List ℕ) (next : S) (taken : Bool)
-    → Stands reader bytes n state rest → Some (line, left) ≡ next_line reader.line_of rest → TakesBy reader.step state line next taken → taken ≡ true → Stands reader bytes (n + 1) next left
+pub stands_more : {L S R : Type 0} (reader : Reader L S R) (bytes : List ℕ) (n : ℕ) (state : S) (rest : List ℕ) (line : L) (left : List ℕ) (next : S)
+    → Stands reader bytes n state rest → Some (line, left) ≡ next_line reader.line_of rest → Some next ≡ reader.step state line → Stands reader bytes (n + 1) next left
 unfolding one_more
-stands_more {S = S} reader bytes n state rest line left next taken stands read takes is =
-    let stepped = went_on reader.step state line next taken takes is in
-    let one : one_more reader (state, rest) ≡ Some (next, left) = rw (← read, stepped) refl in
+stands_more {S = S} reader bytes n state rest line left next stands read stepped =
+    let one : one_more reader (state, rest) ≡ Some (next, left) = rw (← read, ← stepped) refl in
     record { there = after_more reader n bytes ∙ ap (λ (x : Option (S × List ℕ)). x >>= one_more reader) stands.there ∙ one }
 
 -- bytes of which some are left are not none
@@ -48,18 +39,19 @@ stops_at_line reader bytes n state rest empty is not_empty stands read = record 
   left = λ none. some_left rest empty is not_empty none;
 }
 
-pub stops_at_step : {L S R : Type 0} (reader : Reader L S R) (bytes : List ℕ) (n : ℕ) (state : S) (rest : List ℕ) (empty : Bool) (line : L) (left : List ℕ) (next : S) (taken : Bool)
-    → empty ≡ (length rest == 0) → empty ≡ false → Stands reader bytes n state rest → Some (line, left) ≡ next_line reader.line_of rest → TakesBy reader.step state line next taken
-    → taken ≡ false
+pub stops_at_step : {L S R : Type 0} (reader : Reader L S R) (bytes : List ℕ) (n : ℕ) (state : S) (rest : List ℕ) (empty : Bool) (line : L) (left : List ℕ) (next : Option S)
+    → empty ≡ (length rest == 0) → empty ≡ false → Stands reader bytes n state rest → Some (line, left) ≡ next_line reader.line_of rest → next ≡ reader.step state line
+    → ((state : S) → next ≡ Some state → ⊥)
     → Stops reader bytes (n + 1)
 unfolding one_more
-stops_at_step reader bytes n state rest empty line left next taken is not_empty stands read takes not_taken = record {
+stops_at_step reader bytes n state rest empty line left (Some next) is not_empty stands read stepped no_next = absurd (no_next next refl)
+stops_at_step reader bytes n state rest empty line left None is not_empty stands read stepped no_next = record {
   before = n;
   is = refl;
   state = state;
   rest = rest;
   there = stands.there;
-  none = rw (← read, stopped reader.step state line next taken takes not_taken) refl;
+  none = rw (← read, ← stepped) refl;
   left = λ none. some_left rest empty is not_empty none;
 }
 

@@ -1,6 +1,6 @@
 -- What a text reads as, in the words of the text of a script's report.
-use Rattle.std.proofs.Common.{◌≡◌, ℕ, ◌+◌, List, [], Some, None, Result, Ok, Err, refl, sym, ◌∙◌}
-use Rattle.std.specs.Prelude.{IfOk, IfErr}
+use Rattle.std.proofs.Common.{◌≡◌, ℕ, ◌+◌, ◌==◌, Bool, false, length, List, [], Some, None, Result, Ok, Err, refl, sym, ◌∙◌}
+use Rattle.std.specs.Prelude.{IfOk, IfErr, IsErrAnd}
 use Rattle.report.specs.declared.script.state.ScriptState.{ScriptState}
 use Rattle.report.specs.declared.script.state.ScriptState.TheVariants.{Ended}
 use Rattle.report.specs.declared.script.types.ScriptReport.{ScriptReport}
@@ -8,13 +8,15 @@ use Rattle.report.specs.declared.script.refusal.ScriptReportRefusal.{ScriptRepor
 use Rattle.report.specs.declared.script.refusal.ScriptReportRefusal.TheVariants.{Form, OutOfMemory}
 use Rattle.report.specs.Inside.LineByLine.{Stands, Stops}
 use Rattle.report.specs.Inside.Script.Reading.{ended_script, script_reader}
+use Rattle.report.specs.Inside.Script.Loops.{HasNoLine, ReadsLines}
 use Rattle.report.specs.Script.Lines.{script_line_words}
-use Rattle.report.specs.Script.Reading.{script_report_of, ReadsScriptReport}
+use Rattle.report.specs.Script.Reading.{script_report_of, RefusesScript, ReadsScriptReport}
 use Rattle.report.specs.Script.Reports.{script_report_lines, script_report_text, IsScriptReport, BeginsScriptReport, IsFirstScriptFault, IsScriptRead, IsScriptReading, IsScriptFault}
 use Rattle.report.proofs.ScriptLemmas.Keeps.{Good, good_early, step_keeps, finished, lines_are}
 use Rattle.report.proofs.LineByLine.Faults.{Begins, FirstFault}
 use Rattle.report.proofs.LineByLine.Readings.{read_its_text, text_that_reads, fault_that_reads, reads_its_fault, one_of_text, reads_whole, reads_short, reads_stopped}
 use Rattle.report.proofs.LineByLine.Rules.{Rules}
+use Rattle.report.proofs.LineByLine.Turns.{stops_at_line}
 use Rattle.report.proofs.ScriptLemmas.LineTexts.{IsLine, next_again, next_takes}
 use Rattle.report.proofs.ScriptLemmas.Runs.{run_report}
 use Rattle.report.proofs.ScriptLemmas.Takes.{so_far, step_takes}
@@ -102,6 +104,17 @@ reads_unended bytes n number state is stands other = reads_short script_reader b
 pub reads_no_further : (bytes : List ℕ) (number : ℕ) → Stops script_reader bytes number → script_report_of bytes ≡ Err number
 unfolding script_report_of
 reads_no_further bytes number stops = reads_stopped script_reader bytes number stops
+
+pub refused_line : (bytes : List ℕ) (n : ℕ) (state : ScriptState) (rest : List ℕ) (empty : Bool) (refusal : ScriptReportRefusal) → empty ≡ (length rest == 0) → empty ≡ false
+    → Stands script_reader bytes n state rest → HasNoLine rest (n + 1) refusal → RefusesScript (script_report_of bytes) refusal
+refused_line bytes n state rest empty (Form number) is not_empty stands none =
+    reads_no_further bytes number (rw none.0 (stops_at_line script_reader bytes n state rest empty is not_empty stands (sym none.1)))
+refused_line bytes n state rest empty OutOfMemory is not_empty stands none = tt
+
+pub hands_refusal : (bytes : List ℕ) (refusal : ScriptReportRefusal) (result : Result (ScriptState × ℕ) ScriptReportRefusal) → IsErrAnd result (λ handed. handed ≡ refusal)
+    → RefusesScript (script_report_of bytes) refusal → ReadsLines bytes result
+hands_refusal bytes refusal (Ok found) handed refuses = absurd handed
+hands_refusal bytes refusal (Err error) handed refuses = rw handed refuses
 
 -- ---- what a call that reads answers
 

@@ -1,5 +1,5 @@
 -- No promise rests on this file being read: a text read line by line, whatever its lines are.
-use Rattle.std.specs.Prelude.{◌≡◌, Bool, true, false, ℕ, zero, suc, ◌+◌, List, [], length, Option, Some, None, Result, Ok, Err}
+use Rattle.std.specs.Prelude.{◌≡◌, ℕ, zero, suc, ◌+◌, List, [], length, Option, Some, None, Result, Ok, Err}
 use Rattle.std.specs.Option.{option_map_or}
 use Rattle.report.specs.Inside.Cuts.{◌>>=◌, cut_at}
 
@@ -9,11 +9,6 @@ pub record Reader (Line State Report : Type 0) : Type 0 where
   pub start : State
   pub step : State → Line → Option State
   pub ended : State → Option Report
-
--- what taking a line answers
-abbrev pub TakesBy : {Line State : Type 0} → (State → Line → Option State) → State → Line → State → Bool → Type 0
-TakesBy step old line new true = step old line ≡ Some new
-TakesBy step old line new false = step old line ≡ None
 
 -- the line at the front, and what follows its LF
 unfoldable pub next_line : {Line : Type 0} → (List ℕ → Option Line) → List ℕ → Option (Line × List ℕ)

@@ -11,7 +11,6 @@ use Rattle.report.specs.declared.types.StageLine.{StageLine}
 use Rattle.report.specs.declared.state.Front.{Front}
 use Rattle.report.specs.Reports.{most_comparisons}
 use Rattle.report.specs.declared.state.Opened.{Opened}
-use Rattle.report.specs.Inside.LineByLine.{TakesBy}
 use Rattle.report.specs.declared.state.State.{State}
 use Rattle.report.specs.declared.state.State.TheVariants.{Start, Titled, Inputs, Named, Heard, Leaving, Closing, Stages, Compared, Ended}
 
@@ -65,7 +64,3 @@ step (Compared report) (Compare compare) =
     else None
 step (Compared report) End = Some (Ended report)
 step _ _ = None
-
--- what taking a line answers
-abbrev pub Takes : State → Line → State → Bool → Type 0
-Takes old line new taken = TakesBy step old line new taken

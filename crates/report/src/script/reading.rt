@@ -1,9 +1,9 @@
 //! Reading a script's report.
 
-ghost use Rattle.std.specs.Prelude.{◌≡◌, ◌<◌, length, IfOk, IfErr, IfSome, option_map};
+ghost use Rattle.std.specs.Prelude.{◌≡◌, ◌<◌, length, IfOk, IfErr, Some};
 ghost use Rattle.report.specs.Inside.LineByLine.{next_line};
 ghost use Rattle.report.specs.Inside.Script.Lines.{line_of};
-ghost use Rattle.report.specs.Inside.Script.Loops.{ReadsLines};
+ghost use Rattle.report.specs.Inside.Script.Loops.{HasNoLine, ReadsLines};
 ghost use Rattle.report.specs.Script.Reading.{script_report_of, ReadsScriptReport};
 ghost use Rattle.report.specs.Script.Reports.{IsScriptReport, script_report_text, IsScriptRead, IsScriptFault};
 ghost use Rattle.report.specs.declared.script.types.ScriptReport.{ScriptReport as ReportValue};
@@ -13,7 +13,6 @@ use crate::script::line::{ScriptLine, line_of};
 use crate::script::refusal::ScriptReportRefusal;
 use crate::script::state::ScriptState;
 use crate::script::types::ScriptReport;
-use ddc_base::OutOfMemory;
 use std::alloc::Global;
 
 /// The report whose text the bytes are.
@@ -47,31 +46,33 @@ fn read_lines(alloc: Global, bytes: &[u8]) -> Result<(ScriptState, u64), ScriptR
     let mut rest = bytes;
     let mut number = 0;
     while !rest.is_empty() {
-        match next_line(alloc, rest)? {
-            Some((line, after)) => {
-                if !state.take(alloc, line)? {
-                    return Err(ScriptReportRefusal::Form(number + 1));
-                }
-                rest = after;
-                number += 1;
-            }
-            None => return Err(ScriptReportRefusal::Form(number + 1)),
-        }
+        let (line, after) = next_line(alloc, rest, number + 1)?;
+        let Some(next) = state.after(alloc, line)? else {
+            return Err(ScriptReportRefusal::Form(number + 1));
+        };
+        state = next;
+        rest = after;
+        number += 1;
     }
     Ok((state, number + 1))
 }
 
-/// The line at the front of some bytes, and what follows its LF.
+/// The line at the front of some bytes, which is that of a number, and what follows its LF.
 #[tactic(auto, unfolding(crate::specs::Inside::LineByLine::next_line))]
-fn next_line(alloc: Global, bytes: &[u8]) -> Result<Option<(ScriptLine, &[u8])>, OutOfMemory>
-    ensures value { IfOk result (λ found. option_map (λ next. (next.0, next.1.now)) found ≡ next_line line_of bytes.now) }
-    ensures shorter { IfOk result (λ found. IfSome found (λ next. length next.1.now < length bytes.now)) }
+fn next_line(
+    alloc: Global,
+    bytes: &[u8],
+    number: u64,
+) -> Result<(ScriptLine, &[u8]), ScriptReportRefusal>
+    ensures value { IfOk result (λ next. Some (next.0, next.1.now) ≡ next_line line_of bytes.now) }
+    ensures shorter { IfOk result (λ next. length next.1.now < length bytes.now) }
+    ensures refused { IfErr result (HasNoLine bytes.now number) }
 {
-    match cut_at(b'\n', bytes) {
-        Some((text, rest)) => match line_of(alloc, text)? {
-            Some(line) => Ok(Some((line, rest))),
-            None => Ok(None),
-        },
-        None => Ok(None),
+    let Some((text, rest)) = cut_at(b'\n', bytes) else {
+        return Err(ScriptReportRefusal::Form(number));
+    };
+    match line_of(alloc, text)? {
+        Some(line) => Ok((line, rest)),
+        None => Err(ScriptReportRefusal::Form(number)),
     }
 }

@@ -1,8 +1,9 @@
 //! How far a script's report has been read, and which line may come next.
 
-ghost use Rattle.std.specs.Prelude.{IfOk};
-ghost use Rattle.report.specs.Inside.Script.States.{Takes};
+ghost use Rattle.std.specs.Prelude.{◌≡◌, IfOk};
+ghost use Rattle.report.specs.Inside.Script.States.{step};
 ghost use Rattle.report.specs.declared.script.line.ScriptLine.TheVariants as line;
+ghost use Rattle.report.specs.declared.script.state.ScriptState.TheVariants as state;
 
 use crate::script::line::ScriptLine;
 use crate::script::types::{CommandLine, ScriptReport};
@@ -11,7 +12,6 @@ use crate::types::{LeftLine, Mark};
 use ddc_base::digests::Digest;
 use ddc_base::{ListOf, OutOfMemory};
 use std::alloc::Global;
-use std::mem;
 
 /// The most files, the most commands, and the most files that are left.
 const MANY: usize = 4096;
@@ -34,150 +34,130 @@ pub enum ScriptState {
 }
 
 impl ScriptState {
-    /// Takes one more line, and says whether a report goes on with it. What is left where none does is of no use.
-    pub(crate) fn take(&mut self, alloc: Global, line: ScriptLine) -> Result<bool, OutOfMemory>
-        ensures { IfOk result (Takes self.old line self.new) }
-    {
-        match line {
-            ScriptLine::Header => Ok(self.take_header()),
-            ScriptLine::Script(digest) => Ok(self.take_script(alloc, digest)),
-            ScriptLine::File(file) => self.take_file(file),
-            ScriptLine::Command(steps) => Ok(self.take_command(steps)),
-            ScriptLine::Stream1(mark) => Ok(self.take_stream1(mark)),
-            ScriptLine::Stream2(mark) => self.take_stream2(mark),
-            ScriptLine::Left(file) => self.take_left(file),
-            ScriptLine::End => Ok(self.take_end()),
-        }
-    }
-
+    /// The state after one more line, if a report goes on with it.
     #[tactic(auto, unfolding(crate::specs::Inside::Script::States::step))]
-    fn take_header(&mut self) -> bool
-        ensures { Takes self.old line.Header self.new result }
+    pub(crate) fn after(
+        self,
+        alloc: Global,
+        line: ScriptLine,
+    ) -> Result<Option<ScriptState>, OutOfMemory>
+        ensures { IfOk result (λ next. next ≡ step self line) }
     {
         match self {
-            ScriptState::Start => {
-                *self = ScriptState::Titled;
-                true
+            ScriptState::Start => Ok(after_nothing(line)),
+            ScriptState::Titled => Ok(after_header(alloc, line)),
+            ScriptState::Body(report) => after_block(report, line),
+            ScriptState::Named(report, steps) => Ok(after_command(report, steps, line)),
+            ScriptState::Heard(report, steps, stream1) => {
+                after_stream1(report, steps, stream1, line)
             }
-            _ => false,
+            ScriptState::Ended(_) => Ok(None),
         }
     }
+}
 
-    #[tactic(auto, unfolding(crate::specs::Inside::Script::States::step))]
-    fn take_script(&mut self, alloc: Global, digest: Digest) -> bool
-        ensures { Takes self.old (line.Script digest) self.new result }
-    {
-        match self {
-            ScriptState::Titled => {
-                *self = ScriptState::Body(ScriptReport {
-                    script: digest,
-                    files: ListOf::new(alloc),
-                    commands: ListOf::new(alloc),
-                    left: ListOf::new(alloc),
-                });
-                true
-            }
-            _ => false,
-        }
+#[tactic(auto, unfolding(crate::specs::Inside::Script::States::step))]
+fn after_nothing(line: ScriptLine) -> Option<ScriptState>
+    ensures { result ≡ step state.Start line }
+{
+    match line {
+        ScriptLine::Header => Some(ScriptState::Titled),
+        _ => None,
     }
+}
 
-    #[tactic(auto, unfolding(crate::specs::Inside::Script::States::step))]
-    fn take_file(&mut self, file: LeftLine) -> Result<bool, OutOfMemory>
-        ensures { IfOk result (Takes self.old (line.File file) self.new) }
-    {
-        match self {
-            ScriptState::Body(report) => {
-                if report.files.len() < MANY
-                    && report.commands.len() == 0
-                    && report.left.len() == 0
-                {
-                    report.files.push(file)?;
-                    Ok(true)
-                } else {
-                    Ok(false)
-                }
-            }
-            _ => Ok(false),
-        }
+#[tactic(auto, unfolding(crate::specs::Inside::Script::States::step))]
+fn after_header(alloc: Global, line: ScriptLine) -> Option<ScriptState>
+    ensures { result ≡ step state.Titled line }
+{
+    match line {
+        ScriptLine::Script(digest) => Some(ScriptState::Body(ScriptReport {
+            script: digest,
+            files: ListOf::new(alloc),
+            commands: ListOf::new(alloc),
+            left: ListOf::new(alloc),
+        })),
+        _ => None,
     }
+}
 
-    #[tactic(auto, unfolding(crate::specs::Inside::Script::States::step))]
-    fn take_command(&mut self, steps: u64) -> bool
-        ensures { Takes self.old (line.Command steps) self.new result }
-    {
-        match mem::replace(self, ScriptState::Start) {
-            ScriptState::Body(report) => {
-                if report.commands.len() < MANY && report.left.len() == 0 {
-                    *self = ScriptState::Named(report, steps);
-                    true
-                } else {
-                    false
-                }
-            }
-            _ => false,
-        }
+/// Between blocks.
+#[tactic(auto, unfolding(crate::specs::Inside::Script::States::step))]
+fn after_block(report: ScriptReport, line: ScriptLine) -> Result<Option<ScriptState>, OutOfMemory>
+    ensures { IfOk result (λ next. next ≡ step (state.Body report) line) }
+{
+    match line {
+        ScriptLine::File(file) => with_file(report, file),
+        ScriptLine::Command(steps) => Ok(with_command(report, steps)),
+        ScriptLine::Left(file) => with_left(report, file),
+        ScriptLine::End => Ok(Some(ScriptState::Ended(report))),
+        _ => Ok(None),
     }
+}
 
-    #[tactic(auto, unfolding(crate::specs::Inside::Script::States::step))]
-    fn take_stream1(&mut self, mark: Mark) -> bool
-        ensures { Takes self.old (line.Stream1 mark) self.new result }
-    {
-        match mem::replace(self, ScriptState::Start) {
-            ScriptState::Named(report, steps) => {
-                *self = ScriptState::Heard(report, steps, mark);
-                true
-            }
-            _ => false,
-        }
+#[tactic(auto, unfolding(crate::specs::Inside::Script::States::step))]
+fn with_file(mut report: ScriptReport, file: LeftLine) -> Result<Option<ScriptState>, OutOfMemory>
+    ensures { IfOk result (λ next. next ≡ step (state.Body report) (line.File file)) }
+{
+    if report.files.len() < MANY && report.commands.len() == 0 && report.left.len() == 0 {
+        report.files.push(file)?;
+        Ok(Some(ScriptState::Body(report)))
+    } else {
+        Ok(None)
     }
+}
 
-    #[tactic(auto, unfolding(crate::specs::Inside::Script::States::step))]
-    fn take_stream2(&mut self, mark: Mark) -> Result<bool, OutOfMemory>
-        ensures { IfOk result (Takes self.old (line.Stream2 mark) self.new) }
-    {
-        match mem::replace(self, ScriptState::Start) {
-            ScriptState::Heard(mut report, steps, stream1) => {
-                report.commands.push(CommandLine {
-                    steps,
-                    stream1,
-                    stream2: mark,
-                })?;
-                *self = ScriptState::Body(report);
-                Ok(true)
-            }
-            _ => Ok(false),
-        }
+#[tactic(auto, unfolding(crate::specs::Inside::Script::States::step))]
+fn with_command(report: ScriptReport, steps: u64) -> Option<ScriptState>
+    ensures { result ≡ step (state.Body report) (line.Command steps) }
+{
+    if report.commands.len() < MANY && report.left.len() == 0 {
+        Some(ScriptState::Named(report, steps))
+    } else {
+        None
     }
+}
 
-    #[tactic(auto, unfolding(crate::specs::Inside::Script::States::step))]
-    fn take_left(&mut self, file: LeftLine) -> Result<bool, OutOfMemory>
-        ensures { IfOk result (Takes self.old (line.Left file) self.new) }
-    {
-        match self {
-            ScriptState::Body(report) => {
-                if report.left.len() < MANY
-                    && follows(report.left.as_slice(), file.name.as_slice())
-                {
-                    report.left.push(file)?;
-                    Ok(true)
-                } else {
-                    Ok(false)
-                }
-            }
-            _ => Ok(false),
-        }
+#[tactic(auto, unfolding(crate::specs::Inside::Script::States::step))]
+fn with_left(mut report: ScriptReport, file: LeftLine) -> Result<Option<ScriptState>, OutOfMemory>
+    ensures { IfOk result (λ next. next ≡ step (state.Body report) (line.Left file)) }
+{
+    if report.left.len() < MANY && follows(report.left.as_slice(), file.name.as_slice()) {
+        report.left.push(file)?;
+        Ok(Some(ScriptState::Body(report)))
+    } else {
+        Ok(None)
     }
+}
 
-    #[tactic(auto, unfolding(crate::specs::Inside::Script::States::step))]
-    fn take_end(&mut self) -> bool
-        ensures { Takes self.old line.End self.new result }
-    {
-        match mem::replace(self, ScriptState::Start) {
-            ScriptState::Body(report) => {
-                *self = ScriptState::Ended(report);
-                true
-            }
-            _ => false,
+#[tactic(auto, unfolding(crate::specs::Inside::Script::States::step))]
+fn after_command(report: ScriptReport, steps: u64, line: ScriptLine) -> Option<ScriptState>
+    ensures { result ≡ step (state.Named report steps) line }
+{
+    match line {
+        ScriptLine::Stream1(stream1) => Some(ScriptState::Heard(report, steps, stream1)),
+        _ => None,
+    }
+}
+
+#[tactic(auto, unfolding(crate::specs::Inside::Script::States::step))]
+fn after_stream1(
+    mut report: ScriptReport,
+    steps: u64,
+    stream1: Mark,
+    line: ScriptLine,
+) -> Result<Option<ScriptState>, OutOfMemory>
+    ensures { IfOk result (λ next. next ≡ step (state.Heard report steps stream1) line) }
+{
+    match line {
+        ScriptLine::Stream2(stream2) => {
+            report.commands.push(CommandLine {
+                steps,
+                stream1,
+                stream2,
+            })?;
+            Ok(Some(ScriptState::Body(report)))
         }
+        _ => Ok(None),
     }
 }

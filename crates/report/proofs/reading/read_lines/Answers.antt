@@ -1,7 +1,7 @@
 use Rattle.std.proofs.Common.{arith}
 use Rattle.report.specs.Inside.Reading.{report_reader}
-use Rattle.report.proofs.Readings.{reads_no_further}
-use Rattle.report.proofs.LineByLine.Turns.{stands_first, stands_more, stops_at_line, stops_at_step}
+use Rattle.report.proofs.Readings.{hands_refusal, reads_no_further, refused_line}
+use Rattle.report.proofs.LineByLine.Turns.{stands_first, stands_more, stops_at_step}
 use Rattle.report.proofs.reading.read_lines.Goals as goal
 
 pub loop-rest-init : goal.loop-rest-init
@@ -9,18 +9,19 @@ loop-rest-init c = record { stands = stands_first report_reader c.args.bytes.now
 
 pub loop-rest-preserved : goal.loop-rest-preserved
 loop-rest-preserved c = record {
-  stands = stands_more report_reader c.args.bytes.now c.loop-rest.number c.loop-rest.state c.loop-rest.rest.now c.in-Some.line c.in-Some.after.now c.take.new.self
-      c.in_ok-take-in-Some.field-0 c.loop-rest.invariant.stands (rw c.in-Some.is at c.in_ok-line.ensures.value) c.in_ok-take-in-Some.ensures c.if-not-branch.false;
-  few = let shorter = rw c.in-Some.is at c.in_ok-line.ensures.shorter in omega (arith, shorter, c.loop-rest.invariant.few);
+  stands = stands_more report_reader c.args.bytes.now c.loop-rest.number c.loop-rest.state c.loop-rest.rest.now c.in_ok-line.line c.in_ok-line.after.now c.in-Some.next
+      c.loop-rest.invariant.stands c.in_ok-line.ensures.value (rw c.in-Some.is at c.in_ok-next.ensures);
+  few = omega (arith, c.in_ok-line.ensures.shorter, c.loop-rest.invariant.few);
 }
 
-pub returns-then-not-branch : goal.returns-then-not-branch
-returns-then-not-branch c =
-    reads_no_further _ _ (stops_at_step report_reader c.args.bytes.now c.loop-rest.number c.loop-rest.state c.loop-rest.rest.now c.is_empty.result c.in-Some.line c.in-Some.after.now c.take.new.self
-    c.in_ok-take-in-Some.field-0 c.is_empty.ensures c.loop-rest-test.true c.loop-rest.invariant.stands (rw c.in-Some.is at c.in_ok-line.ensures.value)
-    c.in_ok-take-in-Some.ensures c.if-not-branch.true)
+pub returns-in_default : goal.returns-in_default
+returns-in_default c =
+    reads_no_further _ _ (stops_at_step report_reader c.args.bytes.now c.loop-rest.number c.loop-rest.state c.loop-rest.rest.now c.is_empty.result c.in_ok-line.line c.in_ok-line.after.now c.in_ok-next.field-0
+    c.is_empty.ensures c.loop-rest-test.true c.loop-rest.invariant.stands c.in_ok-line.ensures.value
+    c.in_ok-next.ensures c.in_default.not-Some)
 
-pub returns-in-None : goal.returns-in-None
-returns-in-None c =
-    reads_no_further _ _ (stops_at_line report_reader c.args.bytes.now c.loop-rest.number c.loop-rest.state c.loop-rest.rest.now c.is_empty.result c.is_empty.ensures c.loop-rest-test.true
-    c.loop-rest.invariant.stands (rw c.in-None.is at c.in_ok-line.ensures.value))
+pub returns-in_err-line : goal.returns-in_err-line
+returns-in_err-line c =
+    hands_refusal c.args.bytes.now _ _ c.from_residual.ensures.1
+    (refused_line c.args.bytes.now c.loop-rest.number c.loop-rest.state c.loop-rest.rest.now c.is_empty.result _ c.is_empty.ensures c.loop-rest-test.true
+    c.loop-rest.invariant.stands c.in_err-line.ensures.refused)

@@ -1,6 +1,5 @@
 -- No promise rests on this file being read: which line of a script's report may follow which.
-use Rattle.std.specs.Prelude.{Bool, ◌+◌, ◌==◌, nat_lt, [], ◌∷◌, ◌++◌, length, Option, Some, None, if◌then◌else◌}
-use Rattle.report.specs.Inside.LineByLine.{TakesBy}
+use Rattle.std.specs.Prelude.{◌+◌, ◌==◌, nat_lt, [], ◌∷◌, ◌++◌, length, Option, Some, None, if◌then◌else◌}
 use Rattle.report.specs.Inside.States.{follows}
 use Rattle.report.specs.declared.types.LeftLine.{LeftLine}
 use Rattle.report.specs.declared.script.line.ScriptLine.{ScriptLine}
@@ -40,7 +39,3 @@ step (Body report) (Left file) =
     else None
 step (Body report) End = Some (Ended report)
 step _ _ = None
-
--- what taking a line answers
-abbrev pub Takes : ScriptState → ScriptLine → ScriptState → Bool → Type 0
-Takes old line new taken = TakesBy step old line new taken

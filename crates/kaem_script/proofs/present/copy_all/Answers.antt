@@ -1,10 +1,10 @@
 use Rattle.std.proofs.Common.{sym, ◌∙◌}
 use Rattle.mem_files.proofs.Walks.{walk-name, walk-shorter}
 use Rattle.kaem_script.proofs.Renewing.{placing-begins, placing-ends, placing-fits, placing-goes-on}
-use Rattle.kaem_script.proofs.present.copied.Goals as goal
+use Rattle.kaem_script.proofs.present.copy_all.Goals as goal
 
 pub loop-name-init : goal.loop-name-init
-loop-name-init c = placing-begins c.args.given.now _ c.stream.ensures.sound c.in_ok-files.ensures
+loop-name-init c = placing-begins c.args.given.now _ c.stream.ensures.sound c.requires
 
 pub bytes_of-requires : goal.bytes_of-requires
 bytes_of-requires c = walk-name c.args.given.now _ _ c.stream.ensures.sound (sym c.in-Some.ensures)

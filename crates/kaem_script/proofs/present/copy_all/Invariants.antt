@@ -1,6 +1,6 @@
 use Rattle.std.proofs.Common.{length, option_copied}
 use Rattle.kaem_script.proofs.Renewing.{Placing, names_after}
-use Rattle.kaem_script.proofs.present.copied.Given as goal
+use Rattle.kaem_script.proofs.present.copy_all.Given as goal
 
 abbrev pub invariant-loop-name : goal.invariant-loop-name
 invariant-loop-name l = Placing l.given (option_copied l.last) l.files
