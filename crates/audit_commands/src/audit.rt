@@ -9,6 +9,7 @@ ghost use Rattle.command_plan.specs.declared.status.Status.TheVariants.{RunFaile
 ghost use Rattle.command_plan.specs.Performs.{Performs};
 ghost use Rattle.command_plan.specs.Plan.{answers};
 ghost use Rattle.command_plan.specs.Steps.{Says};
+ghost use Rattle.recipe_plan.specs.Recipes.{needs_apart, needs_inputs};
 ghost use Rattle.recipe_plan.specs.Reports.{compared_status};
 ghost use Rattle.recipe_plan.specs.Texts.{compared_lines};
 ghost use Rattle.audit_commands.specs.Audit.{audited, audit_files, audit_plan, completed, undone};
@@ -39,16 +40,29 @@ pub fn perform<S: Shelf>(alloc: Global, words: &[&str], shelf: &mut S) -> Result
 }
 
 /// The command on two files.
-#[tactic(auto, using(command_plan::proofs::Obtaining::obtaining), unfolding(crate::specs::Audit::audit_files))]
 fn audit<S: Shelf>(alloc: Global, shelf: &mut S, recipe: &str, report: &str) -> Result<Answer, Stop>
     requires recipe { IsFileName recipe.now }
     requires report { IsFileName report.now }
     ensures { Performs (audit_files recipe.now report.now) (S.state shelf.old) (S.state shelf.new) result }
 {
     let recipe = fetch_recipe(alloc, shelf, recipe)?;
-    apart(alloc, &recipe, report)?;
-    let inputs = fetch_inputs(alloc, shelf, &recipe)?;
-    run_whole(alloc, &recipe, &inputs, report, shelf)
+    run(alloc, shelf, &recipe, report)
+}
+
+/// The command on a recipe, which it leaves to its caller to let go.
+fn run<S: Shelf>(
+    alloc: Global,
+    shelf: &mut S,
+    recipe: &Recipe,
+    report: &str,
+) -> Result<Answer, Stop>
+    requires { IsFileName report.now }
+    ensures { Performs (needs_apart recipe.now report.now (λ _. needs_inputs recipe.now (λ inputs. audited recipe.now report.now (bench recipe.now inputs))))
+        (S.state shelf.old) (S.state shelf.new) result }
+{
+    apart(alloc, recipe, report)?;
+    let inputs = fetch_inputs(alloc, shelf, recipe)?;
+    run_whole(alloc, recipe, &inputs, report, shelf)
 }
 
 /// The audit: its report is saved, or it is said which stage is not done.
