@@ -87,16 +87,13 @@ fn begin(
     match place {
         Place::Running(_) => Ok(()),
         Place::Over(_) => Ok(()),
-        Place::Ready => match enter(alloc, recipe, inputs, done)? {
-            Entry::Started(guest) => {
-                *place = Place::Running(guest);
-                Ok(())
-            }
-            Entry::Over(answer) => {
-                *place = Place::Over(answer);
-                Ok(())
-            }
-        },
+        Place::Ready => {
+            *place = match enter(alloc, recipe, inputs, done)? {
+                Entry::Started(guest) => Place::Running(guest),
+                Entry::Over(answer) => Place::Over(answer),
+            };
+            Ok(())
+        }
     }
 }
 

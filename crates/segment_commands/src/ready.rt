@@ -67,7 +67,7 @@ fn run_stages<S: Shelf>(
         needs_inputs recipe.now (λ inputs. needs_earlier recipe.now inputs count (λ done. next (inputs, done)))))) (S.state shelf.old) (S.state shelf.new) result }
     ensures given { IfOk result (λ found. IsInputs recipe.now found.0) }
     ensures done { IfOk result (λ found. AreDone recipe.now found.1) }
-    ensures kept { IsRecipe recipe.now }
+    ensures kept { IfOk result (λ found. IsRecipe recipe.now) }
 {
     let count = stages_before(alloc, recipe, stage)?;
     names_apart(alloc, recipe, prefix)?;

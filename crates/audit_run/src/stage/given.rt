@@ -3,10 +3,11 @@
 ghost use Rattle.audit_run.specs.Stage.Rules.{AreMade, IsStageOf};
 ghost use Rattle.audit_run.specs.Stage.Begins.{Begins};
 ghost use Rattle.guest_run.specs.Setting.{place_refusal};
+ghost use Rattle.guest_run.specs.Start.{start_of};
 ghost use Rattle.mem_files.specs.Names.{stripped};
 ghost use Rattle.mem_files.specs.Outputs.{IsContent};
 ghost use Rattle.std.specs.FinMap as map;
-ghost use Rattle.std.specs.Prelude.{◌≡◌, All, IfOk, None, OnOk};
+ghost use Rattle.std.specs.Prelude.{◌≡◌, [], All, IfOk, None, OnOk};
 ghost use Rattle.wheeler.specs.Contents.{box_of};
 ghost use Rattle.wheeler.specs.Stages.{contents, start_stage};
 
@@ -33,6 +34,24 @@ pub fn box_of<'a>(
     ensures { IfOk result (λ given. given ≡ box_of recipe.now (contents inputs.now done.now) stage.now) }
 {
     let mut given = RunBox::new(alloc, stage.heap);
+    fill(recipe, stage, inputs, done, &mut given)?;
+    Ok(given)
+}
+
+/// Fills an empty box.
+fn fill<'a>(
+    recipe: &'a Recipe,
+    stage: &'a Stage,
+    inputs: &'a [Bytes],
+    done: &'a [Done],
+    given: &mut RunBox<'a>,
+) -> Result<(), OutOfMemory>
+    requires stage { IsStageOf recipe.now stage.now }
+    requires inputs { All IsContent inputs.now }
+    requires done { AreMade done.now }
+    requires empty { given.old ≡ record { args = []; env = []; files = map.empty; heap = stage.now.heap } }
+    ensures { OnOk result (given.new ≡ box_of recipe.now (contents inputs.now done.now) stage.now) }
+{
     for text in stage.args.as_slice() {
         given.push_arg(text.as_slice())?;
     }
@@ -41,9 +60,9 @@ pub fn box_of<'a>(
     }
     for file in stage.files.as_slice() {
         let bytes = content(recipe, inputs, done, &file.from);
-        place(&mut given, file.path.as_slice(), bytes)?;
+        place(given, file.path.as_slice(), bytes)?;
     }
-    Ok(given)
+    Ok(())
 }
 
 /// Places a file that no rule refuses.
@@ -77,7 +96,19 @@ pub fn start_stage(
 {
     let given = box_of(alloc, recipe, stage, inputs, done)?;
     let program = content(recipe, inputs, done, &stage.program);
-    match Guest::<RunRam>::start(alloc, program, &given) {
+    start_in(alloc, program, &given)
+}
+
+/// Starts a program with what it is given, or says why it does not start.
+fn start_in(
+    alloc: Global,
+    program: &[u8],
+    given: &RunBox,
+) -> Result<Result<Guest<RunRam>, StartCause>, OutOfMemory>
+    ensures begins { IfOk result (λ begun. Begins (start_of program.now given.now) begun) }
+    ensures fresh { IfOk result (λ begun. IfOk begun (λ guest. guest.steps ≡ 0)) }
+{
+    match Guest::<RunRam>::start(alloc, program, given) {
         Ok(guest) => Ok(Ok(guest)),
         Err(StartRefusal::Elf(refusal)) => Ok(Err(StartCause::Elf(refusal))),
         Err(StartRefusal::ArgsTooLong) => Ok(Err(StartCause::ArgsTooLong)),

@@ -8,7 +8,7 @@ use Rattle.wheeler.specs.Contents.{box_of, with_stage_file}
 use Rattle.wheeler.specs.Stages.{contents}
 use Rattle.wheeler.proofs.Rules.{word-is}
 use Rattle.audit_run.proofs.StageLemmas.Placing.{each-at, file-fits, stripped-same}
-use Rattle.audit_run.proofs.stage.given.box_of.Goals as goal
+use Rattle.audit_run.proofs.stage.given.fill.Goals as goal
 
 pub push_arg-requires : goal.push_arg-requires
 push_arg-requires c =

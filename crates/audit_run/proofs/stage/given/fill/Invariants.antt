@@ -3,7 +3,7 @@ use Rattle.std.specs.FinMap as finite
 use Rattle.std.specs.List.{fold}
 use Rattle.wheeler.specs.Contents.{with_stage_file}
 use Rattle.wheeler.specs.Stages.{contents}
-use Rattle.audit_run.proofs.stage.given.box_of.Given as goal
+use Rattle.audit_run.proofs.stage.given.fill.Given as goal
 
 abbrev pub invariant-loop-text : goal.invariant-loop-text
 invariant-loop-text l = l.given ≡ record { args = take l.text-index l.stage.args; env = []; files = finite.empty; heap = l.stage.heap }
