@@ -2,7 +2,8 @@
 
 ghost use Rattle.audit_run.specs.Advances.{Advances, WantsWithin, said_of_answer, said_of_comparisons};
 ghost use Rattle.audit_run.specs.Inside.Parts.{IsAtRest, IsPlace, IsStarted, SaysOf, seen, stands};
-ghost use Rattle.std.specs.Prelude.{◌≡◌, ◌≤◌, None, OnErr, OnOk, Some};
+ghost use Rattle.audit_run.specs.declared.place.Place.TheVariants.{Ready};
+ghost use Rattle.std.specs.Prelude.{◌≡◌, ◌≤◌, IfOk, None, OnErr, OnOk, Some};
 ghost use Rattle.wheeler.specs.Positions.{forward_from};
 ghost use Rattle.wheeler.specs.Valid.{IsInputs};
 
@@ -88,12 +89,28 @@ fn begin(
         Place::Running(_) => Ok(()),
         Place::Over(_) => Ok(()),
         Place::Ready => {
-            *place = match enter(alloc, recipe, inputs, done)? {
-                Entry::Started(guest) => Place::Running(guest),
-                Entry::Over(answer) => Place::Over(answer),
-            };
+            *place = first_place(alloc, recipe, inputs, done)?;
             Ok(())
         }
+    }
+}
+
+/// Where an audit stands that entered its first stage.
+fn first_place(
+    alloc: Global,
+    recipe: &Recipe,
+    inputs: &[Bytes],
+    done: &[Done],
+) -> Result<Place, OutOfMemory>
+    requires given { IsInputs recipe.now inputs.now }
+    requires place { IsPlace recipe.now done.now Ready }
+    ensures ok { IfOk result (λ place. stands recipe.now inputs.now done.now place ≡ stands recipe.now inputs.now done.now Ready) }
+    ensures started { IfOk result IsStarted }
+    ensures stands { IfOk result (IsPlace recipe.now done.now) }
+{
+    match enter(alloc, recipe, inputs, done)? {
+        Entry::Started(guest) => Ok(Place::Running(guest)),
+        Entry::Over(answer) => Ok(Place::Over(answer)),
     }
 }
 
