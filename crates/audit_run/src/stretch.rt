@@ -3,7 +3,7 @@
 ghost use Rattle.audit_run.specs.Inside.Parts.{IsPlace, IsStarted, KeepsPlace, later, Slices, stands, WantsBehind};
 ghost use Rattle.recipe.specs.Kept.{IsRecipe};
 ghost use Rattle.std.specs.Prelude.{◌≡◌, ◌++◌, ◌∷◌, [], ◌≤◌, IfOk, OnErr, OnOk, Ok};
-ghost use Rattle.wheeler.specs.Positions.{at, stage_closed, forward_from, todo};
+ghost use Rattle.wheeler.specs.Positions.{at, enter, stage_closed, forward_from, todo};
 ghost use Rattle.wheeler.specs.Valid.{AreDone, IsInputs, IsPosition};
 
 use crate::entering::enter;
@@ -47,19 +47,33 @@ fn close(
 {
     leave(place, ended);
     done.push(finished)?;
-    match enter(alloc, recipe, inputs, done.as_slice()) {
-        Ok(Entry::Started(guest)) => {
-            *place = Place::Running(guest);
-            Ok(())
-        }
-        Ok(Entry::Over(answer)) => {
-            *place = Place::Over(answer);
+    match place_behind(alloc, recipe, inputs, done.as_slice()) {
+        Ok(next) => {
+            *place = next;
             Ok(())
         }
         Err(OutOfMemory) => {
             done.pop();
             Err(OutOfMemory)
         }
+    }
+}
+
+/// Where an audit stands that enters the stage behind those that are done.
+fn place_behind(
+    alloc: Global,
+    recipe: &Recipe,
+    inputs: &[Bytes],
+    done: &[Done],
+) -> Result<Place, OutOfMemory>
+    requires given { IsInputs recipe.now inputs.now }
+    requires done { AreDone recipe.now done.now }
+    ensures ok { IfOk result (λ place. stands recipe.now inputs.now done.now place ≡ enter recipe.now inputs.now done.now (todo recipe.now done.now)) }
+    ensures started { IfOk result IsStarted }
+{
+    match enter(alloc, recipe, inputs, done)? {
+        Entry::Started(guest) => Ok(Place::Running(guest)),
+        Entry::Over(answer) => Ok(Place::Over(answer)),
     }
 }
 
