@@ -1,6 +1,6 @@
 //! `kaem-verify SCRIPT LIST REPORT`: the report of a script is judged by a replay of its commands.
 
-ghost use Rattle.std.specs.Prelude.{◌≤◌, length, map};
+ghost use Rattle.std.specs.Prelude.{◌≤◌, if◌then◌else◌, length, map};
 ghost use Rattle.ddc_base.specs.Outside.{IsFileName, ShelfState};
 ghost use Rattle.report.specs.Script.Reading.{script_report_of};
 ghost use Rattle.kaem_script.specs.Faults.{first_script_fault};
@@ -9,6 +9,7 @@ ghost use Rattle.command_plan.specs.Performs.{Performs};
 ghost use Rattle.command_plan.specs.Plan.{answers, unless_refused};
 ghost use Rattle.command_plan.specs.Steps.{Obtains, Says};
 ghost use Rattle.command_plan.specs.Texts.{report_line};
+ghost use Rattle.command_plan.specs.Words.{are_three_files, usage};
 ghost use Rattle.tool_commands.specs.Inside.Listing.{needs_unlisted_words};
 ghost use Rattle.tool_commands.specs.Inside.Placing.{AreApart};
 ghost use Rattle.tool_commands.specs.KaemVerify.{kaem_verify_files, kaem_verify_plan, needs_script_report, script_verdict_plan};
@@ -34,11 +35,27 @@ pub fn perform<S: Shelf>(alloc: Global, words: &[&str], shelf: &mut S) -> Result
     ensures { Performs (kaem_verify_plan (map (λ w. w.now) words.now)) (S.state shelf.old) (S.state shelf.new) result }
 {
     match words {
-        [script, list, report] if are_three_files(script, list, report) => {
-            verify(alloc, shelf, script, list, report)
-        }
+        [script, list, report] => on_words(alloc, shelf, script, list, report),
         _ => usage(alloc),
     }
+}
+
+/// The command on three words.
+#[tactic(auto, using(command_plan::proofs::Performing::performing))]
+fn on_words<S: Shelf>(
+    alloc: Global,
+    shelf: &mut S,
+    script: &str,
+    list: &str,
+    report: &str,
+) -> Result<Answer, Stop>
+    ensures { Performs (if are_three_files script.now list.now report.now then kaem_verify_files script.now list.now report.now else usage)
+        (S.state shelf.old) (S.state shelf.new) result }
+{
+    if !are_three_files(script, list, report) {
+        return usage(alloc);
+    }
+    verify(alloc, shelf, script, list, report)
 }
 
 /// The command on three files.
