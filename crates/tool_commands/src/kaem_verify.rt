@@ -89,8 +89,25 @@ fn verify_listed<S: Shelf>(
         script_verdict_plan (length script.now.commands) (first_script_fault script.now listed made))))) (S.state shelf.old) (S.state shelf.new) result }
 {
     let words = fetch_unlisted(alloc, shelf, list, report)?;
+    verify_words(alloc, shelf, script, &words, report)
+}
+
+/// The command on a script and listed words.
+fn verify_words<S: Shelf>(
+    alloc: Global,
+    shelf: &mut S,
+    script: &Script,
+    words: &ListOf<FileLine>,
+    report: &str,
+) -> Result<Answer, Stop>
+    requires apart { AreApart words.now }
+    requires few { length words.now ≤ 4096 }
+    requires report { IsFileName report.now }
+    ensures { Performs (needs_script_report report.now (λ made. needs_files words.now (λ listed.
+        script_verdict_plan (length script.now.commands) (first_script_fault script.now listed made)))) (S.state shelf.old) (S.state shelf.new) result }
+{
     let report = fetch_report(alloc, shelf, report)?;
-    replay(alloc, shelf, script, &words, &report)
+    replay(alloc, shelf, script, words, &report)
 }
 
 /// The command on a script, listed words and a report.

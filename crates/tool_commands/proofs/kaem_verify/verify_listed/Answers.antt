@@ -4,8 +4,5 @@ use Rattle.tool_commands.proofs.kaem_verify.verify_listed.Goals as goal
 pub returns-in_err-words : goal.returns-in_err-words
 returns-in_err-words g c = ends_with c.from_residual.ensures.1 (ends_before c.in_err-words.ensures.obtained)
 
-pub returns-in_err-report : goal.returns-in_err-report
-returns-in_err-report g c = ends_with c.from_residual-in_err-report.ensures.1 (goes_on_with c.in_ok-words.ensures.obtained (ends_before c.in_err-report.ensures))
-
 pub returns : goal.returns
-returns g c = goes_on_with c.in_ok-words.ensures.obtained (goes_on_with c.in_ok-report.ensures c.replay.ensures)
+returns g c = goes_on_with c.in_ok-words.ensures.obtained c.verify_words.ensures
