@@ -1,12 +1,13 @@
 //! `verify RECIPE REPORT`: a report is judged by a replay.
 
-ghost use Rattle.std.specs.Prelude.{map, None};
+ghost use Rattle.std.specs.Prelude.{if◌then◌else◌, map, None};
 ghost use Rattle.ddc_base.specs.Outside.{IsFileName};
 ghost use Rattle.wheeler.specs.Valid.{IsInputs};
 ghost use Rattle.command_plan.specs.declared.status.Status.TheVariants.{Refuted};
 ghost use Rattle.command_plan.specs.Performs.{Performs};
 ghost use Rattle.command_plan.specs.Plan.{answers};
 ghost use Rattle.command_plan.specs.Steps.{Says};
+ghost use Rattle.command_plan.specs.Words.{are_two_files, usage};
 ghost use Rattle.recipe_plan.specs.Recipes.{needs_apart, needs_inputs};
 ghost use Rattle.recipe_plan.specs.Reports.{needs_report};
 ghost use Rattle.verify_commands.specs.Verify.{judged_report, verified, verify_files, verify_plan};
@@ -33,10 +34,25 @@ pub fn perform<M: Meaning, S: Shelf>(
     ensures { Performs (verify_plan (map (λ w. w.now) words.now)) (S.state shelf.old) (S.state shelf.new) result }
 {
     match words {
-        [recipe, report] if are_two_files(recipe, report) => {
-            verify::<M, S>(alloc, shelf, recipe, report)
-        }
+        [recipe, report] => on_words::<M, S>(alloc, shelf, recipe, report),
         _ => usage(alloc),
+    }
+}
+
+/// The command on two words.
+#[tactic(auto, using(command_plan::proofs::Performing::performing))]
+fn on_words<M: Meaning, S: Shelf>(
+    alloc: Global,
+    shelf: &mut S,
+    recipe: &str,
+    report: &str,
+) -> Result<Answer, Stop>
+    ensures { Performs (if are_two_files recipe.now report.now then verify_files recipe.now report.now else usage) (S.state shelf.old) (S.state shelf.new) result }
+{
+    if are_two_files(recipe, report) {
+        verify::<M, S>(alloc, shelf, recipe, report)
+    } else {
+        usage(alloc)
     }
 }
 
