@@ -9,7 +9,6 @@ use Rattle.wheeler.specs.Valid.{IsInputs}
 use Rattle.audit_run.specs.Delta.Audits.{IsResumedBeside, ResumesAuditBeside}
 use Rattle.audit_run.specs.Delta.Deltas.{IsBaseAt, ResumesBeside, delta_text_of}
 use Rattle.audit_run.specs.Delta.Judged.{behind_base, judged_beside}
-use Rattle.audit_run.specs.Save.Judged.{judged}
 use Rattle.audit_run.specs.Save.Saves.{Resumes}
 use Rattle.audit_run.specs.Saved.{IsResumed, ResumesAudit, standing_at}
 use Rattle.audit_run.specs.Seen.{AuditState, standing}

@@ -1,3 +1,5 @@
 -- What serves the split of the code. No promise of a command rests on these files being read.
 pub mod Keeping
 pub mod Refusing
+pub mod Resuming
+pub mod Leaving

@@ -1,6 +1,6 @@
 //! `audit RECIPE REPORT`: the stages of a recipe are run, and their report is saved.
 
-ghost use Rattle.std.specs.Prelude.{◌≡◌, map, IfOk};
+ghost use Rattle.std.specs.Prelude.{◌≡◌, if◌then◌else◌, map, IfOk};
 ghost use Rattle.ddc_base.specs.Outside.{IsFileName};
 ghost use Rattle.report.specs.Reports.{IsReport};
 ghost use Rattle.wheeler.specs.Bench.{bench};
@@ -9,6 +9,8 @@ ghost use Rattle.command_plan.specs.declared.status.Status.TheVariants.{RunFaile
 ghost use Rattle.command_plan.specs.Performs.{Performs};
 ghost use Rattle.command_plan.specs.Plan.{answers};
 ghost use Rattle.command_plan.specs.Steps.{Says};
+ghost use Rattle.command_plan.specs.Words.{are_two_files, usage};
+ghost use Rattle.recipe_plan.specs.Recipes.{needs_apart, needs_inputs};
 ghost use Rattle.recipe_plan.specs.Reports.{compared_status};
 ghost use Rattle.recipe_plan.specs.Texts.{compared_lines};
 ghost use Rattle.audit_commands.specs.Audit.{audited, audit_files, audit_plan, completed, undone};
@@ -33,22 +35,52 @@ pub fn perform<S: Shelf>(alloc: Global, words: &[&str], shelf: &mut S) -> Result
     ensures { Performs (audit_plan (map (λ w. w.now) words.now)) (S.state shelf.old) (S.state shelf.new) result }
 {
     match words {
-        [recipe, report] if are_two_files(recipe, report) => audit(alloc, shelf, recipe, report),
+        [recipe, report] => on_words(alloc, shelf, recipe, report),
         _ => usage(alloc),
     }
 }
 
+/// The command on two words.
+#[tactic(auto, using(command_plan::proofs::Performing::performing))]
+fn on_words<S: Shelf>(
+    alloc: Global,
+    shelf: &mut S,
+    recipe: &str,
+    report: &str,
+) -> Result<Answer, Stop>
+    ensures { Performs (if are_two_files recipe.now report.now then audit_files recipe.now report.now else usage) (S.state shelf.old) (S.state shelf.new) result }
+{
+    if are_two_files(recipe, report) {
+        audit(alloc, shelf, recipe, report)
+    } else {
+        usage(alloc)
+    }
+}
+
 /// The command on two files.
-#[tactic(auto, using(command_plan::proofs::Obtaining::obtaining), unfolding(crate::specs::Audit::audit_files))]
 fn audit<S: Shelf>(alloc: Global, shelf: &mut S, recipe: &str, report: &str) -> Result<Answer, Stop>
     requires recipe { IsFileName recipe.now }
     requires report { IsFileName report.now }
     ensures { Performs (audit_files recipe.now report.now) (S.state shelf.old) (S.state shelf.new) result }
 {
     let recipe = fetch_recipe(alloc, shelf, recipe)?;
-    apart(alloc, &recipe, report)?;
-    let inputs = fetch_inputs(alloc, shelf, &recipe)?;
-    run_whole(alloc, &recipe, &inputs, report, shelf)
+    run(alloc, shelf, &recipe, report)
+}
+
+/// The command on a recipe, which it leaves to its caller to let go.
+fn run<S: Shelf>(
+    alloc: Global,
+    shelf: &mut S,
+    recipe: &Recipe,
+    report: &str,
+) -> Result<Answer, Stop>
+    requires { IsFileName report.now }
+    ensures { Performs (needs_apart recipe.now report.now (λ _. needs_inputs recipe.now (λ inputs. audited recipe.now report.now (bench recipe.now inputs))))
+        (S.state shelf.old) (S.state shelf.new) result }
+{
+    apart(alloc, recipe, report)?;
+    let inputs = fetch_inputs(alloc, shelf, recipe)?;
+    run_whole(alloc, recipe, &inputs, report, shelf)
 }
 
 /// The audit: its report is saved, or it is said which stage is not done.

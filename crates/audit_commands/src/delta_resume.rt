@@ -7,23 +7,23 @@ ghost use Rattle.recipe.specs.Kept.{IsRecipe};
 ghost use Rattle.wheeler.specs.Valid.{IsInputs};
 ghost use Rattle.command_plan.specs.declared.status.Status.TheVariants.{SaveRefused};
 ghost use Rattle.command_plan.specs.Performs.{Performs};
-ghost use Rattle.command_plan.specs.Plan.{answers};
+ghost use Rattle.command_plan.specs.Plan.{answers, needs};
 ghost use Rattle.command_plan.specs.Steps.{Says};
+ghost use Rattle.recipe_plan.specs.Recipes.{needs_inputs};
 ghost use Rattle.audit_run.specs.Delta.Audits.{IsResumedBeside, ResumesAuditBeside};
 ghost use Rattle.audit_commands.specs.Delta.{delta_resume_files, delta_resume_plan, delta_words, resumes_beside};
 ghost use Rattle.audit_commands.specs.Inside.Refusing.{RefusesDelta};
 ghost use Rattle.audit_commands.specs.PauseTexts.{delta_refused_line};
 
+use crate::fetching::{SAVE_LIMIT, fetch_beside, fetch_save};
 use crate::going::{Kept, go_on};
 use crate::pause_texts;
-use crate::resume::SAVE_LIMIT;
 use crate::words::are_four_files;
 use audit_run::{Audit, DeltaRefusal};
 use command_plan::words::steps_of;
 use command_plan::{Answer, Status, Stop, fetch, usage};
 use ddc_base::{Bytes, Shelf};
 use recipe::{Inputs, Recipe};
-use recipe_plan::{apart, fetch_inputs, fetch_recipe};
 use std::alloc::Global;
 
 /// Performs the command on the words after its name.
@@ -61,7 +61,6 @@ fn on_words<S: Shelf>(
 }
 
 /// The command on four files and a number of steps.
-#[tactic(auto, using(command_plan::proofs::Obtaining::obtaining), unfolding(crate::specs::Delta::delta_resume_files))]
 fn delta_resume<S: Shelf>(
     alloc: Global,
     shelf: &mut S,
@@ -78,13 +77,29 @@ fn delta_resume<S: Shelf>(
     requires report { IsFileName report.now }
     ensures { Performs (delta_resume_files recipe.now base.now patch.now report.now steps) (S.state shelf.old) (S.state shelf.new) result }
 {
-    let recipe = fetch_recipe(alloc, shelf, recipe)?;
-    apart(alloc, &recipe, report)?;
-    apart(alloc, &recipe, base)?;
-    apart(alloc, &recipe, patch)?;
+    let recipe = fetch_beside(alloc, shelf, recipe, report, base, patch)?;
+    load(alloc, shelf, recipe, base, patch, report, steps)
+}
+
+/// The command on a recipe.
+fn load<S: Shelf>(
+    alloc: Global,
+    shelf: &mut S,
+    recipe: Recipe,
+    base: &str,
+    patch: &str,
+    report: &str,
+    steps: u64,
+) -> Result<Answer, Stop>
+    requires some { 1 ≤ steps }
+    requires base { IsFileName base.now }
+    requires patch { IsFileName patch.now }
+    requires report { IsFileName report.now }
+    ensures { Performs (needs base.now 4_294_967_296 (λ text. needs patch.now 4_294_967_296 (λ delta. needs_inputs recipe (λ inputs.
+        resumes_beside recipe inputs text delta patch.now report.now steps)))) (S.state shelf.old) (S.state shelf.new) result }
+{
     let save = fetch(alloc, shelf, base, SAVE_LIMIT)?;
-    let delta = fetch(alloc, shelf, patch, SAVE_LIMIT)?;
-    let inputs = fetch_inputs(alloc, shelf, &recipe)?;
+    let (delta, inputs) = fetch_save(alloc, shelf, &recipe, patch)?;
     go_from(
         alloc,
         recipe,

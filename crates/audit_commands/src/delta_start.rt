@@ -7,15 +7,15 @@ ghost use Rattle.wheeler.specs.Valid.{IsInputs};
 ghost use Rattle.command_plan.specs.Performs.{Performs};
 ghost use Rattle.audit_commands.specs.Delta.{delta_start_files, delta_start_plan, delta_words, starts_beside};
 
+use crate::fetching::{fetch_beside, fetch_save};
 use crate::going::{Kept, go_on};
-use crate::resume::{SAVE_LIMIT, refuse};
+use crate::resume::refuse;
 use crate::words::are_four_files;
 use audit_run::Audit;
 use command_plan::words::steps_of;
-use command_plan::{Answer, Stop, fetch, usage};
+use command_plan::{Answer, Stop, usage};
 use ddc_base::Shelf;
 use recipe::{Inputs, Recipe};
-use recipe_plan::{apart, fetch_inputs, fetch_recipe};
 use std::alloc::Global;
 
 /// Performs the command on the words after its name.
@@ -53,7 +53,6 @@ fn on_words<S: Shelf>(
 }
 
 /// The command on four files and a number of steps.
-#[tactic(auto, using(command_plan::proofs::Obtaining::obtaining), unfolding(crate::specs::Delta::delta_start_files))]
 fn delta_start<S: Shelf>(
     alloc: Global,
     shelf: &mut S,
@@ -70,12 +69,8 @@ fn delta_start<S: Shelf>(
     requires report { IsFileName report.now }
     ensures { Performs (delta_start_files recipe.now base.now patch.now report.now steps) (S.state shelf.old) (S.state shelf.new) result }
 {
-    let recipe = fetch_recipe(alloc, shelf, recipe)?;
-    apart(alloc, &recipe, report)?;
-    apart(alloc, &recipe, base)?;
-    apart(alloc, &recipe, patch)?;
-    let save = fetch(alloc, shelf, base, SAVE_LIMIT)?;
-    let inputs = fetch_inputs(alloc, shelf, &recipe)?;
+    let recipe = fetch_beside(alloc, shelf, recipe, report, base, patch)?;
+    let (save, inputs) = fetch_save(alloc, shelf, &recipe, base)?;
     go_from(
         alloc,
         recipe,

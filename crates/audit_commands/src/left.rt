@@ -1,6 +1,6 @@
 //! `left RECIPE STAGE FILE OUT`: a stage's program is run, whatever it ends with, and what it left at one place is saved.
 
-ghost use Rattle.std.specs.Prelude.{◌≡◌, ◌+◌, ◌≤◌, ◌^◌, IfOk, IfSome, IsTrue, Some, length, map, slice_get};
+ghost use Rattle.std.specs.Prelude.{◌≡◌, ◌+◌, ◌<◌, ◌≤◌, ◌^◌, IfOk, IfSome, IsTrue, Some, if◌then◌else◌, length, map, slice_get};
 ghost use Rattle.std.specs.Option.{option_copied};
 ghost use Rattle.ddc_base.specs.Outside.{IsFileName};
 ghost use Rattle.mem_files.specs.Names.{is_stripped_name, stripped};
@@ -8,6 +8,10 @@ ghost use Rattle.recipe.specs.Kept.{IsRecipe};
 ghost use Rattle.wheeler.specs.Stages.{contents, start_stage};
 ghost use Rattle.wheeler.specs.Valid.{AreDone, IsInputs};
 ghost use Rattle.command_plan.specs.Performs.{Performs};
+ghost use Rattle.command_plan.specs.Words.{usage};
+ghost use Rattle.recipe_plan.specs.Recipes.{needs_apart, needs_inputs};
+ghost use Rattle.audit_commands.specs.Step.{needs_stage};
+ghost use Rattle.audit_commands.specs.Inside.Leaving.{left_behind};
 ghost use Rattle.audit_commands.specs.Left.{absent_status, are_left_words, run_left, ends_left, bytes_left_at, left_by, left_of_stage, left_files, file_left_line, left_plan, left_status, none_left_line};
 
 use crate::audit::undone;
@@ -19,7 +23,7 @@ use command_plan::{Answer, Status, Stop, keep, usage};
 use ddc_base::{Bytes, OutOfMemory, Shelf};
 use guest_run::{Guest, RunEnd, RunRam};
 use mem_files::{Files, is_stripped_name, strip};
-use recipe::{Recipe, Stage};
+use recipe::{Inputs, Recipe, Stage};
 use recipe_plan::{apart, fetch_inputs, fetch_recipe};
 use std::alloc::Global;
 use wheeler::{Fault, RunCause};
@@ -29,9 +33,25 @@ use wheeler::{Fault, RunCause};
 pub fn perform<S: Shelf>(alloc: Global, words: &[&str], shelf: &mut S) -> Result<Answer, Stop>
     ensures { Performs (left_plan (map (λ w. w.now) words.now)) (S.state shelf.old) (S.state shelf.new) result }
 {
-    let [recipe, stage, file, out] = words else {
-        return usage(alloc);
-    };
+    match words {
+        [recipe, stage, file, out] => on_words(alloc, shelf, recipe, stage, file, out),
+        _ => usage(alloc),
+    }
+}
+
+/// The command on four words.
+#[tactic(auto, using(command_plan::proofs::Performing::performing))]
+fn on_words<S: Shelf>(
+    alloc: Global,
+    shelf: &mut S,
+    recipe: &str,
+    stage: &str,
+    file: &str,
+    out: &str,
+) -> Result<Answer, Stop>
+    ensures { Performs (if are_left_words recipe.now stage.now file.now out.now then left_files recipe.now stage.now file.now out.now else usage)
+        (S.state shelf.old) (S.state shelf.new) result }
+{
     if !are_left_words(recipe, stage, file, out) {
         return usage(alloc);
     }
@@ -66,14 +86,50 @@ fn left<S: Shelf>(
     ensures { Performs (left_files recipe.now stage.now file.now out.now) (S.state shelf.old) (S.state shelf.new) result }
 {
     let recipe = fetch_recipe(alloc, shelf, recipe)?;
-    let count = stages_before(alloc, &recipe, stage)?;
-    apart(alloc, &recipe, out)?;
-    let inputs = fetch_inputs(alloc, shelf, &recipe)?;
-    let done = run_before(alloc, &recipe, &inputs, count)?;
+    find(alloc, shelf, &recipe, stage, file, out)
+}
+
+/// The command on a recipe, which it leaves to its caller to let go.
+fn find<S: Shelf>(
+    alloc: Global,
+    shelf: &mut S,
+    recipe: &Recipe,
+    stage: &str,
+    file: &str,
+    out: &str,
+) -> Result<Answer, Stop>
+    requires out { IsFileName out.now }
+    requires file { IsTrue (is_stripped_name (stripped file.now)) }
+    ensures { Performs (needs_stage recipe.now stage.now (λ count. needs_apart recipe.now out.now (λ _. needs_inputs recipe.now (λ inputs.
+        left_behind recipe.now inputs count file.now out.now)))) (S.state shelf.old) (S.state shelf.new) result }
+{
+    let count = stages_before(alloc, recipe, stage)?;
+    apart(alloc, recipe, out)?;
+    let inputs = fetch_inputs(alloc, shelf, recipe)?;
+    run_earlier(alloc, shelf, recipe, &inputs, count, file, out)
+}
+
+/// Runs so many stages, and then the one behind them.
+fn run_earlier<S: Shelf>(
+    alloc: Global,
+    shelf: &mut S,
+    recipe: &Recipe,
+    inputs: &Inputs,
+    count: usize,
+    file: &str,
+    out: &str,
+) -> Result<Answer, Stop>
+    requires given { IsInputs recipe.now inputs.now }
+    requires count { count < length recipe.now.stages }
+    requires out { IsFileName out.now }
+    requires file { IsTrue (is_stripped_name (stripped file.now)) }
+    ensures { Performs (left_behind recipe.now inputs.now count file.now out.now) (S.state shelf.old) (S.state shelf.new) result }
+{
+    let done = run_before(alloc, recipe, inputs, count)?;
     run_behind(
         alloc,
         shelf,
-        &recipe,
+        recipe,
         inputs.as_slice(),
         done.as_slice(),
         file,

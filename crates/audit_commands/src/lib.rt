@@ -10,6 +10,7 @@ mod causes;
 pub mod delta_resume;
 pub mod delta_start;
 pub mod demo;
+mod fetching;
 mod generated;
 mod going;
 pub mod laws;

@@ -1,6 +1,6 @@
 //! `resume RECIPE SAVE REPORT STEPS`: another piece of an audit, from where a save says that it stands.
 
-ghost use Rattle.std.specs.Prelude.{◌≤◌, map};
+ghost use Rattle.std.specs.Prelude.{◌≤◌, if◌then◌else◌, map};
 ghost use Rattle.ddc_base.specs.Outside.{IsFileName, ShelfState};
 ghost use Rattle.wheeler.specs.Valid.{IsInputs};
 ghost use Rattle.audit_run.specs.Saved.{ResumesAudit, standing_at};
@@ -8,32 +8,47 @@ ghost use Rattle.command_plan.specs.declared.status.Status.TheVariants.{SaveRefu
 ghost use Rattle.command_plan.specs.Performs.{Performs};
 ghost use Rattle.command_plan.specs.Plan.{answers};
 ghost use Rattle.command_plan.specs.Steps.{Obtains, Says};
+ghost use Rattle.command_plan.specs.Words.{are_three_files, as_steps, or_usage, usage};
 ghost use Rattle.audit_commands.specs.Inside.Refusing.{Refuses};
+ghost use Rattle.audit_commands.specs.Inside.Resuming.{resumes_whole};
 ghost use Rattle.audit_commands.specs.Pause.{needs_position, resume_files, resume_plan};
 ghost use Rattle.audit_commands.specs.PauseTexts.{save_refused_line};
 
+use crate::fetching::{fetch_apart, fetch_save};
 use crate::going::{Kept, go_on};
 use crate::pause_texts;
 use audit_run::Audit;
 use audit_run::save::SaveRefusal;
 use command_plan::words::{are_three_files, steps_of};
-use command_plan::{Answer, Status, Stop, fetch, usage};
+use command_plan::{Answer, Status, Stop, usage};
 use ddc_base::{Bytes, Shelf};
 use recipe::{Inputs, Recipe};
-use recipe_plan::{apart, fetch_inputs, fetch_recipe};
 use std::alloc::Global;
-
-/// The most bytes of a save or a delta that is loaded. Each of a position has fewer.
-pub(crate) const SAVE_LIMIT: u64 = 4_294_967_296;
 
 /// Performs the command on the words after its name.
 #[tactic(auto, using(command_plan::proofs::Performing::performing))]
 pub fn perform<S: Shelf>(alloc: Global, words: &[&str], shelf: &mut S) -> Result<Answer, Stop>
     ensures { Performs (resume_plan (map (λ w. w.now) words.now)) (S.state shelf.old) (S.state shelf.new) result }
 {
-    let [recipe, save, report, steps] = words else {
-        return usage(alloc);
-    };
+    match words {
+        [recipe, save, report, steps] => on_words(alloc, shelf, recipe, save, report, steps),
+        _ => usage(alloc),
+    }
+}
+
+/// The command on four words.
+#[tactic(auto, using(command_plan::proofs::Performing::performing))]
+fn on_words<S: Shelf>(
+    alloc: Global,
+    shelf: &mut S,
+    recipe: &str,
+    save: &str,
+    report: &str,
+    steps: &str,
+) -> Result<Answer, Stop>
+    ensures { Performs (or_usage (as_steps steps.now) (λ count. if are_three_files recipe.now save.now report.now then resume_files recipe.now save.now report.now count else usage))
+        (S.state shelf.old) (S.state shelf.new) result }
+{
     match steps_of(steps) {
         Some(steps) if are_three_files(recipe, save, report) => {
             resume(alloc, shelf, recipe, save, report, steps)
@@ -43,7 +58,6 @@ pub fn perform<S: Shelf>(alloc: Global, words: &[&str], shelf: &mut S) -> Result
 }
 
 /// The command on three files and a number of steps.
-#[tactic(auto, using(command_plan::proofs::Obtaining::obtaining), unfolding(crate::specs::Pause::resume_files))]
 fn resume<S: Shelf>(
     alloc: Global,
     shelf: &mut S,
@@ -58,11 +72,28 @@ fn resume<S: Shelf>(
     requires report { IsFileName report.now }
     ensures { Performs (resume_files recipe.now save.now report.now steps) (S.state shelf.old) (S.state shelf.new) result }
 {
-    let recipe = fetch_recipe(alloc, shelf, recipe)?;
-    apart(alloc, &recipe, report)?;
-    apart(alloc, &recipe, save)?;
-    let text = fetch(alloc, shelf, save, SAVE_LIMIT)?;
-    let inputs = fetch_inputs(alloc, shelf, &recipe)?;
+    let recipe = fetch_apart(alloc, shelf, recipe, report, save)?;
+    let (text, inputs) = fetch_save(alloc, shelf, &recipe, save)?;
+    go_from(alloc, recipe, inputs, text, steps, save, report, shelf)
+}
+
+/// Goes on from where a save says that the audit stands.
+fn go_from<S: Shelf>(
+    alloc: Global,
+    recipe: Recipe,
+    inputs: Inputs,
+    text: Bytes,
+    steps: u64,
+    save: &str,
+    report: &str,
+    shelf: &mut S,
+) -> Result<Answer, Stop>
+    requires given { IsInputs recipe inputs }
+    requires some { 1 ≤ steps }
+    requires save { IsFileName save.now }
+    requires report { IsFileName report.now }
+    ensures { Performs (resumes_whole recipe inputs text save.now report.now steps) (S.state shelf.old) (S.state shelf.new) result }
+{
     let audit = audit_at(alloc, recipe, inputs, text)?;
     go_on(alloc, audit, steps, Kept::Whole, save, report, shelf)
 }

@@ -4,13 +4,18 @@ ghost use Rattle.std.specs.Prelude.{◌≡◌, ◌<◌, All, IfOk, IfSome, IsTru
 ghost use Rattle.ddc_base.specs.Outside.{IsFileName, ShelfState, SinkState};
 ghost use Rattle.mem_files.specs.Outputs.{IsContent};
 ghost use Rattle.prompt.specs.Prompts.{PromptState};
+ghost use Rattle.prompt.specs.Talks.{talk};
 ghost use Rattle.recipe.specs.Lookups.{stage_at};
+ghost use Rattle.session.specs.Sessions.{reply_to};
 ghost use Rattle.wheeler.specs.Stages.{contents};
 ghost use Rattle.wheeler.specs.Valid.{AreDone, IsInputs};
 ghost use Rattle.audit_run.specs.Stage.Rules.{AreMade, IsStageOf};
 ghost use Rattle.command_plan.specs.Performs.{PerformsTalk};
+ghost use Rattle.command_plan.specs.Plan.{talks};
 ghost use Rattle.command_plan.specs.Steps.{Obtains};
 ghost use Rattle.command_plan.specs.Words.{usage};
+ghost use Rattle.recipe_plan.specs.Recipes.{needs_inputs};
+ghost use Rattle.audit_commands.specs.Inside.Leaving.{talks_behind};
 ghost use Rattle.audit_commands.specs.Step.{are_step_words, needs_earlier, needs_session, needs_stage, session_of, step_plan, step_stage};
 
 use crate::audit::undone;
@@ -88,10 +93,59 @@ fn step<S: Shelf, K: Sink, P: Prompt>(
         (K.state out.old) (K.state out.new) (P.state prompt.old) (P.state prompt.new) result }
 {
     let recipe = fetch_recipe(alloc, shelf, recipe)?;
-    let count = stages_before(alloc, &recipe, stage)?;
-    let inputs = fetch_inputs(alloc, shelf, &recipe)?;
-    let done = run_before(alloc, &recipe, &inputs, count)?;
-    let mut session = start_session(alloc, &recipe, &inputs, &done)?;
+    find(alloc, &recipe, stage, shelf, out, prompt)
+}
+
+/// The command on a recipe, which it leaves to its caller to let go.
+fn find<S: Shelf, K: Sink, P: Prompt>(
+    alloc: Global,
+    recipe: &Recipe,
+    stage: &str,
+    shelf: &mut S,
+    out: &mut K,
+    prompt: &mut P,
+) -> Result<Result<(), PutFail>, Stop>
+    ensures { PerformsTalk (needs_stage recipe.now stage.now (λ count. needs_inputs recipe.now (λ inputs. talks_behind recipe.now inputs count)))
+        (S.state shelf.old) (S.state shelf.new) (K.state out.old) (K.state out.new) (P.state prompt.old) (P.state prompt.new) result }
+{
+    let count = stages_before(alloc, recipe, stage)?;
+    let inputs = fetch_inputs(alloc, shelf, recipe)?;
+    talk_behind(alloc, recipe, &inputs, count, out, prompt)
+}
+
+/// Runs so many stages, and answers lines about the one behind them.
+fn talk_behind<K: Sink, P: Prompt>(
+    alloc: Global,
+    recipe: &Recipe,
+    inputs: &Inputs,
+    count: usize,
+    out: &mut K,
+    prompt: &mut P,
+) -> Result<Result<(), PutFail>, Stop>
+    requires given { IsInputs recipe.now inputs.now }
+    requires count { count < length recipe.now.stages }
+    ensures { (shelf : ShelfState) → PerformsTalk (talks_behind recipe.now inputs.now count) shelf shelf
+        (K.state out.old) (K.state out.new) (P.state prompt.old) (P.state prompt.new) result }
+{
+    let done = run_before(alloc, recipe, inputs, count)?;
+    talk(alloc, recipe, inputs, &done, out, prompt)
+}
+
+/// Answers lines about the stage behind those that are done.
+fn talk<K: Sink, P: Prompt>(
+    alloc: Global,
+    recipe: &Recipe,
+    inputs: &Inputs,
+    done: &ListOf<Done>,
+    out: &mut K,
+    prompt: &mut P,
+) -> Result<Result<(), PutFail>, Stop>
+    requires given { IsInputs recipe.now inputs.now }
+    requires done { AreDone recipe.now done.now }
+    ensures { (shelf : ShelfState) → PerformsTalk (needs_session recipe.now inputs.now done.now (λ session. talks (talk reply_to session 65_536))) shelf shelf
+        (K.state out.old) (K.state out.new) (P.state prompt.old) (P.state prompt.new) result }
+{
+    let mut session = start_session(alloc, recipe, inputs, done)?;
     Ok(converse(&mut session, MOST_LINES, prompt, out))
 }
 

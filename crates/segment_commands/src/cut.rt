@@ -1,6 +1,6 @@
 //! `cut RECIPE STAGE EVERY PREFIX`: states along a stage's run are saved.
 
-ghost use Rattle.std.specs.Prelude.{◌≤◌, ◌<◌, ◌+◌, ◌^◌, IsTrue, map};
+ghost use Rattle.std.specs.Prelude.{◌≤◌, ◌<◌, ◌+◌, ◌^◌, IsTrue, if◌then◌else◌, map};
 ghost use Rattle.ddc_base.specs.Outside.{IsFileName};
 ghost use Rattle.guest_run.specs.Run.{first_end};
 ghost use Rattle.segments.specs.Segments.{second_text};
@@ -10,12 +10,13 @@ ghost use Rattle.wheeler.specs.Stages.{contents, start_stage};
 ghost use Rattle.command_plan.specs.Performs.{Performs};
 ghost use Rattle.command_plan.specs.Plan.{answers, unless_refused};
 ghost use Rattle.command_plan.specs.Steps.{Saves, Says};
+ghost use Rattle.command_plan.specs.Words.{as_steps, or_usage, usage};
 ghost use Rattle.command_plan.specs.declared.status.Status.TheVariants.{Yes};
 ghost use Rattle.segment_commands.specs.Cut.{came_on, cut_files, cut_from, cut_plan, cut_ready, next_steps, saved_from};
 ghost use Rattle.segment_commands.specs.Exits.{output_left, run_failed};
 ghost use Rattle.segment_commands.specs.Inside.Going.{ComesOn, IsBelow};
 ghost use Rattle.segment_commands.specs.Inside.Kept.{IsReady};
-ghost use Rattle.segment_commands.specs.Names.{is_prefix, piece_name};
+ghost use Rattle.segment_commands.specs.Names.{are_stage_words, is_prefix, piece_name};
 ghost use Rattle.segment_commands.specs.States.{state_after};
 ghost use Rattle.segment_commands.specs.Texts.{cut_line};
 
@@ -39,9 +40,25 @@ use wheeler::RunCause;
 pub fn perform<S: Shelf>(alloc: Global, words: &[&str], shelf: &mut S) -> Result<Answer, Stop>
     ensures { Performs (cut_plan (map (λ w. w.now) words.now)) (S.state shelf.old) (S.state shelf.new) result }
 {
-    let [recipe, stage, every, prefix] = words else {
-        return usage(alloc);
-    };
+    match words {
+        [recipe, stage, every, prefix] => on_words(alloc, shelf, recipe, stage, every, prefix),
+        _ => usage(alloc),
+    }
+}
+
+/// The command on four words.
+#[tactic(auto, using(command_plan::proofs::Performing::performing))]
+fn on_words<S: Shelf>(
+    alloc: Global,
+    shelf: &mut S,
+    recipe: &str,
+    stage: &str,
+    every: &str,
+    prefix: &str,
+) -> Result<Answer, Stop>
+    ensures { Performs (or_usage (as_steps every.now) (λ steps. if are_stage_words recipe.now stage.now prefix.now then cut_files recipe.now stage.now steps prefix.now else usage))
+        (S.state shelf.old) (S.state shelf.new) result }
+{
     match steps_of(every) {
         Some(every) if are_stage_words(recipe, stage, prefix) => {
             cut(alloc, shelf, recipe, stage, every, prefix)

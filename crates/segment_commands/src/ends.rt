@@ -1,6 +1,6 @@
 //! `ends RECIPE STAGE PREFIX COUNT`: whether the first saved state is that of the stage's start, and how the run behind the last one ends.
 
-ghost use Rattle.std.specs.Prelude.{◌≡◌, ◌≤◌, ◌<◌, ◌+◌, ◌^◌, Err, IsTrue, map};
+ghost use Rattle.std.specs.Prelude.{◌≡◌, ◌≤◌, ◌<◌, ◌+◌, ◌-◌, ◌^◌, Err, IsTrue, if◌then◌else◌, map};
 ghost use Rattle.ddc_base.specs.Outside.{IsFileName};
 ghost use Rattle.audit_run.specs.Stage.Rules.{IsStageOf};
 ghost use Rattle.guest_run.specs.Start.{start_of};
@@ -9,12 +9,13 @@ ghost use Rattle.segments.specs.Faults.{start_refusal_of, state_fault_number};
 ghost use Rattle.segments.specs.Segments.{EndsWith};
 ghost use Rattle.command_plan.specs.declared.status.Status.TheVariants.{Refuted, Yes};
 ghost use Rattle.command_plan.specs.Performs.{Performs};
-ghost use Rattle.command_plan.specs.Plan.{answers, unless_refused};
+ghost use Rattle.command_plan.specs.Plan.{answers, needs, unless_refused};
 ghost use Rattle.command_plan.specs.Steps.{Says};
+ghost use Rattle.command_plan.specs.Words.{or_usage, usage};
 ghost use Rattle.segment_commands.specs.Ends.{ends_files, ends_judged, ends_plan, needs_first, needs_last};
 ghost use Rattle.segment_commands.specs.Exits.{output_left, run_failed};
 ghost use Rattle.segment_commands.specs.Inside.Kept.{IsReady};
-ghost use Rattle.segment_commands.specs.Names.{is_prefix};
+ghost use Rattle.segment_commands.specs.Names.{are_stage_words, as_states, is_prefix, piece_name};
 ghost use Rattle.segment_commands.specs.States.{end_behind, state_said};
 ghost use Rattle.segment_commands.specs.Texts.{other_first_line, refuted_first_line, refuted_last_line, run_record};
 ghost use Rattle.wheeler.specs.Stages.{contents, finished, start_cause, start_stage};
@@ -38,9 +39,25 @@ use wheeler::{RunCause, StartCause};
 pub fn perform<S: Shelf>(alloc: Global, words: &[&str], shelf: &mut S) -> Result<Answer, Stop>
     ensures { Performs (ends_plan (map (λ w. w.now) words.now)) (S.state shelf.old) (S.state shelf.new) result }
 {
-    let [recipe, stage, prefix, count] = words else {
-        return usage(alloc);
-    };
+    match words {
+        [recipe, stage, prefix, count] => on_words(alloc, shelf, recipe, stage, prefix, count),
+        _ => usage(alloc),
+    }
+}
+
+/// The command on four words.
+#[tactic(auto, using(command_plan::proofs::Performing::performing))]
+fn on_words<S: Shelf>(
+    alloc: Global,
+    shelf: &mut S,
+    recipe: &str,
+    stage: &str,
+    prefix: &str,
+    count: &str,
+) -> Result<Answer, Stop>
+    ensures { Performs (or_usage (as_states count.now) (λ states. if are_stage_words recipe.now stage.now prefix.now then ends_files recipe.now stage.now prefix.now states else usage))
+        (S.state shelf.old) (S.state shelf.new) result }
+{
     match states_of(count) {
         Some(count) if are_stage_words(recipe, stage, prefix) => {
             ends(alloc, shelf, recipe, stage, prefix, count)
@@ -65,9 +82,27 @@ fn ends<S: Shelf>(
     ensures { Performs (ends_files recipe.now stage.now prefix.now count) (S.state shelf.old) (S.state shelf.new) result }
 {
     let ready = make_ready(alloc, shelf, recipe, stage, prefix)?;
+    judge_states(alloc, shelf, &ready, prefix, count)
+}
+
+/// The command on what it begins with.
+fn judge_states<S: Shelf>(
+    alloc: Global,
+    shelf: &mut S,
+    ready: &Ready,
+    prefix: &str,
+    count: u32,
+) -> Result<Answer, Stop>
+    requires ready { IsReady ready.now }
+    requires prefix { IsTrue (is_prefix prefix.now) }
+    requires some { 1 ≤ count }
+    requires few { count ≤ 1_000 }
+    ensures { Performs (needs (piece_name prefix.now 0) 4_294_967_296 (λ first. needs (piece_name prefix.now (count - 1)) 4_294_967_296 (λ last.
+        ends_judged ready.now first last))) (S.state shelf.old) (S.state shelf.new) result }
+{
     let first = fetch_state(alloc, shelf, prefix, 0)?;
     let last = fetch_state(alloc, shelf, prefix, count - 1)?;
-    judge(alloc, &ready, first.as_slice(), last.as_slice())
+    judge(alloc, ready, first.as_slice(), last.as_slice())
 }
 
 /// Judges both texts by the stage behind those that are done.

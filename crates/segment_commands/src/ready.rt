@@ -1,11 +1,17 @@
 //! What `cut` and `ends` begin with.
 
-ghost use Rattle.std.specs.Prelude.{◌≡◌, IfOk, IfSome, IsTrue, MatchOption, None, Some, length, slice_get};
+ghost use Rattle.std.specs.Prelude.{◌≡◌, ℕ, IfOk, IfSome, IsTrue, List, MatchOption, None, Some, length, slice_get};
 ghost use Rattle.audit_run.specs.Stage.Rules.{IsStageOf};
 ghost use Rattle.ddc_base.specs.Outside.{IsFileName};
+ghost use Rattle.recipe.specs.Kept.{IsRecipe};
+ghost use Rattle.wheeler.specs.Valid.{AreDone, IsInputs};
+ghost use Rattle.wheeler.specs.declared.answer.Finished.{Finished};
+ghost use Rattle.command_plan.specs.Plan.{Plan};
 ghost use Rattle.command_plan.specs.Steps.{Obtains};
+ghost use Rattle.recipe_plan.specs.Recipes.{needs_apart, needs_inputs};
+ghost use Rattle.audit_commands.specs.Step.{needs_earlier, needs_stage};
 ghost use Rattle.segment_commands.specs.Inside.Kept.{IsReady};
-ghost use Rattle.segment_commands.specs.Names.{is_prefix};
+ghost use Rattle.segment_commands.specs.Names.{each_name, is_prefix};
 ghost use Rattle.segment_commands.specs.Ready.{needs_ready};
 
 use crate::names::{names_apart, names_beside};
@@ -40,15 +46,34 @@ pub(crate) fn make_ready<S: Shelf>(
 {
     names_beside(alloc, recipe, prefix)?;
     let recipe = fetch_recipe(alloc, shelf, recipe)?;
-    let count = stages_before(alloc, &recipe, stage)?;
-    names_apart(alloc, &recipe, prefix)?;
-    let inputs = fetch_inputs(alloc, shelf, &recipe)?;
-    let done = run_before(alloc, &recipe, &inputs, count)?;
+    let (inputs, done) = run_stages(alloc, shelf, &recipe, stage, prefix)?;
     Ok(Ready {
         recipe,
         inputs,
         done,
     })
+}
+
+/// The inputs of a recipe, and its stages before STAGE, which are run.
+fn run_stages<S: Shelf>(
+    alloc: Global,
+    shelf: &mut S,
+    recipe: &Recipe,
+    stage: &str,
+    prefix: &str,
+) -> Result<(Inputs, ListOf<Done>), Stop>
+    requires { IsTrue (is_prefix prefix.now) }
+    ensures obtained { Obtains (λ (next : List (List ℕ) × List Finished → Plan). needs_stage recipe.now stage.now (λ count. each_name (needs_apart recipe.now) prefix.now 1_000 (λ _.
+        needs_inputs recipe.now (λ inputs. needs_earlier recipe.now inputs count (λ done. next (inputs, done)))))) (S.state shelf.old) (S.state shelf.new) result }
+    ensures given { IfOk result (λ found. IsInputs recipe.now found.0) }
+    ensures done { IfOk result (λ found. AreDone recipe.now found.1) }
+    ensures kept { IfOk result (λ found. IsRecipe recipe.now) }
+{
+    let count = stages_before(alloc, recipe, stage)?;
+    names_apart(alloc, recipe, prefix)?;
+    let inputs = fetch_inputs(alloc, shelf, recipe)?;
+    let done = run_before(alloc, recipe, &inputs, count)?;
+    Ok((inputs, done))
 }
 
 /// The stage behind those that are done.

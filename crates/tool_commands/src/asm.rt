@@ -1,11 +1,13 @@
 //! `asm LANG BASE SOURCE OUT`: what a source comes to is saved.
 
-ghost use Rattle.std.specs.Prelude.{◌≡◌, ◌≤◌, ◌^◌, IfOk, IfSome, map};
+ghost use Rattle.std.specs.Prelude.{◌≡◌, ◌≤◌, ◌^◌, IfOk, IfSome, if◌then◌else◌, map};
+ghost use Rattle.ddc_base.specs.Languages.Words.{language_named};
 ghost use Rattle.ddc_base.specs.Outside.{IsFileName, ShelfState};
 ghost use Rattle.command_plan.specs.declared.status.Status.TheVariants.{CheckFailed};
 ghost use Rattle.command_plan.specs.Performs.{Performs};
 ghost use Rattle.command_plan.specs.Plan.{answers};
 ghost use Rattle.command_plan.specs.Steps.{Obtains, Says};
+ghost use Rattle.command_plan.specs.Words.{are_two_files, or_usage, usage};
 ghost use Rattle.tool_commands.specs.Asm.{made_line, refused_line, as_base, needs_items, needs_made, needs_value, asm_files, asm_plan};
 ghost use Rattle.tool_commands.specs.Inside.Refusing.{Refuses, RefusesM1};
 
@@ -26,13 +28,46 @@ const GREATEST_BASE: u64 = 137_438_953_472;
 pub fn perform<S: Shelf>(alloc: Global, words: &[&str], shelf: &mut S) -> Result<Answer, Stop>
     ensures { Performs (asm_plan (map (λ w. w.now) words.now)) (S.state shelf.old) (S.state shelf.new) result }
 {
-    let [language, base, source, out] = words else {
-        return usage(alloc);
-    };
-    match (Language::named(language.as_bytes()), base_of(base)) {
-        (Some(language), Some(base)) if are_two_files(source, out) => {
-            asm(alloc, shelf, language, base, source, out)
-        }
+    match words {
+        [language, base, source, out] => on_words(alloc, shelf, language, base, source, out),
+        _ => usage(alloc),
+    }
+}
+
+/// The command on four words.
+#[tactic(auto, using(command_plan::proofs::Performing::performing))]
+fn on_words<S: Shelf>(
+    alloc: Global,
+    shelf: &mut S,
+    language: &str,
+    base: &str,
+    source: &str,
+    out: &str,
+) -> Result<Answer, Stop>
+    ensures { Performs (or_usage (language_named language.now) (λ named. or_usage (as_base base.now) (λ address.
+        if are_two_files source.now out.now then asm_files named address source.now out.now else usage))) (S.state shelf.old) (S.state shelf.new) result }
+{
+    match Language::named(language.as_bytes()) {
+        Some(language) => in_language(alloc, shelf, language, base, source, out),
+        None => usage(alloc),
+    }
+}
+
+/// The command on a language and three words.
+#[tactic(auto, using(command_plan::proofs::Performing::performing))]
+fn in_language<S: Shelf>(
+    alloc: Global,
+    shelf: &mut S,
+    language: Language,
+    base: &str,
+    source: &str,
+    out: &str,
+) -> Result<Answer, Stop>
+    ensures { Performs (or_usage (as_base base.now) (λ address. if are_two_files source.now out.now then asm_files language address source.now out.now else usage))
+        (S.state shelf.old) (S.state shelf.new) result }
+{
+    match base_of(base) {
+        Some(base) if are_two_files(source, out) => asm(alloc, shelf, language, base, source, out),
         _ => usage(alloc),
     }
 }

@@ -1,10 +1,11 @@
 //! `hex0 SOURCE BINARY`: whether the binary is the hex0 value of the source.
 
-ghost use Rattle.std.specs.Prelude.{map};
+ghost use Rattle.std.specs.Prelude.{◌&&◌, if◌then◌else◌, map};
 ghost use Rattle.ddc_base.specs.Difference as difference;
 ghost use Rattle.ddc_base.specs.Outside.{IsFileName};
 ghost use Rattle.command_plan.specs.Performs.{Performs};
 ghost use Rattle.command_plan.specs.Steps.{Says};
+ghost use Rattle.command_plan.specs.Words.{is_file_word, usage};
 ghost use Rattle.hex_langs.specs.Hex0.{hex0_of};
 ghost use Rattle.tool_commands.specs.Hex0.{comparison, hex0_files, hex0_plan};
 
@@ -19,10 +20,26 @@ pub fn perform<S: Shelf>(alloc: Global, words: &[&str], shelf: &mut S) -> Result
     ensures { Performs (hex0_plan (map (λ w. w.now) words.now)) (S.state shelf.old) (S.state shelf.new) result }
 {
     match words {
-        [source, binary] if is_file_word(source) && is_file_word(binary) => {
-            hex0(alloc, shelf, source, binary)
-        }
+        [source, binary] => on_words(alloc, shelf, source, binary),
         _ => usage(alloc),
+    }
+}
+
+/// The command on two words.
+#[tactic(auto, using(command_plan::proofs::Performing::performing))]
+fn on_words<S: Shelf>(
+    alloc: Global,
+    shelf: &mut S,
+    source: &str,
+    binary: &str,
+) -> Result<Answer, Stop>
+    ensures { Performs (if is_file_word source.now && is_file_word binary.now then hex0_files source.now binary.now else usage)
+        (S.state shelf.old) (S.state shelf.new) result }
+{
+    if is_file_word(source) && is_file_word(binary) {
+        hex0(alloc, shelf, source, binary)
+    } else {
+        usage(alloc)
     }
 }
 

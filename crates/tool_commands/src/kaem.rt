@@ -1,6 +1,6 @@
 //! `kaem SCRIPT LIST REPORT STEPS`: the commands of a script are run over listed files, and the script's report is saved.
 
-ghost use Rattle.std.specs.Prelude.{◌≡◌, ◌≤◌, ◌^◌, All, length, map, sum_by};
+ghost use Rattle.std.specs.Prelude.{◌≡◌, ◌≤◌, ◌^◌, All, if◌then◌else◌, length, map, sum_by};
 ghost use Rattle.ddc_base.specs.Outside.{IsFileName};
 ghost use Rattle.report.specs.declared.script.types.CommandLine.{CommandLine as Line};
 ghost use Rattle.report.specs.Script.Reports.{IsCommandLine, IsScriptReport, script_report_text};
@@ -9,11 +9,14 @@ ghost use Rattle.command_plan.specs.declared.status.Status.TheVariants.{RunFaile
 ghost use Rattle.command_plan.specs.Performs.{Performs};
 ghost use Rattle.command_plan.specs.Plan.{answers, sets};
 ghost use Rattle.command_plan.specs.Steps.{Says};
+ghost use Rattle.command_plan.specs.Words.{are_three_files, as_steps, or_usage, usage};
+ghost use Rattle.tool_commands.specs.Inside.Listing.{needs_unlisted_words};
 ghost use Rattle.tool_commands.specs.Kaem.{folded_plan, kaem_files, kaem_plan};
+ghost use Rattle.tool_commands.specs.Scripts.{needs_files};
 ghost use Rattle.tool_commands.specs.ScriptTexts.{command_failed_line, done_line};
 
 use crate::script_texts;
-use crate::scripts::{fetch_files, fetch_script, fetch_words, unlisted};
+use crate::scripts::{fetch_files, fetch_script, fetch_unlisted};
 use command_plan::words::{are_three_files, steps_of};
 use command_plan::{Answer, Status, Stop, keep, usage};
 use ddc_base::Shelf;
@@ -26,9 +29,25 @@ use std::alloc::Global;
 pub fn perform<S: Shelf>(alloc: Global, words: &[&str], shelf: &mut S) -> Result<Answer, Stop>
     ensures { Performs (kaem_plan (map (λ w. w.now) words.now)) (S.state shelf.old) (S.state shelf.new) result }
 {
-    let [script, list, report, steps] = words else {
-        return usage(alloc);
-    };
+    match words {
+        [script, list, report, steps] => on_words(alloc, shelf, script, list, report, steps),
+        _ => usage(alloc),
+    }
+}
+
+/// The command on four words.
+#[tactic(auto, using(command_plan::proofs::Performing::performing))]
+fn on_words<S: Shelf>(
+    alloc: Global,
+    shelf: &mut S,
+    script: &str,
+    list: &str,
+    report: &str,
+    steps: &str,
+) -> Result<Answer, Stop>
+    ensures { Performs (or_usage (as_steps steps.now) (λ most. if are_three_files script.now list.now report.now then kaem_files script.now list.now report.now most else usage))
+        (S.state shelf.old) (S.state shelf.new) result }
+{
     match steps_of(steps) {
         Some(most) if are_three_files(script, list, report) => {
             kaem(alloc, shelf, script, list, report, most)
@@ -38,7 +57,6 @@ pub fn perform<S: Shelf>(alloc: Global, words: &[&str], shelf: &mut S) -> Result
 }
 
 /// The command on three files and a number of steps.
-#[tactic(auto, using(command_plan::proofs::Obtaining::obtaining), unfolding(crate::specs::Kaem::kaem_files))]
 fn kaem<S: Shelf>(
     alloc: Global,
     shelf: &mut S,
@@ -55,10 +73,28 @@ fn kaem<S: Shelf>(
     ensures { Performs (kaem_files script.now list.now report.now most) (S.state shelf.old) (S.state shelf.new) result }
 {
     let script = fetch_script(alloc, shelf, script)?;
-    let words = fetch_words(alloc, shelf, list)?;
-    unlisted(alloc, &words, report)?;
+    run_listed(alloc, shelf, &script, list, report, most)
+}
+
+/// The command on a script, which it leaves to its caller to let go.
+fn run_listed<S: Shelf>(
+    alloc: Global,
+    shelf: &mut S,
+    script: &Script,
+    list: &str,
+    report: &str,
+    most: u64,
+) -> Result<Answer, Stop>
+    requires list { IsFileName list.now }
+    requires report { IsFileName report.now }
+    requires some { 1 ≤ most }
+    requires few { most ≤ 2 ^ 48 }
+    ensures { Performs (needs_unlisted_words list.now report.now (λ words. needs_files words (λ listed. folded_plan report.now script.now listed (folded most listed.world script.now.commands))))
+        (S.state shelf.old) (S.state shelf.new) result }
+{
+    let words = fetch_unlisted(alloc, shelf, list, report)?;
     let files = fetch_files(alloc, shelf, &words)?;
-    run(alloc, shelf, &script, &files, report, most)
+    run(alloc, shelf, script, &files, report, most)
 }
 
 /// Runs the commands of a script over its files.

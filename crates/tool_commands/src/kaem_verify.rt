@@ -1,6 +1,6 @@
 //! `kaem-verify SCRIPT LIST REPORT`: the report of a script is judged by a replay of its commands.
 
-ghost use Rattle.std.specs.Prelude.{length, map};
+ghost use Rattle.std.specs.Prelude.{◌≤◌, if◌then◌else◌, length, map};
 ghost use Rattle.ddc_base.specs.Outside.{IsFileName, ShelfState};
 ghost use Rattle.report.specs.Script.Reading.{script_report_of};
 ghost use Rattle.kaem_script.specs.Faults.{first_script_fault};
@@ -9,14 +9,19 @@ ghost use Rattle.command_plan.specs.Performs.{Performs};
 ghost use Rattle.command_plan.specs.Plan.{answers, unless_refused};
 ghost use Rattle.command_plan.specs.Steps.{Obtains, Says};
 ghost use Rattle.command_plan.specs.Texts.{report_line};
+ghost use Rattle.command_plan.specs.Words.{are_three_files, usage};
+ghost use Rattle.tool_commands.specs.Inside.Listing.{needs_unlisted_words};
+ghost use Rattle.tool_commands.specs.Inside.Placing.{AreApart};
 ghost use Rattle.tool_commands.specs.KaemVerify.{kaem_verify_files, kaem_verify_plan, needs_script_report, script_verdict_plan};
+ghost use Rattle.tool_commands.specs.Scripts.{needs_files};
 ghost use Rattle.tool_commands.specs.ScriptTexts.{commands_true_line, script_refuted_line};
 
+use crate::listed_file::FileLine;
 use crate::script_texts;
-use crate::scripts::{fetch_files, fetch_script, fetch_words, unlisted};
+use crate::scripts::{fetch_files, fetch_script, fetch_unlisted};
 use command_plan::words::are_three_files;
 use command_plan::{Answer, Status, Stop, fetch, texts, usage};
-use ddc_base::{Bytes, Shelf};
+use ddc_base::{Bytes, ListOf, Shelf};
 use kaem_script::{FileList, Script, ScriptPart, ScriptVerdict};
 use report::script::{ScriptReport, ScriptReportRefusal};
 use std::alloc::Global;
@@ -30,15 +35,30 @@ pub fn perform<S: Shelf>(alloc: Global, words: &[&str], shelf: &mut S) -> Result
     ensures { Performs (kaem_verify_plan (map (λ w. w.now) words.now)) (S.state shelf.old) (S.state shelf.new) result }
 {
     match words {
-        [script, list, report] if are_three_files(script, list, report) => {
-            verify(alloc, shelf, script, list, report)
-        }
+        [script, list, report] => on_words(alloc, shelf, script, list, report),
         _ => usage(alloc),
     }
 }
 
+/// The command on three words.
+#[tactic(auto, using(command_plan::proofs::Performing::performing))]
+fn on_words<S: Shelf>(
+    alloc: Global,
+    shelf: &mut S,
+    script: &str,
+    list: &str,
+    report: &str,
+) -> Result<Answer, Stop>
+    ensures { Performs (if are_three_files script.now list.now report.now then kaem_verify_files script.now list.now report.now else usage)
+        (S.state shelf.old) (S.state shelf.new) result }
+{
+    if !are_three_files(script, list, report) {
+        return usage(alloc);
+    }
+    verify(alloc, shelf, script, list, report)
+}
+
 /// The command on three files.
-#[tactic(auto, using(command_plan::proofs::Obtaining::obtaining), unfolding(crate::specs::KaemVerify::kaem_verify_files))]
 fn verify<S: Shelf>(
     alloc: Global,
     shelf: &mut S,
@@ -52,11 +72,59 @@ fn verify<S: Shelf>(
     ensures { Performs (kaem_verify_files script.now list.now report.now) (S.state shelf.old) (S.state shelf.new) result }
 {
     let script = fetch_script(alloc, shelf, script)?;
-    let words = fetch_words(alloc, shelf, list)?;
-    unlisted(alloc, &words, report)?;
+    verify_listed(alloc, shelf, &script, list, report)
+}
+
+/// The command on a script, which it leaves to its caller to let go.
+fn verify_listed<S: Shelf>(
+    alloc: Global,
+    shelf: &mut S,
+    script: &Script,
+    list: &str,
+    report: &str,
+) -> Result<Answer, Stop>
+    requires list { IsFileName list.now }
+    requires report { IsFileName report.now }
+    ensures { Performs (needs_unlisted_words list.now report.now (λ words. needs_script_report report.now (λ made. needs_files words (λ listed.
+        script_verdict_plan (length script.now.commands) (first_script_fault script.now listed made))))) (S.state shelf.old) (S.state shelf.new) result }
+{
+    let words = fetch_unlisted(alloc, shelf, list, report)?;
+    verify_words(alloc, shelf, script, &words, report)
+}
+
+/// The command on a script and listed words.
+fn verify_words<S: Shelf>(
+    alloc: Global,
+    shelf: &mut S,
+    script: &Script,
+    words: &ListOf<FileLine>,
+    report: &str,
+) -> Result<Answer, Stop>
+    requires apart { AreApart words.now }
+    requires few { length words.now ≤ 4096 }
+    requires report { IsFileName report.now }
+    ensures { Performs (needs_script_report report.now (λ made. needs_files words.now (λ listed.
+        script_verdict_plan (length script.now.commands) (first_script_fault script.now listed made)))) (S.state shelf.old) (S.state shelf.new) result }
+{
     let report = fetch_report(alloc, shelf, report)?;
-    let files = fetch_files(alloc, shelf, &words)?;
-    judge(alloc, &script, &files, &report)
+    replay(alloc, shelf, script, words, &report)
+}
+
+/// The command on a script, listed words and a report.
+fn replay<S: Shelf>(
+    alloc: Global,
+    shelf: &mut S,
+    script: &Script,
+    words: &ListOf<FileLine>,
+    report: &ScriptReport,
+) -> Result<Answer, Stop>
+    requires apart { AreApart words.now }
+    requires few { length words.now ≤ 4096 }
+    ensures { Performs (needs_files words.now (λ listed. script_verdict_plan (length script.now.commands) (first_script_fault script.now listed report.now)))
+        (S.state shelf.old) (S.state shelf.new) result }
+{
+    let files = fetch_files(alloc, shelf, words)?;
+    judge(alloc, script, &files, report)
 }
 
 /// Fetches the report of a script and reads it.

@@ -72,7 +72,16 @@ fn start(
     ensures { Says (start_plan (start_of program.now (setting_of (name.now ∷ map (λ w. w.now) args.now))) most) result }
 {
     let setting = box_of(alloc, name, args)?;
-    match Guest::<RunRam>::start(alloc, program, &setting) {
+    start_in(alloc, program, &setting, most)
+}
+
+/// Starts a program with what it is given, and runs it.
+fn start_in(alloc: Global, program: &[u8], setting: &RunBox, most: u64) -> Result<Answer, Stop>
+    requires some { 1 ≤ most }
+    requires few { most ≤ 2 ^ 48 }
+    ensures { Says (start_plan (start_of program.now setting.now) most) result }
+{
+    match Guest::<RunRam>::start(alloc, program, setting) {
         Ok(mut guest) => run_guest(alloc, &mut guest, most),
         Err(StartRefusal::Elf(elf)) => failed(run_texts::not_loaded(alloc, elf)?),
         Err(StartRefusal::ArgsTooLong) => failed(run_texts::too_many_args(alloc)?),

@@ -9,6 +9,7 @@ ghost use Rattle.command_plan.specs.Lists.{needs_list};
 ghost use Rattle.command_plan.specs.Plan.{answers, unless_refused};
 ghost use Rattle.command_plan.specs.Steps.{Obtains, Says};
 ghost use Rattle.command_plan.specs.Words.{is_one_file};
+ghost use Rattle.tool_commands.specs.Inside.Listing.{needs_unlisted_words};
 ghost use Rattle.tool_commands.specs.Inside.Placing.{AreApart, IsPlaced};
 ghost use Rattle.tool_commands.specs.Scripts.{and_file, file_line, needs_files, needs_script, needs_unlisted, script_of};
 ghost use Rattle.tool_commands.specs.ScriptTexts.{script_line};
@@ -72,12 +73,25 @@ fn script_refused(alloc: Global, fault: ScriptFault, offset: u64) -> Result<Answ
     })
 }
 
-/// Fetches a list of files and reads it.
-pub(crate) fn fetch_words<S: Shelf>(
+/// Fetches a list of files, of which none is to be written.
+pub(crate) fn fetch_unlisted<S: Shelf>(
     alloc: Global,
     shelf: &mut S,
     list: &str,
+    report: &str,
 ) -> Result<ListOf<FileLine>, Stop>
+    requires { IsFileName list.now }
+    ensures obtained { Obtains (needs_unlisted_words list.now report.now) (S.state shelf.old) (S.state shelf.new) result }
+    ensures few { IfOk result (λ words. length words ≤ 4096) }
+    ensures apart { IfOk result AreApart }
+{
+    let words = fetch_words(alloc, shelf, list)?;
+    unlisted(alloc, &words, report)?;
+    Ok(words)
+}
+
+/// Fetches a list of files and reads it.
+fn fetch_words<S: Shelf>(alloc: Global, shelf: &mut S, list: &str) -> Result<ListOf<FileLine>, Stop>
     requires { IsFileName list.now }
     ensures obtained { Obtains (needs_list file_line 4096 list.now) (S.state shelf.old) (S.state shelf.new) result }
     ensures few { IfOk result (λ words. length words ≤ 4096) }
@@ -88,7 +102,7 @@ pub(crate) fn fetch_words<S: Shelf>(
 
 /// Ends the command where a listed word stands for a file that is to be written.
 #[tactic(auto, unfolding(crate::specs::Scripts::needs_unlisted))]
-pub(crate) fn unlisted(alloc: Global, words: &ListOf<FileLine>, report: &str) -> Result<(), Stop>
+fn unlisted(alloc: Global, words: &ListOf<FileLine>, report: &str) -> Result<(), Stop>
     ensures { (shelf : ShelfState) → Obtains (needs_unlisted words.now report.now) shelf shelf result }
 {
     if is_listed(words, report) {

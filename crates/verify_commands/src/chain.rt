@@ -11,6 +11,7 @@ ghost use Rattle.command_plan.specs.Performs.{Performs};
 ghost use Rattle.command_plan.specs.Plan.{answers, unless_refused};
 ghost use Rattle.command_plan.specs.Steps.{Obtains, Says};
 ghost use Rattle.command_plan.specs.Texts.{report_line};
+ghost use Rattle.recipe_plan.specs.Recipes.{needs_apart, needs_inputs_within};
 ghost use Rattle.recipe_plan.specs.Texts.{compared_lines, recipe_line};
 ghost use Rattle.verify_commands.specs.Chain.{chain_files, chain_plan, chained, chained_lines, needs_audit, needs_recipe_of, needs_report_of, needs_true, needs_two_files, room_behind};
 ghost use Rattle.verify_commands.specs.ChainTexts.{audit_line};
@@ -157,11 +158,43 @@ fn verify_files<S: Shelf>(
 {
     two_files(alloc, recipe, report)?;
     let recipe = fetch_recipe(alloc, shelf, number, recipe)?;
-    apart(alloc, &recipe, report)?;
-    let report = fetch_report(alloc, shelf, number, report)?;
-    let inputs = fetch_inputs_within(alloc, shelf, &recipe, room)?;
-    judge(alloc, number, &recipe, &inputs, &report)?;
+    let inputs = verify_report(alloc, shelf, number, room, &recipe, report)?;
     Ok(Link { recipe, inputs })
+}
+
+/// The inputs of a recipe, where a report of it is true.
+fn verify_report<S: Shelf>(
+    alloc: Global,
+    shelf: &mut S,
+    number: u32,
+    room: u64,
+    recipe: &Recipe,
+    report: &str,
+) -> Result<Inputs, Stop>
+    requires { IsFileName report.now }
+    ensures { Obtains (λ next. needs_apart recipe.now report.now (λ _. needs_report_of number report.now (λ made. needs_inputs_within room recipe.now (λ inputs.
+        needs_true number made.compare (first_fault recipe.now inputs made) (λ _. next inputs))))) (S.state shelf.old) (S.state shelf.new) result }
+{
+    apart(alloc, recipe, report)?;
+    let report = fetch_report(alloc, shelf, number, report)?;
+    replay(alloc, shelf, number, room, recipe, &report)
+}
+
+/// The inputs of a recipe, on which a report of it is true.
+fn replay<S: Shelf>(
+    alloc: Global,
+    shelf: &mut S,
+    number: u32,
+    room: u64,
+    recipe: &Recipe,
+    report: &Report,
+) -> Result<Inputs, Stop>
+    ensures { Obtains (λ next. needs_inputs_within room recipe.now (λ inputs. needs_true number report.now.compare (first_fault recipe.now inputs report.now) (λ _. next inputs)))
+        (S.state shelf.old) (S.state shelf.new) result }
+{
+    let inputs = fetch_inputs_within(alloc, shelf, recipe, room)?;
+    judge(alloc, number, recipe, &inputs, report)?;
+    Ok(inputs)
 }
 
 /// Ends the command where two words name one file.

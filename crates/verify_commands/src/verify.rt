@@ -1,12 +1,15 @@
 //! `verify RECIPE REPORT`: a report is judged by a replay.
 
-ghost use Rattle.std.specs.Prelude.{map, None};
+ghost use Rattle.std.specs.Prelude.{if◌then◌else◌, map, None};
 ghost use Rattle.ddc_base.specs.Outside.{IsFileName};
 ghost use Rattle.wheeler.specs.Valid.{IsInputs};
 ghost use Rattle.command_plan.specs.declared.status.Status.TheVariants.{Refuted};
 ghost use Rattle.command_plan.specs.Performs.{Performs};
 ghost use Rattle.command_plan.specs.Plan.{answers};
 ghost use Rattle.command_plan.specs.Steps.{Says};
+ghost use Rattle.command_plan.specs.Words.{are_two_files, usage};
+ghost use Rattle.recipe_plan.specs.Recipes.{needs_apart, needs_inputs};
+ghost use Rattle.recipe_plan.specs.Reports.{needs_report};
 ghost use Rattle.verify_commands.specs.Verify.{judged_report, verified, verify_files, verify_plan};
 ghost use Rattle.verify_commands.specs.Texts.{refuted_line};
 
@@ -31,15 +34,29 @@ pub fn perform<M: Meaning, S: Shelf>(
     ensures { Performs (verify_plan (map (λ w. w.now) words.now)) (S.state shelf.old) (S.state shelf.new) result }
 {
     match words {
-        [recipe, report] if are_two_files(recipe, report) => {
-            verify::<M, S>(alloc, shelf, recipe, report)
-        }
+        [recipe, report] => on_words::<M, S>(alloc, shelf, recipe, report),
         _ => usage(alloc),
     }
 }
 
+/// The command on two words.
+#[tactic(auto, using(command_plan::proofs::Performing::performing))]
+fn on_words<M: Meaning, S: Shelf>(
+    alloc: Global,
+    shelf: &mut S,
+    recipe: &str,
+    report: &str,
+) -> Result<Answer, Stop>
+    ensures { Performs (if are_two_files recipe.now report.now then verify_files recipe.now report.now else usage) (S.state shelf.old) (S.state shelf.new) result }
+{
+    if are_two_files(recipe, report) {
+        verify::<M, S>(alloc, shelf, recipe, report)
+    } else {
+        usage(alloc)
+    }
+}
+
 /// The command on two files.
-#[tactic(auto, using(command_plan::proofs::Obtaining::obtaining), unfolding(crate::specs::Verify::verify_files))]
 fn verify<M: Meaning, S: Shelf>(
     alloc: Global,
     shelf: &mut S,
@@ -51,10 +68,36 @@ fn verify<M: Meaning, S: Shelf>(
     ensures { Performs (verify_files recipe.now report.now) (S.state shelf.old) (S.state shelf.new) result }
 {
     let recipe = fetch_recipe(alloc, shelf, recipe)?;
-    apart(alloc, &recipe, report)?;
+    read_report::<M, S>(alloc, shelf, &recipe, report)
+}
+
+/// The command on a recipe, which it leaves to its caller to let go.
+fn read_report<M: Meaning, S: Shelf>(
+    alloc: Global,
+    shelf: &mut S,
+    recipe: &Recipe,
+    report: &str,
+) -> Result<Answer, Stop>
+    requires { IsFileName report.now }
+    ensures { Performs (needs_apart recipe.now report.now (λ _. needs_report report.now (λ made. needs_inputs recipe.now (λ inputs. verified recipe.now inputs made))))
+        (S.state shelf.old) (S.state shelf.new) result }
+{
+    apart(alloc, recipe, report)?;
     let report = fetch_report(alloc, shelf, report)?;
-    let inputs = fetch_inputs(alloc, shelf, &recipe)?;
-    answer::<M>(alloc, &recipe, &inputs, &report)
+    replay::<M, S>(alloc, shelf, recipe, &report)
+}
+
+/// The command on a recipe and a report.
+fn replay<M: Meaning, S: Shelf>(
+    alloc: Global,
+    shelf: &mut S,
+    recipe: &Recipe,
+    report: &Report,
+) -> Result<Answer, Stop>
+    ensures { Performs (needs_inputs recipe.now (λ inputs. verified recipe.now inputs report.now)) (S.state shelf.old) (S.state shelf.new) result }
+{
+    let inputs = fetch_inputs(alloc, shelf, recipe)?;
+    answer::<M>(alloc, recipe, &inputs, report)
 }
 
 /// Replays the report, and says what it comes to.

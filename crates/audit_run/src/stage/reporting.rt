@@ -1,6 +1,6 @@
 //! The report of all stages.
 
-ghost use Rattle.std.specs.Prelude.{◌≡◌, IfOk};
+ghost use Rattle.std.specs.Prelude.{◌≡◌, [], IfOk, OnOk};
 ghost use Rattle.wheeler.specs.Bench.{compared, compare_line, compare_lines, input_lines, bench_report, stage_line, stage_lines};
 ghost use Rattle.wheeler.specs.Contents.{check_language};
 ghost use Rattle.wheeler.specs.Stages.{contents};
@@ -60,10 +60,25 @@ fn stage_lines(
     ensures { IfOk result (λ lines. lines ≡ stage_lines recipe.now stages.now done.now) }
 {
     let mut lines = StageLines::new(alloc);
+    put_stage_lines(alloc, recipe, stages, done, &mut lines)?;
+    Ok(lines)
+}
+
+/// Puts the lines of the stages that are done.
+fn put_stage_lines(
+    alloc: Global,
+    recipe: &Recipe,
+    stages: &[Stage],
+    done: &[Done],
+    lines: &mut StageLines,
+) -> Result<(), OutOfMemory>
+    requires { lines.old ≡ [] }
+    ensures { OnOk result (lines.new ≡ stage_lines recipe.now stages.now done.now) }
+{
     for index in 0..stages.len().min(done.len()) {
         lines.push(stage_line(alloc, recipe, &stages[index], &done[index])?)?;
     }
-    Ok(lines)
+    Ok(())
 }
 
 /// The line of a stage that is done.
@@ -92,13 +107,29 @@ fn copy_of(alloc: Global, lines: &[LeftLine]) -> Result<LeftLines, OutOfMemory>
     ensures { IfOk result (λ copy. copy ≡ lines.now) }
 {
     let mut copy = LeftLines::new(alloc);
-    for line in lines {
-        copy.push(LeftLine {
-            name: Bytes::from_slice(alloc, line.name.as_slice())?,
-            mark: line.mark,
-        })?;
-    }
+    put_copies(alloc, lines, &mut copy)?;
     Ok(copy)
+}
+
+/// Puts the same lines again.
+fn put_copies(alloc: Global, lines: &[LeftLine], copy: &mut LeftLines) -> Result<(), OutOfMemory>
+    requires { copy.old ≡ [] }
+    ensures { OnOk result (copy.new ≡ lines.now) }
+{
+    for line in lines {
+        copy.push(copied(alloc, line)?)?;
+    }
+    Ok(())
+}
+
+/// The same line again.
+fn copied(alloc: Global, line: &LeftLine) -> Result<LeftLine, OutOfMemory>
+    ensures { IfOk result (λ copy. copy ≡ line.now) }
+{
+    Ok(LeftLine {
+        name: Bytes::from_slice(alloc, line.name.as_slice())?,
+        mark: line.mark,
+    })
 }
 
 /// The language in which a stage's artefact is checked.

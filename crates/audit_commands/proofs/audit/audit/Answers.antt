@@ -6,14 +6,6 @@ pub returns-in_err-recipe : goal.returns-in_err-recipe
 unfolding audit_files
 returns-in_err-recipe g c = ends_with c.from_residual.ensures.1 (ends_before c.in_err-recipe.ensures)
 
-pub returns-in_err-apart : goal.returns-in_err-apart
-unfolding audit_files
-returns-in_err-apart g c = ends_with c.from_residual-in_err-apart.ensures.1 (goes_on_with c.in_ok-recipe.ensures (ends_before (c.in_err-apart.ensures _)))
-
-pub returns-in_err-inputs : goal.returns-in_err-inputs
-unfolding audit_files
-returns-in_err-inputs g c = ends_with c.from_residual-in_err-inputs.ensures.1 (goes_on_with c.in_ok-recipe.ensures (goes_on_with (c.in_ok-apart.ensures _) (ends_before c.in_err-inputs.ensures.obtained)))
-
 pub returns : goal.returns
 unfolding audit_files
-returns g c = goes_on_with c.in_ok-recipe.ensures (goes_on_with (c.in_ok-apart.ensures _) (goes_on_with c.in_ok-inputs.ensures.obtained c.run_whole.ensures))
+returns g c = goes_on_with c.in_ok-recipe.ensures c.run.ensures

@@ -1,29 +1,15 @@
 use Rattle.command_plan.proofs.Obtaining.{ends_before, ends_with, goes_on_with}
-use Rattle.std.proofs.Common.{refl}
-use Rattle.audit_commands.specs.Pause.{part_files, whole_save}
-use Rattle.audit_commands.proofs.Finishing.{begun}
+use Rattle.audit_commands.specs.Pause.{part_files}
 use Rattle.audit_commands.proofs.part.part.Goals as goal
 
 pub returns-in_err-recipe : goal.returns-in_err-recipe
 unfolding part_files
 returns-in_err-recipe g c = ends_with c.from_residual.ensures.1 (ends_before c.in_err-recipe.ensures)
 
-pub returns-in_err-apart : goal.returns-in_err-apart
-unfolding part_files
-returns-in_err-apart g c = ends_with c.from_residual-in_err-apart.ensures.1 (goes_on_with c.in_ok-recipe.ensures (ends_before (c.in_err-apart.ensures _)))
-
-pub returns-in_err-apart-2 : goal.returns-in_err-apart-2
-unfolding part_files
-returns-in_err-apart-2 g c = ends_with c.from_residual-in_err-apart-2.ensures.1 (goes_on_with c.in_ok-recipe.ensures (goes_on_with (c.in_ok-apart.ensures _) (ends_before (c.in_err-apart-2.ensures _))))
-
 pub returns-in_err-inputs : goal.returns-in_err-inputs
 unfolding part_files
-returns-in_err-inputs g c = ends_with c.from_residual-in_err-inputs.ensures.1 (goes_on_with c.in_ok-recipe.ensures (goes_on_with (c.in_ok-apart.ensures _) (goes_on_with (c.in_ok-apart-2.ensures _) (ends_before c.in_err-inputs.ensures.obtained))))
+returns-in_err-inputs g c = ends_with c.from_residual-in_err-inputs.ensures.1 (goes_on_with c.in_ok-recipe.ensures (ends_before c.in_err-inputs.ensures.obtained))
 
 pub returns : goal.returns
 unfolding part_files
-returns g c =
-    goes_on_with c.in_ok-recipe.ensures (goes_on_with (c.in_ok-apart.ensures _) (goes_on_with (c.in_ok-apart-2.ensures _) (goes_on_with c.in_ok-inputs.ensures.obtained (begun _ _ _ _ _ _ _ _ _ c.new-audit.ensures (c.go_on.ensures (whole_save c.new-audit.result.recipe c.new-audit.result.inputs) (λ p. refl))))))
-
-pub go_on-requires-clause-keeps : goal.go_on-requires-clause-keeps
-go_on-requires-clause-keeps g c = (whole_save c.new-audit.result.recipe c.new-audit.result.inputs, λ p. refl)
+returns g c = goes_on_with c.in_ok-recipe.ensures (goes_on_with c.in_ok-inputs.ensures.obtained c.begin.ensures)

@@ -11,33 +11,11 @@ pub returns-in_err-recipe : goal.returns-in_err-recipe
 unfolding needs_audit
 returns-in_err-recipe g c = stops_with c.from_residual-in_err-recipe.ensures.1 (and_then (c.in_ok-two_files.ensures _) (stops_before c.in_err-recipe.ensures))
 
-pub returns-in_err-apart : goal.returns-in_err-apart
-unfolding needs_audit
-returns-in_err-apart g c =
-    stops_with c.from_residual-in_err-apart.ensures.1 (and_then (c.in_ok-two_files.ensures _) (and_then c.in_ok-recipe.ensures (stops_before (c.in_err-apart.ensures _))))
-
-pub returns-in_err-report : goal.returns-in_err-report
-unfolding needs_audit
-returns-in_err-report g c =
-    stops_with c.from_residual-in_err-report.ensures.1
-    (and_then (c.in_ok-two_files.ensures _) (and_then c.in_ok-recipe.ensures (and_then (c.in_ok-apart.ensures _) (stops_before c.in_err-report.ensures))))
-
 pub returns-in_err-inputs : goal.returns-in_err-inputs
 unfolding needs_audit
 returns-in_err-inputs g c =
-    stops_with c.from_residual-in_err-inputs.ensures.1
-    (and_then (c.in_ok-two_files.ensures _) (and_then c.in_ok-recipe.ensures (and_then (c.in_ok-apart.ensures _) (and_then c.in_ok-report.ensures
-    (stops_before c.in_err-inputs.ensures.obtained)))))
-
-pub returns-in_err-judge : goal.returns-in_err-judge
-unfolding needs_audit
-returns-in_err-judge g c =
-    stops_with c.from_residual-in_err-judge.ensures.1
-    (and_then (c.in_ok-two_files.ensures _) (and_then c.in_ok-recipe.ensures (and_then (c.in_ok-apart.ensures _) (and_then c.in_ok-report.ensures
-    (and_then c.in_ok-inputs.ensures.obtained (stops_before (c.in_err-judge.ensures _)))))))
+    stops_with c.from_residual-in_err-inputs.ensures.1 (and_then (c.in_ok-two_files.ensures _) (and_then c.in_ok-recipe.ensures (stops_before c.in_err-inputs.ensures)))
 
 pub returns : goal.returns
 unfolding needs_audit
-returns g c =
-    and_then (c.in_ok-two_files.ensures _) (and_then c.in_ok-recipe.ensures (and_then (c.in_ok-apart.ensures _) (and_then c.in_ok-report.ensures
-    (and_then c.in_ok-inputs.ensures.obtained (and_then (c.in_ok-judge.ensures _) (leads _ _ _ (λ next. refl)))))))
+returns g c = and_then (c.in_ok-two_files.ensures _) (and_then c.in_ok-recipe.ensures (and_then c.in_ok-inputs.ensures (leads _ _ _ (λ next. refl))))

@@ -1,5 +1,4 @@
 use Rattle.command_plan.proofs.Obtaining.{ends_before, ends_with, goes_on_with}
-use Rattle.command_plan.proofs.Performing.{says}
 use Rattle.verify_commands.specs.Verify.{verify_files}
 use Rattle.verify_commands.proofs.verify.verify.Goals as goal
 
@@ -7,19 +6,6 @@ pub returns-in_err-recipe : goal.returns-in_err-recipe
 unfolding verify_files
 returns-in_err-recipe g c = ends_with c.from_residual.ensures.1 (ends_before c.in_err-recipe.ensures)
 
-pub returns-in_err-apart : goal.returns-in_err-apart
-unfolding verify_files
-returns-in_err-apart g c = ends_with c.from_residual-in_err-apart.ensures.1 (goes_on_with c.in_ok-recipe.ensures (ends_before (c.in_err-apart.ensures _)))
-
-pub returns-in_err-report : goal.returns-in_err-report
-unfolding verify_files
-returns-in_err-report g c = ends_with c.from_residual-in_err-report.ensures.1 (goes_on_with c.in_ok-recipe.ensures (goes_on_with (c.in_ok-apart.ensures _) (ends_before c.in_err-report.ensures.obtained)))
-
-pub returns-in_err-inputs : goal.returns-in_err-inputs
-unfolding verify_files
-returns-in_err-inputs g c = ends_with c.from_residual-in_err-inputs.ensures.1 (goes_on_with c.in_ok-recipe.ensures (goes_on_with (c.in_ok-apart.ensures _) (goes_on_with c.in_ok-report.ensures.obtained (ends_before c.in_err-inputs.ensures.obtained))))
-
 pub returns : goal.returns
 unfolding verify_files
-returns g c =
-    goes_on_with c.in_ok-recipe.ensures (goes_on_with (c.in_ok-apart.ensures _) (goes_on_with c.in_ok-report.ensures.obtained (goes_on_with c.in_ok-inputs.ensures.obtained (says _ _ _ c.answer.ensures))))
+returns g c = goes_on_with c.in_ok-recipe.ensures c.read_report.ensures

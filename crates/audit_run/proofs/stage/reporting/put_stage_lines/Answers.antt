@@ -1,6 +1,6 @@
 use Rattle.std.proofs.Common.{arith}
 use Rattle.audit_run.proofs.StageLemmas.Lines.{stages-made}
-use Rattle.audit_run.proofs.stage.reporting.stage_lines.Goals as goal
+use Rattle.audit_run.proofs.stage.reporting.put_stage_lines.Goals as goal
 
 pub returns : goal.returns
 returns c =
