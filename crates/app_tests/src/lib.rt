@@ -23,6 +23,8 @@ mod pieces;
 #[cfg(test)]
 mod routes;
 #[cfg(test)]
+mod scenes;
+#[cfg(test)]
 mod script_calls;
 #[cfg(test)]
 mod script_reports;
