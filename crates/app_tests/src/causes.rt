@@ -440,7 +440,6 @@ static ARTEFACTS: [((&str, &str), &str, Status, &str); 4] = [
     ),
 ];
 
-/// exit.elf leaves the file that it was given, and writes nothing.
 fn artefact_is(
     rt: &impl Abort,
     alloc: Global,
@@ -452,6 +451,7 @@ fn artefact_is(
     answers(rt, alloc, &mut shelf, status, &[line])
 }
 
+/// exit.elf leaves the file that it was given, and writes nothing.
 #[test]
 fn artefacts_are_what_the_recipe_says(rt: HostRuntime) -> Result<(), Fail> {
     for &(change, text, status, line) in &ARTEFACTS {

@@ -687,7 +687,6 @@ static LOADS: [&str; 13] = [
     "b.bin",
 ];
 
-/// Each load of the call fails: of the list, and of each audit the recipe, the report and the inputs. The two audits before had five each.
 /// The load of this number fails, behind the ten of both audits.
 fn names_load(
     rt: &impl Abort,
@@ -717,6 +716,7 @@ fn names_load_of_both(
     names_load(rt, alloc, &mut shelf, number, name)
 }
 
+/// Each load of the call fails: of the list, and of each audit the recipe, the report and the inputs. The two audits before had five each.
 #[test]
 fn loads_that_fail_are_named(rt: HostRuntime) -> Result<(), Fail> {
     for (index, name) in LOADS.iter().enumerate() {
@@ -725,7 +725,6 @@ fn loads_that_fail_are_named(rt: HostRuntime) -> Result<(), Fail> {
     Ok(())
 }
 
-/// A put that fails takes a part of the text, and the files are as they were.
 fn loses_the_text(rt: &impl Abort, alloc: Global, shelf: &mut MemShelf) -> Result<(), OutOfMemory> {
     shelf.set("list", IN_ORDER.as_bytes())?;
     let mut out = MemSink::new(alloc);
@@ -736,6 +735,7 @@ fn loses_the_text(rt: &impl Abort, alloc: Global, shelf: &mut MemShelf) -> Resul
     Ok(())
 }
 
+/// A put that fails takes a part of the text, and the files are as they were.
 #[test]
 fn a_put_that_fails_loses_the_text(rt: HostRuntime) -> Result<(), Fail> {
     let mut shelf = both(&rt, rt.alloc(), &[], &[])?;

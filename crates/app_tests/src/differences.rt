@@ -4,9 +4,7 @@
 
 use crate::audits::{REPORT, audit_shelf};
 use crate::pauses::{Opening, opens_worked};
-use crate::scenes::{
-    Wanted, alter, are_calls, are_usage_of, content, ends, holds, saves, says, unheard,
-};
+use crate::scenes::{Wanted, alter, are_calls, are_usage_of, content, ends, holds, saves, says};
 use ddc_app::Status;
 use ddc_base::{MemShelf, OutOfMemory};
 use std::alloc::Global;
@@ -14,12 +12,12 @@ use std::process::Abort;
 use std::test::Fail;
 
 /// A command, its steps, its status and its text.
-type Piece = (&'static str, &'static str, Status, &'static str);
+pub(crate) type Piece = (&'static str, &'static str, Status, &'static str);
 
-const EQUAL: &str = "equal two bin 3\n";
+pub(crate) const EQUAL: &str = "equal two bin 3\n";
 
 /// Runs pieces of the audit `a.toml` with the base `s`, the patch `p` and the report `r`; `part` saves under `s`.
-fn pieces(
+pub(crate) fn pieces(
     rt: &impl Abort,
     alloc: Global,
     shelf: &mut MemShelf,
@@ -41,7 +39,7 @@ fn pieces(
 }
 
 /// A shelf whose audit paused behind 32 steps.
-fn based(alloc: Global) -> Result<MemShelf, OutOfMemory> {
+pub(crate) fn based(alloc: Global) -> Result<MemShelf, OutOfMemory> {
     let mut shelf = audit_shelf(alloc, "", "")?;
     match ends(alloc, &mut shelf, &["part", "a.toml", "s", "r", "32"])? {
         Status::Paused => Ok(shelf),
@@ -50,7 +48,7 @@ fn based(alloc: Global) -> Result<MemShelf, OutOfMemory> {
 }
 
 /// The same with the difference behind 13 further steps.
-fn differing(alloc: Global) -> Result<MemShelf, OutOfMemory> {
+pub(crate) fn differing(alloc: Global) -> Result<MemShelf, OutOfMemory> {
     let mut shelf = based(alloc)?;
     match ends(
         alloc,
@@ -67,7 +65,6 @@ fn has_at(text: &[u8], at: usize, bytes: &[u8]) -> bool {
     text.get(at..at.saturating_add(bytes.len())).unwrap_or(&[]) == bytes
 }
 
-/// Behind 13 steps of the second stage no page differs from its start; behind 31 one does, the stack's page of number 3FFFFFE.
 fn first_difference(
     rt: &impl Abort,
     alloc: Global,
@@ -124,6 +121,7 @@ fn all_differences(
     says(rt, alloc, shelf, &["verify", "a.toml", "r"], yes)
 }
 
+/// Behind 13 steps of the second stage no page differs from its start; behind 31 one does, the stack's page of number 3FFFFFE.
 #[test]
 fn differences_come_to_the_report(rt: HostRuntime) -> Result<(), Fail> {
     let mut shelf = based(rt.alloc())?;
@@ -252,7 +250,6 @@ static CHANGES: [Change; 4] = [
     ),
 ];
 
-/// A pause sets the patch alone, 3 the report alone, and a failure nothing. The same from the base at once.
 /// The last piece, and then all from the base at once.
 fn last_pieces(
     rt: &impl Abort,
@@ -301,6 +298,7 @@ fn change_comes_to(
     comes_to(rt, alloc, &mut shelf, rows)
 }
 
+/// A pause sets the patch alone, 3 the report alone, and a failure nothing. The same from the base at once.
 #[test]
 fn differences_come_to_what_the_audit_does(rt: HostRuntime) -> Result<(), Fail> {
     for change in &CHANGES {
@@ -333,7 +331,6 @@ static PATCHES: [Alteration; 12] = [
     (64, b"\xae\0\x01\0\0\0\0\0\x01", "save refused 5\n"),
 ];
 
-/// Nothing is set where a difference is refused.
 /// The altered difference is refused, and stays.
 fn refuses(
     rt: &impl Abort,
@@ -361,6 +358,7 @@ fn refuses_altered(
     refuses(rt, alloc, &mut shelf, text)
 }
 
+/// Nothing is set where a difference is refused.
 #[test]
 fn differences_are_refused(rt: HostRuntime) -> Result<(), Fail> {
     for row in &PATCHES {
@@ -369,7 +367,6 @@ fn differences_are_refused(rt: HostRuntime) -> Result<(), Fail> {
     Ok(())
 }
 
-/// The difference without its last byte, and without all but its front: at fewer than 40 bytes it names no base.
 /// The first bytes of the difference are refused.
 fn refuses_cut(
     rt: &impl Abort,
@@ -388,6 +385,7 @@ fn refuses_differing(rt: &impl Abort, alloc: Global, size: usize) -> Result<(), 
     refuses_cut(rt, alloc, &mut shelf, size)
 }
 
+/// The difference without its last byte, and without all but its front: at fewer than 40 bytes it names no base.
 #[test]
 fn differences_that_are_cut_are_refused(rt: HostRuntime) -> Result<(), Fail> {
     for size in [0, 7, 8, 39, 40, 44, 48, 256] {
@@ -420,7 +418,6 @@ static BASES: [Alteration; 5] = [
     (593, b"\x01", "save refused 3\n"),
 ];
 
-/// A base is refused by both commands as `resume` refuses a save, whatever the patch is.
 /// Both commands refuse the base.
 fn both_refuse(
     rt: &impl Abort,
@@ -459,6 +456,7 @@ fn refuses_altered_base(
     refuses_base(rt, alloc, &mut shelf, row)
 }
 
+/// A base is refused by both commands as `resume` refuses a save, whatever the patch is.
 #[test]
 fn bases_are_refused(rt: HostRuntime) -> Result<(), Fail> {
     for row in &BASES {
@@ -518,7 +516,6 @@ static WORDS: [&[&str]; 25] = [
     &["none", "s", "p", "r", ""],
 ];
 
-/// Nothing is loaded before the words are judged.
 fn judges_words(rt: &impl Abort, alloc: Global, shelf: &mut MemShelf) -> Result<(), OutOfMemory> {
     are_usage_of(rt, alloc, shelf, "delta-start", &WORDS)?;
     are_usage_of(rt, alloc, shelf, "delta-resume", &WORDS)?;
@@ -526,6 +523,7 @@ fn judges_words(rt: &impl Abort, alloc: Global, shelf: &mut MemShelf) -> Result<
     Ok(())
 }
 
+/// Nothing is loaded before the words are judged.
 #[test]
 fn words_are_judged(rt: HostRuntime) -> Result<(), Fail> {
     let mut shelf = audit_shelf(rt.alloc(), "", "")?;
@@ -601,7 +599,6 @@ fn recipes_and_names_are_judged(rt: HostRuntime) -> Result<(), Fail> {
     Ok(())
 }
 
-/// A base that is not there is said before a patch, and that before an input; an input before a base that is no save.
 static WITHOUT_BASE: [Piece; 2] = [
     (
         "delta-start",
@@ -647,6 +644,7 @@ fn loads_in_order(rt: &impl Abort, alloc: Global, shelf: &mut MemShelf) -> Resul
     pieces(rt, alloc, shelf, &WITHOUT_INPUT)
 }
 
+/// A base that is not there is said before a patch, and that before an input; an input before a base that is no save.
 #[test]
 fn loads_come_in_order(rt: HostRuntime) -> Result<(), Fail> {
     let mut shelf = audit_shelf(rt.alloc(), "\"a.bin\"", "\"none\"")?;
@@ -694,144 +692,5 @@ fn calls_in_order(rt: &impl Abort, alloc: Global, shelf: &mut MemShelf) -> Resul
 fn calls_come_in_order(rt: HostRuntime) -> Result<(), Fail> {
     let mut shelf = differing(rt.alloc())?;
     calls_in_order(&rt, rt.alloc(), &mut shelf)?;
-    Ok(())
-}
-
-/// Behind the five loads of `part` the loads of `delta-start` are loads 6 to 11.
-static START_LOADS: [(u64, &str); 6] = [
-    (6, "shelf fault a.toml\n"),
-    (7, "shelf fault s\n"),
-    (8, "shelf fault copy.elf\n"),
-    (9, "shelf fault copy.hex0\n"),
-    (10, "shelf fault a.bin\n"),
-    (11, "shelf fault b.bin\n"),
-];
-
-/// A failed load sets nothing, and a failed save nothing but its own name; the same call again goes on.
-/// The load of a number fails in a piece, behind so many saves, and the same call again goes on.
-fn load_passes(
-    rt: &impl Abort,
-    alloc: Global,
-    shelf: &mut MemShelf,
-    (load, text): (u64, &'static str),
-    (again, saved): (Piece, usize),
-) -> Result<(), OutOfMemory> {
-    shelf.fail_load(load)?;
-    pieces(
-        rt,
-        alloc,
-        shelf,
-        &[(again.0, again.1, Status::ShelfFault, text)],
-    )?;
-    assert_eq!(rt; saves(shelf), saved);
-    pieces(rt, alloc, shelf, &[again])
-}
-
-/// The save of a number fails in a piece, and the base stays.
-fn save_fails(
-    rt: &impl Abort,
-    alloc: Global,
-    shelf: &mut MemShelf,
-    save: u64,
-    fault: Piece,
-) -> Result<(), OutOfMemory> {
-    let base = content(alloc, shelf, "s")?;
-    shelf.fail_save(save)?;
-    pieces(rt, alloc, shelf, &[fault])?;
-    assert!(rt; holds(shelf, "s", base.as_slice()));
-    Ok(())
-}
-
-const START: Piece = ("delta-start", "13", Status::Paused, "paused two 13\n");
-
-fn start_load_passes(
-    rt: &impl Abort,
-    alloc: Global,
-    load: (u64, &'static str),
-) -> Result<(), OutOfMemory> {
-    let mut shelf = based(alloc)?;
-    load_passes(rt, alloc, &mut shelf, load, (START, 1))
-}
-
-fn start_save_passes(rt: &impl Abort, alloc: Global, fault: Piece) -> Result<(), OutOfMemory> {
-    let mut shelf = based(alloc)?;
-    save_fails(rt, alloc, &mut shelf, 2, fault)?;
-    pieces(rt, alloc, &mut shelf, &[START])
-}
-
-static START_SAVES: [Piece; 2] = [
-    ("delta-start", "13", Status::ShelfFault, "shelf fault p\n"),
-    ("delta-start", "32", Status::ShelfFault, "shelf fault r\n"),
-];
-
-#[test]
-fn faults_of_delta_start_are_said_and_pass(rt: HostRuntime) -> Result<(), Fail> {
-    for load in START_LOADS {
-        start_load_passes(&rt, rt.alloc(), load)?;
-    }
-    for fault in START_SAVES {
-        start_save_passes(&rt, rt.alloc(), fault)?;
-    }
-    Ok(())
-}
-
-/// Behind these the loads of `delta-resume` are loads 12 to 18.
-static RESUME_LOADS: [(u64, &str); 7] = [
-    (12, "shelf fault a.toml\n"),
-    (13, "shelf fault s\n"),
-    (14, "shelf fault p\n"),
-    (15, "shelf fault copy.elf\n"),
-    (16, "shelf fault copy.hex0\n"),
-    (17, "shelf fault a.bin\n"),
-    (18, "shelf fault b.bin\n"),
-];
-
-const RESUME: Piece = ("delta-resume", "18", Status::Paused, "paused two 31\n");
-
-fn resume_load_passes(
-    rt: &impl Abort,
-    alloc: Global,
-    load: (u64, &'static str),
-) -> Result<(), OutOfMemory> {
-    let mut shelf = differing(alloc)?;
-    load_passes(rt, alloc, &mut shelf, load, (RESUME, 2))
-}
-
-fn resume_save_fails(rt: &impl Abort, alloc: Global, fault: Piece) -> Result<(), OutOfMemory> {
-    let mut shelf = differing(alloc)?;
-    save_fails(rt, alloc, &mut shelf, 3, fault)
-}
-
-static RESUME_SAVES: [Piece; 2] = [
-    ("delta-resume", "18", Status::ShelfFault, "shelf fault p\n"),
-    ("delta-resume", "19", Status::ShelfFault, "shelf fault r\n"),
-];
-
-#[test]
-fn faults_of_delta_resume_are_said_and_pass(rt: HostRuntime) -> Result<(), Fail> {
-    for load in RESUME_LOADS {
-        resume_load_passes(&rt, rt.alloc(), load)?;
-    }
-    for fault in RESUME_SAVES {
-        resume_save_fails(&rt, rt.alloc(), fault)?;
-    }
-    Ok(())
-}
-
-fn unheard_start(rt: &impl Abort, alloc: Global, shelf: &mut MemShelf) -> Result<(), OutOfMemory> {
-    let words = ["delta-start", "a.toml", "s", "p", "r", "31"];
-    unheard(rt, alloc, shelf, &words)?;
-    pieces(
-        rt,
-        alloc,
-        shelf,
-        &[("delta-resume", "1", Status::Yes, EQUAL)],
-    )
-}
-
-#[test]
-fn a_failed_put_leaves_what_was_saved(rt: HostRuntime) -> Result<(), Fail> {
-    let mut shelf = based(rt.alloc())?;
-    unheard_start(&rt, rt.alloc(), &mut shelf)?;
     Ok(())
 }

@@ -143,7 +143,6 @@ fn cut_reports_are_refused_at_their_line(rt: HostRuntime) -> Result<(), Fail> {
     Ok(())
 }
 
-/// A save's first field has 8 bytes, and its second the recipe's digest of 32.
 /// Resumes from the first bytes of a save.
 fn refuses_save(
     rt: &impl Abort,
@@ -168,6 +167,7 @@ fn refuses_saves(rt: &impl Abort, alloc: Global, save: &[u8]) -> Result<(), OutO
     Ok(())
 }
 
+/// A save's first field has 8 bytes, and its second the recipe's digest of 32.
 #[test]
 fn saves_that_end_in_the_digest_are_refused(rt: HostRuntime) -> Result<(), Fail> {
     let whole = shelf_with(&rt, rt.alloc(), "63")?;

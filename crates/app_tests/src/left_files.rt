@@ -2,7 +2,7 @@
 //! docs/reference/command-line.md, and what stands after so many steps from the listing of copy.elf.
 
 use crate::audits::audit_shelf;
-use crate::scenes::{Step, holds, says, walk};
+use crate::scenes::{Step, says, walk};
 use crate::worked::program_of;
 use ddc_app::Status;
 use ddc_base::{Call, MemShelf, OutOfMemory};
@@ -249,7 +249,6 @@ fn what_a_stage_left_is_saved(rt: HostRuntime) -> Result<(), Fail> {
     Ok(())
 }
 
-/// The artefact of the first stage is the program that it copied.
 fn saves_artefact(rt: &impl Abort, alloc: Global, shelf: &mut MemShelf) -> Result<(), OutOfMemory> {
     let words = ["left", "a.toml", "one", "out", "./o"];
     let text = "left one out 232 status 0 step 32\n";
@@ -260,6 +259,7 @@ fn saves_artefact(rt: &impl Abort, alloc: Global, shelf: &mut MemShelf) -> Resul
     Ok(())
 }
 
+/// The artefact of the first stage is the program that it copied.
 #[test]
 fn a_whole_artefact_is_saved(rt: HostRuntime) -> Result<(), Fail> {
     let mut shelf = shelf_of(rt.alloc(), SAME)?;
@@ -267,7 +267,6 @@ fn a_whole_artefact_is_saved(rt: HostRuntime) -> Result<(), Fail> {
     Ok(())
 }
 
-/// `1` is a stream, and a file of that name is given as `./1`.
 static NAMED: [Step; 4] = [
     Step::Run(
         &["left", "a.toml", "one", "./1", "o"],
@@ -288,6 +287,7 @@ fn named(rt: &impl Abort, alloc: Global, shelf: &mut MemShelf) -> Result<(), Out
     walk(rt, alloc, shelf, &NAMED)
 }
 
+/// `1` is a stream, and a file of that name is given as `./1`.
 #[test]
 fn a_file_may_have_the_name_of_a_stream(rt: HostRuntime) -> Result<(), Fail> {
     let given = "path = \"in\", from = \"prog\"";
@@ -296,7 +296,6 @@ fn a_file_may_have_the_name_of_a_stream(rt: HostRuntime) -> Result<(), Fail> {
     Ok(())
 }
 
-/// Where nothing is left, what OUT held stays.
 fn stays(
     rt: &impl Abort,
     alloc: Global,
@@ -312,6 +311,7 @@ fn stays_left(rt: &impl Abort, alloc: Global, row: &Row) -> Result<(), OutOfMemo
     stays(rt, alloc, &mut shelf, row)
 }
 
+/// Where nothing is left, what OUT held stays.
 #[test]
 fn a_refusal_leaves_out_as_it_was(rt: HostRuntime) -> Result<(), Fail> {
     for row in &ROWS {
@@ -371,7 +371,6 @@ fn the_words_of_left_are_judged(rt: HostRuntime) -> Result<(), Fail> {
     Ok(())
 }
 
-/// The last call is the one save; where it fails, what stood under OUT is open, and the fault is said.
 static FAULTS: [&[Step]; 5] = [
     &[
         Step::FailSave(1),
@@ -426,6 +425,7 @@ fn ends_in_a_save(rt: &impl Abort, alloc: Global, steps: &[Step]) -> Result<bool
     Ok(matches!(shelf.calls().last(), Some(Call::Save { .. })))
 }
 
+/// The last call is the one save; where it fails, what stood under OUT is open, and the fault is said.
 #[test]
 fn a_failed_save_is_a_fault(rt: HostRuntime) -> Result<(), Fail> {
     for (number, steps) in FAULTS.iter().enumerate() {

@@ -11,6 +11,8 @@ mod causes;
 mod chains;
 pub mod copying;
 #[cfg(test)]
+mod delta_faults;
+#[cfg(test)]
 mod differences;
 #[cfg(test)]
 mod faults;
@@ -18,6 +20,8 @@ mod faults;
 mod left_files;
 #[cfg(test)]
 mod pauses;
+#[cfg(test)]
+mod piece_faults;
 #[cfg(test)]
 mod pieces;
 #[cfg(test)]

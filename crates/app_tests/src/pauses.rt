@@ -190,7 +190,6 @@ static CHANGES: [Change; 6] = [
     ),
 ];
 
-/// A pause saves the save alone, 3 the report alone, and a failure nothing.
 fn comes_to(
     rt: &impl Abort,
     alloc: Global,
@@ -218,6 +217,7 @@ fn change_comes_to(
     comes_to(rt, alloc, &mut shelf, first, second)
 }
 
+/// A pause saves the save alone, 3 the report alone, and a failure nothing.
 #[test]
 fn pieces_come_to_what_the_audit_does(rt: HostRuntime) -> Result<(), Fail> {
     for change in &CHANGES {
@@ -310,7 +310,6 @@ fn saves_of_others_are_refused(rt: HostRuntime) -> Result<(), Fail> {
     Ok(())
 }
 
-/// The save as the first form had it: both magics end with another byte, and the byte that says that nothing is reserved is not there.
 /// Makes the save one of the first form.
 fn make_old(alloc: Global, shelf: &mut MemShelf) -> Result<(), OutOfMemory> {
     let old = without_byte(alloc, shelf.get("s").unwrap_or(&[]), 849)?;
@@ -333,6 +332,7 @@ fn resumes_old(rt: &impl Abort, alloc: Global, shelf: &mut MemShelf) -> Result<(
     Ok(())
 }
 
+/// The save as the first form had it: both magics end with another byte, and the byte that says that nothing is reserved is not there.
 #[test]
 fn an_old_save_is_resumed(rt: HostRuntime) -> Result<(), Fail> {
     let mut shelf = paused(rt.alloc(), "63")?;
@@ -340,7 +340,6 @@ fn an_old_save_is_resumed(rt: HostRuntime) -> Result<(), Fail> {
     Ok(())
 }
 
-/// After 45 steps x8, at 657, has how many bytes are read at once: of 4,096 it is made 2, so that the loop is taken once more, in 11 steps.
 fn believes(rt: &impl Abort, alloc: Global, shelf: &mut MemShelf) -> Result<(), OutOfMemory> {
     alter(alloc, shelf, "s", 657, &[2, 0])?;
     let equal = ("resume", "1000", Status::Yes, "equal two bin 3\n");
@@ -351,6 +350,7 @@ fn believes(rt: &impl Abort, alloc: Global, shelf: &mut MemShelf) -> Result<(), 
     says(rt, alloc, shelf, &["verify", "a.toml", "r"], refuted)
 }
 
+/// After 45 steps x8, at 657, has how many bytes are read at once: of 4,096 it is made 2, so that the loop is taken once more, in 11 steps.
 #[test]
 fn an_altered_save_is_believed_and_refuted(rt: HostRuntime) -> Result<(), Fail> {
     let mut shelf = paused(rt.alloc(), "45")?;
@@ -386,7 +386,6 @@ static WORDS: [&[&str]; 22] = [
     &["none", "s", "r", "0"],
 ];
 
-/// Nothing is loaded before the words are judged.
 fn judges_words(rt: &impl Abort, alloc: Global, shelf: &mut MemShelf) -> Result<(), OutOfMemory> {
     are_usage_of(rt, alloc, shelf, "part", &WORDS)?;
     are_usage_of(rt, alloc, shelf, "resume", &WORDS)?;
@@ -394,6 +393,7 @@ fn judges_words(rt: &impl Abort, alloc: Global, shelf: &mut MemShelf) -> Result<
     Ok(())
 }
 
+/// Nothing is loaded before the words are judged.
 #[test]
 fn words_are_judged(rt: HostRuntime) -> Result<(), Fail> {
     let mut shelf = audit_shelf(rt.alloc(), "", "")?;
@@ -485,7 +485,6 @@ fn recipes_and_names_are_judged(rt: HostRuntime) -> Result<(), Fail> {
     Ok(())
 }
 
-/// An input that is not there is said before a save that is none, and behind a save that is not there.
 static ABSENT: [Step; 4] = [
     Step::Run(
         &["part", "a.toml", "s", "r", "1"],
@@ -505,6 +504,7 @@ static ABSENT: [Step; 4] = [
     ),
 ];
 
+/// An input that is not there is said before a save that is none, and behind a save that is not there.
 #[test]
 fn saves_are_loaded_before_inputs(rt: HostRuntime) -> Result<(), Fail> {
     over(&rt, rt.alloc(), ("\"a.bin\"", "\"none\""), &ABSENT)?;

@@ -11,10 +11,10 @@ use std::process::Abort;
 use std::test::Fail;
 
 /// A command line, its status and its text.
-type Row = (&'static [&'static str], Status, &'static str);
+pub(crate) type Row = (&'static [&'static str], Status, &'static str);
 
 /// Runs command lines one after the other, and compares their statuses and texts.
-fn says_all(
+pub(crate) fn says_all(
     rt: &impl Abort,
     alloc: Global,
     shelf: &mut MemShelf,
@@ -27,14 +27,14 @@ fn says_all(
 }
 
 /// The cut of the second stage by 10 steps.
-static CUT: &[Row] = &[(
+pub(crate) const CUT: &[Row] = &[(
     &["cut", "a.toml", "two", "10", "c"],
     Status::Yes,
     "cut 4 step 32\n",
 )];
 
 /// A shelf with the four states of that cut.
-fn cut_shelf(rt: &impl Abort, alloc: Global) -> Result<MemShelf, OutOfMemory> {
+pub(crate) fn cut_shelf(rt: &impl Abort, alloc: Global) -> Result<MemShelf, OutOfMemory> {
     let mut shelf = audit_shelf(alloc, "", "")?;
     says_all(rt, alloc, &mut shelf, CUT)?;
     Ok(shelf)
@@ -243,7 +243,7 @@ static ENDS: [(&str, usize, &[u8], &str); 5] = [
     ("c.3", 16, b"\x01", "refuted last 2\n"),
 ];
 
-const ENDS_WORDS: &[&str] = &["ends", "a.toml", "two", "c", "4"];
+pub(crate) const ENDS_WORDS: &[&str] = &["ends", "a.toml", "two", "c", "4"];
 
 #[test]
 fn altered_ends_are_refuted(rt: HostRuntime) -> Result<(), Fail> {
@@ -397,7 +397,7 @@ static CHANGES: [Change; 6] = [
 ];
 
 /// How many states stand on the shelf.
-fn states(shelf: &MemShelf) -> usize {
+pub(crate) fn states(shelf: &MemShelf) -> usize {
     ["c.0", "c.1", "c.2", "c.3", "c.4"]
         .iter()
         .filter(|name| shelf.get(name).is_some())
@@ -482,7 +482,6 @@ static LIMITS: [(&str, Status, &str); 3] = [
     ),
 ];
 
-/// An endless program, whose one instruction jumps to itself.
 /// Cuts an endless program by single steps.
 fn cuts_endless(
     rt: &impl Abort,
@@ -519,6 +518,7 @@ fn cuts_limited(
     cuts_endless(rt, alloc, &mut shelf, ending)
 }
 
+/// An endless program, whose one instruction jumps to itself.
 #[test]
 fn a_thousand_states_are_the_most(rt: HostRuntime) -> Result<(), Fail> {
     for (limit, status, text) in LIMITS {
@@ -648,7 +648,6 @@ fn names_of_states_are_judged(rt: HostRuntime) -> Result<(), Fail> {
     Ok(())
 }
 
-/// RECIPE clashes as an input does, before anything is loaded.
 static NO_STATES: [Step; 2] = [
     Step::Usage(&[
         &["cut", "c.5", "two", "10", "c"],
@@ -658,6 +657,7 @@ static NO_STATES: [Step; 2] = [
     Step::Calls(0),
 ];
 
+/// RECIPE clashes as an input does, before anything is loaded.
 #[test]
 fn the_recipe_is_no_state(rt: HostRuntime) -> Result<(), Fail> {
     let mut shelf = MemShelf::new(rt.alloc());
@@ -665,152 +665,7 @@ fn the_recipe_is_no_state(rt: HostRuntime) -> Result<(), Fail> {
     Ok(())
 }
 
-static CUT_LOADS: [(u64, &str); 5] = [
-    (1, "shelf fault a.toml\n"),
-    (2, "shelf fault copy.elf\n"),
-    (3, "shelf fault copy.hex0\n"),
-    (4, "shelf fault a.bin\n"),
-    (5, "shelf fault b.bin\n"),
-];
-
-static CUT_SAVES: [(u64, &str); 4] = [
-    (1, "shelf fault c.0\n"),
-    (2, "shelf fault c.1\n"),
-    (3, "shelf fault c.2\n"),
-    (4, "shelf fault c.3\n"),
-];
-
-const CUT_WORDS: &[&str] = &["cut", "a.toml", "two", "10", "c"];
-
-/// A load of `cut` fails, and the same call again goes on.
-fn load_passes(
-    rt: &impl Abort,
-    alloc: Global,
-    shelf: &mut MemShelf,
-    (load, text): (u64, &str),
-) -> Result<(), OutOfMemory> {
-    shelf.fail_load(load)?;
-    says(rt, alloc, shelf, CUT_WORDS, (Status::ShelfFault, text))?;
-    assert_eq!(rt; states(shelf), 0);
-    says_all(rt, alloc, shelf, CUT)
-}
-
-fn cut_load_passes(rt: &impl Abort, alloc: Global, load: (u64, &str)) -> Result<(), OutOfMemory> {
-    let mut shelf = audit_shelf(alloc, "", "")?;
-    load_passes(rt, alloc, &mut shelf, load)
-}
-
-/// Whether the states before one of a number, from 1, stand as in the whole cut, and none behind it.
-fn stand_before(shelf: &MemShelf, whole: &MemShelf, save: u64) -> bool {
-    let names = ["c.0", "c.1", "c.2", "c.3"];
-    names.iter().zip(1u64..5).all(|(name, number)| stands_before(
-        shelf.get(name),
-        whole.get(name),
-        number,
-        save,
-    ))
-}
-
-/// The same of the state of a number, which is found here and held there.
-fn stands_before(found: Option<&[u8]>, held: Option<&[u8]>, number: u64, save: u64) -> bool {
-    if number < save {
-        found == held
-    } else {
-        number == save || found.is_none()
-    }
-}
-
-/// A save of `cut` fails, and the same call again goes on.
-fn save_passes(
-    rt: &impl Abort,
-    alloc: Global,
-    shelf: &mut MemShelf,
-    (save, text): (u64, &str),
-    whole: &MemShelf,
-) -> Result<(), OutOfMemory> {
-    shelf.fail_save(save)?;
-    says(rt, alloc, shelf, CUT_WORDS, (Status::ShelfFault, text))?;
-    assert!(rt; stand_before(shelf, whole, save));
-    says_all(rt, alloc, shelf, CUT)
-}
-
-fn cut_save_passes(
-    rt: &impl Abort,
-    alloc: Global,
-    save: (u64, &str),
-    whole: &MemShelf,
-) -> Result<(), OutOfMemory> {
-    let mut shelf = audit_shelf(alloc, "", "")?;
-    save_passes(rt, alloc, &mut shelf, save, whole)
-}
-
-#[test]
-fn faults_of_cut_are_said_and_pass(rt: HostRuntime) -> Result<(), Fail> {
-    for load in CUT_LOADS {
-        cut_load_passes(&rt, rt.alloc(), load)?;
-    }
-    let whole = cut_shelf(&rt, rt.alloc())?;
-    for save in CUT_SAVES {
-        cut_save_passes(&rt, rt.alloc(), save, &whole)?;
-    }
-    Ok(())
-}
-
-/// Behind the five loads of `cut` come those of `ends`, and the two states.
-static ENDS_LOADS: [(u64, &str); 7] = [
-    (6, "shelf fault a.toml\n"),
-    (7, "shelf fault copy.elf\n"),
-    (8, "shelf fault copy.hex0\n"),
-    (9, "shelf fault a.bin\n"),
-    (10, "shelf fault b.bin\n"),
-    (11, "shelf fault c.0\n"),
-    (12, "shelf fault c.3\n"),
-];
-
-static SEGMENT_LOADS: [(u64, &str); 2] = [(6, "shelf fault c.0\n"), (7, "shelf fault c.1\n")];
-
-/// A load of a command over the states fails.
-fn names_load(
-    rt: &impl Abort,
-    alloc: Global,
-    shelf: &mut MemShelf,
-    words: &[&str],
-    (load, text): (u64, &str),
-) -> Result<(), OutOfMemory> {
-    shelf.fail_load(load)?;
-    says(rt, alloc, shelf, words, (Status::ShelfFault, text))
-}
-
-fn names_cut_load(
-    rt: &impl Abort,
-    alloc: Global,
-    words: &[&str],
-    load: (u64, &str),
-) -> Result<(), OutOfMemory> {
-    let mut shelf = cut_shelf(rt, alloc)?;
-    names_load(rt, alloc, &mut shelf, words, load)
-}
-
-#[test]
-fn faults_of_checks_are_said(rt: HostRuntime) -> Result<(), Fail> {
-    for load in ENDS_LOADS {
-        names_cut_load(&rt, rt.alloc(), ENDS_WORDS, load)?;
-    }
-    for load in SEGMENT_LOADS {
-        names_cut_load(&rt, rt.alloc(), &["segment", "c.0", "c.1"], load)?;
-    }
-    Ok(())
-}
-
-static UNHEARD: [Step; 1] = [Step::Unheard(CUT_WORDS)];
-
-#[test]
-fn a_failed_put_leaves_the_states(rt: HostRuntime) -> Result<(), Fail> {
-    let mut shelf = audit_shelf(rt.alloc(), "", "")?;
-    walk(&rt, rt.alloc(), &mut shelf, &UNHEARD)?;
-    assert_eq!(&rt; states(&shelf), 4);
-    Ok(())
-}
+pub(crate) const CUT_WORDS: &[&str] = &["cut", "a.toml", "two", "10", "c"];
 
 /// Two checks over the states of the cut, and all calls.
 static CALLS: [Step; 4] = [

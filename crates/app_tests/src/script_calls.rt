@@ -379,7 +379,6 @@ fn a_save_that_fails_is_named(rt: HostRuntime) -> Result<(), Fail> {
     Ok(())
 }
 
-/// A put that fails comes behind the save.
 static UNHEARD: [Step; 4] = [
     Step::Unheard(KAEM),
     Step::Holds("r", REPORT),
@@ -387,6 +386,7 @@ static UNHEARD: [Step; 4] = [
     Step::Holds("r", REPORT),
 ];
 
+/// A put that fails comes behind the save.
 #[test]
 fn a_put_that_fails_leaves_the_report(rt: HostRuntime) -> Result<(), Fail> {
     over_script(&rt, rt.alloc(), &UNHEARD)?;

@@ -218,7 +218,6 @@ static LONG: [(u32, &[&str]); 5] = [
     (65_537, &["unknown\n", "unknown\n"]),
 ];
 
-/// A line of 256 bytes is one, and so is a longer one, of which at most 65,536 bytes are taken; what is left of it is the next line.
 fn long_line(
     rt: &impl Abort,
     alloc: Global,
@@ -229,6 +228,7 @@ fn long_line(
     talks(rt, alloc, "two", lines.as_slice(), replies, b"where\n")
 }
 
+/// A line of 256 bytes is one, and so is a longer one, of which at most 65,536 bytes are taken; what is left of it is the next line.
 #[test]
 fn long_lines_are_one_line(rt: HostRuntime) -> Result<(), Fail> {
     for (count, replies) in LONG {
@@ -237,7 +237,6 @@ fn long_lines_are_one_line(rt: HostRuntime) -> Result<(), Fail> {
     Ok(())
 }
 
-/// A session answers 65,536 lines, and asks for no further one.
 /// So many lines that are no command.
 fn unknown_lines(alloc: Global, count: u32) -> Result<Bytes, OutOfMemory> {
     let mut lines = Bytes::new(alloc);
@@ -269,6 +268,7 @@ fn answers_worked(rt: &impl Abort, alloc: Global, lines: &[u8]) -> Result<(), Ou
     answers_lines(rt, alloc, &mut shelf, lines)
 }
 
+/// A session answers 65,536 lines, and asks for no further one.
 #[test]
 fn a_session_has_so_many_lines(rt: HostRuntime) -> Result<(), Fail> {
     let lines = unknown_lines(rt.alloc(), 65_537)?;
@@ -287,8 +287,6 @@ static FAILED_LINES: [(u64, usize, &str); 7] = [
     (7, 5, ""),
 ];
 
-/// Each line of the worked session fails in turn; the sixth call finds nothing left, and there is no seventh. A call that fails takes half
-/// of its bytes.
 fn failed_line(
     rt: &impl Abort,
     alloc: Global,
@@ -313,6 +311,8 @@ fn failed_line(
     talks_over(rt, alloc, ("", ""), &talk)
 }
 
+/// Each line of the worked session fails in turn; the sixth call finds nothing left, and there is no seventh. A call that fails takes half
+/// of its bytes.
 #[test]
 fn a_failed_line_ends_the_session(rt: HostRuntime) -> Result<(), Fail> {
     for (failing, said, left) in FAILED_LINES {
@@ -330,7 +330,6 @@ static FAILED_PUTS: [(u64, usize, &str); 5] = [
     (5, 4, ""),
 ];
 
-/// Each put of the worked session fails in turn, behind half of its reply; the lines so far are taken, and no further one.
 fn failed_put(
     rt: &impl Abort,
     alloc: Global,
@@ -350,6 +349,7 @@ fn failed_put(
     talks_over(rt, alloc, ("", ""), &talk)
 }
 
+/// Each put of the worked session fails in turn, behind half of its reply; the lines so far are taken, and no further one.
 #[test]
 fn a_failed_put_ends_the_session(rt: HostRuntime) -> Result<(), Fail> {
     for (failing, said, left) in FAILED_PUTS {
@@ -378,7 +378,6 @@ fn says(
     holds_talk(rt, alloc, shelf, &talk)
 }
 
-/// The recipe is load 1, and the inputs are loads 2 to 5.
 /// The load of a number fails, which is that of a name.
 fn names_load(
     rt: &impl Abort,
@@ -402,6 +401,7 @@ fn names_worked_load(
     names_load(rt, alloc, &mut shelf, words, load)
 }
 
+/// The recipe is load 1, and the inputs are loads 2 to 5.
 #[test]
 fn a_failed_load_begins_no_session(rt: HostRuntime) -> Result<(), Fail> {
     let names = ["a.toml", "copy.elf", "copy.hex0", "a.bin", "b.bin"];
@@ -523,7 +523,6 @@ static ALONE: [(&str, &str, &[&str]); 3] = [
     ("\"copy.elf\"", "\"exit.elf\"", &["end exited 0 step 3\n"]),
 ];
 
-/// What is behind the stage's start is not looked at: its own check, its limit, the comparison.
 fn talks_alone(
     rt: &impl Abort,
     alloc: Global,
@@ -542,6 +541,7 @@ fn talks_alone(
     talks_over(rt, alloc, change, &talk)
 }
 
+/// What is behind the stage's start is not looked at: its own check, its limit, the comparison.
 #[test]
 fn a_stage_is_stepped_through_alone(rt: HostRuntime) -> Result<(), Fail> {
     for (old, new, replies) in ALONE {
@@ -616,7 +616,6 @@ fn demonstrations_are_made(rt: HostRuntime) -> Result<(), Fail> {
     Ok(())
 }
 
-/// A demonstration loads two files, and saves none.
 fn loads_two(rt: &impl Abort, alloc: Global, shelf: &mut MemShelf) -> Result<(), OutOfMemory> {
     let said = (Status::Yes, "demo 5 steps 64 equal yes\n");
     says(rt, alloc, shelf, &["demo", "5"], said)?;
@@ -628,6 +627,7 @@ fn loads_two(rt: &impl Abort, alloc: Global, shelf: &mut MemShelf) -> Result<(),
     Ok(())
 }
 
+/// A demonstration loads two files, and saves none.
 #[test]
 fn a_demonstration_loads_two_files(rt: HostRuntime) -> Result<(), Fail> {
     let mut shelf = audit_shelf(rt.alloc(), "", "")?;
@@ -635,7 +635,6 @@ fn a_demonstration_loads_two_files(rt: HostRuntime) -> Result<(), Fail> {
     Ok(())
 }
 
-/// Another program, or another source, stands in a demonstration's place.
 /// The words of a demonstration that fails.
 const DEMO: &[&str] = &["demo", "1"];
 
@@ -669,6 +668,7 @@ fn fails_bare(rt: &impl Abort, alloc: Global, shelf: &mut MemShelf) -> Result<()
     fails_over(rt, alloc, shelf, ("copy.elf", &EXIT), absent)
 }
 
+/// Another program, or another source, stands in a demonstration's place.
 #[test]
 fn demonstrations_fail(rt: HostRuntime) -> Result<(), Fail> {
     let alloc = rt.alloc();

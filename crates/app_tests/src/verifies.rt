@@ -607,7 +607,6 @@ static FAULTS: [(u64, &str); 6] = [
     (6, "shelf fault b.bin\n"),
 ];
 
-/// The recipe is load 1, the report load 2, and the inputs are loads 3 to 6.
 fn passes(
     rt: &impl Abort,
     alloc: Global,
@@ -628,6 +627,7 @@ fn fault_passes(rt: &impl Abort, alloc: Global, load: u64, text: &str) -> Result
     passes(rt, alloc, &mut shelf, load, text)
 }
 
+/// The recipe is load 1, the report load 2, and the inputs are loads 3 to 6.
 #[test]
 fn faults_are_said_and_pass(rt: HostRuntime) -> Result<(), Fail> {
     for (load, text) in FAULTS {
