@@ -1,9 +1,10 @@
 //! The assumptions that `verify` prints under its answer, of three recipes, each with an equal binary and with another one.
 //! They were written down from docs/reference/argument.md.
 
-use crate::worked::{COPY, decoded, run};
+use crate::scenes::{ends, says};
+use crate::worked::{COPY, decoded};
 use ddc_app::Status;
-use ddc_base::{MemShelf, MemSink, OutOfMemory};
+use ddc_base::{MemShelf, OutOfMemory};
 use std::alloc::Global;
 use std::process::Abort;
 use std::test::Fail;
@@ -69,63 +70,57 @@ binary = \"bin\"
     )?)
 }
 
-/// Audits the recipe of a row with this binary, replays the report, and compares the answer and the lines.
-fn verifies(
-    rt: &impl Abort,
-    alloc: Global,
-    row: &Row,
-    binary: &[u8],
-    status: Status,
-    answer: &str,
-) -> Result<(), OutOfMemory> {
+/// A shelf with the recipe of a row and its files, of which this is the binary.
+fn shelf_of(alloc: Global, row: &Row, binary: &[u8]) -> Result<MemShelf, OutOfMemory> {
     let mut shelf = MemShelf::new(alloc);
     shelf.set("copy.elf", decoded(alloc, COPY)?.as_slice())?;
     shelf.set("copy.hex0", COPY.as_bytes())?;
     shelf.set("a.bin", b"abc")?;
     shelf.set("b.bin", binary)?;
     shelf.set("a.toml", recipe(alloc, row)?.as_bytes())?;
-    let mut said = MemSink::new(alloc);
-    assert_eq!(rt;
-        run(alloc, &["audit", "a.toml", "r"], &mut shelf, &mut said)?,
-        status
-    );
-    let mut out = MemSink::new(alloc);
-    assert_eq!(rt;
-        run(alloc, &["verify", "a.toml", "r"], &mut shelf, &mut out)?,
-        status
-    );
-    let lines = row.3;
+    Ok(shelf)
+}
+
+/// Audits the recipe, replays the report, and compares the answer and the lines.
+fn replays(
+    rt: &impl Abort,
+    alloc: Global,
+    shelf: &mut MemShelf,
+    status: Status,
+    (answer, lines): (&str, &str),
+) -> Result<(), OutOfMemory> {
+    assert_eq!(rt; ends(alloc, shelf, &["audit", "a.toml", "r"])?, status);
     let text = format!(in alloc; "{answer}{lines}")?;
-    assert_eq!(rt; out.written(), text.as_bytes(), "{text}");
-    Ok(())
+    let words = ["verify", "a.toml", "r"];
+    says(rt, alloc, shelf, &words, (status, text.as_str()))
+}
+
+/// The same over the files of a row with this binary.
+fn verifies(
+    rt: &impl Abort,
+    alloc: Global,
+    row: &Row,
+    binary: &[u8],
+    (status, answer): (Status, &str),
+) -> Result<(), OutOfMemory> {
+    let mut shelf = shelf_of(alloc, row, binary)?;
+    replays(rt, alloc, &mut shelf, status, (answer, row.3))
 }
 
 #[test]
 fn under_a_yes(rt: HostRuntime) -> Result<(), Fail> {
+    let answer = (Status::Yes, "yes\nequal two bin 3\n");
     for row in &ROWS {
-        verifies(
-            &rt,
-            rt.alloc(),
-            row,
-            b"abc",
-            Status::Yes,
-            "yes\nequal two bin 3\n",
-        )?;
+        verifies(&rt, rt.alloc(), row, b"abc", answer)?;
     }
     Ok(())
 }
 
 #[test]
 fn under_a_difference(rt: HostRuntime) -> Result<(), Fail> {
+    let answer = (Status::Differs, "differs two bin 2 3 3\n");
     for row in &ROWS {
-        verifies(
-            &rt,
-            rt.alloc(),
-            row,
-            b"abd",
-            Status::Differs,
-            "differs two bin 2 3 3\n",
-        )?;
+        verifies(&rt, rt.alloc(), row, b"abd", answer)?;
     }
     Ok(())
 }

@@ -1,10 +1,12 @@
 //! Audits of one recipe over the files of a worked program, and of that recipe with one change.
 //! What they come to was written down from the rules, and the digests are those of `sha256sum`.
 
-use crate::worked::{COPY, EXIT, decoded, run, with};
+use crate::scenes::{Step, holds, over_worked, says};
+use crate::worked::{COPY, EXIT, decoded, with};
 use ddc_app::Status;
-use ddc_base::{MemShelf, MemSink, OutOfMemory};
+use ddc_base::{MemShelf, OutOfMemory};
 use std::alloc::Global;
+use std::process::Abort;
 use std::test::Fail;
 
 /// The recipe: `one` copies the copier, and what it made is checked and copies three bytes.
@@ -218,116 +220,144 @@ pub(crate) fn audit_shelf(alloc: Global, old: &str, new: &str) -> Result<MemShel
     Ok(shelf)
 }
 
+/// Makes the audit, and compares its status, its text and whether it saved a report.
+fn audits(
+    rt: &impl Abort,
+    alloc: Global,
+    shelf: &mut MemShelf,
+    (status, text): (Status, &str),
+) -> Result<(), OutOfMemory> {
+    says(rt, alloc, shelf, &["audit", "a.toml", "r"], (status, text))?;
+    let saved = matches!(status, Status::Yes | Status::Differs);
+    assert_eq!(rt; shelf.get("r").is_some(), saved);
+    Ok(())
+}
+
+/// The same over the recipe with one change.
+fn audits_changed(
+    rt: &impl Abort,
+    alloc: Global,
+    &(old, new, status, text): &Row,
+) -> Result<(), OutOfMemory> {
+    let mut shelf = audit_shelf(alloc, old, new)?;
+    audits(rt, alloc, &mut shelf, (status, text))
+}
+
 #[test]
 fn recipes_are_audited(rt: HostRuntime) -> Result<(), Fail> {
-    let alloc = rt.alloc();
-    for &(old, new, status, text) in &ROWS {
-        let mut shelf = audit_shelf(alloc, old, new)?;
-        let mut out = MemSink::new(alloc);
-        assert_eq!(rt;
-            run(alloc, &["audit", "a.toml", "r"], &mut shelf, &mut out)?,
-            status
-        );
-        assert_eq!(rt; out.written(), text.as_bytes());
-        let saved = matches!(status, Status::Yes | Status::Differs);
-        assert_eq!(rt; shelf.get("r").is_some(), saved);
+    for row in &ROWS {
+        audits_changed(&rt, rt.alloc(), row)?;
     }
     Ok(())
 }
 
+static SAVED: [Step; 2] = [
+    Step::Run(&["audit", "a.toml", "r"], Status::Yes, "equal two bin 3\n"),
+    Step::Holds("r", REPORT),
+];
+
 #[test]
 fn the_report_is_saved(rt: HostRuntime) -> Result<(), Fail> {
-    let alloc = rt.alloc();
-    let mut shelf = audit_shelf(alloc, "", "")?;
-    let mut out = MemSink::new(alloc);
-    assert_eq!(rt;
-        run(alloc, &["audit", "a.toml", "r"], &mut shelf, &mut out)?,
-        Status::Yes
-    );
-    assert_eq!(rt; shelf.get("r").unwrap_or(&[]), REPORT.as_bytes());
+    over_worked(&rt, rt.alloc(), &SAVED)?;
+    Ok(())
+}
+
+/// The report where that file is `abd`.
+fn differing(alloc: Global) -> Result<String, OutOfMemory> {
+    let (input, compare) = ABD;
+    let old = "input bin 3 ba7816bf8f01cfea414140de5dae2223b00361a396177a9cb410ff61f20015ad\n";
+    let report = with(alloc, REPORT, old, input)?;
+    with(alloc, report.as_str(), "compare two bin equal 3\n", compare)
+}
+
+/// Makes the audit with that file, and compares the report.
+fn differs(rt: &impl Abort, alloc: Global, shelf: &mut MemShelf) -> Result<(), OutOfMemory> {
+    shelf.set("b.bin", b"abd")?;
+    audits(
+        rt,
+        alloc,
+        shelf,
+        (Status::Differs, "differs two bin 2 3 3\n"),
+    )?;
+    let report = differing(alloc)?;
+    assert!(rt; holds(shelf, "r", report.as_bytes()));
     Ok(())
 }
 
 #[test]
 fn the_report_says_what_differs(rt: HostRuntime) -> Result<(), Fail> {
-    let alloc = rt.alloc();
-    let mut shelf = audit_shelf(alloc, "", "")?;
-    shelf.set("b.bin", b"abd")?;
-    let mut out = MemSink::new(alloc);
-    assert_eq!(rt;
-        run(alloc, &["audit", "a.toml", "r"], &mut shelf, &mut out)?,
-        Status::Differs
-    );
-    let (input, compare) = ABD;
-    let old = "input bin 3 ba7816bf8f01cfea414140de5dae2223b00361a396177a9cb410ff61f20015ad\n";
-    let report = with(alloc, REPORT, old, input)?;
-    let report = with(alloc, report.as_str(), "compare two bin equal 3\n", compare)?;
-    assert_eq!(rt; shelf.get("r").unwrap_or(&[]), report.as_bytes());
+    let mut shelf = audit_shelf(rt.alloc(), "", "")?;
+    differs(&rt, rt.alloc(), &mut shelf)?;
     Ok(())
 }
+
+static UNHEARD: [Step; 2] = [
+    Step::Unheard(&["audit", "a.toml", "r"]),
+    Step::Holds("r", REPORT),
+];
 
 #[test]
 fn a_failed_put_leaves_the_report(rt: HostRuntime) -> Result<(), Fail> {
-    let alloc = rt.alloc();
-    let mut shelf = audit_shelf(alloc, "", "")?;
-    let mut out = MemSink::new(alloc);
-    out.fail_put(1)?;
-    assert_eq!(rt;
-        run(alloc, &["audit", "a.toml", "r"], &mut shelf, &mut out)?,
-        Status::OutFault
-    );
-    assert_eq!(rt; shelf.get("r").unwrap_or(&[]), REPORT.as_bytes());
+    over_worked(&rt, rt.alloc(), &UNHEARD)?;
     Ok(())
 }
 
+static USAGE: [Step; 1] = [Step::Usage(&[
+    &["audit"],
+    &["audit", "a.toml"],
+    &["audit", "a.toml", "r", "r"],
+    &["audit", "a.toml", "a.toml"],
+    &["audit", "", "r"],
+    &["audit", "a.toml", "b.bin"],
+    // Words that are equal behind leading `./`.
+    &["audit", "a.toml", "./a.toml"],
+    &["audit", "./a.toml", "././a.toml"],
+    &["audit", "a.toml", "./b.bin"],
+    &["audit", "a.toml", "./././b.bin"],
+    &["audit", "./", "./"],
+])];
+
 #[test]
 fn the_words_of_an_audit_are_judged(rt: HostRuntime) -> Result<(), Fail> {
-    let alloc = rt.alloc();
-    let mut shelf = audit_shelf(alloc, "", "")?;
-    let lines: [&[&str]; 11] = [
-        &["audit"],
-        &["audit", "a.toml"],
-        &["audit", "a.toml", "r", "r"],
-        &["audit", "a.toml", "a.toml"],
-        &["audit", "", "r"],
-        &["audit", "a.toml", "b.bin"],
-        // Words that are equal behind leading `./`.
-        &["audit", "a.toml", "./a.toml"],
-        &["audit", "./a.toml", "././a.toml"],
-        &["audit", "a.toml", "./b.bin"],
-        &["audit", "a.toml", "./././b.bin"],
-        &["audit", "./", "./"],
-    ];
-    for words in lines {
-        let mut out = MemSink::new(alloc);
-        assert_eq!(rt; run(alloc, words, &mut shelf, &mut out)?, Status::Usage);
-        assert_eq!(rt; out.written(), "usage\n".as_bytes());
-    }
+    over_worked(&rt, rt.alloc(), &USAGE)?;
     Ok(())
+}
+
+static REPORT_WORDS: [&str; 7] = [
+    "./r",
+    "./",
+    "././",
+    ".//b.bin",
+    "x/../b.bin",
+    ".b.bin",
+    "./../b.bin",
+];
+
+/// Makes the audit, which saves its report under this word alone.
+fn saves_under(
+    rt: &impl Abort,
+    alloc: Global,
+    shelf: &mut MemShelf,
+    report: &str,
+) -> Result<(), OutOfMemory> {
+    let equal = (Status::Yes, "equal two bin 3\n");
+    says(rt, alloc, shelf, &["audit", "a.toml", report], equal)?;
+    assert!(rt; holds(shelf, report, REPORT.as_bytes()));
+    assert!(rt; shelf.get("r").is_none());
+    assert!(rt; holds(shelf, "b.bin", b"abc"));
+    Ok(())
+}
+
+fn saves_under_word(rt: &impl Abort, alloc: Global, report: &str) -> Result<(), OutOfMemory> {
+    let mut shelf = audit_shelf(alloc, "", "")?;
+    saves_under(rt, alloc, &mut shelf, report)
 }
 
 /// A word of which nothing is left behind `./` clashes with no other, and only leading `./` are taken off. A report is saved under its word.
 #[test]
 fn reports_are_saved_under_their_words(rt: HostRuntime) -> Result<(), Fail> {
-    let alloc = rt.alloc();
-    for report in [
-        "./r",
-        "./",
-        "././",
-        ".//b.bin",
-        "x/../b.bin",
-        ".b.bin",
-        "./../b.bin",
-    ] {
-        let mut shelf = audit_shelf(alloc, "", "")?;
-        let mut out = MemSink::new(alloc);
-        assert_eq!(rt;
-            run(alloc, &["audit", "a.toml", report], &mut shelf, &mut out)?,
-            Status::Yes
-        );
-        assert_eq!(rt; shelf.get(report).unwrap_or(&[]), REPORT.as_bytes());
-        assert!(rt; shelf.get("r").is_none());
-        assert_eq!(rt; shelf.get("b.bin").unwrap_or(&[]), b"abc".as_slice());
+    for report in REPORT_WORDS {
+        saves_under_word(&rt, rt.alloc(), report)?;
     }
     Ok(())
 }

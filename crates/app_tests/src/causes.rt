@@ -1,9 +1,10 @@
 //! Audits of one stage, by each cause with which a run or a check ends one.
 //! The causes were written down from docs/reference/audit.md, and the code from the instruction set manual (objdump reads it so).
 
-use crate::worked::{COPY, EXIT, decoded, program_of, run, with};
+use crate::scenes::says;
+use crate::worked::{COPY, EXIT, decoded, program_of, with};
 use ddc_app::Status;
-use ddc_base::{Bytes, MemShelf, MemSink, OutOfMemory};
+use ddc_base::{Bytes, MemShelf, OutOfMemory};
 use std::alloc::Global;
 use std::process::Abort;
 use std::test::Fail;
@@ -237,6 +238,15 @@ fn stage_shelf(
     Ok(shelf)
 }
 
+/// The pieces of a line as one text.
+fn joined(alloc: Global, pieces: &[&str]) -> Result<String, OutOfMemory> {
+    let mut text = String::new(alloc);
+    for piece in pieces {
+        text.push_str(piece)?;
+    }
+    Ok(text)
+}
+
 /// Makes the audit on a shelf, and compares its status and its line, in a few pieces, and whether it saved a report.
 fn answers(
     rt: &impl Abort,
@@ -245,16 +255,9 @@ fn answers(
     status: Status,
     line: &[&str],
 ) -> Result<(), OutOfMemory> {
-    let mut text = Bytes::new(alloc);
-    for piece in line {
-        text.extend(piece.as_bytes())?;
-    }
-    let mut out = MemSink::new(alloc);
-    assert_eq!(rt;
-        run(alloc, &["audit", "a.toml", "r"], shelf, &mut out)?,
-        status
-    );
-    assert_eq!(rt; out.written(), text.as_slice());
+    let text = joined(alloc, line)?;
+    let words = ["audit", "a.toml", "r"];
+    says(rt, alloc, shelf, &words, (status, text.as_str()))?;
     let saved = matches!(status, Status::Yes | Status::Differs);
     assert_eq!(rt; shelf.get("r").is_some(), saved);
     Ok(())
@@ -273,12 +276,20 @@ fn run_fails(
     answers(rt, alloc, &mut shelf, Status::RunFailed, &line)
 }
 
+/// Compares the cause of a run of this code.
+fn code_fails(
+    rt: &impl Abort,
+    alloc: Global,
+    &(code, old, new, cause): &Run,
+) -> Result<(), OutOfMemory> {
+    let program = program_of(alloc, code)?;
+    run_fails(rt, alloc, (old, new), program.as_slice(), cause)
+}
+
 #[test]
 fn runs_fail(rt: HostRuntime) -> Result<(), Fail> {
-    let alloc = rt.alloc();
-    for &(code, old, new, cause) in &RUNS {
-        let program = program_of(alloc, code)?;
-        run_fails(&rt, alloc, (old, new), program.as_slice(), cause)?;
+    for run in &RUNS {
+        code_fails(&rt, rt.alloc(), run)?;
     }
     Ok(())
 }
@@ -294,44 +305,82 @@ fn with_headers(alloc: Global, count: u8) -> Result<Bytes, OutOfMemory> {
     Ok(file)
 }
 
+/// Compares the refusal of exit.elf with another byte.
+fn start_fails(
+    rt: &impl Abort,
+    alloc: Global,
+    (index, byte): (usize, u8),
+    number: &str,
+) -> Result<(), OutOfMemory> {
+    let mut program = EXIT;
+    if let Some(place) = program.get_mut(index) {
+        *place = byte;
+    }
+    let cause = format!(in alloc; "start elf {number} step 0")?;
+    run_fails(rt, alloc, SAME, &program, cause.as_str())
+}
+
+/// Compares the refusal of so many program headers.
+fn headers_fail(rt: &impl Abort, alloc: Global, count: u8, cause: &str) -> Result<(), OutOfMemory> {
+    let program = with_headers(alloc, count)?;
+    run_fails(rt, alloc, SAME, program.as_slice(), cause)
+}
+
 #[test]
 fn starts_fail(rt: HostRuntime) -> Result<(), Fail> {
     let alloc = rt.alloc();
     for &(index, byte, number) in &STARTS {
-        let mut program = EXIT;
-        if let Some(place) = program.get_mut(index) {
-            *place = byte;
-        }
-        let cause = format!(in alloc; "start elf {number} step 0")?;
-        run_fails(&rt, alloc, SAME, &program, cause.as_str())?;
+        start_fails(&rt, alloc, (index, byte), number)?;
     }
     run_fails(&rt, alloc, SAME, &EXIT[..63], "start elf 1 step 0")?;
-    let many = with_headers(alloc, 17)?;
-    run_fails(&rt, alloc, SAME, many.as_slice(), "start elf 9 step 0")?;
-    let twice = with_headers(alloc, 2)?;
-    run_fails(&rt, alloc, SAME, twice.as_slice(), "start elf 11 step 0")?;
+    headers_fail(&rt, alloc, 17, "start elf 9 step 0")?;
+    headers_fail(&rt, alloc, 2, "start elf 11 step 0")?;
     Ok(())
+}
+
+/// The line of a stage that is given 256 files.
+fn many_files(alloc: Global) -> Result<String, OutOfMemory> {
+    let mut files = String::from_str(alloc, "files = [")?;
+    for number in 0..256 {
+        put_file(alloc, &mut files, number)?;
+    }
+    files.push_str("]")?;
+    Ok(files)
+}
+
+fn put_file(alloc: Global, files: &mut String, number: u64) -> Result<(), OutOfMemory> {
+    let entry = format!(in alloc; "{{ path = \"{number}\", from = \"data\" }},")?;
+    files.push_str(entry.as_str())?;
+    Ok(())
+}
+
+/// So many bytes that 256 files of them are too much.
+fn large(alloc: Global) -> Result<Bytes, OutOfMemory> {
+    let mut data = Bytes::new(alloc);
+    for _ in 0..2_097_153 {
+        data.push(b'a')?;
+    }
+    Ok(data)
+}
+
+/// A shelf with the recipe of these files.
+fn large_shelf(alloc: Global) -> Result<MemShelf, OutOfMemory> {
+    let files = many_files(alloc)?;
+    let old = "files = [{ path = \"in\", from = \"data\" }]";
+    stage_shelf(alloc, (old, files.as_str()), &EXIT, "", "")
+}
+
+fn is_too_large(rt: &impl Abort, alloc: Global, shelf: &mut MemShelf) -> Result<(), OutOfMemory> {
+    shelf.set("data", large(alloc)?.as_slice())?;
+    let line = ["run failed one start box step 0\n"];
+    answers(rt, alloc, shelf, Status::RunFailed, &line)
 }
 
 /// 256 files of 2,097,152 bytes are as many as may be; a byte more in one of them is too much.
 #[test]
 fn a_box_is_too_large(rt: HostRuntime) -> Result<(), Fail> {
-    let alloc = rt.alloc();
-    let mut files = String::from_str(alloc, "files = [")?;
-    for number in 0..256 {
-        let entry = format!(in alloc; "{{ path = \"{number}\", from = \"data\" }},")?;
-        files.push_str(entry.as_str())?;
-    }
-    files.push_str("]")?;
-    let old = "files = [{ path = \"in\", from = \"data\" }]";
-    let mut data = Bytes::new(alloc);
-    for _ in 0..2_097_153 {
-        data.push(b'a')?;
-    }
-    let mut shelf = stage_shelf(alloc, (old, files.as_str()), &EXIT, "", "")?;
-    shelf.set("data", data.as_slice())?;
-    let line = ["run failed one start box step 0\n"];
-    answers(&rt, alloc, &mut shelf, Status::RunFailed, &line)?;
+    let mut shelf = large_shelf(rt.alloc())?;
+    is_too_large(&rt, rt.alloc(), &mut shelf)?;
     Ok(())
 }
 
@@ -373,29 +422,40 @@ fn checks_succeed(rt: HostRuntime) -> Result<(), Fail> {
     Ok(())
 }
 
+/// What is changed in the recipe, the source, the status and the line.
+static ARTEFACTS: [((&str, &str), &str, Status, &str); 4] = [
+    (GIVEN, "61 62 63", Status::Yes, "equal one data 3\n"),
+    (
+        GIVEN,
+        "61 62",
+        Status::CheckFailed,
+        "check failed one differs 2\n",
+    ),
+    (WRITTEN, "", Status::Differs, "differs one data 0 0 3\n"),
+    (
+        WRITTEN,
+        "61",
+        Status::CheckFailed,
+        "check failed one differs 0\n",
+    ),
+];
+
+fn artefact_is(
+    rt: &impl Abort,
+    alloc: Global,
+    change: (&str, &str),
+    text: &str,
+    (status, line): (Status, &str),
+) -> Result<(), OutOfMemory> {
+    let mut shelf = stage_shelf(alloc, change, &EXIT, text, "abc")?;
+    answers(rt, alloc, &mut shelf, status, &[line])
+}
+
 /// exit.elf leaves the file that it was given, and writes nothing.
 #[test]
 fn artefacts_are_what_the_recipe_says(rt: HostRuntime) -> Result<(), Fail> {
-    let alloc = rt.alloc();
-    let table: [((&str, &str), &str, Status, &str); 4] = [
-        (GIVEN, "61 62 63", Status::Yes, "equal one data 3\n"),
-        (
-            GIVEN,
-            "61 62",
-            Status::CheckFailed,
-            "check failed one differs 2\n",
-        ),
-        (WRITTEN, "", Status::Differs, "differs one data 0 0 3\n"),
-        (
-            WRITTEN,
-            "61",
-            Status::CheckFailed,
-            "check failed one differs 0\n",
-        ),
-    ];
-    for (change, text, status, line) in table {
-        let mut shelf = stage_shelf(alloc, change, &EXIT, text, "abc")?;
-        answers(&rt, alloc, &mut shelf, status, &[line])?;
+    for &(change, text, status, line) in &ARTEFACTS {
+        artefact_is(&rt, rt.alloc(), change, text, (status, line))?;
     }
     Ok(())
 }

@@ -1,6 +1,7 @@
 //! Audits that are composed. What `chain` comes to was written down from docs/reference/chain.md and docs/reference/command-line.md.
 
 use crate::audits::RECIPE;
+use crate::scenes::{Step, ends, says, walk};
 use crate::worked::{COPY, decoded, run, with};
 use ddc_app::Status;
 use ddc_base::{Bytes, MemShelf, MemSink, OutOfMemory};
@@ -61,15 +62,31 @@ fn files(alloc: Global) -> Result<MemShelf, OutOfMemory> {
 fn add(
     alloc: Global,
     shelf: &mut MemShelf,
-    recipe: &str,
-    report: &str,
+    (recipe, report): (&str, &str),
     base: &[Change],
     changes: &[Change],
 ) -> Result<bool, OutOfMemory> {
     let text = changed(alloc, changed(alloc, RECIPE, base)?.as_str(), changes)?;
     shelf.set(recipe, text.as_bytes())?;
-    let mut out = MemSink::new(alloc);
-    Ok(run(alloc, &["audit", recipe, report], shelf, &mut out)? == Status::Yes)
+    Ok(ends(alloc, shelf, &["audit", recipe, report])? == Status::Yes)
+}
+
+/// The words of both audits.
+const GIVING: (&str, &str) = ("k.toml", "k.rep");
+
+const ASSUMING: (&str, &str) = ("b.toml", "b.rep");
+
+/// Adds both audits, of which each finds its comparison equal.
+fn add_both(
+    rt: &impl Abort,
+    alloc: Global,
+    shelf: &mut MemShelf,
+    first: &[Change],
+    second: &[Change],
+) -> Result<(), OutOfMemory> {
+    assert!(rt; add(alloc, shelf, GIVING, &GIVES, first)?);
+    assert!(rt; add(alloc, shelf, ASSUMING, &ASSUMES, second)?);
+    Ok(())
 }
 
 /// The files, with both audits: k.toml gives, and b.toml assumes.
@@ -80,8 +97,7 @@ fn both(
     second: &[Change],
 ) -> Result<MemShelf, OutOfMemory> {
     let mut shelf = files(alloc)?;
-    assert!(rt; add(alloc, &mut shelf, "k.toml", "k.rep", &GIVES, first)?);
-    assert!(rt; add(alloc, &mut shelf, "b.toml", "b.rep", &ASSUMES, second)?);
+    add_both(rt, alloc, &mut shelf, first, second)?;
     Ok(shelf)
 }
 
@@ -91,15 +107,44 @@ fn chains(
     alloc: Global,
     shelf: &mut MemShelf,
     list: &str,
-    status: Status,
-    text: &str,
+    ending: (Status, &str),
 ) -> Result<(), OutOfMemory> {
     shelf.set("list", list.as_bytes())?;
-    let mut out = MemSink::new(alloc);
-    let ended = run(alloc, &["chain", "list"], shelf, &mut out)?;
-    assert_eq!(rt; out.written(), text.as_bytes(), "{list}");
-    assert_eq!(rt; ended, status, "{list}");
+    says(rt, alloc, shelf, &["chain", "list"], ending)
+}
+
+/// A list, the status, and the text.
+type Chain = (&'static str, Status, &'static str);
+
+/// Runs `chain` over each of these lists.
+fn chain_all(
+    rt: &impl Abort,
+    alloc: Global,
+    shelf: &mut MemShelf,
+    rows: &[Chain],
+) -> Result<(), OutOfMemory> {
+    for &(list, status, text) in rows {
+        chains(rt, alloc, shelf, list, (status, text))?;
+    }
     Ok(())
+}
+
+/// The same over both audits.
+fn chain_both(rt: &impl Abort, alloc: Global, rows: &[Chain]) -> Result<(), OutOfMemory> {
+    let mut shelf = both(rt, alloc, &[], &[])?;
+    chain_all(rt, alloc, &mut shelf, rows)
+}
+
+/// Runs `chain` over both audits with changes.
+fn chain_changed(
+    rt: &impl Abort,
+    alloc: Global,
+    first: &[Change],
+    second: &[Change],
+    text: &str,
+) -> Result<(), OutOfMemory> {
+    let mut shelf = both(rt, alloc, first, second)?;
+    chains(rt, alloc, &mut shelf, IN_ORDER, (Status::Yes, text))
 }
 
 const IN_ORDER: &str = "k.toml k.rep\nb.toml b.rep\n";
@@ -111,42 +156,42 @@ const SECOND: &str = "chain 2 yes\nassumes 2 implements prog copy_src\n";
 
 #[test]
 fn an_earlier_audit_shows_a_line(rt: HostRuntime) -> Result<(), Fail> {
-    let alloc = rt.alloc();
-    let mut shelf = both(&rt, alloc, &[], &[])?;
-    chains(&rt, alloc, &mut shelf, IN_ORDER, Status::Yes, NONE)?;
+    chain_changed(&rt, rt.alloc(), &[], &[], NONE)?;
     Ok(())
 }
 
+static LATER: [Chain; 6] = [
+    (
+        "b.toml b.rep\nk.toml k.rep\n",
+        Status::Yes,
+        "chain 2 yes\nassumes 1 implements prog copy_src\n",
+    ),
+    ("k.toml k.rep\n", Status::Yes, "chain 1 yes\n"),
+    (
+        "b.toml b.rep\n",
+        Status::Yes,
+        "chain 1 yes\nassumes 1 implements prog copy_src\n",
+    ),
+    (
+        "k.toml k.rep\nb.toml b.rep\nb.toml b.rep\n",
+        Status::Yes,
+        "chain 3 yes\n",
+    ),
+    (
+        "b.toml b.rep\nk.toml k.rep\nb.toml b.rep\n",
+        Status::Yes,
+        "chain 3 yes\nassumes 1 implements prog copy_src\n",
+    ),
+    (
+        "b.toml b.rep\nb.toml b.rep\nk.toml k.rep\n",
+        Status::Yes,
+        "chain 3 yes\nassumes 1 implements prog copy_src\nassumes 2 implements prog copy_src\n",
+    ),
+];
+
 #[test]
 fn a_later_audit_shows_none(rt: HostRuntime) -> Result<(), Fail> {
-    let alloc = rt.alloc();
-    let mut shelf = both(&rt, alloc, &[], &[])?;
-    let table: [(&str, &str); 6] = [
-        (
-            "b.toml b.rep\nk.toml k.rep\n",
-            "chain 2 yes\nassumes 1 implements prog copy_src\n",
-        ),
-        ("k.toml k.rep\n", "chain 1 yes\n"),
-        (
-            "b.toml b.rep\n",
-            "chain 1 yes\nassumes 1 implements prog copy_src\n",
-        ),
-        (
-            "k.toml k.rep\nb.toml b.rep\nb.toml b.rep\n",
-            "chain 3 yes\n",
-        ),
-        (
-            "b.toml b.rep\nk.toml k.rep\nb.toml b.rep\n",
-            "chain 3 yes\nassumes 1 implements prog copy_src\n",
-        ),
-        (
-            "b.toml b.rep\nb.toml b.rep\nk.toml k.rep\n",
-            "chain 3 yes\nassumes 1 implements prog copy_src\nassumes 2 implements prog copy_src\n",
-        ),
-    ];
-    for (list, text) in &table {
-        chains(&rt, alloc, &mut shelf, list, Status::Yes, text)?;
-    }
+    chain_both(&rt, rt.alloc(), &LATER)?;
     Ok(())
 }
 
@@ -284,10 +329,8 @@ static ROWS: &[Row] = &[
 
 #[test]
 fn lines_are_struck_by_bytes_and_texts(rt: HostRuntime) -> Result<(), Fail> {
-    let alloc = rt.alloc();
     for (first, second, text) in ROWS {
-        let mut shelf = both(&rt, alloc, first, second)?;
-        chains(&rt, alloc, &mut shelf, IN_ORDER, Status::Yes, text)?;
+        chain_changed(&rt, rt.alloc(), first, second, text)?;
     }
     Ok(())
 }
@@ -317,17 +360,17 @@ steps = 100000
 #[test]
 fn a_source_of_what_a_stage_made_gives_and_takes_nothing(rt: HostRuntime) -> Result<(), Fail> {
     let alloc = rt.alloc();
-    let mut shelf = both(&rt, alloc, &[], &MADE_TEXT)?;
-    chains(&rt, alloc, &mut shelf, IN_ORDER, Status::Yes, SECOND)?;
-    let mut shelf = both(&rt, alloc, &GIVES_MADE_TEXT, &[])?;
+    chain_changed(&rt, alloc, &[], &MADE_TEXT, SECOND)?;
     let text =
         "chain 2 yes\nassumes 1 implements prog copy_src\nassumes 2 implements prog copy_src\n";
-    chains(&rt, alloc, &mut shelf, IN_ORDER, Status::Yes, text)?;
+    chain_changed(&rt, alloc, &GIVES_MADE_TEXT, &[], text)?;
     Ok(())
 }
 
 /// What is wrong with the second audit, by a file that is set behind both audits, and what `chain` says of it.
-static FAULTS: [(&str, &[u8], Status, &str); 8] = [
+type Fault = (&'static str, &'static [u8], Status, &'static str);
+
+static FAULTS: [Fault; 8] = [
     (
         "b.bin",
         b"abd",
@@ -378,37 +421,70 @@ static FAULTS: [(&str, &[u8], Status, &str); 8] = [
     ),
 ];
 
+/// Sets a file behind both audits, and runs `chain`.
+fn faulty(
+    rt: &impl Abort,
+    alloc: Global,
+    shelf: &mut MemShelf,
+    &(name, content, status, text): &Fault,
+) -> Result<(), OutOfMemory> {
+    shelf.set(name, content)?;
+    chains(rt, alloc, shelf, IN_ORDER, (status, text))
+}
+
+fn faulty_both(rt: &impl Abort, alloc: Global, fault: &Fault) -> Result<(), OutOfMemory> {
+    let mut shelf = both(rt, alloc, &[], &[])?;
+    faulty(rt, alloc, &mut shelf, fault)
+}
+
 #[test]
 fn an_audit_ends_the_chain_in_its_turn(rt: HostRuntime) -> Result<(), Fail> {
-    let alloc = rt.alloc();
-    for (name, content, status, text) in &FAULTS {
-        let mut shelf = both(&rt, alloc, &[], &[])?;
-        shelf.set(name, content)?;
-        chains(&rt, alloc, &mut shelf, IN_ORDER, *status, text)?;
+    for fault in &FAULTS {
+        faulty_both(&rt, rt.alloc(), fault)?;
     }
     Ok(())
+}
+
+static UNTRUE: [Chain; 1] = [(
+    "k.toml k.rep\nb.toml k.rep\n",
+    Status::Refuted,
+    "audit 2\nrefuted header 0\n",
+)];
+
+static DIFFERING: [Chain; 2] = [
+    (
+        IN_ORDER,
+        Status::Differs,
+        "audit 2\ndiffers two bin 2 3 3\n",
+    ),
+    (
+        "b.toml b.rep\nk.toml none\n",
+        Status::Differs,
+        "audit 1\ndiffers two bin 2 3 3\n",
+    ),
+];
+
+fn untrue_and_differing(
+    rt: &impl Abort,
+    alloc: Global,
+    shelf: &mut MemShelf,
+) -> Result<(), OutOfMemory> {
+    chain_all(rt, alloc, shelf, &UNTRUE)?;
+    shelf.set("b.bin", b"abd")?;
+    assert!(rt; !add(alloc, shelf, ASSUMING, &ASSUMES, &[])?);
+    chain_all(rt, alloc, shelf, &DIFFERING)
 }
 
 /// A report of the other recipe, and one that is true and says that the binary differs.
 #[test]
 fn an_untrue_report_and_a_difference_end_the_chain(rt: HostRuntime) -> Result<(), Fail> {
-    let alloc = rt.alloc();
-    let mut shelf = both(&rt, alloc, &[], &[])?;
-    let list = "k.toml k.rep\nb.toml k.rep\n";
-    let text = "audit 2\nrefuted header 0\n";
-    chains(&rt, alloc, &mut shelf, list, Status::Refuted, text)?;
-    shelf.set("b.bin", b"abd")?;
-    assert!(&rt; !add(alloc, &mut shelf, "b.toml", "b.rep", &ASSUMES, &[])?);
-    let text = "audit 2\ndiffers two bin 2 3 3\n";
-    chains(&rt, alloc, &mut shelf, IN_ORDER, Status::Differs, text)?;
-    let list = "b.toml b.rep\nk.toml none\n";
-    let text = "audit 1\ndiffers two bin 2 3 3\n";
-    chains(&rt, alloc, &mut shelf, list, Status::Differs, text)?;
+    let mut shelf = both(&rt, rt.alloc(), &[], &[])?;
+    untrue_and_differing(&rt, rt.alloc(), &mut shelf)?;
     Ok(())
 }
 
-/// A list, the status, and the text, over both audits as they are.
-static LISTS: [(&str, Status, &str); 25] = [
+/// Over both audits as they are.
+static LISTS: [Chain; 25] = [
     // words that name one file, and a report that is an input of its recipe, each in its turn
     ("k.toml k.toml\n", Status::Usage, "usage\n"),
     ("k.toml ././k.toml\n", Status::Usage, "usage\n"),
@@ -472,36 +548,51 @@ static LISTS: [(&str, Status, &str); 25] = [
     ("! ~\n", Status::FileRefused, "file refused ! absent\n"),
 ];
 
+/// The longest word that a list may have.
+fn longest(alloc: Global) -> Result<String, OutOfMemory> {
+    let mut word = String::new(alloc);
+    for _ in 0..255 {
+        word.push('a')?;
+    }
+    Ok(word)
+}
+
+/// A word that is too long is refused.
+fn too_long(
+    rt: &impl Abort,
+    alloc: Global,
+    shelf: &mut MemShelf,
+    word: &str,
+) -> Result<(), OutOfMemory> {
+    let list = format!(in alloc; "{word} {word}b\n")?;
+    let refused = (Status::ListRefused, "list refused 1\n");
+    chains(rt, alloc, shelf, list.as_str(), refused)
+}
+
+/// The longest word stands for a file.
+fn long_enough(
+    rt: &impl Abort,
+    alloc: Global,
+    shelf: &mut MemShelf,
+    word: &str,
+) -> Result<(), OutOfMemory> {
+    let list = format!(in alloc; "{word} b\n")?;
+    let absent = format!(in alloc; "file refused {word} absent\n")?;
+    let refused = (Status::FileRefused, absent.as_str());
+    chains(rt, alloc, shelf, list.as_str(), refused)
+}
+
+fn long_words(rt: &impl Abort, alloc: Global, word: &str) -> Result<(), OutOfMemory> {
+    let mut shelf = both(rt, alloc, &[], &[])?;
+    too_long(rt, alloc, &mut shelf, word)?;
+    long_enough(rt, alloc, &mut shelf, word)
+}
+
 #[test]
 fn lists_are_judged_before_their_audits(rt: HostRuntime) -> Result<(), Fail> {
-    let alloc = rt.alloc();
-    let mut shelf = both(&rt, alloc, &[], &[])?;
-    for (list, status, text) in &LISTS {
-        chains(&rt, alloc, &mut shelf, list, *status, text)?;
-    }
-    let mut longest = String::new(alloc);
-    for _ in 0..255 {
-        longest.push_str("a")?;
-    }
-    let words = format!(in alloc; "{longest} {longest}b\n")?;
-    chains(
-        &rt,
-        alloc,
-        &mut shelf,
-        words.as_str(),
-        Status::ListRefused,
-        "list refused 1\n",
-    )?;
-    let words = format!(in alloc; "{longest} b\n")?;
-    let absent = format!(in alloc; "file refused {longest} absent\n")?;
-    chains(
-        &rt,
-        alloc,
-        &mut shelf,
-        words.as_str(),
-        Status::FileRefused,
-        absent.as_str(),
-    )?;
+    chain_both(&rt, rt.alloc(), &LISTS)?;
+    let word = longest(rt.alloc())?;
+    long_words(&rt, rt.alloc(), word.as_str())?;
     Ok(())
 }
 
@@ -514,115 +605,161 @@ fn many(alloc: Global, count: usize) -> Result<String, OutOfMemory> {
     Ok(list)
 }
 
+/// Adds the line that remains of the audit of a number.
+fn put_line(alloc: Global, text: &mut String, number: u64) -> Result<(), OutOfMemory> {
+    let line = format!(in alloc; "assumes {number} implements prog copy_src\n")?;
+    text.push_str(line.as_str())?;
+    Ok(())
+}
+
+/// What remains of 64 audits that assume.
+fn remaining(alloc: Global) -> Result<String, OutOfMemory> {
+    let mut text = String::from_str(alloc, "chain 64 yes\n")?;
+    for number in 1..65 {
+        put_line(alloc, &mut text, number)?;
+    }
+    Ok(text)
+}
+
+/// Runs `chain` over 64 audits that assume.
+fn sixty_four(rt: &impl Abort, alloc: Global, shelf: &mut MemShelf) -> Result<(), OutOfMemory> {
+    let list = many(alloc, 64)?;
+    let text = remaining(alloc)?;
+    chains(
+        rt,
+        alloc,
+        shelf,
+        list.as_str(),
+        (Status::Yes, text.as_str()),
+    )
+}
+
 #[test]
 fn a_chain_has_at_most_sixty_four_audits(rt: HostRuntime) -> Result<(), Fail> {
-    let alloc = rt.alloc();
-    let mut shelf = both(&rt, alloc, &[], &[])?;
-    let mut text = format!(in alloc; "chain 64 yes\n")?;
-    for number in 1..65 {
-        text.push_str(format!(in alloc; "assumes {number} implements prog copy_src\n")?.as_str())?;
-    }
-    let list = many(alloc, 64)?;
-    chains(
-        &rt,
-        alloc,
-        &mut shelf,
-        list.as_str(),
-        Status::Yes,
-        text.as_str(),
-    )?;
+    let mut shelf = both(&rt, rt.alloc(), &[], &[])?;
+    sixty_four(&rt, rt.alloc(), &mut shelf)?;
     Ok(())
+}
+
+/// What stands before 64 lines, what behind them, and what is said.
+type Ends = (&'static str, &'static str, &'static str);
+
+static TOO_MANY: [Ends; 3] = [
+    ("", "b.toml b.rep\n", "list refused 65\n"),
+    ("", "k", "list refused 65\n"),
+    ("k\n", "b.toml b.rep\n", "list refused 1\n"),
+];
+
+fn too_many(
+    rt: &impl Abort,
+    alloc: Global,
+    shelf: &mut MemShelf,
+    &(front, end, text): &Ends,
+) -> Result<(), OutOfMemory> {
+    let whole = many(alloc, 64)?;
+    let list = format!(in alloc; "{front}{whole}{end}")?;
+    chains(rt, alloc, shelf, list.as_str(), (Status::ListRefused, text))
 }
 
 /// The 65th line is one too many whatever it says, and a line before it comes first.
 #[test]
 fn a_65th_audit_is_one_too_many(rt: HostRuntime) -> Result<(), Fail> {
-    let alloc = rt.alloc();
-    let mut shelf = both(&rt, alloc, &[], &[])?;
-    let whole = many(alloc, 64)?;
-    let refused = Status::ListRefused;
-    for (front, end, text) in [
-        ("", "b.toml b.rep\n", "list refused 65\n"),
-        ("", "k", "list refused 65\n"),
-        ("k\n", "b.toml b.rep\n", "list refused 1\n"),
-    ] {
-        let list = format!(in alloc; "{front}{whole}{end}")?;
-        chains(&rt, alloc, &mut shelf, list.as_str(), refused, text)?;
+    let mut shelf = both(&rt, rt.alloc(), &[], &[])?;
+    for row in &TOO_MANY {
+        too_many(&rt, rt.alloc(), &mut shelf, row)?;
     }
     Ok(())
+}
+
+static LOADS: [&str; 13] = [
+    "list",
+    "k.toml",
+    "k.rep",
+    "copy.elf",
+    "copy.hex0",
+    "a.bin",
+    "copy.elf",
+    "b.toml",
+    "b.rep",
+    "copy.elf",
+    "copy.hex0",
+    "a.bin",
+    "b.bin",
+];
+
+/// The load of this number fails, behind the ten of both audits.
+fn names_load(
+    rt: &impl Abort,
+    alloc: Global,
+    shelf: &mut MemShelf,
+    number: u64,
+    name: &str,
+) -> Result<(), OutOfMemory> {
+    shelf.fail_load(number)?;
+    let text = format!(in alloc; "shelf fault {name}\n")?;
+    chains(
+        rt,
+        alloc,
+        shelf,
+        IN_ORDER,
+        (Status::ShelfFault, text.as_str()),
+    )
+}
+
+fn names_load_of_both(
+    rt: &impl Abort,
+    alloc: Global,
+    number: u64,
+    name: &str,
+) -> Result<(), OutOfMemory> {
+    let mut shelf = both(rt, alloc, &[], &[])?;
+    names_load(rt, alloc, &mut shelf, number, name)
 }
 
 /// Each load of the call fails: of the list, and of each audit the recipe, the report and the inputs. The two audits before had five each.
 #[test]
 fn loads_that_fail_are_named(rt: HostRuntime) -> Result<(), Fail> {
-    let alloc = rt.alloc();
-    let names = [
-        "list",
-        "k.toml",
-        "k.rep",
-        "copy.elf",
-        "copy.hex0",
-        "a.bin",
-        "copy.elf",
-        "b.toml",
-        "b.rep",
-        "copy.elf",
-        "copy.hex0",
-        "a.bin",
-        "b.bin",
-    ];
-    for (index, name) in names.iter().enumerate() {
-        let mut shelf = both(&rt, alloc, &[], &[])?;
-        shelf.fail_load(11 + index as u64)?;
-        let text = format!(in alloc; "shelf fault {name}\n")?;
-        chains(
-            &rt,
-            alloc,
-            &mut shelf,
-            IN_ORDER,
-            Status::ShelfFault,
-            text.as_str(),
-        )?;
+    for (index, name) in LOADS.iter().enumerate() {
+        names_load_of_both(&rt, rt.alloc(), 11 + index as u64, name)?;
     }
+    Ok(())
+}
+
+fn loses_the_text(rt: &impl Abort, alloc: Global, shelf: &mut MemShelf) -> Result<(), OutOfMemory> {
+    shelf.set("list", IN_ORDER.as_bytes())?;
+    let mut out = MemSink::new(alloc);
+    out.fail_put(1)?;
+    let words = ["chain", "list"];
+    assert_eq!(rt; run(alloc, &words, shelf, &mut out)?, Status::OutFault);
+    assert!(rt; NONE.as_bytes().starts_with(out.written()));
     Ok(())
 }
 
 /// A put that fails takes a part of the text, and the files are as they were.
 #[test]
 fn a_put_that_fails_loses_the_text(rt: HostRuntime) -> Result<(), Fail> {
-    let alloc = rt.alloc();
-    let mut shelf = both(&rt, alloc, &[], &[])?;
-    shelf.set("list", IN_ORDER.as_bytes())?;
-    let mut out = MemSink::new(alloc);
-    out.fail_put(1)?;
-    assert_eq!(&rt;
-        run(alloc, &["chain", "list"], &mut shelf, &mut out)?,
-        Status::OutFault
-    );
-    assert!(&rt; NONE.as_bytes().starts_with(out.written()));
+    let mut shelf = both(&rt, rt.alloc(), &[], &[])?;
+    loses_the_text(&rt, rt.alloc(), &mut shelf)?;
     Ok(())
 }
 
-#[test]
-fn words_that_are_no_list(rt: HostRuntime) -> Result<(), Fail> {
-    let alloc = rt.alloc();
-    let mut shelf = files(alloc)?;
-    let table: [&[&str]; 4] = [
+static WORDS: [Step; 2] = [
+    Step::Usage(&[
         &["chain"],
         &["chain", ""],
         &["chain", "list", "list"],
         &["chain", "a\0"],
-    ];
-    for words in &table {
-        let mut out = MemSink::new(alloc);
-        assert_eq!(&rt; run(alloc, words, &mut shelf, &mut out)?, Status::Usage);
-        assert_eq!(&rt; out.written(), "usage\n".as_bytes());
-    }
-    let mut out = MemSink::new(alloc);
-    assert_eq!(&rt;
-        run(alloc, &["chain", "none"], &mut shelf, &mut out)?,
-        Status::FileRefused
-    );
-    assert_eq!(&rt; out.written(), "file refused none absent\n".as_bytes());
+    ]),
+    Step::Run(
+        &["chain", "none"],
+        Status::FileRefused,
+        "file refused none absent\n",
+    ),
+];
+
+#[test]
+fn words_that_are_no_list(rt: HostRuntime) -> Result<(), Fail> {
+    let mut shelf = files(rt.alloc())?;
+    walk(&rt, rt.alloc(), &mut shelf, &WORDS)?;
     Ok(())
 }

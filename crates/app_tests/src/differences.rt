@@ -3,21 +3,21 @@
 //! tests/saves/write_delta.py writes.
 
 use crate::audits::{REPORT, audit_shelf};
-use crate::pauses::{Wanted, is_call, saves, says};
-use crate::worked::run;
+use crate::pauses::{Opening, opens_worked};
+use crate::scenes::{Wanted, alter, are_calls, are_usage_of, content, ends, holds, saves, says};
 use ddc_app::Status;
-use ddc_base::{Bytes, MemShelf, MemSink, OutOfMemory};
+use ddc_base::{MemShelf, OutOfMemory};
 use std::alloc::Global;
 use std::process::Abort;
 use std::test::Fail;
 
 /// A command, its steps, its status and its text.
-type Piece = (&'static str, &'static str, Status, &'static str);
+pub(crate) type Piece = (&'static str, &'static str, Status, &'static str);
 
-const EQUAL: &str = "equal two bin 3\n";
+pub(crate) const EQUAL: &str = "equal two bin 3\n";
 
 /// Runs pieces of the audit `a.toml` with the base `s`, the patch `p` and the report `r`; `part` saves under `s`.
-fn pieces(
+pub(crate) fn pieces(
     rt: &impl Abort,
     alloc: Global,
     shelf: &mut MemShelf,
@@ -38,33 +38,23 @@ fn pieces(
     Ok(())
 }
 
-/// Whether a name holds this content.
-fn holds(shelf: &MemShelf, name: &str, content: &[u8]) -> bool {
-    shelf.get(name) == Some(content)
-}
-
-/// The content of a name; nothing where it is not held.
-fn content(alloc: Global, shelf: &MemShelf, name: &str) -> Result<Bytes, OutOfMemory> {
-    Bytes::from_slice(alloc, shelf.get(name).unwrap_or(&[]))
-}
-
 /// A shelf whose audit paused behind 32 steps.
-fn based(alloc: Global) -> Result<MemShelf, OutOfMemory> {
+pub(crate) fn based(alloc: Global) -> Result<MemShelf, OutOfMemory> {
     let mut shelf = audit_shelf(alloc, "", "")?;
-    let mut out = MemSink::new(alloc);
-    let words = ["part", "a.toml", "s", "r", "32"];
-    match run(alloc, &words, &mut shelf, &mut out)? {
+    match ends(alloc, &mut shelf, &["part", "a.toml", "s", "r", "32"])? {
         Status::Paused => Ok(shelf),
         _ => Err(OutOfMemory),
     }
 }
 
 /// The same with the difference behind 13 further steps.
-fn differing(alloc: Global) -> Result<MemShelf, OutOfMemory> {
+pub(crate) fn differing(alloc: Global) -> Result<MemShelf, OutOfMemory> {
     let mut shelf = based(alloc)?;
-    let mut out = MemSink::new(alloc);
-    let words = ["delta-start", "a.toml", "s", "p", "r", "13"];
-    match run(alloc, &words, &mut shelf, &mut out)? {
+    match ends(
+        alloc,
+        &mut shelf,
+        &["delta-start", "a.toml", "s", "p", "r", "13"],
+    )? {
         Status::Paused => Ok(shelf),
         _ => Err(OutOfMemory),
     }
@@ -75,32 +65,68 @@ fn has_at(text: &[u8], at: usize, bytes: &[u8]) -> bool {
     text.get(at..at.saturating_add(bytes.len())).unwrap_or(&[]) == bytes
 }
 
+fn first_difference(
+    rt: &impl Abort,
+    alloc: Global,
+    shelf: &mut MemShelf,
+) -> Result<(), OutOfMemory> {
+    let start = ("delta-start", "13", Status::Paused, "paused two 13\n");
+    pieces(rt, alloc, shelf, &[start])?;
+    let first = shelf.get("p").unwrap_or(&[]);
+    assert_eq!(rt; first.len(), 257);
+    assert!(rt; has_at(first, 169, &[0, 0, 0, 0]));
+    Ok(())
+}
+
+fn second_difference(
+    rt: &impl Abort,
+    alloc: Global,
+    shelf: &mut MemShelf,
+) -> Result<(), OutOfMemory> {
+    let further = ("delta-resume", "18", Status::Paused, "paused two 31\n");
+    pieces(rt, alloc, shelf, &[further])?;
+    let second = shelf.get("p").unwrap_or(&[]);
+    assert_eq!(rt; second.len(), 4_353);
+    let page = [1, 0, 0, 0, 0xfe, 0xff, 0xff, 0x03, 1];
+    assert!(rt; has_at(second, 161, &page));
+    assert!(rt; shelf.get("r").is_none());
+    Ok(())
+}
+
+/// The last piece, which leaves the base and the difference.
+fn last_piece(rt: &impl Abort, alloc: Global, shelf: &mut MemShelf) -> Result<(), OutOfMemory> {
+    let second = content(alloc, shelf, "p")?;
+    pieces(
+        rt,
+        alloc,
+        shelf,
+        &[("delta-resume", "1", Status::Yes, EQUAL)],
+    )?;
+    assert!(rt; holds(shelf, "r", REPORT.as_bytes()));
+    assert!(rt; holds(shelf, "p", second.as_slice()));
+    Ok(())
+}
+
+fn all_differences(
+    rt: &impl Abort,
+    alloc: Global,
+    shelf: &mut MemShelf,
+    base: &[u8],
+) -> Result<(), OutOfMemory> {
+    first_difference(rt, alloc, shelf)?;
+    second_difference(rt, alloc, shelf)?;
+    last_piece(rt, alloc, shelf)?;
+    assert!(rt; holds(shelf, "s", base));
+    let yes = (Status::Yes, "yes\nequal two bin 3\n");
+    says(rt, alloc, shelf, &["verify", "a.toml", "r"], yes)
+}
+
 /// Behind 13 steps of the second stage no page differs from its start; behind 31 one does, the stack's page of number 3FFFFFE.
 #[test]
 fn differences_come_to_the_report(rt: HostRuntime) -> Result<(), Fail> {
-    let alloc = rt.alloc();
-    let mut shelf = based(alloc)?;
-    let base = content(alloc, &shelf, "s")?;
-    let start = ("delta-start", "13", Status::Paused, "paused two 13\n");
-    pieces(&rt, alloc, &mut shelf, &[start])?;
-    let first = content(alloc, &shelf, "p")?;
-    assert_eq!(rt; first.len(), 257);
-    assert!(rt; has_at(first.as_slice(), 169, &[0, 0, 0, 0]));
-    let further = ("delta-resume", "18", Status::Paused, "paused two 31\n");
-    pieces(&rt, alloc, &mut shelf, &[further])?;
-    let second = content(alloc, &shelf, "p")?;
-    assert_eq!(rt; second.len(), 4_353);
-    let page = [1, 0, 0, 0, 0xfe, 0xff, 0xff, 0x03, 1];
-    assert!(rt; has_at(second.as_slice(), 161, &page));
-    assert!(rt; shelf.get("r").is_none());
-    let last = ("delta-resume", "1", Status::Yes, EQUAL);
-    pieces(&rt, alloc, &mut shelf, &[last])?;
-    assert!(rt; holds(&shelf, "r", REPORT.as_bytes()));
-    assert!(rt; holds(&shelf, "p", second.as_slice()));
-    assert!(rt; holds(&shelf, "s", base.as_slice()));
-    let words = ["verify", "a.toml", "r"];
-    let yes = (Status::Yes, "yes\nequal two bin 3\n");
-    says(&rt, alloc, &mut shelf, &words, yes)?;
+    let mut shelf = based(rt.alloc())?;
+    let base = content(rt.alloc(), &shelf, "s")?;
+    all_differences(&rt, rt.alloc(), &mut shelf, base.as_slice())?;
     Ok(())
 }
 
@@ -137,14 +163,27 @@ static PIECES: [&[Piece]; 5] = [
     ],
 ];
 
+fn reports(
+    rt: &impl Abort,
+    alloc: Global,
+    shelf: &mut MemShelf,
+    rows: &[Piece],
+) -> Result<(), OutOfMemory> {
+    pieces(rt, alloc, shelf, rows)?;
+    assert!(rt; holds(shelf, "r", REPORT.as_bytes()));
+    assert_eq!(rt; shelf.get("p").is_some(), rows.len() > 2);
+    Ok(())
+}
+
+fn reports_worked(rt: &impl Abort, alloc: Global, rows: &[Piece]) -> Result<(), OutOfMemory> {
+    let mut shelf = audit_shelf(alloc, "", "")?;
+    reports(rt, alloc, &mut shelf, rows)
+}
+
 #[test]
 fn all_pieces_come_to_the_report(rt: HostRuntime) -> Result<(), Fail> {
-    let alloc = rt.alloc();
     for rows in PIECES {
-        let mut shelf = audit_shelf(alloc, "", "")?;
-        pieces(&rt, alloc, &mut shelf, rows)?;
-        assert!(rt; holds(&shelf, "r", REPORT.as_bytes()));
-        assert_eq!(rt; shelf.get("p").is_some(), rows.len() > 2);
+        reports_worked(&rt, rt.alloc(), rows)?;
     }
     Ok(())
 }
@@ -211,35 +250,61 @@ static CHANGES: [Change; 4] = [
     ),
 ];
 
-/// A pause sets the patch alone, 3 the report alone, and a failure nothing. The same from the base at once.
-#[test]
-fn differences_come_to_what_the_audit_does(rt: HostRuntime) -> Result<(), Fail> {
-    let alloc = rt.alloc();
-    for &(old, new, rows) in &CHANGES {
-        let over = rows[2].2 == Status::Differs;
-        let mut shelf = audit_shelf(alloc, old, new)?;
-        pieces(&rt, alloc, &mut shelf, &rows[..2])?;
-        let base = content(alloc, &shelf, "s")?;
-        let patch = content(alloc, &shelf, "p")?;
-        assert_eq!(rt; saves(&shelf), 2);
-        pieces(&rt, alloc, &mut shelf, &rows[2..])?;
-        assert_eq!(rt; shelf.get("r").is_some(), over);
-        assert_eq!(rt; saves(&shelf), 2 + over as usize);
-        assert!(rt; holds(&shelf, "s", base.as_slice()));
-        assert!(rt; holds(&shelf, "p", patch.as_slice()));
-        let at_once = ("delta-start", "100000", rows[2].2, rows[2].3);
-        pieces(&rt, alloc, &mut shelf, &[at_once])?;
-        assert!(rt; holds(&shelf, "p", patch.as_slice()));
-    }
+/// The last piece, and then all from the base at once.
+fn last_pieces(
+    rt: &impl Abort,
+    alloc: Global,
+    shelf: &mut MemShelf,
+    last: Piece,
+    (base, patch): (&[u8], &[u8]),
+) -> Result<(), OutOfMemory> {
+    let over = last.2 == Status::Differs;
+    pieces(rt, alloc, shelf, &[last])?;
+    assert_eq!(rt; shelf.get("r").is_some(), over);
+    assert_eq!(rt; saves(shelf), 2 + over as usize);
+    assert!(rt; holds(shelf, "s", base));
+    assert!(rt; holds(shelf, "p", patch));
+    let at_once = ("delta-start", "100000", last.2, last.3);
+    pieces(rt, alloc, shelf, &[at_once])?;
+    assert!(rt; holds(shelf, "p", patch));
     Ok(())
 }
 
-/// A text with other bytes from an offset on.
-fn altered(alloc: Global, text: &[u8], at: usize, bytes: &[u8]) -> Result<Bytes, OutOfMemory> {
-    let mut new = Bytes::from_slice(alloc, text.get(..at).unwrap_or(text))?;
-    new.extend(bytes)?;
-    new.extend(text.get(at.saturating_add(bytes.len())..).unwrap_or(&[]))?;
-    Ok(new)
+fn comes_to(
+    rt: &impl Abort,
+    alloc: Global,
+    shelf: &mut MemShelf,
+    rows: &[Piece; 3],
+) -> Result<(), OutOfMemory> {
+    pieces(rt, alloc, shelf, &rows[..2])?;
+    assert_eq!(rt; saves(shelf), 2);
+    let base = content(alloc, shelf, "s")?;
+    let patch = content(alloc, shelf, "p")?;
+    last_pieces(
+        rt,
+        alloc,
+        shelf,
+        rows[2],
+        (base.as_slice(), patch.as_slice()),
+    )
+}
+
+fn change_comes_to(
+    rt: &impl Abort,
+    alloc: Global,
+    &(old, new, rows): &Change,
+) -> Result<(), OutOfMemory> {
+    let mut shelf = audit_shelf(alloc, old, new)?;
+    comes_to(rt, alloc, &mut shelf, rows)
+}
+
+/// A pause sets the patch alone, 3 the report alone, and a failure nothing. The same from the base at once.
+#[test]
+fn differences_come_to_what_the_audit_does(rt: HostRuntime) -> Result<(), Fail> {
+    for change in &CHANGES {
+        change_comes_to(&rt, rt.alloc(), change)?;
+    }
+    Ok(())
 }
 
 /// Where a text is changed, to which bytes, and what is printed.
@@ -266,51 +331,81 @@ static PATCHES: [Alteration; 12] = [
     (64, b"\xae\0\x01\0\0\0\0\0\x01", "save refused 5\n"),
 ];
 
+/// The altered difference is refused, and stays.
+fn refuses(
+    rt: &impl Abort,
+    alloc: Global,
+    shelf: &mut MemShelf,
+    text: &'static str,
+) -> Result<(), OutOfMemory> {
+    let patch = content(alloc, shelf, "p")?;
+    let row = ("delta-resume", "1", Status::SaveRefused, text);
+    pieces(rt, alloc, shelf, &[row])?;
+    assert_eq!(rt; saves(shelf), 2);
+    assert!(rt; holds(shelf, "p", patch.as_slice()));
+    assert!(rt; shelf.get("r").is_none());
+    Ok(())
+}
+
+fn refuses_altered(
+    rt: &impl Abort,
+    alloc: Global,
+    &(at, bytes, text): &Alteration,
+) -> Result<(), OutOfMemory> {
+    let mut shelf = differing(alloc)?;
+    assert_eq!(rt; shelf.get("p").unwrap_or(&[]).len(), 257);
+    alter(alloc, &mut shelf, "p", at, bytes)?;
+    refuses(rt, alloc, &mut shelf, text)
+}
+
 /// Nothing is set where a difference is refused.
 #[test]
 fn differences_are_refused(rt: HostRuntime) -> Result<(), Fail> {
-    let alloc = rt.alloc();
-    for &(at, bytes, text) in &PATCHES {
-        let mut shelf = differing(alloc)?;
-        let patch = content(alloc, &shelf, "p")?;
-        assert_eq!(rt; patch.len(), 257);
-        let patch = altered(alloc, patch.as_slice(), at, bytes)?;
-        shelf.set("p", patch.as_slice())?;
-        let row = ("delta-resume", "1", Status::SaveRefused, text);
-        pieces(&rt, alloc, &mut shelf, &[row])?;
-        assert_eq!(rt; saves(&shelf), 2);
-        assert!(rt; holds(&shelf, "p", patch.as_slice()));
-        assert!(rt; shelf.get("r").is_none());
+    for row in &PATCHES {
+        refuses_altered(&rt, rt.alloc(), row)?;
     }
     Ok(())
+}
+
+/// The first bytes of the difference are refused.
+fn refuses_cut(
+    rt: &impl Abort,
+    alloc: Global,
+    shelf: &mut MemShelf,
+    size: usize,
+) -> Result<(), OutOfMemory> {
+    let patch = content(alloc, shelf, "p")?;
+    shelf.set("p", patch.as_slice().get(..size).unwrap_or(&[]))?;
+    let row = ("delta-resume", "1", Status::SaveRefused, "save refused 5\n");
+    pieces(rt, alloc, shelf, &[row])
+}
+
+fn refuses_differing(rt: &impl Abort, alloc: Global, size: usize) -> Result<(), OutOfMemory> {
+    let mut shelf = differing(alloc)?;
+    refuses_cut(rt, alloc, &mut shelf, size)
 }
 
 /// The difference without its last byte, and without all but its front: at fewer than 40 bytes it names no base.
 #[test]
 fn differences_that_are_cut_are_refused(rt: HostRuntime) -> Result<(), Fail> {
-    let alloc = rt.alloc();
     for size in [0, 7, 8, 39, 40, 44, 48, 256] {
-        let mut shelf = differing(alloc)?;
-        let patch = content(alloc, &shelf, "p")?;
-        shelf.set("p", patch.as_slice().get(..size).unwrap_or(&[]))?;
-        let row = ("delta-resume", "1", Status::SaveRefused, "save refused 5\n");
-        pieces(&rt, alloc, &mut shelf, &[row])?;
+        refuses_differing(&rt, rt.alloc(), size)?;
     }
     Ok(())
 }
 
+static OTHER_BASES: [Piece; 4] = [
+    ("part", "45", Status::Paused, "paused two 13\n"),
+    ("delta-resume", "1", Status::SaveRefused, "save refused 6\n"),
+    ("part", "32", Status::Paused, "paused two 0\n"),
+    ("delta-resume", "1", Status::Paused, "paused two 14\n"),
+];
+
 /// A base behind 45 steps in place of the one behind 32.
 #[test]
 fn a_difference_from_another_save_is_refused(rt: HostRuntime) -> Result<(), Fail> {
-    let alloc = rt.alloc();
-    let mut shelf = differing(alloc)?;
-    let rows = [
-        ("part", "45", Status::Paused, "paused two 13\n"),
-        ("delta-resume", "1", Status::SaveRefused, "save refused 6\n"),
-        ("part", "32", Status::Paused, "paused two 0\n"),
-        ("delta-resume", "1", Status::Paused, "paused two 14\n"),
-    ];
-    pieces(&rt, alloc, &mut shelf, &rows)?;
+    let mut shelf = differing(rt.alloc())?;
+    pieces(&rt, rt.alloc(), &mut shelf, &OTHER_BASES)?;
     Ok(())
 }
 
@@ -323,40 +418,69 @@ static BASES: [Alteration; 5] = [
     (593, b"\x01", "save refused 3\n"),
 ];
 
+/// Both commands refuse the base.
+fn both_refuse(
+    rt: &impl Abort,
+    alloc: Global,
+    shelf: &mut MemShelf,
+    text: &'static str,
+) -> Result<(), OutOfMemory> {
+    let start = ("delta-start", "1", Status::SaveRefused, text);
+    let resume = ("delta-resume", "1", Status::SaveRefused, text);
+    pieces(rt, alloc, shelf, &[start, resume])
+}
+
+/// Both refuse the altered base, whatever the patch is, and leave it.
+fn refuses_base(
+    rt: &impl Abort,
+    alloc: Global,
+    shelf: &mut MemShelf,
+    &(at, bytes, text): &Alteration,
+) -> Result<(), OutOfMemory> {
+    alter(alloc, shelf, "s", at, bytes)?;
+    let base = content(alloc, shelf, "s")?;
+    both_refuse(rt, alloc, shelf, text)?;
+    shelf.set("p", b"")?;
+    both_refuse(rt, alloc, shelf, text)?;
+    assert_eq!(rt; saves(shelf), 2);
+    assert!(rt; holds(shelf, "s", base.as_slice()));
+    Ok(())
+}
+
+fn refuses_altered_base(
+    rt: &impl Abort,
+    alloc: Global,
+    row: &Alteration,
+) -> Result<(), OutOfMemory> {
+    let mut shelf = differing(alloc)?;
+    refuses_base(rt, alloc, &mut shelf, row)
+}
+
 /// A base is refused by both commands as `resume` refuses a save, whatever the patch is.
 #[test]
 fn bases_are_refused(rt: HostRuntime) -> Result<(), Fail> {
-    let alloc = rt.alloc();
-    for &(at, bytes, text) in &BASES {
-        let mut shelf = differing(alloc)?;
-        let base = content(alloc, &shelf, "s")?;
-        let base = altered(alloc, base.as_slice(), at, bytes)?;
-        shelf.set("s", base.as_slice())?;
-        let start = ("delta-start", "1", Status::SaveRefused, text);
-        let resume = ("delta-resume", "1", Status::SaveRefused, text);
-        pieces(&rt, alloc, &mut shelf, &[start, resume])?;
-        shelf.set("p", b"")?;
-        pieces(&rt, alloc, &mut shelf, &[start, resume])?;
-        assert_eq!(rt; saves(&shelf), 2);
-        assert!(rt; holds(&shelf, "s", base.as_slice()));
+    for row in &BASES {
+        refuses_altered_base(&rt, rt.alloc(), row)?;
     }
     Ok(())
 }
 
+fn refuses_others(rt: &impl Abort, alloc: Global, shelf: &mut MemShelf) -> Result<(), OutOfMemory> {
+    shelf.set("b.bin", b"abd")?;
+    both_refuse(rt, alloc, shelf, "save refused 2\n")?;
+    shelf.set("b.bin", b"abc")?;
+    pieces(
+        rt,
+        alloc,
+        shelf,
+        &[("delta-resume", "100", Status::Yes, EQUAL)],
+    )
+}
+
 #[test]
 fn bases_of_others_are_refused(rt: HostRuntime) -> Result<(), Fail> {
-    let alloc = rt.alloc();
-    let mut shelf = differing(alloc)?;
-    shelf.set("b.bin", b"abd")?;
-    let text = "save refused 2\n";
-    let rows = [
-        ("delta-start", "1", Status::SaveRefused, text),
-        ("delta-resume", "1", Status::SaveRefused, text),
-    ];
-    pieces(&rt, alloc, &mut shelf, &rows)?;
-    shelf.set("b.bin", b"abc")?;
-    let row = ("delta-resume", "100", Status::Yes, EQUAL);
-    pieces(&rt, alloc, &mut shelf, &[row])?;
+    let mut shelf = differing(rt.alloc())?;
+    refuses_others(&rt, rt.alloc(), &mut shelf)?;
     Ok(())
 }
 
@@ -392,24 +516,20 @@ static WORDS: [&[&str]; 25] = [
     &["none", "s", "p", "r", ""],
 ];
 
-/// Nothing is loaded before the words are judged.
-#[test]
-fn words_are_judged(rt: HostRuntime) -> Result<(), Fail> {
-    let alloc = rt.alloc();
-    let mut shelf = audit_shelf(alloc, "", "")?;
-    for command in ["delta-start", "delta-resume"] {
-        for words in WORDS {
-            let mut all = vec![in alloc; command]?;
-            all.extend_from_slice(words)?;
-            says(&rt, alloc, &mut shelf, &all, (Status::Usage, "usage\n"))?;
-        }
-    }
+fn judges_words(rt: &impl Abort, alloc: Global, shelf: &mut MemShelf) -> Result<(), OutOfMemory> {
+    are_usage_of(rt, alloc, shelf, "delta-start", &WORDS)?;
+    are_usage_of(rt, alloc, shelf, "delta-resume", &WORDS)?;
     assert!(rt; shelf.calls().is_empty());
     Ok(())
 }
 
-/// Words after either command, their ending, and how many calls were answered.
-type Opening = (&'static [&'static str], Status, &'static str, usize);
+/// Nothing is loaded before the words are judged.
+#[test]
+fn words_are_judged(rt: HostRuntime) -> Result<(), Fail> {
+    let mut shelf = audit_shelf(rt.alloc(), "", "")?;
+    judges_words(&rt, rt.alloc(), &mut shelf)?;
+    Ok(())
+}
 
 static OPENINGS: [Opening; 9] = [
     (
@@ -472,41 +592,63 @@ static OPENINGS: [Opening; 9] = [
 
 #[test]
 fn recipes_and_names_are_judged(rt: HostRuntime) -> Result<(), Fail> {
-    let alloc = rt.alloc();
-    for command in ["delta-start", "delta-resume"] {
-        for (words, status, text, calls) in OPENINGS {
-            let mut shelf = audit_shelf(alloc, "", "")?;
-            let mut all = vec![in alloc; command]?;
-            all.extend_from_slice(words)?;
-            says(&rt, alloc, &mut shelf, &all, (status, text))?;
-            assert_eq!(rt; shelf.calls().len(), calls);
-        }
+    for opening in &OPENINGS {
+        opens_worked(&rt, rt.alloc(), "delta-start", opening)?;
+        opens_worked(&rt, rt.alloc(), "delta-resume", opening)?;
     }
     Ok(())
+}
+
+static WITHOUT_BASE: [Piece; 2] = [
+    (
+        "delta-start",
+        "1",
+        Status::FileRefused,
+        "file refused s absent\n",
+    ),
+    (
+        "delta-resume",
+        "1",
+        Status::FileRefused,
+        "file refused s absent\n",
+    ),
+];
+
+static WITHOUT_PATCH: [Piece; 2] = [
+    (
+        "delta-start",
+        "1",
+        Status::FileRefused,
+        "file refused none absent\n",
+    ),
+    (
+        "delta-resume",
+        "1",
+        Status::FileRefused,
+        "file refused p absent\n",
+    ),
+];
+
+static WITHOUT_INPUT: [Piece; 1] = [(
+    "delta-resume",
+    "1",
+    Status::FileRefused,
+    "file refused none absent\n",
+)];
+
+fn loads_in_order(rt: &impl Abort, alloc: Global, shelf: &mut MemShelf) -> Result<(), OutOfMemory> {
+    pieces(rt, alloc, shelf, &WITHOUT_BASE)?;
+    shelf.set("s", b"")?;
+    pieces(rt, alloc, shelf, &WITHOUT_PATCH)?;
+    shelf.set("p", b"")?;
+    pieces(rt, alloc, shelf, &WITHOUT_INPUT)
 }
 
 /// A base that is not there is said before a patch, and that before an input; an input before a base that is no save.
 #[test]
 fn loads_come_in_order(rt: HostRuntime) -> Result<(), Fail> {
-    let alloc = rt.alloc();
-    let mut shelf = audit_shelf(alloc, "\"a.bin\"", "\"none\"")?;
-    let base = "file refused s absent\n";
-    let patch = "file refused p absent\n";
-    let input = "file refused none absent\n";
-    let without_base = [
-        ("delta-start", "1", Status::FileRefused, base),
-        ("delta-resume", "1", Status::FileRefused, base),
-    ];
-    pieces(&rt, alloc, &mut shelf, &without_base)?;
-    shelf.set("s", b"")?;
-    let without_patch = [
-        ("delta-start", "1", Status::FileRefused, input),
-        ("delta-resume", "1", Status::FileRefused, patch),
-    ];
-    pieces(&rt, alloc, &mut shelf, &without_patch)?;
-    shelf.set("p", b"")?;
-    let without_input = ("delta-resume", "1", Status::FileRefused, input);
-    pieces(&rt, alloc, &mut shelf, &[without_input])?;
+    let mut shelf = audit_shelf(rt.alloc(), "\"a.bin\"", "\"none\"")?;
+    loads_in_order(&rt, rt.alloc(), &mut shelf)?;
     Ok(())
 }
 
@@ -535,97 +677,20 @@ static CALLS: [Wanted; 21] = [
     ("r", None),
 ];
 
+fn calls_in_order(rt: &impl Abort, alloc: Global, shelf: &mut MemShelf) -> Result<(), OutOfMemory> {
+    pieces(
+        rt,
+        alloc,
+        shelf,
+        &[("delta-resume", "19", Status::Yes, EQUAL)],
+    )?;
+    assert!(rt; are_calls(shelf.calls(), &CALLS));
+    Ok(())
+}
+
 #[test]
 fn calls_come_in_order(rt: HostRuntime) -> Result<(), Fail> {
-    let alloc = rt.alloc();
-    let mut shelf = differing(alloc)?;
-    let last = ("delta-resume", "19", Status::Yes, EQUAL);
-    pieces(&rt, alloc, &mut shelf, &[last])?;
-    assert_eq!(rt; shelf.calls().len(), CALLS.len());
-    for (call, wanted) in shelf.calls().iter().zip(CALLS) {
-        assert!(rt; is_call(call, wanted));
-    }
-    Ok(())
-}
-
-/// Behind the five loads of `part` the loads of `delta-start` are loads 6 to 11.
-static START_LOADS: [(u64, &str); 6] = [
-    (6, "shelf fault a.toml\n"),
-    (7, "shelf fault s\n"),
-    (8, "shelf fault copy.elf\n"),
-    (9, "shelf fault copy.hex0\n"),
-    (10, "shelf fault a.bin\n"),
-    (11, "shelf fault b.bin\n"),
-];
-
-/// A failed load sets nothing, and a failed save nothing but its own name; the same call again goes on.
-#[test]
-fn faults_of_delta_start_are_said_and_pass(rt: HostRuntime) -> Result<(), Fail> {
-    let alloc = rt.alloc();
-    let again = ("delta-start", "13", Status::Paused, "paused two 13\n");
-    for (load, text) in START_LOADS {
-        let mut shelf = based(alloc)?;
-        shelf.fail_load(load)?;
-        let fault = ("delta-start", "13", Status::ShelfFault, text);
-        pieces(&rt, alloc, &mut shelf, &[fault])?;
-        assert_eq!(rt; saves(&shelf), 1);
-        pieces(&rt, alloc, &mut shelf, &[again])?;
-    }
-    for (steps, text) in [("13", "shelf fault p\n"), ("32", "shelf fault r\n")] {
-        let mut shelf = based(alloc)?;
-        let base = content(alloc, &shelf, "s")?;
-        shelf.fail_save(2)?;
-        let fault = ("delta-start", steps, Status::ShelfFault, text);
-        pieces(&rt, alloc, &mut shelf, &[fault])?;
-        assert!(rt; holds(&shelf, "s", base.as_slice()));
-        pieces(&rt, alloc, &mut shelf, &[again])?;
-    }
-    Ok(())
-}
-
-/// Behind these the loads of `delta-resume` are loads 12 to 18.
-static RESUME_LOADS: [(u64, &str); 7] = [
-    (12, "shelf fault a.toml\n"),
-    (13, "shelf fault s\n"),
-    (14, "shelf fault p\n"),
-    (15, "shelf fault copy.elf\n"),
-    (16, "shelf fault copy.hex0\n"),
-    (17, "shelf fault a.bin\n"),
-    (18, "shelf fault b.bin\n"),
-];
-
-#[test]
-fn faults_of_delta_resume_are_said_and_pass(rt: HostRuntime) -> Result<(), Fail> {
-    let alloc = rt.alloc();
-    let again = ("delta-resume", "18", Status::Paused, "paused two 31\n");
-    for (load, text) in RESUME_LOADS {
-        let mut shelf = differing(alloc)?;
-        shelf.fail_load(load)?;
-        let fault = ("delta-resume", "18", Status::ShelfFault, text);
-        pieces(&rt, alloc, &mut shelf, &[fault])?;
-        assert_eq!(rt; saves(&shelf), 2);
-        pieces(&rt, alloc, &mut shelf, &[again])?;
-    }
-    for (steps, text) in [("18", "shelf fault p\n"), ("19", "shelf fault r\n")] {
-        let mut shelf = differing(alloc)?;
-        let base = content(alloc, &shelf, "s")?;
-        shelf.fail_save(3)?;
-        let fault = ("delta-resume", steps, Status::ShelfFault, text);
-        pieces(&rt, alloc, &mut shelf, &[fault])?;
-        assert!(rt; holds(&shelf, "s", base.as_slice()));
-    }
-    Ok(())
-}
-
-#[test]
-fn a_failed_put_leaves_what_was_saved(rt: HostRuntime) -> Result<(), Fail> {
-    let alloc = rt.alloc();
-    let mut shelf = based(alloc)?;
-    let mut out = MemSink::new(alloc);
-    out.fail_put(1)?;
-    let words = ["delta-start", "a.toml", "s", "p", "r", "31"];
-    assert_eq!(rt; run(alloc, &words, &mut shelf, &mut out)?, Status::OutFault);
-    let last = ("delta-resume", "1", Status::Yes, EQUAL);
-    pieces(&rt, alloc, &mut shelf, &[last])?;
+    let mut shelf = differing(rt.alloc())?;
+    calls_in_order(&rt, rt.alloc(), &mut shelf)?;
     Ok(())
 }

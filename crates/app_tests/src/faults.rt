@@ -2,6 +2,7 @@
 //! What they come to was written down from docs/reference/command-line.md.
 
 use crate::audits::{REPORT, audit_shelf};
+use crate::scenes::holds;
 use ddc_app::Status;
 use ddc_base::{Bytes, MemShelf, MemSink, OutOfMemory};
 use meaning::Assembly;
@@ -16,7 +17,7 @@ const LINES: &[u8] = b"where\nwhere\n";
 /// A status and a text.
 type Answer = (Status, &'static str);
 
-/// Runs words, and compares their status and the text that was put, behind half of the text where its put was to fail.
+/// Runs words with a prompt, and compares their status and text.
 fn says(
     rt: &impl Abort,
     alloc: Global,
@@ -37,12 +38,27 @@ fn says(
 /// The worked report, and what the worked recipe's audit says.
 const EQUAL: Answer = (Status::Yes, "equal two bin 3\n");
 
+/// Makes a piece of the audit, and sets the report.
+fn add_save(
+    rt: &impl Abort,
+    alloc: Global,
+    shelf: &mut MemShelf,
+    steps: &str,
+) -> Result<(), OutOfMemory> {
+    says(
+        rt,
+        alloc,
+        shelf,
+        &["part", "a.toml", "s", "r", steps],
+        PAUSED,
+    )?;
+    shelf.set("r", REPORT.as_bytes())
+}
+
 /// The worked files, with the report and, where steps are named, the save of a piece of the audit.
 fn shelf_with(rt: &impl Abort, alloc: Global, steps: &str) -> Result<MemShelf, OutOfMemory> {
     let mut shelf = audit_shelf(alloc, "", "")?;
-    let words = ["part", "a.toml", "s", "r", steps];
-    says(rt, alloc, &mut shelf, &words, PAUSED)?;
-    shelf.set("r", REPORT.as_bytes())?;
+    add_save(rt, alloc, &mut shelf, steps)?;
     Ok(shelf)
 }
 
@@ -53,7 +69,7 @@ fn first_lines(alloc: Global, text: &str, count: usize) -> Result<Bytes, OutOfMe
     let mut cut = Bytes::new(alloc);
     for line in text.lines().take(count) {
         cut.extend(line.as_bytes())?;
-        cut.extend(b"\n")?;
+        cut.push(b'\n')?;
     }
     Ok(cut)
 }
@@ -84,26 +100,69 @@ static REFUSED: [&str; 22] = [
     "report line 22\n",
 ];
 
+/// Shows and replays a text as the report.
+fn refuses(
+    rt: &impl Abort,
+    alloc: Global,
+    shelf: &mut MemShelf,
+    report: &[u8],
+    text: &'static str,
+) -> Result<(), OutOfMemory> {
+    let refused = (Status::ReportRefused, text);
+    shelf.set("r", report)?;
+    says(rt, alloc, shelf, &["show", "r"], refused)?;
+    says(rt, alloc, shelf, &["verify", "a.toml", "r"], refused)
+}
+
+/// Tries so many lines of the report, and then a part of the next line, without its end.
+fn refuses_cut(
+    rt: &impl Abort,
+    alloc: Global,
+    shelf: &mut MemShelf,
+    whole: usize,
+    text: &'static str,
+) -> Result<(), OutOfMemory> {
+    let mut cut = first_lines(alloc, REPORT, whole)?;
+    refuses(rt, alloc, shelf, cut.as_slice(), text)?;
+    cut.extend(part_of(REPORT.as_bytes(), cut.len()))?;
+    refuses(rt, alloc, shelf, cut.as_slice(), text)
+}
+
+/// Two bytes from an offset on.
+fn part_of(text: &[u8], at: usize) -> &[u8] {
+    text.get(at..at.saturating_add(2)).unwrap_or(b"")
+}
+
 #[test]
 fn cut_reports_are_refused_at_their_line(rt: HostRuntime) -> Result<(), Fail> {
-    let alloc = rt.alloc();
     assert_eq!(&rt; REPORT.lines().count(), REFUSED.len());
+    let mut shelf = audit_shelf(rt.alloc(), "", "")?;
     for (whole, text) in REFUSED.iter().enumerate() {
-        let mut cut = first_lines(alloc, REPORT, whole)?;
-        let refused = (Status::ReportRefused, *text);
-        for _ in 0..2 {
-            let mut shelf = audit_shelf(alloc, "", "")?;
-            shelf.set("r", cut.as_slice())?;
-            says(&rt, alloc, &mut shelf, &["show", "r"], refused)?;
-            says(&rt, alloc, &mut shelf, &["verify", "a.toml", "r"], refused)?;
-            // A part of the next line, without its end.
-            cut.extend(
-                REPORT
-                    .as_bytes()
-                    .get(cut.len()..cut.len() + 2)
-                    .unwrap_or(b""),
-            )?;
-        }
+        refuses_cut(&rt, rt.alloc(), &mut shelf, whole, text)?;
+    }
+    Ok(())
+}
+
+/// Resumes from the first bytes of a save.
+fn refuses_save(
+    rt: &impl Abort,
+    alloc: Global,
+    shelf: &mut MemShelf,
+    save: &[u8],
+) -> Result<(), OutOfMemory> {
+    shelf.set("s", save)?;
+    let words = ["resume", "a.toml", "s", "r", "1"];
+    let refused = (Status::SaveRefused, "save refused 1\n");
+    says(rt, alloc, shelf, &words, refused)?;
+    assert!(rt; shelf.get("r").is_none());
+    Ok(())
+}
+
+/// Resumes from the beginnings of a save that are shorter than 40 bytes.
+fn refuses_saves(rt: &impl Abort, alloc: Global, save: &[u8]) -> Result<(), OutOfMemory> {
+    let mut shelf = audit_shelf(alloc, "", "")?;
+    for size in 0..40 {
+        refuses_save(rt, alloc, &mut shelf, save.get(..size).unwrap_or(save))?;
     }
     Ok(())
 }
@@ -111,22 +170,8 @@ fn cut_reports_are_refused_at_their_line(rt: HostRuntime) -> Result<(), Fail> {
 /// A save's first field has 8 bytes, and its second the recipe's digest of 32.
 #[test]
 fn saves_that_end_in_the_digest_are_refused(rt: HostRuntime) -> Result<(), Fail> {
-    let alloc = rt.alloc();
-    let whole = shelf_with(&rt, alloc, "63")?;
-    let save = whole.get("s").unwrap_or(b"");
-    for size in 0..40 {
-        let mut shelf = audit_shelf(alloc, "", "")?;
-        shelf.set("s", save.get(..size).unwrap_or(save))?;
-        let words = ["resume", "a.toml", "s", "r", "1"];
-        says(
-            &rt,
-            alloc,
-            &mut shelf,
-            &words,
-            (Status::SaveRefused, "save refused 1\n"),
-        )?;
-        assert!(&rt; shelf.get("r").is_none());
-    }
+    let whole = shelf_with(&rt, rt.alloc(), "63")?;
+    refuses_saves(&rt, rt.alloc(), whole.get("s").unwrap_or(b""))?;
     Ok(())
 }
 
@@ -156,45 +201,81 @@ static NAMES: [&str; 9] = [
     "s",
 ];
 
+/// Makes the audit again over what a failed load left.
+fn load_passes(
+    rt: &impl Abort,
+    alloc: Global,
+    shelf: &mut MemShelf,
+    (load, text): (u64, &'static str),
+    fresh: &MemShelf,
+) -> Result<(), OutOfMemory> {
+    let words = ["audit", "a.toml", "r"];
+    shelf.fail_load(load)?;
+    says(rt, alloc, shelf, &words, (Status::ShelfFault, text))?;
+    assert!(rt; are_alike(shelf, fresh, &NAMES));
+    says(rt, alloc, shelf, &words, EQUAL)?;
+    assert!(rt; holds(shelf, "r", REPORT.as_bytes()));
+    Ok(())
+}
+
+fn failed_load_passes(
+    rt: &impl Abort,
+    alloc: Global,
+    load: (u64, &'static str),
+    fresh: &MemShelf,
+) -> Result<(), OutOfMemory> {
+    let mut shelf = audit_shelf(alloc, "", "")?;
+    load_passes(rt, alloc, &mut shelf, load, fresh)
+}
+
 #[test]
 fn a_failed_load_of_an_audit_passes(rt: HostRuntime) -> Result<(), Fail> {
-    let alloc = rt.alloc();
-    for (load, text) in LOADS {
-        let fresh = audit_shelf(alloc, "", "")?;
-        let mut shelf = audit_shelf(alloc, "", "")?;
-        shelf.fail_load(load)?;
-        let words = ["audit", "a.toml", "r"];
-        says(&rt, alloc, &mut shelf, &words, (Status::ShelfFault, text))?;
-        assert!(&rt; are_alike(&shelf, &fresh, &NAMES));
-        says(&rt, alloc, &mut shelf, &words, EQUAL)?;
-        assert_eq!(&rt; shelf.get("r").unwrap_or(b""), REPORT.as_bytes());
+    let fresh = audit_shelf(rt.alloc(), "", "")?;
+    for load in LOADS {
+        failed_load_passes(&rt, rt.alloc(), load, &fresh)?;
     }
     Ok(())
 }
 
-#[test]
-fn a_failed_save_of_an_audit_passes(rt: HostRuntime) -> Result<(), Fail> {
-    let alloc = rt.alloc();
-    let fresh = audit_shelf(alloc, "", "")?;
-    let mut shelf = audit_shelf(alloc, "", "")?;
-    shelf.fail_save(1)?;
+/// Makes the audit again over what a failed save left.
+fn save_passes(
+    rt: &impl Abort,
+    alloc: Global,
+    shelf: &mut MemShelf,
+    fresh: &MemShelf,
+) -> Result<(), OutOfMemory> {
     let words = ["audit", "a.toml", "r"];
+    shelf.fail_save(1)?;
     says(
-        &rt,
+        rt,
         alloc,
-        &mut shelf,
+        shelf,
         &words,
         (Status::ShelfFault, "shelf fault r\n"),
     )?;
-    assert!(&rt; are_alike(&shelf, &fresh, &NAMES[..7]));
-    assert!(&rt; shelf.get("s").is_none());
-    says(&rt, alloc, &mut shelf, &words, EQUAL)?;
-    assert_eq!(&rt; shelf.get("r").unwrap_or(b""), REPORT.as_bytes());
+    assert!(rt; are_alike(shelf, fresh, &NAMES[..7]));
+    assert!(rt; shelf.get("s").is_none());
+    says(rt, alloc, shelf, &words, EQUAL)?;
+    assert!(rt; holds(shelf, "r", REPORT.as_bytes()));
+    Ok(())
+}
+
+fn failed_save_passes(rt: &impl Abort, alloc: Global, fresh: &MemShelf) -> Result<(), OutOfMemory> {
+    let mut shelf = audit_shelf(alloc, "", "")?;
+    save_passes(rt, alloc, &mut shelf, fresh)
+}
+
+#[test]
+fn a_failed_save_of_an_audit_passes(rt: HostRuntime) -> Result<(), Fail> {
+    let fresh = audit_shelf(rt.alloc(), "", "")?;
+    failed_save_passes(&rt, rt.alloc(), &fresh)?;
     Ok(())
 }
 
 /// A call of each command, its status and its text.
-static GOOD: [(&[&str], Status, &str); 12] = [
+type Call = (&'static [&'static str], Status, &'static str);
+
+static GOOD: [Call; 12] = [
     (
         &["hex0", "copy.hex0", "copy.elf"],
         Status::Yes,
@@ -243,29 +324,56 @@ static GOOD: [(&[&str], Status, &str); 12] = [
     (&["demo", "5"], Status::Yes, "demo 5 steps 64 equal yes\n"),
 ];
 
+/// Runs words twice with one output and one input, of which the first put fails.
+fn passes(
+    rt: &impl Abort,
+    alloc: Global,
+    shelf: &mut MemShelf,
+    &(words, status, text): &Call,
+) -> Result<(), OutOfMemory> {
+    let mut out = MemSink::new(alloc);
+    out.fail_put(1)?;
+    let mut prompt = MemPrompt::new(alloc, LINES)?;
+    says_again(
+        rt,
+        alloc,
+        shelf,
+        (&mut out, &mut prompt),
+        words,
+        (status, text),
+    );
+    Ok(())
+}
+
+/// The same with these.
+fn says_again(
+    rt: &impl Abort,
+    alloc: Global,
+    shelf: &mut MemShelf,
+    (out, prompt): (&mut MemSink, &mut MemPrompt),
+    words: &[&str],
+    (status, text): Answer,
+) {
+    let failed = ddc_app::run::<Assembly, _, _, _>(alloc, words, shelf, out, prompt);
+    assert_eq!(rt; failed, Status::OutFault);
+    let half = text.as_bytes().get(..text.len() / 2).unwrap_or(b"");
+    assert_eq!(rt; out.written(), half);
+    let passed = ddc_app::run::<Assembly, _, _, _>(alloc, words, shelf, out, prompt);
+    assert_eq!(rt; passed, status);
+    let whole = out.written().get(half.len()..).unwrap_or(b"");
+    assert_eq!(rt; whole, text.as_bytes());
+}
+
+fn failed_put_passes(rt: &impl Abort, alloc: Global, call: &Call) -> Result<(), OutOfMemory> {
+    let mut shelf = shelf_with(rt, alloc, "63")?;
+    passes(rt, alloc, &mut shelf, call)
+}
+
 /// The first put fails behind half of its piece; the same call on the same shelf, output and input then has its good answer.
 #[test]
 fn a_failed_put_passes(rt: HostRuntime) -> Result<(), Fail> {
-    let alloc = rt.alloc();
-    for &(words, status, text) in &GOOD {
-        let mut shelf = shelf_with(&rt, alloc, "63")?;
-        let mut out = MemSink::new(alloc);
-        out.fail_put(1)?;
-        let mut prompt = MemPrompt::new(alloc, LINES)?;
-        assert_eq!(&rt;
-            ddc_app::run::<Assembly, _, _, _>(alloc, words, &mut shelf, &mut out, &mut prompt),
-            Status::OutFault
-        );
-        let half = text.as_bytes().get(..text.len() / 2).unwrap_or(b"");
-        assert_eq!(&rt; out.written(), half);
-        assert_eq!(&rt;
-            ddc_app::run::<Assembly, _, _, _>(alloc, words, &mut shelf, &mut out, &mut prompt),
-            status
-        );
-        assert_eq!(&rt;
-            out.written().get(half.len()..).unwrap_or(b""),
-            text.as_bytes()
-        );
+    for call in &GOOD {
+        failed_put_passes(&rt, rt.alloc(), call)?;
     }
     Ok(())
 }

@@ -2,9 +2,10 @@
 //! docs/reference/command-line.md, and what stands after so many steps from the listing of copy.elf.
 
 use crate::audits::audit_shelf;
-use crate::worked::{program_of, run};
+use crate::scenes::{Step, says, walk};
+use crate::worked::program_of;
 use ddc_app::Status;
-use ddc_base::{Call, MemShelf, MemSink, OutOfMemory};
+use ddc_base::{Call, MemShelf, OutOfMemory};
 use std::alloc::Global;
 use std::process::Abort;
 use std::test::Fail;
@@ -221,146 +222,215 @@ fn shelf_of(alloc: Global, change: (&str, &str)) -> Result<MemShelf, OutOfMemory
     Ok(shelf)
 }
 
-/// One command, and what is held under OUT behind it.
+/// Runs a row's command, and compares what is held under OUT behind it.
 fn leaves(
     rt: &impl Abort,
     alloc: Global,
     shelf: &mut MemShelf,
-    words: &[&str],
-    status: Status,
-    text: &str,
+    &(_, (stage, file), status, text, _): &Row,
+    held: Option<&[u8]>,
 ) -> Result<(), OutOfMemory> {
-    let mut out = MemSink::new(alloc);
-    assert_eq!(rt; run(alloc, words, shelf, &mut out)?, status);
-    assert_eq!(rt; out.written(), text.as_bytes(), "{words:?}");
+    let words = ["left", "a.toml", stage, file, "o"];
+    says(rt, alloc, shelf, &words, (status, text))?;
+    assert!(rt; shelf.get("o") == held, "{text}");
     Ok(())
+}
+
+fn saves_left(rt: &impl Abort, alloc: Global, row: &Row) -> Result<(), OutOfMemory> {
+    let mut shelf = shelf_of(alloc, row.0)?;
+    leaves(rt, alloc, &mut shelf, row, row.4)
 }
 
 #[test]
 fn what_a_stage_left_is_saved(rt: HostRuntime) -> Result<(), Fail> {
-    let alloc = rt.alloc();
-    for &(change, (stage, file), status, text, saved) in &ROWS {
-        let mut shelf = shelf_of(alloc, change)?;
-        let words = ["left", "a.toml", stage, file, "o"];
-        leaves(&rt, alloc, &mut shelf, &words, status, text)?;
-        assert!(&rt; shelf.get("o") == saved, "{text}");
+    for row in &ROWS {
+        saves_left(&rt, rt.alloc(), row)?;
     }
+    Ok(())
+}
+
+fn saves_artefact(rt: &impl Abort, alloc: Global, shelf: &mut MemShelf) -> Result<(), OutOfMemory> {
+    let words = ["left", "a.toml", "one", "out", "./o"];
+    let text = "left one out 232 status 0 step 32\n";
+    says(rt, alloc, shelf, &words, (Status::Yes, text))?;
+    assert!(rt; shelf.get("./o").is_some());
+    assert!(rt; shelf.get("./o") == shelf.get("copy.elf"));
+    assert!(rt; shelf.get("o").is_none());
     Ok(())
 }
 
 /// The artefact of the first stage is the program that it copied.
 #[test]
 fn a_whole_artefact_is_saved(rt: HostRuntime) -> Result<(), Fail> {
-    let alloc = rt.alloc();
-    let mut shelf = shelf_of(alloc, SAME)?;
-    let words = ["left", "a.toml", "one", "out", "./o"];
-    let text = "left one out 232 status 0 step 32\n";
-    leaves(&rt, alloc, &mut shelf, &words, Status::Yes, text)?;
-    assert!(&rt; shelf.get("./o").is_some());
-    assert!(&rt; shelf.get("./o") == shelf.get("copy.elf"));
-    assert!(&rt; shelf.get("o").is_none());
+    let mut shelf = shelf_of(rt.alloc(), SAME)?;
+    saves_artefact(&rt, rt.alloc(), &mut shelf)?;
     Ok(())
+}
+
+static NAMED: [Step; 4] = [
+    Step::Run(
+        &["left", "a.toml", "one", "./1", "o"],
+        Status::Yes,
+        "left one ./1 3 status 12 step 9\n",
+    ),
+    Step::Holds("o", "abc"),
+    Step::Run(
+        &["left", "a.toml", "one", "1", "o"],
+        Status::Yes,
+        "left one 1 0 status 12 step 9\n",
+    ),
+    Step::Holds("o", ""),
+];
+
+fn named(rt: &impl Abort, alloc: Global, shelf: &mut MemShelf) -> Result<(), OutOfMemory> {
+    shelf.set("copy.elf", program_of(alloc, FAILS)?.as_slice())?;
+    walk(rt, alloc, shelf, &NAMED)
 }
 
 /// `1` is a stream, and a file of that name is given as `./1`.
 #[test]
 fn a_file_may_have_the_name_of_a_stream(rt: HostRuntime) -> Result<(), Fail> {
-    let alloc = rt.alloc();
     let given = "path = \"in\", from = \"prog\"";
-    let mut shelf = shelf_of(alloc, (given, "path = \"1\", from = \"src\""))?;
-    shelf.set("copy.elf", program_of(alloc, FAILS)?.as_slice())?;
-    let words = ["left", "a.toml", "one", "./1", "o"];
-    let text = "left one ./1 3 status 12 step 9\n";
-    leaves(&rt, alloc, &mut shelf, &words, Status::Yes, text)?;
-    assert!(&rt; shelf.get("o") == Some(b"abc".as_slice()));
-    let words = ["left", "a.toml", "one", "1", "o"];
-    let text = "left one 1 0 status 12 step 9\n";
-    leaves(&rt, alloc, &mut shelf, &words, Status::Yes, text)?;
-    assert!(&rt; shelf.get("o") == Some(b"".as_slice()));
+    let mut shelf = shelf_of(rt.alloc(), (given, "path = \"1\", from = \"src\""))?;
+    named(&rt, rt.alloc(), &mut shelf)?;
     Ok(())
+}
+
+fn stays(
+    rt: &impl Abort,
+    alloc: Global,
+    shelf: &mut MemShelf,
+    row: &Row,
+) -> Result<(), OutOfMemory> {
+    shelf.set("o", b"as before")?;
+    leaves(rt, alloc, shelf, row, Some(b"as before".as_slice()))
+}
+
+fn stays_left(rt: &impl Abort, alloc: Global, row: &Row) -> Result<(), OutOfMemory> {
+    let mut shelf = shelf_of(alloc, row.0)?;
+    stays(rt, alloc, &mut shelf, row)
 }
 
 /// Where nothing is left, what OUT held stays.
 #[test]
 fn a_refusal_leaves_out_as_it_was(rt: HostRuntime) -> Result<(), Fail> {
-    let alloc = rt.alloc();
-    for &(change, (stage, file), status, text, saved) in &ROWS {
-        if saved.is_none() {
-            let mut shelf = shelf_of(alloc, change)?;
-            shelf.set("o", b"as before")?;
-            let words = ["left", "a.toml", stage, file, "o"];
-            leaves(&rt, alloc, &mut shelf, &words, status, text)?;
-            assert!(&rt; shelf.get("o") == Some(b"as before".as_slice()), "{text}");
+    for row in &ROWS {
+        if row.4.is_none() {
+            stays_left(&rt, rt.alloc(), row)?;
         }
     }
     Ok(())
 }
 
+static WORDS: [Step; 1] = [Step::Usage(&[
+    &["left"],
+    &["left", "a.toml"],
+    &["left", "a.toml", "two"],
+    &["left", "a.toml", "two", "out"],
+    &["left", "a.toml", "two", "out", "o", "o"],
+    &["left", "", "two", "out", "o"],
+    &["left", "a.toml", "two", "out", ""],
+    &["left", "a.toml", "two\0", "out", "o"],
+    // FILE is no guest's name
+    &["left", "a.toml", "two", "", "o"],
+    &["left", "a.toml", "two", "././", "o"],
+    &["left", "a.toml", "two", "o\0", "o"],
+    // OUT clashes with RECIPE
+    &["left", "a.toml", "two", "out", "a.toml"],
+    &["left", "a.toml", "two", "out", "./a.toml"],
+    &["left", "././a.toml", "two", "out", "a.toml"],
+    &["lefts", "a.toml", "two", "out", "o"],
+])];
+
+/// OUT clashes with an input: the recipe is loaded, and nothing more.
+static CLASH: [Step; 3] = [
+    Step::Calls(0),
+    Step::Usage(&[&["left", "a.toml", "two", "out", "./b.bin"]]),
+    Step::Calls(1),
+];
+
+/// A name that is too long is no guest's.
+fn long_name(rt: &impl Abort, alloc: Global, shelf: &mut MemShelf) -> Result<(), OutOfMemory> {
+    let long = [b'n'; 256];
+    let long = str::from_utf8(&long).unwrap_or("");
+    assert_eq!(rt; long.len(), 256);
+    let words = ["left", "a.toml", "two", long, "o"];
+    says(rt, alloc, shelf, &words, (Status::Usage, "usage\n"))
+}
+
+fn judges_words(rt: &impl Abort, alloc: Global, shelf: &mut MemShelf) -> Result<(), OutOfMemory> {
+    walk(rt, alloc, shelf, &WORDS)?;
+    long_name(rt, alloc, shelf)?;
+    walk(rt, alloc, shelf, &CLASH)
+}
+
 #[test]
 fn the_words_of_left_are_judged(rt: HostRuntime) -> Result<(), Fail> {
-    let alloc = rt.alloc();
-    let mut shelf = shelf_of(alloc, SAME)?;
-    let lines: [&[&str]; 15] = [
-        &["left"],
-        &["left", "a.toml"],
-        &["left", "a.toml", "two"],
-        &["left", "a.toml", "two", "out"],
-        &["left", "a.toml", "two", "out", "o", "o"],
-        &["left", "", "two", "out", "o"],
-        &["left", "a.toml", "two", "out", ""],
-        &["left", "a.toml", "two\0", "out", "o"],
-        // FILE is no guest's name
-        &["left", "a.toml", "two", "", "o"],
-        &["left", "a.toml", "two", "././", "o"],
-        &["left", "a.toml", "two", "o\0", "o"],
-        // OUT clashes with RECIPE
-        &["left", "a.toml", "two", "out", "a.toml"],
-        &["left", "a.toml", "two", "out", "./a.toml"],
-        &["left", "././a.toml", "two", "out", "a.toml"],
-        &["lefts", "a.toml", "two", "out", "o"],
-    ];
-    for words in lines {
-        leaves(&rt, alloc, &mut shelf, words, Status::Usage, "usage\n")?;
-    }
-    let long = [b'n'; 256];
-    let long = str::from_utf8(&long).ok().ok_or("text")?;
-    let words = ["left", "a.toml", "two", long, "o"];
-    leaves(&rt, alloc, &mut shelf, &words, Status::Usage, "usage\n")?;
-    assert_eq!(&rt; shelf.calls().len(), 0);
-    // OUT clashes with an input: the recipe is loaded, and nothing more
-    let words = ["left", "a.toml", "two", "out", "./b.bin"];
-    leaves(&rt, alloc, &mut shelf, &words, Status::Usage, "usage\n")?;
-    assert_eq!(&rt; shelf.calls().len(), 1);
+    let mut shelf = shelf_of(rt.alloc(), SAME)?;
+    judges_words(&rt, rt.alloc(), &mut shelf)?;
     Ok(())
+}
+
+static FAULTS: [&[Step]; 5] = [
+    &[
+        Step::FailSave(1),
+        Step::Run(
+            &["left", "a.toml", "two", "out", "o"],
+            Status::ShelfFault,
+            "shelf fault o\n",
+        ),
+    ],
+    &[
+        Step::FailLoad(1),
+        Step::Run(
+            &["left", "a.toml", "two", "out", "o"],
+            Status::ShelfFault,
+            "shelf fault a.toml\n",
+        ),
+        Step::Absent("o"),
+    ],
+    &[
+        Step::FailLoad(2),
+        Step::Run(
+            &["left", "a.toml", "two", "out", "o"],
+            Status::ShelfFault,
+            "shelf fault copy.elf\n",
+        ),
+        Step::Absent("o"),
+    ],
+    &[
+        Step::FailLoad(5),
+        Step::Run(
+            &["left", "a.toml", "two", "out", "o"],
+            Status::ShelfFault,
+            "shelf fault b.bin\n",
+        ),
+        Step::Absent("o"),
+    ],
+    &[
+        Step::Run(
+            &["left", "a.toml", "two", "out", "o"],
+            Status::Yes,
+            "left two out 3 status 0 step 32\n",
+        ),
+        Step::Calls(6),
+        Step::Saves(1),
+    ],
+];
+
+/// Takes steps over the files, and tells whether the last call is a save.
+fn ends_in_a_save(rt: &impl Abort, alloc: Global, steps: &[Step]) -> Result<bool, OutOfMemory> {
+    let mut shelf = shelf_of(alloc, SAME)?;
+    walk(rt, alloc, &mut shelf, steps)?;
+    Ok(matches!(shelf.calls().last(), Some(Call::Save { .. })))
 }
 
 /// The last call is the one save; where it fails, what stood under OUT is open, and the fault is said.
 #[test]
 fn a_failed_save_is_a_fault(rt: HostRuntime) -> Result<(), Fail> {
-    let alloc = rt.alloc();
-    let mut shelf = shelf_of(alloc, SAME)?;
-    shelf.fail_save(1)?;
-    let words = ["left", "a.toml", "two", "out", "o"];
-    let text = "shelf fault o\n";
-    leaves(&rt, alloc, &mut shelf, &words, Status::ShelfFault, text)?;
-    for (load, name) in [(1, "a.toml"), (2, "copy.elf"), (5, "b.bin")] {
-        let mut shelf = shelf_of(alloc, SAME)?;
-        shelf.fail_load(load)?;
-        let text = format!(in alloc; "shelf fault {name}\n")?;
-        leaves(
-            &rt,
-            alloc,
-            &mut shelf,
-            &words,
-            Status::ShelfFault,
-            text.as_str(),
-        )?;
-        assert!(&rt; shelf.get("o").is_none());
+    for (number, steps) in FAULTS.iter().enumerate() {
+        let saved = ends_in_a_save(&rt, rt.alloc(), steps)?;
+        assert_eq!(&rt; saved, number == 4);
     }
-    let mut shelf = shelf_of(alloc, SAME)?;
-    let text = "left two out 3 status 0 step 32\n";
-    leaves(&rt, alloc, &mut shelf, &words, Status::Yes, text)?;
-    assert_eq!(&rt; shelf.calls().len(), 6);
-    assert!(&rt; matches!(shelf.calls().last(), Some(Call::Save { .. })));
     Ok(())
 }

@@ -11,6 +11,8 @@ mod causes;
 mod chains;
 pub mod copying;
 #[cfg(test)]
+mod delta_faults;
+#[cfg(test)]
 mod differences;
 #[cfg(test)]
 mod faults;
@@ -19,9 +21,13 @@ mod left_files;
 #[cfg(test)]
 mod pauses;
 #[cfg(test)]
+mod piece_faults;
+#[cfg(test)]
 mod pieces;
 #[cfg(test)]
 mod routes;
+#[cfg(test)]
+mod scenes;
 #[cfg(test)]
 mod script_calls;
 #[cfg(test)]

@@ -2,29 +2,19 @@
 //! What they come to was written down from docs/reference/command-line.md and docs/reference/save.md.
 
 use crate::audits::{REPORT, audit_shelf};
-use crate::worked::{run, with};
+use crate::scenes::{
+    Step, Wanted, alter, are_calls, are_usage_of, content, ends, holds, over, over_worked, saves,
+    says, says_of,
+};
+use crate::worked::with;
 use ddc_app::Status;
-use ddc_base::{Bytes, Call, MemShelf, MemSink, OutOfMemory};
+use ddc_base::{Bytes, MemShelf, OutOfMemory};
 use std::alloc::Global;
 use std::process::Abort;
 use std::test::Fail;
 
 /// A command, its steps, its status and its text.
 type Piece = (&'static str, &'static str, Status, &'static str);
-
-/// Runs words, and compares their status and text.
-pub(crate) fn says(
-    rt: &impl Abort,
-    alloc: Global,
-    shelf: &mut MemShelf,
-    words: &[&str],
-    ending: (Status, &str),
-) -> Result<(), OutOfMemory> {
-    let mut out = MemSink::new(alloc);
-    assert_eq!(rt; run(alloc, words, shelf, &mut out)?, ending.0);
-    assert_eq!(rt; out.written(), ending.1.as_bytes(), "{words:?}");
-    Ok(())
-}
 
 /// Runs pieces of the audit `a.toml` with the save `s` and the report `r`.
 fn pieces(
@@ -95,18 +85,30 @@ static PIECES: [&[Piece]; 7] = [
     ],
 ];
 
+/// Runs pieces that come to the worked report, which is then true.
+fn reports(
+    rt: &impl Abort,
+    alloc: Global,
+    shelf: &mut MemShelf,
+    rows: &[Piece],
+) -> Result<(), OutOfMemory> {
+    pieces(rt, alloc, shelf, rows)?;
+    assert!(rt; holds(shelf, "r", REPORT.as_bytes()));
+    assert_eq!(rt; shelf.get("s").is_some(), rows.len() > 1);
+    assert!(rt; others_stay(alloc, shelf)?);
+    let yes = (Status::Yes, "yes\nequal two bin 3\n");
+    says(rt, alloc, shelf, &["verify", "a.toml", "r"], yes)
+}
+
+fn reports_worked(rt: &impl Abort, alloc: Global, rows: &[Piece]) -> Result<(), OutOfMemory> {
+    let mut shelf = audit_shelf(alloc, "", "")?;
+    reports(rt, alloc, &mut shelf, rows)
+}
+
 #[test]
 fn pieces_come_to_the_report(rt: HostRuntime) -> Result<(), Fail> {
-    let alloc = rt.alloc();
     for rows in PIECES {
-        let mut shelf = audit_shelf(alloc, "", "")?;
-        pieces(&rt, alloc, &mut shelf, rows)?;
-        assert_eq!(rt; shelf.get("r").unwrap_or(&[]), REPORT.as_bytes());
-        assert_eq!(rt; shelf.get("s").is_some(), rows.len() > 1);
-        assert!(rt; others_stay(alloc, &shelf)?);
-        let words = ["verify", "a.toml", "r"];
-        let yes = (Status::Yes, "yes\nequal two bin 3\n");
-        says(&rt, alloc, &mut shelf, &words, yes)?;
+        reports_worked(&rt, rt.alloc(), rows)?;
     }
     Ok(())
 }
@@ -188,32 +190,38 @@ static CHANGES: [Change; 6] = [
     ),
 ];
 
-/// How many of the calls are saves.
-pub(crate) fn saves(shelf: &MemShelf) -> usize {
-    shelf.calls().iter().filter(|call| is_save(call)).count()
+fn comes_to(
+    rt: &impl Abort,
+    alloc: Global,
+    shelf: &mut MemShelf,
+    first: Piece,
+    second: Piece,
+) -> Result<(), OutOfMemory> {
+    let paused = first.2 == Status::Paused;
+    let over = second.2 == Status::Differs;
+    pieces(rt, alloc, shelf, &[first])?;
+    assert_eq!(rt; shelf.get("s").is_some(), paused);
+    assert_eq!(rt; saves(shelf), paused as usize);
+    pieces(rt, alloc, shelf, &[second])?;
+    assert_eq!(rt; shelf.get("r").is_some(), over);
+    assert_eq!(rt; saves(shelf), paused as usize + over as usize);
+    Ok(())
 }
 
-fn is_save(call: &Call) -> bool {
-    match call {
-        Call::Load { .. } => false,
-        Call::Save { .. } => true,
-    }
+fn change_comes_to(
+    rt: &impl Abort,
+    alloc: Global,
+    &(old, new, first, second): &Change,
+) -> Result<(), OutOfMemory> {
+    let mut shelf = audit_shelf(alloc, old, new)?;
+    comes_to(rt, alloc, &mut shelf, first, second)
 }
 
 /// A pause saves the save alone, 3 the report alone, and a failure nothing.
 #[test]
 fn pieces_come_to_what_the_audit_does(rt: HostRuntime) -> Result<(), Fail> {
-    let alloc = rt.alloc();
-    for &(old, new, first, second) in &CHANGES {
-        let mut shelf = audit_shelf(alloc, old, new)?;
-        pieces(&rt, alloc, &mut shelf, &[first])?;
-        let paused = first.2 == Status::Paused;
-        assert_eq!(rt; shelf.get("s").is_some(), paused);
-        assert_eq!(rt; saves(&shelf), paused as usize);
-        pieces(&rt, alloc, &mut shelf, &[second])?;
-        let over = second.2 == Status::Differs;
-        assert_eq!(rt; shelf.get("r").is_some(), over);
-        assert_eq!(rt; saves(&shelf), paused as usize + over as usize);
+    for change in &CHANGES {
+        change_comes_to(&rt, rt.alloc(), change)?;
     }
     Ok(())
 }
@@ -221,25 +229,10 @@ fn pieces_come_to_what_the_audit_does(rt: HostRuntime) -> Result<(), Fail> {
 /// A shelf with the audit that paused behind so many steps.
 fn paused(alloc: Global, steps: &str) -> Result<MemShelf, OutOfMemory> {
     let mut shelf = audit_shelf(alloc, "", "")?;
-    let mut out = MemSink::new(alloc);
-    match run(
-        alloc,
-        &["part", "a.toml", "s", "r", steps],
-        &mut shelf,
-        &mut out,
-    )? {
+    match ends(alloc, &mut shelf, &["part", "a.toml", "s", "r", steps])? {
         Status::Paused => Ok(shelf),
         _ => Err(OutOfMemory),
     }
-}
-
-/// The bytes of the save with others from an offset on.
-fn altered(alloc: Global, shelf: &MemShelf, at: usize, bytes: &[u8]) -> Result<Bytes, OutOfMemory> {
-    let text = shelf.get("s").unwrap_or(&[]);
-    let mut new = Bytes::from_slice(alloc, text.get(..at).unwrap_or(&[]))?;
-    new.extend(bytes)?;
-    new.extend(text.get(at.saturating_add(bytes.len())..).unwrap_or(&[]))?;
-    Ok(new)
 }
 
 /// Where a text is changed, to which bytes, and what is printed.
@@ -258,93 +251,110 @@ static ALTERATIONS: [Alteration; 8] = [
     (593, b"\x01", "save refused 3\n"),
 ];
 
+/// The altered save is refused.
+fn refuses(
+    rt: &impl Abort,
+    alloc: Global,
+    shelf: &mut MemShelf,
+    &(at, bytes, text): &Alteration,
+) -> Result<(), OutOfMemory> {
+    alter(alloc, shelf, "s", at, bytes)?;
+    let row = ("resume", "1", Status::SaveRefused, text);
+    pieces(rt, alloc, shelf, &[row])?;
+    assert_eq!(rt; saves(shelf), 1);
+    Ok(())
+}
+
+fn refuses_paused(rt: &impl Abort, alloc: Global, row: &Alteration) -> Result<(), OutOfMemory> {
+    let mut shelf = paused(alloc, "45")?;
+    refuses(rt, alloc, &mut shelf, row)
+}
+
 #[test]
 fn saves_are_refused(rt: HostRuntime) -> Result<(), Fail> {
-    let alloc = rt.alloc();
-    for &(at, bytes, text) in &ALTERATIONS {
-        let mut shelf = paused(alloc, "45")?;
-        let save = altered(alloc, &shelf, at, bytes)?;
-        shelf.set("s", save.as_slice())?;
-        let row = ("resume", "1", Status::SaveRefused, text);
-        pieces(&rt, alloc, &mut shelf, &[row])?;
-        assert_eq!(rt; saves(&shelf), 1);
+    for row in &ALTERATIONS {
+        refuses_paused(&rt, rt.alloc(), row)?;
     }
     Ok(())
 }
 
+/// A step that ends the audit, one that is refused for another recipe's save, and one for a text that is no save.
+const LAST: Piece = ("resume", "1", Status::Yes, "equal two bin 3\n");
+
+const OTHER: Piece = ("resume", "1", Status::SaveRefused, "save refused 2\n");
+
+const NONE: Piece = ("resume", "1", Status::SaveRefused, "save refused 1\n");
+
+/// Adds an LF to the recipe: the same words in other bytes.
+fn lengthen_recipe(alloc: Global, shelf: &mut MemShelf) -> Result<(), OutOfMemory> {
+    let mut recipe = content(alloc, shelf, "a.toml")?;
+    recipe.push(b'\n')?;
+    shelf.set("a.toml", recipe.as_slice())
+}
+
+fn refuses_others(rt: &impl Abort, alloc: Global, shelf: &mut MemShelf) -> Result<(), OutOfMemory> {
+    shelf.set("b.bin", b"abd")?;
+    pieces(rt, alloc, shelf, &[OTHER])?;
+    shelf.set("b.bin", b"abc")?;
+    pieces(rt, alloc, shelf, &[LAST])?;
+    lengthen_recipe(alloc, shelf)?;
+    pieces(rt, alloc, shelf, &[OTHER])?;
+    shelf.set("s", b"")?;
+    pieces(rt, alloc, shelf, &[NONE])
+}
+
 #[test]
 fn saves_of_others_are_refused(rt: HostRuntime) -> Result<(), Fail> {
-    let alloc = rt.alloc();
-    let refused = ("resume", "1", Status::SaveRefused, "save refused 2\n");
-    let mut shelf = paused(alloc, "63")?;
-    shelf.set("b.bin", b"abd")?;
-    pieces(&rt, alloc, &mut shelf, &[refused])?;
-    shelf.set("b.bin", b"abc")?;
-    pieces(
-        &rt,
-        alloc,
-        &mut shelf,
-        &[("resume", "1", Status::Yes, "equal two bin 3\n")],
-    )?;
-    let recipe = shelf.get("a.toml").unwrap_or(&[]);
-    let recipe = Bytes::from_slice(alloc, recipe)?;
-    shelf.set("a.toml", with_line(alloc, recipe)?.as_slice())?;
-    pieces(&rt, alloc, &mut shelf, &[refused])?;
-    shelf.set("s", b"")?;
-    let empty = ("resume", "1", Status::SaveRefused, "save refused 1\n");
-    pieces(&rt, alloc, &mut shelf, &[empty])?;
+    let mut shelf = paused(rt.alloc(), "63")?;
+    refuses_others(&rt, rt.alloc(), &mut shelf)?;
     Ok(())
 }
 
-/// A recipe of the same words in other bytes.
-fn with_line(alloc: Global, recipe: Bytes) -> Result<Bytes, OutOfMemory> {
-    let mut recipe = recipe;
-    recipe.push(b'\n')?;
-    Ok(recipe)
+/// Makes the save one of the first form.
+fn make_old(alloc: Global, shelf: &mut MemShelf) -> Result<(), OutOfMemory> {
+    let old = without_byte(alloc, shelf.get("s").unwrap_or(&[]), 849)?;
+    shelf.set("s", old.as_slice())?;
+    alter(alloc, shelf, "s", 7, b"1")?;
+    alter(alloc, shelf, "s", 584, b"1")
+}
+
+/// A text without the byte at an offset.
+fn without_byte(alloc: Global, text: &[u8], at: usize) -> Result<Bytes, OutOfMemory> {
+    let mut new = Bytes::from_slice(alloc, text.get(..at).unwrap_or(&[]))?;
+    new.extend(text.get(at.saturating_add(1)..).unwrap_or(&[]))?;
+    Ok(new)
+}
+
+fn resumes_old(rt: &impl Abort, alloc: Global, shelf: &mut MemShelf) -> Result<(), OutOfMemory> {
+    make_old(alloc, shelf)?;
+    pieces(rt, alloc, shelf, &[LAST])?;
+    assert!(rt; holds(shelf, "r", REPORT.as_bytes()));
+    Ok(())
 }
 
 /// The save as the first form had it: both magics end with another byte, and the byte that says that nothing is reserved is not there.
 #[test]
 fn an_old_save_is_resumed(rt: HostRuntime) -> Result<(), Fail> {
-    let alloc = rt.alloc();
-    let mut shelf = paused(alloc, "63")?;
-    let text = shelf.get("s").unwrap_or(&[]);
-    let mut old = Bytes::from_slice(alloc, text.get(..849).unwrap_or(&[]))?;
-    old.extend(text.get(850..).unwrap_or(&[]))?;
-    shelf.set("s", old.as_slice())?;
-    for at in [7, 584] {
-        let save = altered(alloc, &shelf, at, b"1")?;
-        shelf.set("s", save.as_slice())?;
-    }
-    let row = ("resume", "1", Status::Yes, "equal two bin 3\n");
-    pieces(&rt, alloc, &mut shelf, &[row])?;
-    assert_eq!(rt; shelf.get("r").unwrap_or(&[]), REPORT.as_bytes());
+    let mut shelf = paused(rt.alloc(), "63")?;
+    resumes_old(&rt, rt.alloc(), &mut shelf)?;
     Ok(())
+}
+
+fn believes(rt: &impl Abort, alloc: Global, shelf: &mut MemShelf) -> Result<(), OutOfMemory> {
+    alter(alloc, shelf, "s", 657, &[2, 0])?;
+    let equal = ("resume", "1000", Status::Yes, "equal two bin 3\n");
+    pieces(rt, alloc, shelf, &[equal])?;
+    let wanted = with(alloc, REPORT, "stage two 32", "stage two 43")?;
+    assert!(rt; holds(shelf, "r", wanted.as_bytes()));
+    let refuted = (Status::Refuted, "refuted run 2\n");
+    says(rt, alloc, shelf, &["verify", "a.toml", "r"], refuted)
 }
 
 /// After 45 steps x8, at 657, has how many bytes are read at once: of 4,096 it is made 2, so that the loop is taken once more, in 11 steps.
 #[test]
 fn an_altered_save_is_believed_and_refuted(rt: HostRuntime) -> Result<(), Fail> {
-    let alloc = rt.alloc();
-    let mut shelf = paused(alloc, "45")?;
-    let save = altered(alloc, &shelf, 657, &[2, 0])?;
-    shelf.set("s", save.as_slice())?;
-    pieces(
-        &rt,
-        alloc,
-        &mut shelf,
-        &[("resume", "1000", Status::Yes, "equal two bin 3\n")],
-    )?;
-    let wanted = with(alloc, REPORT, "stage two 32", "stage two 43")?;
-    assert_eq!(rt; shelf.get("r").unwrap_or(&[]), wanted.as_bytes());
-    let words = ["verify", "a.toml", "r"];
-    says(
-        &rt,
-        alloc,
-        &mut shelf,
-        &words,
-        (Status::Refuted, "refuted run 2\n"),
-    )?;
+    let mut shelf = paused(rt.alloc(), "45")?;
+    believes(&rt, rt.alloc(), &mut shelf)?;
     Ok(())
 }
 
@@ -376,24 +386,23 @@ static WORDS: [&[&str]; 22] = [
     &["none", "s", "r", "0"],
 ];
 
-/// Nothing is loaded before the words are judged.
-#[test]
-fn words_are_judged(rt: HostRuntime) -> Result<(), Fail> {
-    let alloc = rt.alloc();
-    let mut shelf = audit_shelf(alloc, "", "")?;
-    for command in ["part", "resume"] {
-        for words in WORDS {
-            let mut all = vec![in alloc; command]?;
-            all.extend_from_slice(words)?;
-            says(&rt, alloc, &mut shelf, &all, (Status::Usage, "usage\n"))?;
-        }
-    }
+fn judges_words(rt: &impl Abort, alloc: Global, shelf: &mut MemShelf) -> Result<(), OutOfMemory> {
+    are_usage_of(rt, alloc, shelf, "part", &WORDS)?;
+    are_usage_of(rt, alloc, shelf, "resume", &WORDS)?;
     assert!(rt; shelf.calls().is_empty());
     Ok(())
 }
 
+/// Nothing is loaded before the words are judged.
+#[test]
+fn words_are_judged(rt: HostRuntime) -> Result<(), Fail> {
+    let mut shelf = audit_shelf(rt.alloc(), "", "")?;
+    judges_words(&rt, rt.alloc(), &mut shelf)?;
+    Ok(())
+}
+
 /// Words after either command, their ending, and how many calls were answered.
-type Opening = (&'static [&'static str], Status, &'static str, usize);
+pub(crate) type Opening = (&'static [&'static str], Status, &'static str, usize);
 
 static OPENINGS: [Opening; 9] = [
     (
@@ -444,53 +453,61 @@ static OPENINGS: [Opening; 9] = [
     (&["a.toml", "s", "./s", "1"], Status::Usage, "usage\n", 0),
 ];
 
+/// Runs a command with these words, and compares its status, its text and how many calls were answered.
+fn opens(
+    rt: &impl Abort,
+    alloc: Global,
+    shelf: &mut MemShelf,
+    command: &str,
+    &(words, status, text, calls): &Opening,
+) -> Result<(), OutOfMemory> {
+    says_of(rt, alloc, shelf, command, words, (status, text))?;
+    assert_eq!(rt; shelf.calls().len(), calls);
+    Ok(())
+}
+
+pub(crate) fn opens_worked(
+    rt: &impl Abort,
+    alloc: Global,
+    command: &str,
+    opening: &Opening,
+) -> Result<(), OutOfMemory> {
+    let mut shelf = audit_shelf(alloc, "", "")?;
+    opens(rt, alloc, &mut shelf, command, opening)
+}
+
 #[test]
 fn recipes_and_names_are_judged(rt: HostRuntime) -> Result<(), Fail> {
-    let alloc = rt.alloc();
-    for command in ["part", "resume"] {
-        for (words, status, text, calls) in OPENINGS {
-            let mut shelf = audit_shelf(alloc, "", "")?;
-            let mut all = vec![in alloc; command]?;
-            all.extend_from_slice(words)?;
-            says(&rt, alloc, &mut shelf, &all, (status, text))?;
-            assert_eq!(rt; shelf.calls().len(), calls);
-        }
+    for opening in &OPENINGS {
+        opens_worked(&rt, rt.alloc(), "part", opening)?;
+        opens_worked(&rt, rt.alloc(), "resume", opening)?;
     }
     Ok(())
 }
 
+static ABSENT: [Step; 4] = [
+    Step::Run(
+        &["part", "a.toml", "s", "r", "1"],
+        Status::FileRefused,
+        "file refused none absent\n",
+    ),
+    Step::Run(
+        &["resume", "a.toml", "s", "r", "1"],
+        Status::FileRefused,
+        "file refused s absent\n",
+    ),
+    Step::Set("s", ""),
+    Step::Run(
+        &["resume", "a.toml", "s", "r", "1"],
+        Status::FileRefused,
+        "file refused none absent\n",
+    ),
+];
+
 /// An input that is not there is said before a save that is none, and behind a save that is not there.
 #[test]
 fn saves_are_loaded_before_inputs(rt: HostRuntime) -> Result<(), Fail> {
-    let alloc = rt.alloc();
-    let mut shelf = audit_shelf(alloc, "\"a.bin\"", "\"none\"")?;
-    pieces(
-        &rt,
-        alloc,
-        &mut shelf,
-        &[
-            (
-                "part",
-                "1",
-                Status::FileRefused,
-                "file refused none absent\n",
-            ),
-            (
-                "resume",
-                "1",
-                Status::FileRefused,
-                "file refused s absent\n",
-            ),
-        ],
-    )?;
-    shelf.set("s", b"")?;
-    let row = (
-        "resume",
-        "1",
-        Status::FileRefused,
-        "file refused none absent\n",
-    );
-    pieces(&rt, alloc, &mut shelf, &[row])?;
+    over(&rt, rt.alloc(), ("\"a.bin\"", "\"none\""), &ABSENT)?;
     Ok(())
 }
 
@@ -503,33 +520,68 @@ static PART_LOADS: [(u64, &str); 5] = [
     (5, "shelf fault b.bin\n"),
 ];
 
+/// A load of `part` fails, and the same call again goes on.
+fn part_load_passes(
+    rt: &impl Abort,
+    alloc: Global,
+    shelf: &mut MemShelf,
+    load: u64,
+    text: &'static str,
+) -> Result<(), OutOfMemory> {
+    shelf.fail_load(load)?;
+    pieces(
+        rt,
+        alloc,
+        shelf,
+        &[("part", "63", Status::ShelfFault, text)],
+    )?;
+    assert_eq!(rt; saves(shelf), 0);
+    pieces(rt, alloc, shelf, PIECES[2])
+}
+
+fn part_loads_pass(
+    rt: &impl Abort,
+    alloc: Global,
+    load: u64,
+    text: &'static str,
+) -> Result<(), OutOfMemory> {
+    let mut shelf = audit_shelf(alloc, "", "")?;
+    part_load_passes(rt, alloc, &mut shelf, load, text)
+}
+
+/// The save of this number fails in a piece, and the other files stay.
+fn fault_stays(
+    rt: &impl Abort,
+    alloc: Global,
+    shelf: &mut MemShelf,
+    save: u64,
+    piece: Piece,
+) -> Result<(), OutOfMemory> {
+    shelf.fail_save(save)?;
+    pieces(rt, alloc, shelf, &[piece])?;
+    assert!(rt; others_stay(alloc, shelf)?);
+    Ok(())
+}
+
+fn part_save_passes(rt: &impl Abort, alloc: Global, piece: Piece) -> Result<(), OutOfMemory> {
+    let mut shelf = audit_shelf(alloc, "", "")?;
+    fault_stays(rt, alloc, &mut shelf, 1, piece)?;
+    pieces(rt, alloc, &mut shelf, PIECES[2])
+}
+
+/// The pieces whose save fails.
+static PART_SAVES: [Piece; 2] = [
+    ("part", "63", Status::ShelfFault, "shelf fault s\n"),
+    ("part", "64", Status::ShelfFault, "shelf fault r\n"),
+];
+
 #[test]
 fn faults_of_part_are_said_and_pass(rt: HostRuntime) -> Result<(), Fail> {
-    let alloc = rt.alloc();
     for (load, text) in PART_LOADS {
-        let mut shelf = audit_shelf(alloc, "", "")?;
-        shelf.fail_load(load)?;
-        pieces(
-            &rt,
-            alloc,
-            &mut shelf,
-            &[("part", "63", Status::ShelfFault, text)],
-        )?;
-        assert_eq!(rt; saves(&shelf), 0);
-        pieces(&rt, alloc, &mut shelf, PIECES[2])?;
+        part_loads_pass(&rt, rt.alloc(), load, text)?;
     }
-    for (steps, text) in [("63", "shelf fault s\n"), ("64", "shelf fault r\n")] {
-        let mut shelf = audit_shelf(alloc, "", "")?;
-        shelf.fail_save(1)?;
-        says(
-            &rt,
-            alloc,
-            &mut shelf,
-            &["part", "a.toml", "s", "r", steps],
-            (Status::ShelfFault, text),
-        )?;
-        assert!(rt; others_stay(alloc, &shelf)?);
-        pieces(&rt, alloc, &mut shelf, PIECES[2])?;
+    for piece in PART_SAVES {
+        part_save_passes(&rt, rt.alloc(), piece)?;
     }
     Ok(())
 }
@@ -544,67 +596,71 @@ static RESUME_LOADS: [(u64, &str); 6] = [
     (11, "shelf fault b.bin\n"),
 ];
 
+/// A load of `resume` fails, and the same call again goes on.
+fn resume_load_passes(
+    rt: &impl Abort,
+    alloc: Global,
+    shelf: &mut MemShelf,
+    load: u64,
+    text: &'static str,
+) -> Result<(), OutOfMemory> {
+    shelf.fail_load(load)?;
+    pieces(
+        rt,
+        alloc,
+        shelf,
+        &[("resume", "1", Status::ShelfFault, text)],
+    )?;
+    assert_eq!(rt; saves(shelf), 1);
+    pieces(rt, alloc, shelf, &[LAST])
+}
+
+fn resume_loads_pass(
+    rt: &impl Abort,
+    alloc: Global,
+    load: u64,
+    text: &'static str,
+) -> Result<(), OutOfMemory> {
+    let mut shelf = paused(alloc, "63")?;
+    resume_load_passes(rt, alloc, &mut shelf, load, text)
+}
+
+fn resume_save_stays(rt: &impl Abort, alloc: Global, piece: Piece) -> Result<(), OutOfMemory> {
+    let mut shelf = paused(alloc, "1")?;
+    fault_stays(rt, alloc, &mut shelf, 2, piece)
+}
+
+/// The pieces whose save fails.
+static RESUME_SAVES: [Piece; 2] = [
+    ("resume", "1", Status::ShelfFault, "shelf fault s\n"),
+    ("resume", "63", Status::ShelfFault, "shelf fault r\n"),
+];
+
 #[test]
 fn faults_of_resume_are_said_and_pass(rt: HostRuntime) -> Result<(), Fail> {
-    let alloc = rt.alloc();
     for (load, text) in RESUME_LOADS {
-        let mut shelf = paused(alloc, "63")?;
-        shelf.fail_load(load)?;
-        pieces(
-            &rt,
-            alloc,
-            &mut shelf,
-            &[("resume", "1", Status::ShelfFault, text)],
-        )?;
-        assert_eq!(rt; saves(&shelf), 1);
-        pieces(
-            &rt,
-            alloc,
-            &mut shelf,
-            &[("resume", "1", Status::Yes, "equal two bin 3\n")],
-        )?;
+        resume_loads_pass(&rt, rt.alloc(), load, text)?;
     }
-    for (steps, text) in [("1", "shelf fault s\n"), ("63", "shelf fault r\n")] {
-        let mut shelf = paused(alloc, "1")?;
-        shelf.fail_save(2)?;
-        says(
-            &rt,
-            alloc,
-            &mut shelf,
-            &["resume", "a.toml", "s", "r", steps],
-            (Status::ShelfFault, text),
-        )?;
-        assert!(rt; others_stay(alloc, &shelf)?);
+    for piece in RESUME_SAVES {
+        resume_save_stays(&rt, rt.alloc(), piece)?;
     }
     Ok(())
 }
+
+static UNHEARD: [Step; 2] = [
+    Step::Unheard(&["part", "a.toml", "s", "r", "63"]),
+    Step::Run(
+        &["resume", "a.toml", "s", "r", "1"],
+        Status::Yes,
+        "equal two bin 3\n",
+    ),
+];
 
 #[test]
 fn a_failed_put_leaves_what_was_saved(rt: HostRuntime) -> Result<(), Fail> {
-    let alloc = rt.alloc();
-    let mut shelf = audit_shelf(alloc, "", "")?;
-    let mut out = MemSink::new(alloc);
-    out.fail_put(1)?;
-    assert_eq!(rt;
-        run(
-            alloc,
-            &["part", "a.toml", "s", "r", "63"],
-            &mut shelf,
-            &mut out
-        )?,
-        Status::OutFault
-    );
-    pieces(
-        &rt,
-        alloc,
-        &mut shelf,
-        &[("resume", "1", Status::Yes, "equal two bin 3\n")],
-    )?;
+    over_worked(&rt, rt.alloc(), &UNHEARD)?;
     Ok(())
 }
-
-/// A call by its name, and the limit of a load; a save has none.
-pub(crate) type Wanted = (&'static str, Option<u64>);
 
 static CALLS: [Wanted; 13] = [
     ("a.toml", Some(1_048_576)),
@@ -622,23 +678,15 @@ static CALLS: [Wanted; 13] = [
     ("r", None),
 ];
 
-pub(crate) fn is_call(call: &Call, wanted: Wanted) -> bool {
-    match call {
-        Call::Load { name, limit } => {
-            name.as_slice() == wanted.0.as_bytes() && Some(*limit) == wanted.1
-        }
-        Call::Save { name, .. } => name.as_slice() == wanted.0.as_bytes() && wanted.1.is_none(),
-    }
+fn calls_in_order(rt: &impl Abort, alloc: Global, shelf: &mut MemShelf) -> Result<(), OutOfMemory> {
+    pieces(rt, alloc, shelf, PIECES[2])?;
+    assert!(rt; are_calls(shelf.calls(), &CALLS));
+    Ok(())
 }
 
 #[test]
 fn calls_come_in_order(rt: HostRuntime) -> Result<(), Fail> {
-    let alloc = rt.alloc();
-    let mut shelf = audit_shelf(alloc, "", "")?;
-    pieces(&rt, alloc, &mut shelf, PIECES[2])?;
-    assert_eq!(rt; shelf.calls().len(), 13);
-    for (call, wanted) in shelf.calls().iter().zip(CALLS) {
-        assert!(rt; is_call(call, wanted));
-    }
+    let mut shelf = audit_shelf(rt.alloc(), "", "")?;
+    calls_in_order(&rt, rt.alloc(), &mut shelf)?;
     Ok(())
 }

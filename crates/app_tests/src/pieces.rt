@@ -1,43 +1,42 @@
 //! Runs in pieces: the worked recipe, whose two stages take 32 steps each, and that recipe with one change.
 //! What they come to was written down from docs/reference/command-line.md, docs/reference/segments.md and docs/reference/save.md.
 
-use crate::audits::{REPORT, audit_shelf};
-use crate::worked::{program_of, run};
+use crate::audits::{RECIPE, REPORT, audit_shelf};
+use crate::scenes::{Step, alter, are_usage, ends, holds, over_worked, says, walk};
+use crate::worked::{program_of, with};
 use ddc_app::Status;
-use ddc_base::{Bytes, Call, MemShelf, MemSink, OutOfMemory};
+use ddc_base::{MemShelf, OutOfMemory};
 use std::alloc::Global;
 use std::process::Abort;
 use std::test::Fail;
 
 /// A command line, its status and its text.
-type Row = (&'static [&'static str], Status, &'static str);
+pub(crate) type Row = (&'static [&'static str], Status, &'static str);
 
 /// Runs command lines one after the other, and compares their statuses and texts.
-fn says(
+pub(crate) fn says_all(
     rt: &impl Abort,
     alloc: Global,
     shelf: &mut MemShelf,
     rows: &[Row],
 ) -> Result<(), OutOfMemory> {
     for &(words, status, text) in rows {
-        let mut out = MemSink::new(alloc);
-        assert_eq!(rt; run(alloc, words, shelf, &mut out)?, status, "{words:?}");
-        assert_eq!(rt; out.written(), text.as_bytes(), "{words:?}");
+        says(rt, alloc, shelf, words, (status, text))?;
     }
     Ok(())
 }
 
 /// The cut of the second stage by 10 steps.
-static CUT: &[Row] = &[(
+pub(crate) const CUT: &[Row] = &[(
     &["cut", "a.toml", "two", "10", "c"],
     Status::Yes,
     "cut 4 step 32\n",
 )];
 
 /// A shelf with the four states of that cut.
-fn cut_shelf(rt: &impl Abort, alloc: Global) -> Result<MemShelf, OutOfMemory> {
+pub(crate) fn cut_shelf(rt: &impl Abort, alloc: Global) -> Result<MemShelf, OutOfMemory> {
     let mut shelf = audit_shelf(alloc, "", "")?;
-    says(rt, alloc, &mut shelf, CUT)?;
+    says_all(rt, alloc, &mut shelf, CUT)?;
     Ok(shelf)
 }
 
@@ -67,12 +66,22 @@ static WORKED: [Row; 9] = [
     (&["segment", "d.2", "d.3"], Status::Yes, "segment yes 8\n"),
 ];
 
+/// Runs command lines over the states of the cut.
+fn cut_says(rt: &impl Abort, alloc: Global, rows: &[Row]) -> Result<(), OutOfMemory> {
+    let mut shelf = cut_shelf(rt, alloc)?;
+    says_all(rt, alloc, &mut shelf, rows)
+}
+
+fn checks(rt: &impl Abort, alloc: Global, shelf: &mut MemShelf) -> Result<(), OutOfMemory> {
+    says_all(rt, alloc, shelf, &WORKED)?;
+    assert!(rt; shelf.get("c.4").is_none());
+    Ok(())
+}
+
 #[test]
 fn pieces_are_checked(rt: HostRuntime) -> Result<(), Fail> {
-    let alloc = rt.alloc();
-    let mut shelf = cut_shelf(&rt, alloc)?;
-    says(&rt, alloc, &mut shelf, &WORKED)?;
-    assert!(rt; shelf.get("c.4").is_none());
+    let mut shelf = cut_shelf(&rt, rt.alloc())?;
+    checks(&rt, rt.alloc(), &mut shelf)?;
     Ok(())
 }
 
@@ -83,33 +92,25 @@ fn block(name: &str) -> &'static str {
     lines.trim_end_matches("un")
 }
 
-#[test]
-fn ends_are_those_of_the_report(rt: HostRuntime) -> Result<(), Fail> {
-    let alloc = rt.alloc();
-    let mut shelf = cut_shelf(&rt, alloc)?;
-    for count in ["1", "2", "3", "4"] {
-        let mut out = MemSink::new(alloc);
-        let words = ["ends", "a.toml", "two", "c", count];
-        assert_eq!(rt; run(alloc, &words, &mut shelf, &mut out)?, Status::Yes);
-        let wanted = format!(in alloc; "stage two{}", block("stage two"))?;
-        assert_eq!(rt; out.written(), wanted.as_bytes());
-    }
-    Ok(())
-}
-
-/// The state `c.2` or `c.0` with other bytes from an offset on.
-fn alter(
+/// Prints the ends of the worked stage, whose cut has so many states.
+fn ends_are(
+    rt: &impl Abort,
     alloc: Global,
     shelf: &mut MemShelf,
-    name: &str,
-    at: usize,
-    bytes: &[u8],
+    count: &str,
 ) -> Result<(), OutOfMemory> {
-    let text = shelf.get(name).unwrap_or(&[]);
-    let mut new = Bytes::from_slice(alloc, text.get(..at).unwrap_or(&[]))?;
-    new.extend(bytes)?;
-    new.extend(text.get(at.saturating_add(bytes.len())..).unwrap_or(&[]))?;
-    shelf.set(name, new.as_slice())
+    let wanted = format!(in alloc; "stage two{}", block("stage two"))?;
+    let words = ["ends", "a.toml", "two", "c", count];
+    says(rt, alloc, shelf, &words, (Status::Yes, wanted.as_str()))
+}
+
+#[test]
+fn ends_are_those_of_the_report(rt: HostRuntime) -> Result<(), Fail> {
+    let mut shelf = cut_shelf(&rt, rt.alloc())?;
+    for count in ["1", "2", "3", "4"] {
+        ends_are(&rt, rt.alloc(), &mut shelf, count)?;
+    }
+    Ok(())
 }
 
 /// Where `c.2` is altered, to which bytes, and what is printed of `c.1` and it.
@@ -166,42 +167,69 @@ static ALTERATIONS: [Alteration; 14] = [
     ),
 ];
 
+/// Alters a state, and runs one command line.
+fn alters(
+    rt: &impl Abort,
+    alloc: Global,
+    shelf: &mut MemShelf,
+    (name, at, bytes): (&str, usize, &[u8]),
+    (words, status, text): Row,
+) -> Result<(), OutOfMemory> {
+    alter(alloc, shelf, name, at, bytes)?;
+    says(rt, alloc, shelf, words, (status, text))
+}
+
+fn alters_cut(
+    rt: &impl Abort,
+    alloc: Global,
+    altered: (&str, usize, &[u8]),
+    row: Row,
+) -> Result<(), OutOfMemory> {
+    let mut shelf = cut_shelf(rt, alloc)?;
+    alters(rt, alloc, &mut shelf, altered, row)
+}
+
+const SEGMENT: &[&str] = &["segment", "c.1", "c.2"];
+
 #[test]
 fn altered_states_are_refuted(rt: HostRuntime) -> Result<(), Fail> {
-    let alloc = rt.alloc();
     for (at, bytes, status, text) in ALTERATIONS {
-        let mut shelf = cut_shelf(&rt, alloc)?;
-        alter(alloc, &mut shelf, "c.2", at, bytes)?;
-        says(
-            &rt,
-            alloc,
-            &mut shelf,
-            &[(&["segment", "c.1", "c.2"], status, text)],
-        )?;
+        alters_cut(&rt, rt.alloc(), ("c.2", at, bytes), (SEGMENT, status, text))?;
     }
     Ok(())
 }
 
 /// What the former text is refuted by: its form, its pc, the file of a descriptor.
-static FORMER: [(usize, &[u8], &str); 3] = [
+type Former = (usize, &'static [u8], &'static str);
+
+static FORMER: [Former; 3] = [
     (0, b"D", "refuted segment from 1\n"),
     (16, b"\x01", "refuted segment from 2\n"),
     (12_640, b"\x09", "refuted segment from 3\n"),
 ];
 
+/// Alters the former state, and the latter one's form.
+fn alters_both(
+    rt: &impl Abort,
+    alloc: Global,
+    shelf: &mut MemShelf,
+    (at, bytes, text): Former,
+) -> Result<(), OutOfMemory> {
+    alter(alloc, shelf, "c.2", at, bytes)?;
+    alter(alloc, shelf, "c.3", 0, b"D")?;
+    let words = ["segment", "c.2", "c.3"];
+    says(rt, alloc, shelf, &words, (Status::Refuted, text))
+}
+
+fn alters_former(rt: &impl Abort, alloc: Global, former: Former) -> Result<(), OutOfMemory> {
+    let mut shelf = cut_shelf(rt, alloc)?;
+    alters_both(rt, alloc, &mut shelf, former)
+}
+
 #[test]
 fn the_former_text_is_judged_first(rt: HostRuntime) -> Result<(), Fail> {
-    let alloc = rt.alloc();
-    for (at, bytes, text) in FORMER {
-        let mut shelf = cut_shelf(&rt, alloc)?;
-        alter(alloc, &mut shelf, "c.2", at, bytes)?;
-        alter(alloc, &mut shelf, "c.3", 0, b"D")?;
-        says(
-            &rt,
-            alloc,
-            &mut shelf,
-            &[(&["segment", "c.2", "c.3"], Status::Refuted, text)],
-        )?;
+    for former in FORMER {
+        alters_former(&rt, rt.alloc(), former)?;
     }
     Ok(())
 }
@@ -215,18 +243,13 @@ static ENDS: [(&str, usize, &[u8], &str); 5] = [
     ("c.3", 16, b"\x01", "refuted last 2\n"),
 ];
 
+pub(crate) const ENDS_WORDS: &[&str] = &["ends", "a.toml", "two", "c", "4"];
+
 #[test]
 fn altered_ends_are_refuted(rt: HostRuntime) -> Result<(), Fail> {
-    let alloc = rt.alloc();
     for (name, at, bytes, text) in ENDS {
-        let mut shelf = cut_shelf(&rt, alloc)?;
-        alter(alloc, &mut shelf, name, at, bytes)?;
-        says(
-            &rt,
-            alloc,
-            &mut shelf,
-            &[(&["ends", "a.toml", "two", "c", "4"], Status::Refuted, text)],
-        )?;
+        let row = (ENDS_WORDS, Status::Refuted, text);
+        alters_cut(&rt, rt.alloc(), (name, at, bytes), row)?;
     }
     Ok(())
 }
@@ -262,9 +285,7 @@ static OTHER_ENDS: [Row; 5] = [
 
 #[test]
 fn ends_of_others_are_refuted(rt: HostRuntime) -> Result<(), Fail> {
-    let alloc = rt.alloc();
-    let mut shelf = cut_shelf(&rt, alloc)?;
-    says(&rt, alloc, &mut shelf, &OTHER_ENDS)?;
+    cut_says(&rt, rt.alloc(), &OTHER_ENDS)?;
     Ok(())
 }
 
@@ -376,63 +397,132 @@ static CHANGES: [Change; 6] = [
 ];
 
 /// How many states stand on the shelf.
-fn states(shelf: &MemShelf) -> usize {
+pub(crate) fn states(shelf: &MemShelf) -> usize {
     ["c.0", "c.1", "c.2", "c.3", "c.4"]
         .iter()
         .filter(|name| shelf.get(name).is_some())
         .count()
 }
 
+fn cuts(
+    rt: &impl Abort,
+    alloc: Global,
+    shelf: &mut MemShelf,
+    (rows, saved): (&[Row], usize),
+) -> Result<(), OutOfMemory> {
+    says_all(rt, alloc, shelf, rows)?;
+    assert_eq!(rt; states(shelf), saved);
+    Ok(())
+}
+
+fn cuts_changed(
+    rt: &impl Abort,
+    alloc: Global,
+    &(old, new, rows, saved): &Change,
+) -> Result<(), OutOfMemory> {
+    let mut shelf = audit_shelf(alloc, old, new)?;
+    cuts(rt, alloc, &mut shelf, (rows, saved))
+}
+
 #[test]
 fn recipes_are_cut(rt: HostRuntime) -> Result<(), Fail> {
-    let alloc = rt.alloc();
-    for &(old, new, rows, saved) in &CHANGES {
-        let mut shelf = audit_shelf(alloc, old, new)?;
-        says(&rt, alloc, &mut shelf, rows)?;
-        assert_eq!(rt; states(&shelf), saved);
+    for change in &CHANGES {
+        cuts_changed(&rt, rt.alloc(), change)?;
     }
     Ok(())
 }
 
+/// Sets the recipe with another limit of the second stage.
+fn set_limited(alloc: Global, shelf: &mut MemShelf, limit: &str) -> Result<(), OutOfMemory> {
+    let keys = format!(in alloc; "from = \"src\" }}]\noutput = \"out\"\nsteps = {limit}")?;
+    shelf.set(
+        "a.toml",
+        with(alloc, RECIPE, SECOND, keys.as_str())?.as_bytes(),
+    )
+}
+
+/// Prints the ends of the cut under another limit.
+fn limited(
+    rt: &impl Abort,
+    alloc: Global,
+    shelf: &mut MemShelf,
+    limit: &str,
+    status: Status,
+) -> Result<(), OutOfMemory> {
+    set_limited(alloc, shelf, limit)?;
+    assert_eq!(rt; ends(alloc, shelf, ENDS_WORDS)?, status);
+    Ok(())
+}
+
+fn limited_cut(
+    rt: &impl Abort,
+    alloc: Global,
+    limit: &str,
+    status: Status,
+) -> Result<(), OutOfMemory> {
+    let mut shelf = cut_shelf(rt, alloc)?;
+    limited(rt, alloc, &mut shelf, limit, status)
+}
+
 #[test]
 fn ends_keep_the_stages_limit(rt: HostRuntime) -> Result<(), Fail> {
-    let alloc = rt.alloc();
-    let limits = [("31", Status::RunFailed), ("32", Status::Yes)];
-    for (limit, status) in limits {
-        let keys = format!(in alloc; "from = \"src\" }}]\noutput = \"out\"\nsteps = {limit}")?;
-        let limited = audit_shelf(alloc, SECOND, keys.as_str())?;
-        let mut shelf = cut_shelf(&rt, alloc)?;
-        shelf.set("a.toml", limited.get("a.toml").unwrap_or(&[]))?;
-        let mut out = MemSink::new(alloc);
-        let words = ["ends", "a.toml", "two", "c", "4"];
-        assert_eq!(rt; run(alloc, &words, &mut shelf, &mut out)?, status);
-    }
+    limited_cut(&rt, rt.alloc(), "31", Status::RunFailed)?;
+    limited_cut(&rt, rt.alloc(), "32", Status::Yes)?;
     Ok(())
+}
+
+/// The stage's limit, the status and the text.
+static LIMITS: [(&str, Status, &str); 3] = [
+    ("100000", Status::TooManySegments, "too many segments\n"),
+    ("1001", Status::TooManySegments, "too many segments\n"),
+    (
+        "1000",
+        Status::RunFailed,
+        "run failed one spent step 1000\n",
+    ),
+];
+
+/// Cuts an endless program by single steps.
+fn cuts_endless(
+    rt: &impl Abort,
+    alloc: Global,
+    shelf: &mut MemShelf,
+    ending: (Status, &str),
+) -> Result<(), OutOfMemory> {
+    shelf.set("copy.elf", program_of(alloc, "6f000000")?.as_slice())?;
+    says(
+        rt,
+        alloc,
+        shelf,
+        &["cut", "a.toml", "one", "1", "c"],
+        ending,
+    )?;
+    assert!(rt; shelf.get("c.999").is_some());
+    assert!(rt; shelf.get("c.1000").is_none());
+    Ok(())
+}
+
+/// A shelf whose stages have this limit.
+fn limited_shelf(alloc: Global, limit: &str) -> Result<MemShelf, OutOfMemory> {
+    let keys = format!(in alloc; "steps = {limit}")?;
+    audit_shelf(alloc, "steps = 100000", keys.as_str())
+}
+
+fn cuts_limited(
+    rt: &impl Abort,
+    alloc: Global,
+    limit: &str,
+    ending: (Status, &str),
+) -> Result<(), OutOfMemory> {
+    let mut shelf = limited_shelf(alloc, limit)?;
+    cuts_endless(rt, alloc, &mut shelf, ending)
 }
 
 /// An endless program, whose one instruction jumps to itself.
 #[test]
 fn a_thousand_states_are_the_most(rt: HostRuntime) -> Result<(), Fail> {
-    let alloc = rt.alloc();
-    let limits = [
-        ("100000", Status::TooManySegments, "too many segments\n"),
-        ("1001", Status::TooManySegments, "too many segments\n"),
-        (
-            "1000",
-            Status::RunFailed,
-            "run failed one spent step 1000\n",
-        ),
-    ];
-    for (limit, status, text) in limits {
-        let keys = format!(in alloc; "steps = {limit}")?;
-        let mut shelf = audit_shelf(alloc, "steps = 100000", keys.as_str())?;
-        shelf.set("copy.elf", program_of(alloc, "6f000000")?.as_slice())?;
-        let words: &[&str] = &["cut", "a.toml", "one", "1", "c"];
-        let mut out = MemSink::new(alloc);
-        assert_eq!(rt; run(alloc, words, &mut shelf, &mut out)?, status);
-        assert_eq!(rt; out.written(), text.as_bytes());
-        assert!(rt; shelf.get("c.999").is_some());
-        assert!(rt; shelf.get("c.1000").is_none());
+    for (limit, status, text) in LIMITS {
+        cuts_limited(&rt, rt.alloc(), limit, (status, text))?;
     }
     Ok(())
 }
@@ -470,29 +560,40 @@ static WORDS: [&[&str]; 27] = [
 
 #[test]
 fn words_of_pieces_are_judged(rt: HostRuntime) -> Result<(), Fail> {
-    let alloc = rt.alloc();
-    let mut shelf = cut_shelf(&rt, alloc)?;
-    for words in WORDS {
-        says(&rt, alloc, &mut shelf, &[(words, Status::Usage, "usage\n")])?;
-    }
+    let mut shelf = cut_shelf(&rt, rt.alloc())?;
+    are_usage(&rt, rt.alloc(), &mut shelf, &WORDS)?;
     Ok(())
 }
 
 /// The longest prefix, and one that is too long.
 static LONG: [(usize, Status); 2] = [(250, Status::Yes), (251, Status::Usage)];
 
+fn long_prefix(alloc: Global, length: usize) -> Result<String, OutOfMemory> {
+    let mut prefix = String::new(alloc);
+    for _ in 0..length {
+        prefix.push('p')?;
+    }
+    Ok(prefix)
+}
+
+/// Cuts under a prefix of so many bytes.
+fn cuts_under(
+    rt: &impl Abort,
+    alloc: Global,
+    shelf: &mut MemShelf,
+    (length, status): (usize, Status),
+) -> Result<(), OutOfMemory> {
+    let prefix = long_prefix(alloc, length)?;
+    let words = ["cut", "a.toml", "two", "10", prefix.as_str()];
+    assert_eq!(rt; ends(alloc, shelf, &words)?, status);
+    Ok(())
+}
+
 #[test]
 fn prefixes_have_at_most_250_bytes(rt: HostRuntime) -> Result<(), Fail> {
-    let alloc = rt.alloc();
-    let mut shelf = audit_shelf(alloc, "", "")?;
-    for (length, status) in LONG {
-        let mut prefix = String::new(alloc);
-        for _ in 0..length {
-            prefix.push('p')?;
-        }
-        let words = ["cut", "a.toml", "two", "10", prefix.as_str()];
-        let mut out = MemSink::new(alloc);
-        assert_eq!(rt; run(alloc, &words, &mut shelf, &mut out)?, status);
+    let mut shelf = audit_shelf(rt.alloc(), "", "")?;
+    for row in LONG {
+        cuts_under(&rt, rt.alloc(), &mut shelf, row)?;
     }
     Ok(())
 }
@@ -509,176 +610,101 @@ static CLASHES: [(&str, &str, bool); 8] = [
     ("c/../c.7", "c", false),
 ];
 
+/// A shelf with a file under this path, which is an input's.
+fn clash_shelf(alloc: Global, path: &str) -> Result<MemShelf, OutOfMemory> {
+    let keys = format!(in alloc; "\"{path}\"")?;
+    audit_shelf(alloc, "\"b.bin\"", keys.as_str())
+}
+
+/// Cuts under a prefix beside that input.
+fn judges_name(
+    rt: &impl Abort,
+    alloc: Global,
+    shelf: &mut MemShelf,
+    (path, prefix, clashes): (&str, &str, bool),
+) -> Result<(), OutOfMemory> {
+    shelf.set(path, b"abc")?;
+    let words = ["cut", "a.toml", "two", "10", prefix];
+    let status = if clashes { Status::Usage } else { Status::Yes };
+    assert_eq!(rt; ends(alloc, shelf, &words)?, status, "{path}");
+    assert!(rt; holds(shelf, path, b"abc"));
+    Ok(())
+}
+
+fn judges_clash(
+    rt: &impl Abort,
+    alloc: Global,
+    clash: (&str, &str, bool),
+) -> Result<(), OutOfMemory> {
+    let mut shelf = clash_shelf(alloc, clash.0)?;
+    judges_name(rt, alloc, &mut shelf, clash)
+}
+
 #[test]
 fn names_of_states_are_judged(rt: HostRuntime) -> Result<(), Fail> {
-    let alloc = rt.alloc();
-    for (path, prefix, clashes) in CLASHES {
-        let keys = format!(in alloc; "\"{path}\"")?;
-        let mut shelf = audit_shelf(alloc, "\"b.bin\"", keys.as_str())?;
-        shelf.set(path, b"abc")?;
-        let words = ["cut", "a.toml", "two", "10", prefix];
-        let mut out = MemSink::new(alloc);
-        let status = if clashes { Status::Usage } else { Status::Yes };
-        assert_eq!(rt; run(alloc, &words, &mut shelf, &mut out)?, status, "{path}");
-        assert_eq!(rt; shelf.get(path).unwrap_or(&[]), b"abc".as_slice());
+    for clash in CLASHES {
+        judges_clash(&rt, rt.alloc(), clash)?;
     }
     Ok(())
 }
+
+static NO_STATES: [Step; 2] = [
+    Step::Usage(&[
+        &["cut", "c.5", "two", "10", "c"],
+        &["cut", "././c.999", "two", "10", "c"],
+        &["ends", "c.0", "two", "./c", "4"],
+    ]),
+    Step::Calls(0),
+];
 
 /// RECIPE clashes as an input does, before anything is loaded.
 #[test]
 fn the_recipe_is_no_state(rt: HostRuntime) -> Result<(), Fail> {
-    let alloc = rt.alloc();
-    let mut shelf = MemShelf::new(alloc);
-    let lines: [&[&str]; 3] = [
-        &["cut", "c.5", "two", "10", "c"],
-        &["cut", "././c.999", "two", "10", "c"],
-        &["ends", "c.0", "two", "./c", "4"],
-    ];
-    for words in lines {
-        says(&rt, alloc, &mut shelf, &[(words, Status::Usage, "usage\n")])?;
-    }
-    assert_eq!(rt; shelf.calls().len(), 0);
+    let mut shelf = MemShelf::new(rt.alloc());
+    walk(&rt, rt.alloc(), &mut shelf, &NO_STATES)?;
     Ok(())
 }
 
-static CUT_LOADS: [(u64, &str); 5] = [
-    (1, "shelf fault a.toml\n"),
-    (2, "shelf fault copy.elf\n"),
-    (3, "shelf fault copy.hex0\n"),
-    (4, "shelf fault a.bin\n"),
-    (5, "shelf fault b.bin\n"),
+pub(crate) const CUT_WORDS: &[&str] = &["cut", "a.toml", "two", "10", "c"];
+
+/// Two checks over the states of the cut, and all calls.
+static CALLS: [Step; 4] = [
+    Step::Run(CUT_WORDS, Status::Yes, "cut 4 step 32\n"),
+    Step::Run(&["segment", "c.1", "c.2"], Status::Yes, "segment yes 10\n"),
+    Step::Run(
+        &["ends", "a.toml", "two", "c", "1"],
+        Status::Yes,
+        "stage two 32\n\
+         stream 1 0 e3b0c44298fc1c149afbf4c8996fb92427ae41e4649b934ca495991b7852b855\n\
+         stream 2 0 e3b0c44298fc1c149afbf4c8996fb92427ae41e4649b934ca495991b7852b855\n\
+         left 696e 3 ba7816bf8f01cfea414140de5dae2223b00361a396177a9cb410ff61f20015ad\n\
+         left 6f7574 3 ba7816bf8f01cfea414140de5dae2223b00361a396177a9cb410ff61f20015ad\n\
+         made 3 ba7816bf8f01cfea414140de5dae2223b00361a396177a9cb410ff61f20015ad\n",
+    ),
+    Step::Called(&[
+        ("a.toml", Some(1_048_576)),
+        ("copy.elf", Some(268_435_456)),
+        ("copy.hex0", Some(268_435_456)),
+        ("a.bin", Some(268_435_456)),
+        ("b.bin", Some(268_435_456)),
+        ("c.0", None),
+        ("c.1", None),
+        ("c.2", None),
+        ("c.3", None),
+        ("c.1", Some(4_294_967_296)),
+        ("c.2", Some(4_294_967_296)),
+        ("a.toml", Some(1_048_576)),
+        ("copy.elf", Some(268_435_456)),
+        ("copy.hex0", Some(268_435_456)),
+        ("a.bin", Some(268_435_456)),
+        ("b.bin", Some(268_435_456)),
+        ("c.0", Some(4_294_967_296)),
+        ("c.0", Some(4_294_967_296)),
+    ]),
 ];
-
-static CUT_SAVES: [(u64, &str); 4] = [
-    (1, "shelf fault c.0\n"),
-    (2, "shelf fault c.1\n"),
-    (3, "shelf fault c.2\n"),
-    (4, "shelf fault c.3\n"),
-];
-
-#[test]
-fn faults_of_cut_are_said_and_pass(rt: HostRuntime) -> Result<(), Fail> {
-    let alloc = rt.alloc();
-    let words: &[&str] = &["cut", "a.toml", "two", "10", "c"];
-    for (load, text) in CUT_LOADS {
-        let mut shelf = audit_shelf(alloc, "", "")?;
-        shelf.fail_load(load)?;
-        says(&rt, alloc, &mut shelf, &[(words, Status::ShelfFault, text)])?;
-        assert_eq!(rt; states(&shelf), 0);
-        says(&rt, alloc, &mut shelf, CUT)?;
-    }
-    for (save, text) in CUT_SAVES {
-        let whole = cut_shelf(&rt, alloc)?;
-        let mut shelf = audit_shelf(alloc, "", "")?;
-        shelf.fail_save(save)?;
-        says(&rt, alloc, &mut shelf, &[(words, Status::ShelfFault, text)])?;
-        // The states before it stay.
-        let names = ["c.0", "c.1", "c.2", "c.3"];
-        for (name, number) in names.iter().zip(1u64..5) {
-            if number < save {
-                assert!(rt; shelf.get(name) == whole.get(name));
-            }
-            if number > save {
-                assert!(rt; shelf.get(name).is_none());
-            }
-        }
-        says(&rt, alloc, &mut shelf, CUT)?;
-    }
-    Ok(())
-}
-
-/// Behind the five loads of `cut` come those of `ends`, and the two states.
-static ENDS_LOADS: [(u64, &str); 7] = [
-    (6, "shelf fault a.toml\n"),
-    (7, "shelf fault copy.elf\n"),
-    (8, "shelf fault copy.hex0\n"),
-    (9, "shelf fault a.bin\n"),
-    (10, "shelf fault b.bin\n"),
-    (11, "shelf fault c.0\n"),
-    (12, "shelf fault c.3\n"),
-];
-
-static SEGMENT_LOADS: [(u64, &str); 2] = [(6, "shelf fault c.0\n"), (7, "shelf fault c.1\n")];
-
-#[test]
-fn faults_of_checks_are_said(rt: HostRuntime) -> Result<(), Fail> {
-    let alloc = rt.alloc();
-    for (load, text) in ENDS_LOADS {
-        let mut shelf = cut_shelf(&rt, alloc)?;
-        shelf.fail_load(load)?;
-        let words: &[&str] = &["ends", "a.toml", "two", "c", "4"];
-        says(&rt, alloc, &mut shelf, &[(words, Status::ShelfFault, text)])?;
-    }
-    for (load, text) in SEGMENT_LOADS {
-        let mut shelf = cut_shelf(&rt, alloc)?;
-        shelf.fail_load(load)?;
-        let words: &[&str] = &["segment", "c.0", "c.1"];
-        says(&rt, alloc, &mut shelf, &[(words, Status::ShelfFault, text)])?;
-    }
-    Ok(())
-}
-
-#[test]
-fn a_failed_put_leaves_the_states(rt: HostRuntime) -> Result<(), Fail> {
-    let alloc = rt.alloc();
-    let mut shelf = audit_shelf(alloc, "", "")?;
-    let mut out = MemSink::new(alloc);
-    out.fail_put(1)?;
-    let words = ["cut", "a.toml", "two", "10", "c"];
-    assert_eq!(rt; run(alloc, &words, &mut shelf, &mut out)?, Status::OutFault);
-    assert_eq!(rt; states(&shelf), 4);
-    Ok(())
-}
-
-/// A call by its name, and the limit of a load; a save has none.
-type Wanted = (&'static str, Option<u64>);
-
-static CALLS: [Wanted; 18] = [
-    ("a.toml", Some(1_048_576)),
-    ("copy.elf", Some(268_435_456)),
-    ("copy.hex0", Some(268_435_456)),
-    ("a.bin", Some(268_435_456)),
-    ("b.bin", Some(268_435_456)),
-    ("c.0", None),
-    ("c.1", None),
-    ("c.2", None),
-    ("c.3", None),
-    ("c.1", Some(4_294_967_296)),
-    ("c.2", Some(4_294_967_296)),
-    ("a.toml", Some(1_048_576)),
-    ("copy.elf", Some(268_435_456)),
-    ("copy.hex0", Some(268_435_456)),
-    ("a.bin", Some(268_435_456)),
-    ("b.bin", Some(268_435_456)),
-    ("c.0", Some(4_294_967_296)),
-    ("c.0", Some(4_294_967_296)),
-];
-
-fn is_call(call: &Call, wanted: Wanted) -> bool {
-    match call {
-        Call::Load { name, limit } => {
-            name.as_slice() == wanted.0.as_bytes() && Some(*limit) == wanted.1
-        }
-        Call::Save { name, .. } => name.as_slice() == wanted.0.as_bytes() && wanted.1.is_none(),
-    }
-}
 
 #[test]
 fn calls_of_pieces_come_in_order(rt: HostRuntime) -> Result<(), Fail> {
-    let alloc = rt.alloc();
-    let mut shelf = cut_shelf(&rt, alloc)?;
-    let lines: [&[&str]; 2] = [
-        &["segment", "c.1", "c.2"],
-        &["ends", "a.toml", "two", "c", "1"],
-    ];
-    for words in lines {
-        let mut out = MemSink::new(alloc);
-        assert_eq!(rt; run(alloc, words, &mut shelf, &mut out)?, Status::Yes);
-    }
-    assert_eq!(rt; shelf.calls().len(), 18);
-    for (call, wanted) in shelf.calls().iter().zip(CALLS) {
-        assert!(rt; is_call(call, wanted));
-    }
+    over_worked(&rt, rt.alloc(), &CALLS)?;
     Ok(())
 }

@@ -2,9 +2,10 @@
 //! What they come to was written down from docs/reference/verify.md and docs/reference/argument.md.
 
 use crate::audits::{RECIPE, REPORT, audit_shelf};
-use crate::worked::{run, with};
+use crate::scenes::says;
+use crate::worked::with;
 use ddc_app::Status;
-use ddc_base::{MemShelf, MemSink, OutOfMemory};
+use ddc_base::{MemShelf, OutOfMemory};
 use std::alloc::Global;
 use std::process::Abort;
 use std::test::Fail;
@@ -48,14 +49,9 @@ fn comes_to(
     alloc: Global,
     shelf: &mut MemShelf,
     command: &str,
-    status: Status,
-    text: &str,
+    ending: (Status, &str),
 ) -> Result<(), OutOfMemory> {
-    let mut out = MemSink::new(alloc);
-    let ended = run(alloc, &[command, "a.toml", "r"], shelf, &mut out)?;
-    assert_eq!(rt; out.written(), text.as_bytes(), "{command}: {text}");
-    assert_eq!(rt; ended, status, "{command}: {text}");
-    Ok(())
+    says(rt, alloc, shelf, &[command, "a.toml", "r"], ending)
 }
 
 /// Replaces one piece of the report on a shelf.
@@ -150,14 +146,32 @@ fn answered(
     }
 }
 
+/// Audits the recipe and replays the report.
+fn prints(
+    rt: &impl Abort,
+    alloc: Global,
+    shelf: &mut MemShelf,
+    (status, compared): (Status, &str),
+    routes: &str,
+) -> Result<(), OutOfMemory> {
+    comes_to(rt, alloc, shelf, "audit", (status, compared))?;
+    let text = answered(alloc, status, compared, routes)?;
+    comes_to(rt, alloc, shelf, "verify", (status, text.as_str()))
+}
+
+fn prints_changed(
+    rt: &impl Abort,
+    alloc: Global,
+    &(old, new, status, compared, routes): &Row,
+) -> Result<(), OutOfMemory> {
+    let mut shelf = shelf_of(alloc, old, new)?;
+    prints(rt, alloc, &mut shelf, (status, compared), routes)
+}
+
 #[test]
 fn routes_are_printed(rt: HostRuntime) -> Result<(), Fail> {
-    let alloc = rt.alloc();
-    for (old, new, status, compared, routes) in &RECIPES {
-        let mut shelf = shelf_of(alloc, old, new)?;
-        comes_to(&rt, alloc, &mut shelf, "audit", *status, compared)?;
-        let text = answered(alloc, *status, compared, routes)?;
-        comes_to(&rt, alloc, &mut shelf, "verify", *status, text.as_str())?;
+    for row in &RECIPES {
+        prints_changed(&rt, rt.alloc(), row)?;
     }
     Ok(())
 }
@@ -214,101 +228,129 @@ static CHANGES: [Change; 14] = [
     ("ddc-report 2", "ddc-report 1", "report line 29\n"),
 ];
 
+/// Audits the recipe, and replays the report with a change.
+fn refutes(
+    rt: &impl Abort,
+    alloc: Global,
+    shelf: &mut MemShelf,
+    &(old, new, text): &Change,
+) -> Result<(), OutOfMemory> {
+    let equal = "equal two bin 3\nequal three bin 3\n";
+    comes_to(rt, alloc, shelf, "audit", (Status::Yes, equal))?;
+    alter(alloc, shelf, old, new)?;
+    let status = if text.starts_with("report") {
+        Status::ReportRefused
+    } else {
+        Status::Refuted
+    };
+    comes_to(rt, alloc, shelf, "verify", (status, text))
+}
+
+fn refutes_change(rt: &impl Abort, alloc: Global, change: &Change) -> Result<(), OutOfMemory> {
+    let mut shelf = shelf_of(alloc, "", "")?;
+    refutes(rt, alloc, &mut shelf, change)
+}
+
 #[test]
 fn reports_are_refuted(rt: HostRuntime) -> Result<(), Fail> {
-    let alloc = rt.alloc();
-    for (old, new, text) in &CHANGES {
-        let mut shelf = shelf_of(alloc, "", "")?;
-        comes_to(
-            &rt,
-            alloc,
-            &mut shelf,
-            "audit",
-            Status::Yes,
-            "equal two bin 3\nequal three bin 3\n",
-        )?;
-        alter(alloc, &mut shelf, old, new)?;
-        let status = if text.starts_with("report") {
-            Status::ReportRefused
-        } else {
-            Status::Refuted
-        };
-        comes_to(&rt, alloc, &mut shelf, "verify", status, text)?;
+    for change in &CHANGES {
+        refutes_change(&rt, rt.alloc(), change)?;
     }
     Ok(())
+}
+
+/// What is said of a report of another recipe.
+const HEADER: (Status, &str) = (Status::Refuted, "refuted header 0\n");
+
+fn compares_forms(rt: &impl Abort, alloc: Global, shelf: &mut MemShelf) -> Result<(), OutOfMemory> {
+    shelf.set("r", REPORT.as_bytes())?;
+    let yes = (Status::Yes, "yes\nequal two bin 3\n");
+    comes_to(rt, alloc, shelf, "verify", yes)?;
+    alter(alloc, shelf, "ddc-report 1", "ddc-report 2")?;
+    comes_to(rt, alloc, shelf, "verify", HEADER)
 }
 
 /// A report that was made before there were several forms, and the same under the other form.
 #[test]
 fn forms_are_compared(rt: HostRuntime) -> Result<(), Fail> {
-    let alloc = rt.alloc();
-    let mut shelf = audit_shelf(alloc, "", "")?;
-    shelf.set("r", REPORT.as_bytes())?;
-    let yes = "yes\nequal two bin 3\n";
-    comes_to(&rt, alloc, &mut shelf, "verify", Status::Yes, yes)?;
-    alter(alloc, &mut shelf, "ddc-report 1", "ddc-report 2")?;
-    let header = "refuted header 0\n";
-    comes_to(&rt, alloc, &mut shelf, "verify", Status::Refuted, header)?;
+    let mut shelf = audit_shelf(rt.alloc(), "", "")?;
+    compares_forms(&rt, rt.alloc(), &mut shelf)?;
     Ok(())
+}
+
+fn has_a_place(rt: &impl Abort, alloc: Global, shelf: &mut MemShelf) -> Result<(), OutOfMemory> {
+    let equal = (Status::Yes, "equal three bin 3\n");
+    comes_to(rt, alloc, shelf, "audit", equal)?;
+    alter(alloc, shelf, "bin equal 3", "bin equal 4")?;
+    let compare = (Status::Refuted, "refuted compare 1\n");
+    comes_to(rt, alloc, shelf, "verify", compare)?;
+    alter(alloc, shelf, "ddc-report 2", "ddc-report 1")?;
+    comes_to(rt, alloc, shelf, "verify", HEADER)
 }
 
 /// A recipe of format 2 that compares one stage: its comparison has the place 1, and under form 1 the report is another's.
 #[test]
 fn one_comparison_has_a_place(rt: HostRuntime) -> Result<(), Fail> {
-    let alloc = rt.alloc();
-    let mut shelf = shelf_of(
-        alloc,
-        "stages = [\"two\", \"three\"]",
-        "stages = [\"three\"]",
-    )?;
-    let equal = "equal three bin 3\n";
-    comes_to(&rt, alloc, &mut shelf, "audit", Status::Yes, equal)?;
-    alter(alloc, &mut shelf, "bin equal 3", "bin equal 4")?;
-    let compare = "refuted compare 1\n";
-    comes_to(&rt, alloc, &mut shelf, "verify", Status::Refuted, compare)?;
-    alter(alloc, &mut shelf, "ddc-report 2", "ddc-report 1")?;
-    let header = "refuted header 0\n";
-    comes_to(&rt, alloc, &mut shelf, "verify", Status::Refuted, header)?;
+    let stages = "stages = [\"two\", \"three\"]";
+    let mut shelf = shelf_of(rt.alloc(), stages, "stages = [\"three\"]")?;
+    has_a_place(&rt, rt.alloc(), &mut shelf)?;
     Ok(())
+}
+
+/// What stands in a recipe or a text for each of sixteen stages.
+#[derive(Clone, Copy)]
+enum Part {
+    Stage,
+    Name,
+    Compared,
+    Route,
+}
+
+/// Adds what stands for the stage of a letter.
+fn put_part(alloc: Global, text: &mut String, part: Part, letter: char) -> Result<(), OutOfMemory> {
+    let piece = match part {
+        Part::Stage => format!(in alloc;
+            "[[stage]]\nname = \"{letter}\"\nprogram = \"prog\"\nargs = [\"copy\"]\nfiles = [{{ path = \"in\", from = \"src\" }}]\noutput = \"out\"\nsteps = 100000\n"
+        )?,
+        Part::Name => format!(in alloc; "\"{letter}\", ")?,
+        Part::Compared => format!(in alloc; "equal {letter} bin 3\n")?,
+        Part::Route => format!(in alloc; "route {letter}\nassumes implements prog copy_src\n")?,
+    };
+    text.push_str(piece.as_str())?;
+    Ok(())
+}
+
+/// What stands for sixteen stages.
+fn sixteen(alloc: Global, part: Part) -> Result<String, OutOfMemory> {
+    let mut text = String::new(alloc);
+    for letter in "abcdefghijklmnop".chars() {
+        put_part(alloc, &mut text, part, letter)?;
+    }
+    Ok(text)
+}
+
+/// The recipe with sixteen stages more, which alone are compared.
+fn recipe_of_sixteen(alloc: Global) -> Result<String, OutOfMemory> {
+    let stages = sixteen(alloc, Part::Stage)?;
+    let names = sixteen(alloc, Part::Name)?;
+    let compare = format!(in alloc; "{stages}[compare]\nstages = [{names}]")?;
+    let old = "[compare]\nstages = [\"two\", \"three\"]";
+    with(alloc, two_routes(alloc)?.as_str(), old, compare.as_str())
+}
+
+/// Audits that recipe and replays its report.
+fn prints_sixteen(rt: &impl Abort, alloc: Global, shelf: &mut MemShelf) -> Result<(), OutOfMemory> {
+    shelf.set("a.toml", recipe_of_sixteen(alloc)?.as_bytes())?;
+    let compared = sixteen(alloc, Part::Compared)?;
+    let routes = sixteen(alloc, Part::Route)?;
+    let yes = (Status::Yes, compared.as_str());
+    prints(rt, alloc, shelf, yes, routes.as_str())
 }
 
 /// Sixteen stages that copy three bytes, odd ones by the seed and even ones by what the stage before them made of it.
 #[test]
 fn sixteen_routes(rt: HostRuntime) -> Result<(), Fail> {
-    let alloc = rt.alloc();
-    let mut stages = String::new(alloc);
-    let mut names = String::new(alloc);
-    let mut compared = String::new(alloc);
-    let mut routes = String::new(alloc);
-    for letter in "abcdefghijklmnop".chars() {
-        stages.push_str(format!(in alloc;
-            "[[stage]]\nname = \"{letter}\"\nprogram = \"prog\"\nargs = [\"copy\"]\nfiles = [{{ path = \"in\", from = \"src\" }}]\noutput = \"out\"\nsteps = 100000\n"
-        )?.as_str())?;
-        names.push_str(format!(in alloc; "\"{letter}\", ")?.as_str())?;
-        compared.push_str(format!(in alloc; "equal {letter} bin 3\n")?.as_str())?;
-        routes.push_str(format!(in alloc;
-            "route {letter}\nassumes implements prog copy_src\n"
-        )?.as_str())?;
-    }
-    let mut shelf = shelf_of(alloc, "", "")?;
-    let recipe = two_routes(alloc)?;
-    let compare = format!(in alloc; "{stages}[compare]\nstages = [{names}]")?;
-    let recipe = with(
-        alloc,
-        recipe.as_str(),
-        "[compare]\nstages = [\"two\", \"three\"]",
-        compare.as_str(),
-    )?;
-    shelf.set("a.toml", recipe.as_bytes())?;
-    comes_to(
-        &rt,
-        alloc,
-        &mut shelf,
-        "audit",
-        Status::Yes,
-        compared.as_str(),
-    )?;
-    let text = answered(alloc, Status::Yes, compared.as_str(), routes.as_str())?;
-    comes_to(&rt, alloc, &mut shelf, "verify", Status::Yes, text.as_str())?;
+    let mut shelf = shelf_of(rt.alloc(), "", "")?;
+    prints_sixteen(&rt, rt.alloc(), &mut shelf)?;
     Ok(())
 }

@@ -1,11 +1,10 @@
 //! The words and the calls of `kaem` and `kaem-verify`: what is judged in which turn, and what the outside fails at.
 //! What they come to was written down from docs/reference/command-line.md.
 
-use crate::pauses::{Wanted, is_call, says};
-use crate::scripts::{LIST, REPORT, SCRIPT, comes_to, saves, shelf_of};
-use crate::worked::run;
+use crate::scenes::{Step, saves, says, walk};
+use crate::scripts::{LIST, REPORT, SCRIPT, comes_to, shelf_of};
 use ddc_app::Status;
-use ddc_base::{MemShelf, MemSink, OutOfMemory};
+use ddc_base::{MemShelf, OutOfMemory};
 use std::alloc::Global;
 use std::process::Abort;
 use std::test::Fail;
@@ -100,14 +99,18 @@ static WORDS: &[(&[&str], Status, &str)] = &[
     ),
 ];
 
+fn judges_words(rt: &impl Abort, alloc: Global, shelf: &mut MemShelf) -> Result<(), OutOfMemory> {
+    for &(words, status, text) in WORDS {
+        says(rt, alloc, shelf, words, (status, text))?;
+    }
+    assert_eq!(rt; saves(shelf), 0);
+    Ok(())
+}
+
 #[test]
 fn the_words_of_both_commands_are_judged(rt: HostRuntime) -> Result<(), Fail> {
-    let alloc = rt.alloc();
-    let mut shelf = shelf_of(alloc, SCRIPT, LIST)?;
-    for &(words, status, text) in WORDS {
-        says(&rt, alloc, &mut shelf, words, (status, text))?;
-    }
-    assert_eq!(&rt; saves(&shelf), 0);
+    let mut shelf = shelf_of(rt.alloc(), SCRIPT, LIST)?;
+    judges_words(&rt, rt.alloc(), &mut shelf)?;
     Ok(())
 }
 
@@ -218,53 +221,68 @@ static ORDERS: &[Order] = &[
     ),
 ];
 
+/// Runs words that save nothing.
+fn saves_nothing(
+    rt: &impl Abort,
+    alloc: Global,
+    shelf: &mut MemShelf,
+    words: &[&str],
+    ending: (Status, &str),
+) -> Result<(), OutOfMemory> {
+    says(rt, alloc, shelf, words, ending)?;
+    assert_eq!(rt; saves(shelf), 0);
+    Ok(())
+}
+
+fn judged_in_turn(
+    rt: &impl Abort,
+    alloc: Global,
+    &(words, script, list, status, text): &Order,
+) -> Result<(), OutOfMemory> {
+    let mut shelf = shelf_of(alloc, script, list)?;
+    saves_nothing(rt, alloc, &mut shelf, words, (status, text))
+}
+
 #[test]
 fn each_thing_is_judged_in_its_turn(rt: HostRuntime) -> Result<(), Fail> {
-    let alloc = rt.alloc();
-    for &(words, script, list, status, text) in ORDERS {
-        let mut shelf = shelf_of(alloc, script, list)?;
-        says(&rt, alloc, &mut shelf, words, (status, text))?;
-        assert_eq!(&rt; saves(&shelf), 0);
+    for order in ORDERS {
+        judged_in_turn(&rt, rt.alloc(), order)?;
     }
     Ok(())
 }
 
-/// The worked script with its report saved.
-fn saved(rt: &impl Abort, alloc: Global) -> Result<MemShelf, OutOfMemory> {
+/// Takes steps over the worked script.
+fn over_script(rt: &impl Abort, alloc: Global, steps: &[Step]) -> Result<(), OutOfMemory> {
     let mut shelf = shelf_of(alloc, SCRIPT, LIST)?;
-    comes_to(rt, alloc, &mut shelf, "32", DONE)?;
-    Ok(shelf)
+    walk(rt, alloc, &mut shelf, steps)
 }
 
+/// `kaem` over the worked script, and `kaem-verify` over its report.
+const KAEM: &[&str] = &["kaem", "s", "l", "r", "32"];
+
+const VERIFY: &[&str] = &["kaem-verify", "s", "l", "r"];
+
 /// The calls of `kaem` and then of `kaem-verify`.
-static CALLS: [Wanted; 10] = [
-    ("s", Some(1_048_576)),
-    ("l", Some(1_048_576)),
-    ("copy.elf", Some(268_435_456)),
-    ("in", Some(268_435_456)),
-    ("r", None),
-    ("s", Some(1_048_576)),
-    ("l", Some(1_048_576)),
-    ("r", Some(1_073_741_824)),
-    ("copy.elf", Some(268_435_456)),
-    ("in", Some(268_435_456)),
+static CALLS: [Step; 3] = [
+    Step::Run(KAEM, Status::Yes, "done 2 steps 64\n"),
+    Step::Run(VERIFY, Status::Yes, "yes 2\n"),
+    Step::Called(&[
+        ("s", Some(1_048_576)),
+        ("l", Some(1_048_576)),
+        ("copy.elf", Some(268_435_456)),
+        ("in", Some(268_435_456)),
+        ("r", None),
+        ("s", Some(1_048_576)),
+        ("l", Some(1_048_576)),
+        ("r", Some(1_073_741_824)),
+        ("copy.elf", Some(268_435_456)),
+        ("in", Some(268_435_456)),
+    ]),
 ];
 
 #[test]
 fn calls_come_in_order(rt: HostRuntime) -> Result<(), Fail> {
-    let alloc = rt.alloc();
-    let mut shelf = saved(&rt, alloc)?;
-    says(
-        &rt,
-        alloc,
-        &mut shelf,
-        &["kaem-verify", "s", "l", "r"],
-        TRUE,
-    )?;
-    assert_eq!(&rt; shelf.calls().len(), 10);
-    for (call, wanted) in shelf.calls().iter().zip(CALLS) {
-        assert!(&rt; is_call(call, wanted));
-    }
+    over_script(&rt, rt.alloc(), &CALLS)?;
     Ok(())
 }
 
@@ -276,14 +294,33 @@ static LOADS: [(u64, &str); 4] = [
     (4, "shelf fault in\n"),
 ];
 
+/// The load of this number fails once.
+fn load_passes(
+    rt: &impl Abort,
+    alloc: Global,
+    shelf: &mut MemShelf,
+    load: u64,
+    text: &str,
+) -> Result<(), OutOfMemory> {
+    shelf.fail_load(load)?;
+    comes_to(rt, alloc, shelf, "32", (Status::ShelfFault, text))?;
+    comes_to(rt, alloc, shelf, "32", DONE)
+}
+
+fn failed_load_passes(
+    rt: &impl Abort,
+    alloc: Global,
+    load: u64,
+    text: &str,
+) -> Result<(), OutOfMemory> {
+    let mut shelf = shelf_of(alloc, SCRIPT, LIST)?;
+    load_passes(rt, alloc, &mut shelf, load, text)
+}
+
 #[test]
 fn loads_that_fail_are_named(rt: HostRuntime) -> Result<(), Fail> {
-    let alloc = rt.alloc();
     for (load, text) in LOADS {
-        let mut shelf = shelf_of(alloc, SCRIPT, LIST)?;
-        shelf.fail_load(load)?;
-        comes_to(&rt, alloc, &mut shelf, "32", (Status::ShelfFault, text))?;
-        comes_to(&rt, alloc, &mut shelf, "32", DONE)?;
+        failed_load_passes(&rt, rt.alloc(), load, text)?;
     }
     Ok(())
 }
@@ -297,46 +334,61 @@ static VERIFY_LOADS: [(u64, &str); 5] = [
     (9, "shelf fault in\n"),
 ];
 
+/// The load of this number fails once, in the replay.
+fn replay_passes(
+    rt: &impl Abort,
+    alloc: Global,
+    shelf: &mut MemShelf,
+    load: u64,
+    text: &str,
+) -> Result<(), OutOfMemory> {
+    comes_to(rt, alloc, shelf, "32", DONE)?;
+    shelf.fail_load(load)?;
+    says(rt, alloc, shelf, VERIFY, (Status::ShelfFault, text))?;
+    says(rt, alloc, shelf, VERIFY, TRUE)
+}
+
+fn failed_replay_passes(
+    rt: &impl Abort,
+    alloc: Global,
+    load: u64,
+    text: &str,
+) -> Result<(), OutOfMemory> {
+    let mut shelf = shelf_of(alloc, SCRIPT, LIST)?;
+    replay_passes(rt, alloc, &mut shelf, load, text)
+}
+
 #[test]
 fn loads_of_a_replay_that_fail_are_named(rt: HostRuntime) -> Result<(), Fail> {
-    let alloc = rt.alloc();
-    let words = ["kaem-verify", "s", "l", "r"];
     for (load, text) in VERIFY_LOADS {
-        let mut shelf = saved(&rt, alloc)?;
-        shelf.fail_load(load)?;
-        says(&rt, alloc, &mut shelf, &words, (Status::ShelfFault, text))?;
-        says(&rt, alloc, &mut shelf, &words, TRUE)?;
+        failed_replay_passes(&rt, rt.alloc(), load, text)?;
     }
     Ok(())
 }
 
+static FAILED_SAVE: [Step; 4] = [
+    Step::FailSave(1),
+    Step::Run(KAEM, Status::ShelfFault, "shelf fault r\n"),
+    Step::Run(KAEM, Status::Yes, "done 2 steps 64\n"),
+    Step::Holds("r", REPORT),
+];
+
 #[test]
 fn a_save_that_fails_is_named(rt: HostRuntime) -> Result<(), Fail> {
-    let alloc = rt.alloc();
-    let mut shelf = shelf_of(alloc, SCRIPT, LIST)?;
-    shelf.fail_save(1)?;
-    let words = ["kaem", "s", "l", "r", "32"];
-    let fault = (Status::ShelfFault, "shelf fault r\n");
-    says(&rt, alloc, &mut shelf, &words, fault)?;
-    says(&rt, alloc, &mut shelf, &words, DONE)?;
-    assert_eq!(&rt; shelf.get("r").unwrap_or(b""), REPORT.as_bytes());
+    over_script(&rt, rt.alloc(), &FAILED_SAVE)?;
     Ok(())
 }
+
+static UNHEARD: [Step; 4] = [
+    Step::Unheard(KAEM),
+    Step::Holds("r", REPORT),
+    Step::Unheard(VERIFY),
+    Step::Holds("r", REPORT),
+];
 
 /// A put that fails comes behind the save.
 #[test]
 fn a_put_that_fails_leaves_the_report(rt: HostRuntime) -> Result<(), Fail> {
-    let alloc = rt.alloc();
-    let mut shelf = shelf_of(alloc, SCRIPT, LIST)?;
-    let table: [&[&str]; 2] = [
-        &["kaem", "s", "l", "r", "32"],
-        &["kaem-verify", "s", "l", "r"],
-    ];
-    for words in &table {
-        let mut out = MemSink::new(alloc);
-        out.fail_put(1)?;
-        assert_eq!(&rt; run(alloc, words, &mut shelf, &mut out)?, Status::OutFault);
-        assert_eq!(&rt; shelf.get("r").unwrap_or(b""), REPORT.as_bytes());
-    }
+    over_script(&rt, rt.alloc(), &UNHEARD)?;
     Ok(())
 }

@@ -1,8 +1,8 @@
 //! Replays of a script's report, of the report with one change, and over changed files, by `kaem-verify`.
 //! What they come to was written down from docs/reference/kaem.md and docs/reference/kaem-report.md.
 
-use crate::pauses::says;
-use crate::scripts::{LIST, SCRIPT, saves, shelf_of};
+use crate::scenes::{saves, says};
+use crate::scripts::{LIST, SCRIPT, shelf_of};
 use ddc_app::Status;
 use ddc_base::{Bytes, MemShelf, OutOfMemory};
 use std::alloc::Global;
@@ -173,14 +173,33 @@ static CHANGES: &[(u64, u64, &str, &str)] = &[
     (15, 0, "\n", "report line 15\n"),
 ];
 
+/// The same over files of its own.
+fn script_judged(
+    rt: &impl Abort,
+    alloc: Global,
+    report: &[u8],
+    text: &str,
+) -> Result<(), OutOfMemory> {
+    let mut shelf = shelf_of(alloc, SCRIPT, LIST)?;
+    judged(rt, alloc, &mut shelf, report, (status_of(text), text))
+}
+
+/// Replays the worked report with so many lines replaced.
+fn change_judged(
+    rt: &impl Abort,
+    alloc: Global,
+    (first, count): (u64, u64),
+    change: &str,
+    text: &str,
+) -> Result<(), OutOfMemory> {
+    let report = changed(alloc, first, count, change)?;
+    script_judged(rt, alloc, report.as_slice(), text)
+}
+
 #[test]
 fn the_first_part_that_is_not_true_is_named(rt: HostRuntime) -> Result<(), Fail> {
-    let alloc = rt.alloc();
     for &(first, count, change, text) in CHANGES {
-        let report = changed(alloc, first, count, change)?;
-        let mut shelf = shelf_of(alloc, SCRIPT, LIST)?;
-        let ending = (status_of(text), text);
-        judged(&rt, alloc, &mut shelf, report.as_slice(), ending)?;
+        change_judged(&rt, rt.alloc(), (first, count), change, text)?;
     }
     Ok(())
 }
@@ -203,37 +222,40 @@ static LINES_OUT_AND_TWICE: [(&str, &str); 14] = [
     ("report line 14\n", "report line 15\n"),
 ];
 
+/// The worked report with the line of a number twice.
+fn doubled(alloc: Global, number: u64) -> Result<Bytes, OutOfMemory> {
+    let mut report = Bytes::new(alloc);
+    put_lines(&mut report, 1, number)?;
+    put_lines(&mut report, number, LINES)?;
+    Ok(report)
+}
+
+/// Replays it.
+fn doubled_judged(
+    rt: &impl Abort,
+    alloc: Global,
+    number: u64,
+    text: &str,
+) -> Result<(), OutOfMemory> {
+    let report = doubled(alloc, number)?;
+    script_judged(rt, alloc, report.as_slice(), text)
+}
+
 #[test]
 fn each_line_counts_once(rt: HostRuntime) -> Result<(), Fail> {
-    let alloc = rt.alloc();
     let mut number = 0u64;
     for (out, twice) in LINES_OUT_AND_TWICE {
         number = number.saturating_add(1);
-        let mut shelf = shelf_of(alloc, SCRIPT, LIST)?;
-        let report = changed(alloc, number, 1, "")?;
-        judged(
-            &rt,
-            alloc,
-            &mut shelf,
-            report.as_slice(),
-            (status_of(out), out),
-        )?;
-        let mut report = Bytes::new(alloc);
-        put_lines(&mut report, 1, number)?;
-        put_lines(&mut report, number, LINES)?;
-        judged(
-            &rt,
-            alloc,
-            &mut shelf,
-            report.as_slice(),
-            (status_of(twice), twice),
-        )?;
+        change_judged(&rt, rt.alloc(), (number, 1), "", out)?;
+        doubled_judged(&rt, rt.alloc(), number, twice)?;
     }
     Ok(())
 }
 
 /// Files that are changed behind the report, each by its name and content, and what is then said.
-static FILES: &[(&str, &[u8], Status, &str)] = &[
+type Changed = (&'static str, &'static [u8], Status, &'static str);
+
+static FILES: &[Changed] = &[
     ("l", LIST, Status::Yes, "yes 2\n"),
     (
         "s",
@@ -269,14 +291,26 @@ static FILES: &[(&str, &[u8], Status, &str)] = &[
     ("out", b"abc", Status::Yes, "yes 2\n"),
 ];
 
+fn file_judged(
+    rt: &impl Abort,
+    alloc: Global,
+    shelf: &mut MemShelf,
+    &(name, content, status, text): &Changed,
+) -> Result<(), OutOfMemory> {
+    shelf.set(name, content)?;
+    let report = changed(alloc, 1, 0, "")?;
+    judged(rt, alloc, shelf, report.as_slice(), (status, text))
+}
+
+fn changed_file_judged(rt: &impl Abort, alloc: Global, row: &Changed) -> Result<(), OutOfMemory> {
+    let mut shelf = shelf_of(alloc, SCRIPT, LIST)?;
+    file_judged(rt, alloc, &mut shelf, row)
+}
+
 #[test]
 fn a_report_is_of_its_script_and_its_files(rt: HostRuntime) -> Result<(), Fail> {
-    let alloc = rt.alloc();
-    for &(name, content, status, text) in FILES {
-        let mut shelf = shelf_of(alloc, SCRIPT, LIST)?;
-        shelf.set(name, content)?;
-        let report = changed(alloc, 1, 0, "")?;
-        judged(&rt, alloc, &mut shelf, report.as_slice(), (status, text))?;
+    for row in FILES {
+        changed_file_judged(&rt, rt.alloc(), row)?;
     }
     Ok(())
 }

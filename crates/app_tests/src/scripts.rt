@@ -1,10 +1,10 @@
 //! Scripts of commands, by `kaem` over listed files. What they come to was written down from docs/reference/kaem.md,
 //! docs/reference/kaem-report.md and docs/reference/command-line.md.
 
-use crate::pauses::says;
+use crate::scenes::{holds, saves, says};
 use crate::worked::{COPY, EXIT, decoded, program_of};
 use ddc_app::Status;
-use ddc_base::{Bytes, Call, MemShelf, OutOfMemory};
+use ddc_base::{Bytes, MemShelf, OutOfMemory};
 use std::alloc::Global;
 use std::process::Abort;
 use std::test::Fail;
@@ -28,33 +28,48 @@ static PROGRAMS: &[(&str, &str)] = &[
     ),
 ];
 
+/// Sets the copier under its names, and a text.
+fn set_copier(alloc: Global, shelf: &mut MemShelf) -> Result<(), OutOfMemory> {
+    let copy = decoded(alloc, COPY)?;
+    for name in ["copy.elf", "in", "./in"] {
+        shelf.set(name, copy.as_slice())?;
+    }
+    shelf.set("exit.elf", &EXIT)?;
+    shelf.set("text", b"abc")
+}
+
+/// Sets a program.
+fn set_program(
+    alloc: Global,
+    shelf: &mut MemShelf,
+    name: &str,
+    code: &str,
+) -> Result<(), OutOfMemory> {
+    shelf.set(name, program_of(alloc, code)?.as_slice())
+}
+
 /// The copier, its bytes once more as `in`, the programs, a text that is none, and a script and a list.
 pub(crate) fn shelf_of(alloc: Global, script: &[u8], list: &[u8]) -> Result<MemShelf, OutOfMemory> {
     let mut shelf = MemShelf::new(alloc);
-    let copy = decoded(alloc, COPY)?;
-    shelf.set("copy.elf", copy.as_slice())?;
-    shelf.set("in", copy.as_slice())?;
-    shelf.set("./in", copy.as_slice())?;
-    shelf.set("exit.elf", &EXIT)?;
+    set_copier(alloc, &mut shelf)?;
     for (name, code) in PROGRAMS {
-        shelf.set(name, program_of(alloc, code)?.as_slice())?;
+        set_program(alloc, &mut shelf, name, code)?;
     }
-    shelf.set("text", b"abc")?;
     shelf.set("s", script)?;
     shelf.set("l", list)?;
     Ok(shelf)
 }
 
-/// How many saves a shelf was asked for.
-pub(crate) fn saves(shelf: &MemShelf) -> usize {
-    shelf
-        .calls()
-        .iter()
-        .filter(|call| match call {
-            Call::Save { .. } => true,
-            Call::Load { .. } => false,
-        })
-        .count()
+/// Runs a script with a list over the files, and compares its status and text.
+fn script_comes_to(
+    rt: &impl Abort,
+    alloc: Global,
+    (script, list): (&[u8], &[u8]),
+    steps: &str,
+    ending: (Status, &str),
+) -> Result<(), OutOfMemory> {
+    let mut shelf = shelf_of(alloc, script, list)?;
+    comes_to(rt, alloc, &mut shelf, steps, ending)
 }
 
 /// Runs `kaem s l r STEPS` over these files, and compares its status and text. Only a script that is done saves its report.
@@ -88,18 +103,26 @@ left 6f7574 232 da8dcb705eb55cbf9f4852135f93a902f4584b973901f37abb829fd299d0b026
 end\n\
 ";
 
+fn runs_what_it_made(
+    rt: &impl Abort,
+    alloc: Global,
+    shelf: &mut MemShelf,
+) -> Result<(), OutOfMemory> {
+    let done = (Status::Yes, "done 2 steps 64\n");
+    comes_to(rt, alloc, shelf, "100000", done)?;
+    assert!(rt; holds(shelf, "r", REPORT.as_bytes()));
+    // What a script leaves is in its report alone.
+    assert!(rt; shelf.get("out").is_none());
+    let yes = (Status::Yes, "yes 2\n");
+    says(rt, alloc, shelf, &["kaem-verify", "s", "l", "r"], yes)?;
+    assert_eq!(rt; saves(shelf), 1);
+    Ok(())
+}
+
 #[test]
 fn a_script_runs_what_it_made(rt: HostRuntime) -> Result<(), Fail> {
-    let alloc = rt.alloc();
-    let mut shelf = shelf_of(alloc, SCRIPT, LIST)?;
-    let done = (Status::Yes, "done 2 steps 64\n");
-    comes_to(&rt, alloc, &mut shelf, "100000", done)?;
-    assert_eq!(&rt; shelf.get("r").unwrap_or(b""), REPORT.as_bytes());
-    // What a script leaves is in its report alone.
-    assert!(&rt; shelf.get("out").is_none());
-    let yes = (Status::Yes, "yes 2\n");
-    says(&rt, alloc, &mut shelf, &["kaem-verify", "s", "l", "r"], yes)?;
-    assert_eq!(&rt; saves(&shelf), 1);
+    let mut shelf = shelf_of(rt.alloc(), SCRIPT, LIST)?;
+    runs_what_it_made(&rt, rt.alloc(), &mut shelf)?;
     Ok(())
 }
 
@@ -146,13 +169,32 @@ end\n\
     ),
 ];
 
+/// Runs a script, and compares its report.
+fn saves_report(
+    rt: &impl Abort,
+    alloc: Global,
+    shelf: &mut MemShelf,
+    text: &str,
+    report: &str,
+) -> Result<(), OutOfMemory> {
+    comes_to(rt, alloc, shelf, "9", (Status::Yes, text))?;
+    assert!(rt; holds(shelf, "r", report.as_bytes()));
+    Ok(())
+}
+
+fn script_saves_report(
+    rt: &impl Abort,
+    alloc: Global,
+    &(script, list, text, report): &Done,
+) -> Result<(), OutOfMemory> {
+    let mut shelf = shelf_of(alloc, script, list)?;
+    saves_report(rt, alloc, &mut shelf, text, report)
+}
+
 #[test]
 fn reports_are_saved(rt: HostRuntime) -> Result<(), Fail> {
-    let alloc = rt.alloc();
-    for &(script, list, text, report) in REPORTS {
-        let mut shelf = shelf_of(alloc, script, list)?;
-        comes_to(&rt, alloc, &mut shelf, "9", (Status::Yes, text))?;
-        assert_eq!(&rt; shelf.get("r").unwrap_or(b""), report.as_bytes());
+    for done in REPORTS {
+        script_saves_report(&rt, rt.alloc(), done)?;
     }
     Ok(())
 }
@@ -282,10 +324,8 @@ static ENDS: &[End] = &[
 
 #[test]
 fn scripts_end_with_their_commands(rt: HostRuntime) -> Result<(), Fail> {
-    let alloc = rt.alloc();
     for &(script, steps, status, text) in ENDS {
-        let mut shelf = shelf_of(alloc, script, ALL)?;
-        comes_to(&rt, alloc, &mut shelf, steps, (status, text))?;
+        script_comes_to(&rt, rt.alloc(), (script, ALL), steps, (status, text))?;
     }
     Ok(())
 }
@@ -310,20 +350,32 @@ static REFUSED: &[(&[u8], &str)] = &[
     (b"copy.elf\ncopy.elf $\n", "script refused 2 18\n"),
 ];
 
+/// Both commands refuse the script.
+fn both_refuse(
+    rt: &impl Abort,
+    alloc: Global,
+    shelf: &mut MemShelf,
+    text: &str,
+) -> Result<(), OutOfMemory> {
+    let refused = (Status::ScriptRefused, text);
+    comes_to(rt, alloc, shelf, "9", refused)?;
+    says(rt, alloc, shelf, &["kaem-verify", "s", "l", "r"], refused)
+}
+
+fn script_is_refused(
+    rt: &impl Abort,
+    alloc: Global,
+    script: &[u8],
+    text: &str,
+) -> Result<(), OutOfMemory> {
+    let mut shelf = shelf_of(alloc, script, LIST)?;
+    both_refuse(rt, alloc, &mut shelf, text)
+}
+
 #[test]
 fn scripts_are_refused_at_their_word(rt: HostRuntime) -> Result<(), Fail> {
-    let alloc = rt.alloc();
     for &(script, text) in REFUSED {
-        let mut shelf = shelf_of(alloc, script, LIST)?;
-        let refused = (Status::ScriptRefused, text);
-        comes_to(&rt, alloc, &mut shelf, "9", refused)?;
-        says(
-            &rt,
-            alloc,
-            &mut shelf,
-            &["kaem-verify", "s", "l", "r"],
-            refused,
-        )?;
+        script_is_refused(&rt, rt.alloc(), script, text)?;
     }
     Ok(())
 }
@@ -409,13 +461,20 @@ static SCRIPT_LIMITS: &[Limit] = &[
     ),
 ];
 
+/// Runs a script that is so long.
+fn long_script(
+    rt: &impl Abort,
+    alloc: Global,
+    &(piece, count, end, status, text): &Limit,
+) -> Result<(), OutOfMemory> {
+    let script = many(alloc, piece, count, end)?;
+    script_comes_to(rt, alloc, (script.as_slice(), ALL), "3", (status, text))
+}
+
 #[test]
 fn scripts_keep_their_limits(rt: HostRuntime) -> Result<(), Fail> {
-    let alloc = rt.alloc();
-    for &(piece, count, end, status, text) in SCRIPT_LIMITS {
-        let script = many(alloc, piece, count, end)?;
-        let mut shelf = shelf_of(alloc, script.as_slice(), ALL)?;
-        comes_to(&rt, alloc, &mut shelf, "3", (status, text))?;
+    for limit in SCRIPT_LIMITS {
+        long_script(&rt, rt.alloc(), limit)?;
     }
     Ok(())
 }
@@ -483,10 +542,8 @@ static LISTS: &[(&[u8], Status, &str)] = &[
 
 #[test]
 fn lists_are_judged_before_their_files(rt: HostRuntime) -> Result<(), Fail> {
-    let alloc = rt.alloc();
     for &(list, status, text) in LISTS {
-        let mut shelf = shelf_of(alloc, b"exit.elf\n", list)?;
-        comes_to(&rt, alloc, &mut shelf, "3", (status, text))?;
+        script_comes_to(&rt, rt.alloc(), (b"exit.elf\n", list), "3", (status, text))?;
     }
     Ok(())
 }
@@ -531,30 +588,50 @@ static LIST_LIMITS: &[Limit] = &[
     ),
 ];
 
+/// Runs no script with a list that is so long.
+fn long_list(
+    rt: &impl Abort,
+    alloc: Global,
+    &(piece, count, end, status, text): &Limit,
+) -> Result<(), OutOfMemory> {
+    let list = many(alloc, piece, count, end)?;
+    script_comes_to(rt, alloc, (b"", list.as_slice()), "3", (status, text))
+}
+
 #[test]
 fn lists_keep_their_limits(rt: HostRuntime) -> Result<(), Fail> {
-    let alloc = rt.alloc();
-    for &(piece, count, end, status, text) in LIST_LIMITS {
-        let list = many(alloc, piece, count, end)?;
-        let mut shelf = shelf_of(alloc, b"", list.as_slice())?;
-        comes_to(&rt, alloc, &mut shelf, "3", (status, text))?;
+    for limit in LIST_LIMITS {
+        long_list(&rt, rt.alloc(), limit)?;
     }
     Ok(())
 }
 
 /// Sets as many empty files as this, and the list of them with an end.
-fn listed(alloc: Global, count: u64, end: &str) -> Result<MemShelf, OutOfMemory> {
-    let mut shelf = shelf_of(alloc, b"", b"")?;
+fn set_listed(
+    alloc: Global,
+    shelf: &mut MemShelf,
+    count: u64,
+    end: &str,
+) -> Result<(), OutOfMemory> {
     let mut list = Bytes::new(alloc);
     for number in 0..count {
-        let name = format!(in alloc; "a{number}")?;
-        shelf.set(name.as_str(), b"")?;
-        list.extend(name.as_bytes())?;
-        list.push(b'\n')?;
+        set_empty(alloc, shelf, &mut list, number)?;
     }
     list.extend(end.as_bytes())?;
-    shelf.set("l", list.as_slice())?;
-    Ok(shelf)
+    shelf.set("l", list.as_slice())
+}
+
+/// Sets an empty file whose name has this number, and adds its line to the list.
+fn set_empty(
+    alloc: Global,
+    shelf: &mut MemShelf,
+    list: &mut Bytes,
+    number: u64,
+) -> Result<(), OutOfMemory> {
+    let name = format!(in alloc; "a{number}")?;
+    shelf.set(name.as_str(), b"")?;
+    list.extend(name.as_bytes())?;
+    list.push(b'\n')
 }
 
 /// How many files are listed, the end of the list, the status and the text.
@@ -566,12 +643,21 @@ static COUNTS: &[(u64, &str, Status, &str)] = &[
     (4_095, "a0\nb\n", Status::ListRefused, "list refused 4096\n"),
 ];
 
+fn many_listed(
+    rt: &impl Abort,
+    alloc: Global,
+    (count, end): (u64, &str),
+    ending: (Status, &str),
+) -> Result<(), OutOfMemory> {
+    let mut shelf = shelf_of(alloc, b"", b"")?;
+    set_listed(alloc, &mut shelf, count, end)?;
+    comes_to(rt, alloc, &mut shelf, "3", ending)
+}
+
 #[test]
 fn a_list_has_at_most_4096_files(rt: HostRuntime) -> Result<(), Fail> {
-    let alloc = rt.alloc();
     for &(count, end, status, text) in COUNTS {
-        let mut shelf = listed(alloc, count, end)?;
-        comes_to(&rt, alloc, &mut shelf, "3", (status, text))?;
+        many_listed(&rt, rt.alloc(), (count, end), (status, text))?;
     }
     Ok(())
 }

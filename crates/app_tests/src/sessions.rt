@@ -2,9 +2,10 @@
 //! docs/reference/step.md and docs/reference/command-line.md, and what stands at an address from the listing of copy.elf.
 
 use crate::audits::audit_shelf;
+use crate::scenes::are_calls;
 use crate::worked::EXIT;
 use ddc_app::Status;
-use ddc_base::{Bytes, Call, MemShelf, MemSink, OutOfMemory};
+use ddc_base::{Bytes, MemShelf, MemSink, OutOfMemory};
 use meaning::Assembly;
 use prompt::MemPrompt;
 use std::alloc::Global;
@@ -46,7 +47,53 @@ fn are_pieces(found: &[Bytes], wanted: &[&str]) -> bool {
             .all(|(piece, text)| piece.as_slice() == text.as_bytes())
 }
 
-/// Holds a session over the worked files with these lines, and compares its status, its replies and what is left.
+/// What a session is given and comes to: its words, its lines, which line and which put fail, its status, its replies, and what is left.
+#[derive(Clone, Copy)]
+struct Talk<'t> {
+    words: &'t [&'t str],
+    lines: &'t [u8],
+    failing_line: u64,
+    failing_put: u64,
+    status: Status,
+    replies: &'t [&'t str],
+    left: &'t [u8],
+}
+
+/// Holds a session over a shelf.
+fn holds_talk(
+    rt: &impl Abort,
+    alloc: Global,
+    shelf: &mut MemShelf,
+    talk: &Talk<'_>,
+) -> Result<(), OutOfMemory> {
+    let mut out = MemSink::new(alloc);
+    out.fail_put(talk.failing_put)?;
+    let mut prompt = MemPrompt::new(alloc, talk.lines)?;
+    prompt.fail_line(talk.failing_line)?;
+    let status = run(alloc, talk.words, shelf, &mut out, &mut prompt);
+    comes_to(rt, talk, status, &out, &prompt);
+    Ok(())
+}
+
+/// Compares what a session came to.
+fn comes_to(rt: &impl Abort, talk: &Talk<'_>, status: Status, out: &MemSink, prompt: &MemPrompt) {
+    assert_eq!(rt; status, talk.status);
+    assert!(rt; are_pieces(out.pieces(), talk.replies), "{:?}", talk.words);
+    assert_eq!(rt; prompt.left(), talk.left);
+}
+
+/// Holds a session over the worked files, whose recipe has a piece changed.
+fn talks_over(
+    rt: &impl Abort,
+    alloc: Global,
+    (old, new): (&str, &str),
+    talk: &Talk<'_>,
+) -> Result<(), OutOfMemory> {
+    let mut shelf = audit_shelf(alloc, old, new)?;
+    holds_talk(rt, alloc, &mut shelf, talk)
+}
+
+/// Holds a session in which nothing fails.
 fn talks(
     rt: &impl Abort,
     alloc: Global,
@@ -55,17 +102,16 @@ fn talks(
     replies: &[&str],
     left: &[u8],
 ) -> Result<(), OutOfMemory> {
-    let mut shelf = audit_shelf(alloc, "", "")?;
-    let mut out = MemSink::new(alloc);
-    let mut prompt = MemPrompt::new(alloc, lines)?;
-    let words = ["step", "a.toml", stage];
-    assert_eq!(rt;
-        run(alloc, &words, &mut shelf, &mut out, &mut prompt),
-        Status::Yes
-    );
-    assert!(rt; are_pieces(out.pieces(), replies), "{lines:?}");
-    assert_eq!(rt; prompt.left(), left);
-    Ok(())
+    let talk = Talk {
+        words: &["step", "a.toml", stage],
+        lines,
+        failing_line: 0,
+        failing_put: 0,
+        status: Status::Yes,
+        replies,
+        left,
+    };
+    talks_over(rt, alloc, ("", ""), &talk)
 }
 
 /// A session's stage, its lines, and its replies. All its lines are taken.
@@ -163,101 +209,151 @@ fn filled(alloc: Global, count: u32, text: &str) -> Result<Bytes, OutOfMemory> {
     Ok(bytes)
 }
 
+/// How many bytes the line has, and the replies.
+static LONG: [(u32, &[&str]); 5] = [
+    (256, &["unknown\n"]),
+    (257, &["unknown\n"]),
+    (65_535, &["unknown\n"]),
+    (65_536, &["unknown\n", "unknown\n"]),
+    (65_537, &["unknown\n", "unknown\n"]),
+];
+
+fn long_line(
+    rt: &impl Abort,
+    alloc: Global,
+    count: u32,
+    replies: &[&str],
+) -> Result<(), OutOfMemory> {
+    let lines = filled(alloc, count, "\nquit\nwhere\n")?;
+    talks(rt, alloc, "two", lines.as_slice(), replies, b"where\n")
+}
+
 /// A line of 256 bytes is one, and so is a longer one, of which at most 65,536 bytes are taken; what is left of it is the next line.
 #[test]
 fn long_lines_are_one_line(rt: HostRuntime) -> Result<(), Fail> {
-    let alloc = rt.alloc();
-    let table: [(u32, &[&str]); 5] = [
-        (256, &["unknown\n"]),
-        (257, &["unknown\n"]),
-        (65_535, &["unknown\n"]),
-        (65_536, &["unknown\n", "unknown\n"]),
-        (65_537, &["unknown\n", "unknown\n"]),
-    ];
-    for (count, replies) in table {
-        let lines = filled(alloc, count, "\nquit\nwhere\n")?;
-        talks(&rt, alloc, "two", lines.as_slice(), replies, b"where\n")?;
+    for (count, replies) in LONG {
+        long_line(&rt, rt.alloc(), count, replies)?;
     }
     Ok(())
+}
+
+/// So many lines that are no command.
+fn unknown_lines(alloc: Global, count: u32) -> Result<Bytes, OutOfMemory> {
+    let mut lines = Bytes::new(alloc);
+    for _ in 0..count {
+        lines.extend(b"?\n")?;
+    }
+    Ok(lines)
+}
+
+/// Holds a session over these lines, of which the last one fails.
+fn answers_lines(
+    rt: &impl Abort,
+    alloc: Global,
+    shelf: &mut MemShelf,
+    lines: &[u8],
+) -> Result<(), OutOfMemory> {
+    let mut out = MemSink::new(alloc);
+    let mut prompt = MemPrompt::new(alloc, lines)?;
+    prompt.fail_line(65_537)?;
+    let status = run(alloc, &WORDS, shelf, &mut out, &mut prompt);
+    assert_eq!(rt; status, Status::Yes);
+    assert_eq!(rt; out.pieces().len(), 65_536);
+    assert_eq!(rt; prompt.left(), b"?\n".as_slice());
+    Ok(())
+}
+
+fn answers_worked(rt: &impl Abort, alloc: Global, lines: &[u8]) -> Result<(), OutOfMemory> {
+    let mut shelf = audit_shelf(alloc, "", "")?;
+    answers_lines(rt, alloc, &mut shelf, lines)
 }
 
 /// A session answers 65,536 lines, and asks for no further one.
 #[test]
 fn a_session_has_so_many_lines(rt: HostRuntime) -> Result<(), Fail> {
-    let alloc = rt.alloc();
-    let mut lines = Bytes::new(alloc);
-    for _ in 0..65_537u32 {
-        lines.extend(b"?\n")?;
-    }
-    let mut shelf = audit_shelf(alloc, "", "")?;
-    let mut out = MemSink::new(alloc);
-    let mut prompt = MemPrompt::new(alloc, lines.as_slice())?;
-    prompt.fail_line(65_537)?;
-    assert_eq!(&rt;
-        run(alloc, &WORDS, &mut shelf, &mut out, &mut prompt),
-        Status::Yes
-    );
-    assert_eq!(&rt; out.pieces().len(), 65_536);
-    assert_eq!(&rt; prompt.left(), b"?\n".as_slice());
+    let lines = unknown_lines(rt.alloc(), 65_537)?;
+    answers_worked(&rt, rt.alloc(), lines.as_slice())?;
     Ok(())
+}
+
+/// The call that fails, how many replies are said, and what is left.
+static FAILED_LINES: [(u64, usize, &str); 7] = [
+    (1, 0, " 13\nwhere\nmem 100e0 3\nback 13\ngo\n"),
+    (2, 1, "re\nmem 100e0 3\nback 13\ngo\n"),
+    (3, 2, "0e0 3\nback 13\ngo\n"),
+    (4, 3, " 13\ngo\n"),
+    (5, 4, "o\n"),
+    (6, 5, ""),
+    (7, 5, ""),
+];
+
+fn failed_line(
+    rt: &impl Abort,
+    alloc: Global,
+    failing: u64,
+    said: usize,
+    left: &str,
+) -> Result<(), OutOfMemory> {
+    let status = if failing < 7 {
+        Status::OutFault
+    } else {
+        Status::Yes
+    };
+    let talk = Talk {
+        words: &WORDS,
+        lines: LINES.as_bytes(),
+        failing_line: failing,
+        failing_put: 0,
+        status,
+        replies: REPLIES.get(..said).unwrap_or(&[]),
+        left: left.as_bytes(),
+    };
+    talks_over(rt, alloc, ("", ""), &talk)
 }
 
 /// Each line of the worked session fails in turn; the sixth call finds nothing left, and there is no seventh. A call that fails takes half
 /// of its bytes.
 #[test]
 fn a_failed_line_ends_the_session(rt: HostRuntime) -> Result<(), Fail> {
-    let alloc = rt.alloc();
-    let table: [(u64, usize, &str); 7] = [
-        (1, 0, " 13\nwhere\nmem 100e0 3\nback 13\ngo\n"),
-        (2, 1, "re\nmem 100e0 3\nback 13\ngo\n"),
-        (3, 2, "0e0 3\nback 13\ngo\n"),
-        (4, 3, " 13\ngo\n"),
-        (5, 4, "o\n"),
-        (6, 5, ""),
-        (7, 5, ""),
-    ];
-    for (failing, said, left) in table {
-        let mut shelf = audit_shelf(alloc, "", "")?;
-        let mut out = MemSink::new(alloc);
-        let mut prompt = MemPrompt::new(alloc, LINES.as_bytes())?;
-        prompt.fail_line(failing)?;
-        let status = if failing < 7 {
-            Status::OutFault
-        } else {
-            Status::Yes
-        };
-        assert_eq!(&rt;
-            run(alloc, &WORDS, &mut shelf, &mut out, &mut prompt),
-            status
-        );
-        assert!(&rt; are_pieces(out.pieces(), &REPLIES[..said]), "{failing}");
-        assert_eq!(&rt; prompt.left(), left.as_bytes());
+    for (failing, said, left) in FAILED_LINES {
+        failed_line(&rt, rt.alloc(), failing, said, left)?;
     }
     Ok(())
+}
+
+/// The put that fails, how many replies are said, and what is left.
+static FAILED_PUTS: [(u64, usize, &str); 5] = [
+    (1, 0, "where\nmem 100e0 3\nback 13\ngo\n"),
+    (2, 1, "mem 100e0 3\nback 13\ngo\n"),
+    (3, 2, "back 13\ngo\n"),
+    (4, 3, "go\n"),
+    (5, 4, ""),
+];
+
+fn failed_put(
+    rt: &impl Abort,
+    alloc: Global,
+    failing: u64,
+    said: usize,
+    left: &str,
+) -> Result<(), OutOfMemory> {
+    let talk = Talk {
+        words: &WORDS,
+        lines: LINES.as_bytes(),
+        failing_line: 0,
+        failing_put: failing,
+        status: Status::OutFault,
+        replies: REPLIES.get(..said).unwrap_or(&[]),
+        left: left.as_bytes(),
+    };
+    talks_over(rt, alloc, ("", ""), &talk)
 }
 
 /// Each put of the worked session fails in turn, behind half of its reply; the lines so far are taken, and no further one.
 #[test]
 fn a_failed_put_ends_the_session(rt: HostRuntime) -> Result<(), Fail> {
-    let alloc = rt.alloc();
-    let table: [(u64, usize, &str); 5] = [
-        (1, 0, "where\nmem 100e0 3\nback 13\ngo\n"),
-        (2, 1, "mem 100e0 3\nback 13\ngo\n"),
-        (3, 2, "back 13\ngo\n"),
-        (4, 3, "go\n"),
-        (5, 4, ""),
-    ];
-    for (failing, said, left) in table {
-        let mut shelf = audit_shelf(alloc, "", "")?;
-        let mut out = MemSink::new(alloc);
-        out.fail_put(failing)?;
-        let mut prompt = MemPrompt::new(alloc, LINES.as_bytes())?;
-        assert_eq!(&rt;
-            run(alloc, &WORDS, &mut shelf, &mut out, &mut prompt),
-            Status::OutFault
-        );
-        assert!(&rt; are_pieces(out.pieces(), &REPLIES[..said]), "{failing}");
-        assert_eq!(&rt; prompt.left(), left.as_bytes());
+    for (failing, said, left) in FAILED_PUTS {
+        failed_put(&rt, rt.alloc(), failing, said, left)?;
     }
     Ok(())
 }
@@ -268,35 +364,49 @@ fn says(
     alloc: Global,
     shelf: &mut MemShelf,
     words: &[&str],
-    status: Status,
-    text: &str,
+    (status, text): (Status, &str),
 ) -> Result<(), OutOfMemory> {
-    let mut out = MemSink::new(alloc);
-    let mut prompt = MemPrompt::new(alloc, b"where\n")?;
-    prompt.fail_line(1)?;
-    assert_eq!(rt; run(alloc, words, shelf, &mut out, &mut prompt), status);
-    assert!(rt; are_pieces(out.pieces(), &[text]), "{words:?}");
-    assert_eq!(rt; prompt.left(), b"where\n".as_slice());
-    Ok(())
+    let talk = Talk {
+        words,
+        lines: b"where\n",
+        failing_line: 1,
+        failing_put: 0,
+        status,
+        replies: &[text],
+        left: b"where\n",
+    };
+    holds_talk(rt, alloc, shelf, &talk)
+}
+
+/// The load of a number fails, which is that of a name.
+fn names_load(
+    rt: &impl Abort,
+    alloc: Global,
+    shelf: &mut MemShelf,
+    words: &[&str],
+    (load, name): (u64, &str),
+) -> Result<(), OutOfMemory> {
+    shelf.fail_load(load)?;
+    let text = format!(in alloc; "shelf fault {name}\n")?;
+    says(rt, alloc, shelf, words, (Status::ShelfFault, text.as_str()))
+}
+
+fn names_worked_load(
+    rt: &impl Abort,
+    alloc: Global,
+    words: &[&str],
+    load: (u64, &str),
+) -> Result<(), OutOfMemory> {
+    let mut shelf = audit_shelf(alloc, "", "")?;
+    names_load(rt, alloc, &mut shelf, words, load)
 }
 
 /// The recipe is load 1, and the inputs are loads 2 to 5.
 #[test]
 fn a_failed_load_begins_no_session(rt: HostRuntime) -> Result<(), Fail> {
-    let alloc = rt.alloc();
     let names = ["a.toml", "copy.elf", "copy.hex0", "a.bin", "b.bin"];
-    for (load, name) in (1u64..).zip(names) {
-        let mut shelf = audit_shelf(alloc, "", "")?;
-        shelf.fail_load(load)?;
-        let text = format!(in alloc; "shelf fault {name}\n")?;
-        says(
-            &rt,
-            alloc,
-            &mut shelf,
-            &WORDS,
-            Status::ShelfFault,
-            text.as_str(),
-        )?;
+    for load in (1u64..).zip(names) {
+        names_worked_load(&rt, rt.alloc(), &WORDS, load)?;
     }
     Ok(())
 }
@@ -379,66 +489,89 @@ static REFUSALS: [Refusal; 13] = [
     ),
 ];
 
+fn begins_none(
+    rt: &impl Abort,
+    alloc: Global,
+    &(old, new, stage, status, text): &Refusal,
+) -> Result<(), OutOfMemory> {
+    let mut shelf = audit_shelf(alloc, old, new)?;
+    says(
+        rt,
+        alloc,
+        &mut shelf,
+        &["step", "a.toml", stage],
+        (status, text),
+    )
+}
+
 #[test]
 fn some_stages_begin_no_session(rt: HostRuntime) -> Result<(), Fail> {
-    let alloc = rt.alloc();
-    for &(old, new, stage, status, text) in &REFUSALS {
-        let mut shelf = audit_shelf(alloc, old, new)?;
-        let words = ["step", "a.toml", stage];
-        says(&rt, alloc, &mut shelf, &words, status, text)?;
+    for refusal in &REFUSALS {
+        begins_none(&rt, rt.alloc(), refusal)?;
     }
     Ok(())
+}
+
+/// What is changed in the recipe, into what, and the replies.
+static ALONE: [(&str, &str, &[&str]); 3] = [
+    (
+        "\"copy.hex0\"",
+        "\"altered.hex0\"",
+        &["end exited 0 step 32\n"],
+    ),
+    ("steps = 100000", "steps = 31", &["end spent step 31\n"]),
+    ("\"copy.elf\"", "\"exit.elf\"", &["end exited 0 step 3\n"]),
+];
+
+fn talks_alone(
+    rt: &impl Abort,
+    alloc: Global,
+    change: (&str, &str),
+    replies: &[&str],
+) -> Result<(), OutOfMemory> {
+    let talk = Talk {
+        words: &["step", "a.toml", "one"],
+        lines: b"go\n",
+        failing_line: 0,
+        failing_put: 0,
+        status: Status::Yes,
+        replies,
+        left: b"",
+    };
+    talks_over(rt, alloc, change, &talk)
 }
 
 /// What is behind the stage's start is not looked at: its own check, its limit, the comparison.
 #[test]
 fn a_stage_is_stepped_through_alone(rt: HostRuntime) -> Result<(), Fail> {
-    let alloc = rt.alloc();
-    let table: [(&str, &str, &[&str]); 3] = [
-        (
-            "\"copy.hex0\"",
-            "\"altered.hex0\"",
-            &["end exited 0 step 32\n"],
-        ),
-        ("steps = 100000", "steps = 31", &["end spent step 31\n"]),
-        ("\"copy.elf\"", "\"exit.elf\"", &["end exited 0 step 3\n"]),
-    ];
-    for (old, new, replies) in table {
-        let mut shelf = audit_shelf(alloc, old, new)?;
-        let mut out = MemSink::new(alloc);
-        let mut prompt = MemPrompt::new(alloc, b"go\n")?;
-        assert_eq!(&rt;
-            run(
-                alloc,
-                &["step", "a.toml", "one"],
-                &mut shelf,
-                &mut out,
-                &mut prompt
-            ),
-            Status::Yes
-        );
-        assert!(&rt; are_pieces(out.pieces(), replies), "{new}");
+    for (old, new, replies) in ALONE {
+        talks_alone(&rt, rt.alloc(), (old, new), replies)?;
     }
+    Ok(())
+}
+
+static OTHER_WORDS: [&[&str]; 7] = [
+    &["step"],
+    &["step", "a.toml"],
+    &["step", "a.toml", "two", "two"],
+    &["step", "", "two"],
+    &["step", "a\0b", "two"],
+    &["step", "a.toml", "two\0"],
+    &["steps", "a.toml", "two"],
+];
+
+fn judges_words(rt: &impl Abort, alloc: Global, shelf: &mut MemShelf) -> Result<(), OutOfMemory> {
+    for words in OTHER_WORDS {
+        says(rt, alloc, shelf, words, (Status::Usage, "usage\n"))?;
+    }
+    assert_eq!(rt; shelf.calls().len(), 0);
     Ok(())
 }
 
 #[test]
 fn the_words_of_a_session_are_judged(rt: HostRuntime) -> Result<(), Fail> {
-    let alloc = rt.alloc();
-    let mut shelf = audit_shelf(alloc, "", "")?;
-    let lines: [&[&str]; 7] = [
-        &["step"],
-        &["step", "a.toml"],
-        &["step", "a.toml", "two", "two"],
-        &["step", "", "two"],
-        &["step", "a\0b", "two"],
-        &["step", "a.toml", "two\0"],
-        &["steps", "a.toml", "two"],
-    ];
-    for words in lines {
-        says(&rt, alloc, &mut shelf, words, Status::Usage, "usage\n")?;
-    }
-    assert_eq!(&rt; shelf.calls().len(), 0);
+    let mut shelf = audit_shelf(rt.alloc(), "", "")?;
+    judges_words(&rt, rt.alloc(), &mut shelf)?;
     Ok(())
 }
 
@@ -466,78 +599,86 @@ static DEMOS: [Shown; 10] = [
     (&["demo", "1", "1"], Status::Usage, "usage\n"),
 ];
 
+fn demonstrates(
+    rt: &impl Abort,
+    alloc: Global,
+    &(words, status, text): &Shown,
+) -> Result<(), OutOfMemory> {
+    let mut shelf = audit_shelf(alloc, "", "")?;
+    says(rt, alloc, &mut shelf, words, (status, text))
+}
+
 #[test]
 fn demonstrations_are_made(rt: HostRuntime) -> Result<(), Fail> {
-    let alloc = rt.alloc();
-    for &(words, status, text) in &DEMOS {
-        let mut shelf = audit_shelf(alloc, "", "")?;
-        says(&rt, alloc, &mut shelf, words, status, text)?;
+    for shown in &DEMOS {
+        demonstrates(&rt, rt.alloc(), shown)?;
     }
     Ok(())
 }
 
-/// Whether a call is a load of this name, of at most so many bytes.
-fn is_load(call: &Call, wanted: (&str, u64)) -> bool {
-    match call {
-        Call::Load { name, limit } => name.as_slice() == wanted.0.as_bytes() && *limit == wanted.1,
-        Call::Save { .. } => false,
-    }
+fn loads_two(rt: &impl Abort, alloc: Global, shelf: &mut MemShelf) -> Result<(), OutOfMemory> {
+    let said = (Status::Yes, "demo 5 steps 64 equal yes\n");
+    says(rt, alloc, shelf, &["demo", "5"], said)?;
+    let wanted = [
+        ("copy.elf", Some(268_435_456)),
+        ("copy.hex0", Some(268_435_456)),
+    ];
+    assert!(rt; are_calls(shelf.calls(), &wanted));
+    Ok(())
 }
 
 /// A demonstration loads two files, and saves none.
 #[test]
 fn a_demonstration_loads_two_files(rt: HostRuntime) -> Result<(), Fail> {
-    let alloc = rt.alloc();
-    let mut shelf = audit_shelf(alloc, "", "")?;
-    let mut out = MemSink::new(alloc);
-    let mut prompt = MemPrompt::new(alloc, &[])?;
-    assert_eq!(&rt;
-        run(alloc, &["demo", "5"], &mut shelf, &mut out, &mut prompt),
-        Status::Yes
-    );
-    let wanted = [("copy.elf", 268_435_456), ("copy.hex0", 268_435_456)];
-    assert_eq!(&rt; shelf.calls().len(), wanted.len());
-    assert!(&rt;
-        shelf
-            .calls()
-            .iter()
-            .zip(wanted)
-            .all(|(call, load)| is_load(call, load))
-    );
+    let mut shelf = audit_shelf(rt.alloc(), "", "")?;
+    loads_two(&rt, rt.alloc(), &mut shelf)?;
     Ok(())
+}
+
+/// The words of a demonstration that fails.
+const DEMO: &[&str] = &["demo", "1"];
+
+/// Sets a file, and then no demonstration is made.
+fn fails_over(
+    rt: &impl Abort,
+    alloc: Global,
+    shelf: &mut MemShelf,
+    (name, content): (&str, &[u8]),
+    ending: (Status, &str),
+) -> Result<(), OutOfMemory> {
+    shelf.set(name, content)?;
+    says(rt, alloc, shelf, DEMO, ending)
+}
+
+fn fails_over_worked(
+    rt: &impl Abort,
+    alloc: Global,
+    file: (&str, &[u8]),
+    ending: (Status, &str),
+) -> Result<(), OutOfMemory> {
+    let mut shelf = audit_shelf(alloc, "", "")?;
+    fails_over(rt, alloc, &mut shelf, file, ending)
+}
+
+/// Nothing is on the shelf, and then the program alone.
+fn fails_bare(rt: &impl Abort, alloc: Global, shelf: &mut MemShelf) -> Result<(), OutOfMemory> {
+    let absent = (Status::FileRefused, "file refused copy.elf absent\n");
+    says(rt, alloc, shelf, DEMO, absent)?;
+    let absent = (Status::FileRefused, "file refused copy.hex0 absent\n");
+    fails_over(rt, alloc, shelf, ("copy.elf", &EXIT), absent)
 }
 
 /// Another program, or another source, stands in a demonstration's place.
 #[test]
 fn demonstrations_fail(rt: HostRuntime) -> Result<(), Fail> {
     let alloc = rt.alloc();
-    let mut shelf = audit_shelf(alloc, "", "")?;
-    let words = ["demo", "1"];
-    shelf.set("copy.elf", &EXIT)?;
-    let text = "run failed one no-output step 3\n";
-    says(&rt, alloc, &mut shelf, &words, Status::RunFailed, text)?;
-    shelf = audit_shelf(alloc, "", "")?;
-    shelf.set("copy.hex0", b"00")?;
-    let text = "check failed one differs 0\n";
-    says(&rt, alloc, &mut shelf, &words, Status::CheckFailed, text)?;
+    let failed = (Status::RunFailed, "run failed one no-output step 3\n");
+    fails_over_worked(&rt, alloc, ("copy.elf", &EXIT), failed)?;
+    let failed = (Status::CheckFailed, "check failed one differs 0\n");
+    fails_over_worked(&rt, alloc, ("copy.hex0", b"00"), failed)?;
     let mut bare = MemShelf::new(alloc);
-    let text = "file refused copy.elf absent\n";
-    says(&rt, alloc, &mut bare, &words, Status::FileRefused, text)?;
-    bare.set("copy.elf", &EXIT)?;
-    let text = "file refused copy.hex0 absent\n";
-    says(&rt, alloc, &mut bare, &words, Status::FileRefused, text)?;
-    for (load, name) in [(1, "copy.elf"), (2, "copy.hex0")] {
-        let mut shelf = audit_shelf(alloc, "", "")?;
-        shelf.fail_load(load)?;
-        let text = format!(in alloc; "shelf fault {name}\n")?;
-        says(
-            &rt,
-            alloc,
-            &mut shelf,
-            &words,
-            Status::ShelfFault,
-            text.as_str(),
-        )?;
-    }
+    fails_bare(&rt, alloc, &mut bare)?;
+    names_worked_load(&rt, alloc, DEMO, (1, "copy.elf"))?;
+    names_worked_load(&rt, alloc, DEMO, (2, "copy.hex0"))?;
     Ok(())
 }

@@ -2,9 +2,10 @@
 //! What they come to was written down from docs/reference/verify.md and docs/reference/report.md.
 
 use crate::audits::{REPORT, audit_shelf};
-use crate::worked::{EXIT, run, with};
+use crate::scenes::{Step, content, ends, over_worked, says, unheard};
+use crate::worked::{EXIT, with};
 use ddc_app::Status;
-use ddc_base::{Bytes, Call, MemShelf, MemSink, OutOfMemory};
+use ddc_base::{Bytes, MemShelf, OutOfMemory};
 use std::alloc::Global;
 use std::process::Abort;
 use std::test::Fail;
@@ -14,16 +15,9 @@ fn verifies(
     rt: &impl Abort,
     alloc: Global,
     shelf: &mut MemShelf,
-    status: Status,
-    text: &str,
+    ending: (Status, &str),
 ) -> Result<(), OutOfMemory> {
-    let mut out = MemSink::new(alloc);
-    assert_eq!(rt;
-        run(alloc, &["verify", "a.toml", "r"], shelf, &mut out)?,
-        status
-    );
-    assert_eq!(rt; out.written(), text.as_bytes(), "{text}");
-    Ok(())
+    says(rt, alloc, shelf, &["verify", "a.toml", "r"], ending)
 }
 
 /// The status of a text that is no yes.
@@ -35,12 +29,23 @@ fn status_of(text: &str) -> Status {
     }
 }
 
+/// Adds a line with one piece replaced.
+fn put_changed(
+    alloc: Global,
+    text: &mut Bytes,
+    line: &str,
+    old: &str,
+    new: &str,
+) -> Result<(), OutOfMemory> {
+    text.extend(with(alloc, line, old, new)?.as_bytes())
+}
+
 /// The report with one piece of the line of a number, from 1, replaced.
 fn altered(alloc: Global, number: usize, old: &str, new: &str) -> Result<Bytes, OutOfMemory> {
     let mut text = Bytes::new(alloc);
     for (index, line) in REPORT.lines().enumerate() {
         if index + 1 == number {
-            text.extend(with(alloc, line, old, new)?.as_bytes())?;
+            put_changed(alloc, &mut text, line, old, new)?;
         } else {
             text.extend(line.as_bytes())?;
         }
@@ -155,13 +160,22 @@ static FIELDS: [Row; 71] = [
     (22, "end", "end\n", "report line 23\n"),
 ];
 
+/// Replays the report with one change.
+fn names_field(
+    rt: &impl Abort,
+    alloc: Global,
+    shelf: &mut MemShelf,
+    &(number, old, new, text): &Row,
+) -> Result<(), OutOfMemory> {
+    shelf.set("r", altered(alloc, number, old, new)?.as_slice())?;
+    verifies(rt, alloc, shelf, (status_of(text), text))
+}
+
 #[test]
 fn altered_fields_are_named(rt: HostRuntime) -> Result<(), Fail> {
-    let alloc = rt.alloc();
-    let mut shelf = audit_shelf(alloc, "", "")?;
-    for &(number, old, new, text) in &FIELDS {
-        shelf.set("r", altered(alloc, number, old, new)?.as_slice())?;
-        verifies(&rt, alloc, &mut shelf, status_of(text), text)?;
+    let mut shelf = audit_shelf(rt.alloc(), "", "")?;
+    for row in &FIELDS {
+        names_field(&rt, rt.alloc(), &mut shelf, row)?;
     }
     Ok(())
 }
@@ -276,12 +290,23 @@ static SWAPPED: [&str; 21] = [
     "report line 21\n",
 ];
 
+/// Tries an edit of the line of a number.
+fn tries_line(
+    rt: &impl Abort,
+    alloc: Global,
+    shelf: &mut MemShelf,
+    (edit, number): (Edit, usize),
+    text: &str,
+) -> Result<(), OutOfMemory> {
+    shelf.set("r", edited(alloc, edit, number)?.as_slice())?;
+    verifies(rt, alloc, shelf, (status_of(text), text))
+}
+
 /// Tries one edit of each line of the report.
 fn tries(rt: &impl Abort, alloc: Global, edit: Edit, texts: &[&str]) -> Result<(), OutOfMemory> {
     let mut shelf = audit_shelf(alloc, "", "")?;
     for (index, text) in texts.iter().enumerate() {
-        shelf.set("r", edited(alloc, edit, index + 1)?.as_slice())?;
-        verifies(rt, alloc, &mut shelf, status_of(text), text)?;
+        tries_line(rt, alloc, &mut shelf, (edit, index + 1), text)?;
     }
     Ok(())
 }
@@ -311,38 +336,70 @@ static OTHER_ORDERS: [([usize; 22], &str); 2] = [
     ),
 ];
 
+/// The lines of these numbers.
+fn ordered(alloc: Global, numbers: &[usize]) -> Result<Bytes, OutOfMemory> {
+    let mut report = Bytes::new(alloc);
+    for number in numbers {
+        put(&mut report, *number)?;
+    }
+    Ok(report)
+}
+
+/// Replays a report of these lines.
+fn tries_order(
+    rt: &impl Abort,
+    alloc: Global,
+    shelf: &mut MemShelf,
+    numbers: &[usize],
+    text: &str,
+) -> Result<(), OutOfMemory> {
+    shelf.set("r", ordered(alloc, numbers)?.as_slice())?;
+    verifies(rt, alloc, shelf, (Status::Refuted, text))
+}
+
 #[test]
 fn records_are_those_of_their_stages(rt: HostRuntime) -> Result<(), Fail> {
-    let alloc = rt.alloc();
-    let mut shelf = audit_shelf(alloc, "", "")?;
+    let mut shelf = audit_shelf(rt.alloc(), "", "")?;
     for (numbers, text) in &OTHER_ORDERS {
-        let mut report = Bytes::new(alloc);
-        for number in numbers {
-            put(&mut report, *number)?;
-        }
-        shelf.set("r", report.as_slice())?;
-        verifies(&rt, alloc, &mut shelf, Status::Refuted, text)?;
+        tries_order(&rt, rt.alloc(), &mut shelf, numbers, text)?;
     }
     Ok(())
 }
 
+/// A binary, the status and the text.
+static BINARIES: [(&[u8], Status, &str); 3] = [
+    (b"abc", Status::Yes, "yes\nequal two bin 3\n"),
+    (b"abd", Status::Differs, "differs two bin 2 3 3\n"),
+    (b"", Status::Differs, "differs two bin 0 3 0\n"),
+];
+
+/// Makes the audit with a binary, and replays its report.
+fn is_true(
+    rt: &impl Abort,
+    alloc: Global,
+    shelf: &mut MemShelf,
+    binary: &[u8],
+    ending: (Status, &str),
+) -> Result<(), OutOfMemory> {
+    shelf.set("b.bin", binary)?;
+    assert_eq!(rt; ends(alloc, shelf, &["audit", "a.toml", "r"])?, ending.0);
+    verifies(rt, alloc, shelf, ending)
+}
+
+fn is_true_of(
+    rt: &impl Abort,
+    alloc: Global,
+    binary: &[u8],
+    ending: (Status, &str),
+) -> Result<(), OutOfMemory> {
+    let mut shelf = audit_shelf(alloc, "", "")?;
+    is_true(rt, alloc, &mut shelf, binary, ending)
+}
+
 #[test]
 fn true_reports_are_verified(rt: HostRuntime) -> Result<(), Fail> {
-    let alloc = rt.alloc();
-    let table: [(&[u8], Status, &str); 3] = [
-        (b"abc", Status::Yes, "yes\nequal two bin 3\n"),
-        (b"abd", Status::Differs, "differs two bin 2 3 3\n"),
-        (b"", Status::Differs, "differs two bin 0 3 0\n"),
-    ];
-    for (binary, status, text) in table {
-        let mut shelf = audit_shelf(alloc, "", "")?;
-        shelf.set("b.bin", binary)?;
-        let mut out = MemSink::new(alloc);
-        assert_eq!(rt;
-            run(alloc, &["audit", "a.toml", "r"], &mut shelf, &mut out)?,
-            status
-        );
-        verifies(&rt, alloc, &mut shelf, status, text)?;
+    for &(binary, status, text) in &BINARIES {
+        is_true_of(&rt, rt.alloc(), binary, (status, text))?;
     }
     Ok(())
 }
@@ -358,19 +415,40 @@ static COMPARISONS: [(&str, Status, &str); 7] = [
     ("equal 2", Status::Refuted, "refuted compare 0\n"),
 ];
 
-#[test]
-fn comparisons_are_judged(rt: HostRuntime) -> Result<(), Fail> {
-    let alloc = rt.alloc();
-    let mut shelf = audit_shelf(alloc, "", "")?;
-    shelf.set("b.bin", b"abd")?;
+/// The report with the line of that binary.
+fn report_of_abd(alloc: Global) -> Result<String, OutOfMemory> {
     let old = "input bin 3 ba7816bf8f01cfea414140de5dae2223b00361a396177a9cb410ff61f20015ad";
     let new = "input bin 3 a52d159f262b2c6ddb724a61840befc36eb30c88877a4030b65cbe86298449c9";
-    let report = with(alloc, REPORT, old, new)?;
-    for (compare, status, text) in COMPARISONS {
-        let altered = with(alloc, report.as_str(), "equal 3", compare)?;
-        shelf.set("r", altered.as_bytes())?;
-        verifies(&rt, alloc, &mut shelf, status, text)?;
+    with(alloc, REPORT, old, new)
+}
+
+/// Replays that report with a comparison.
+fn compares(
+    rt: &impl Abort,
+    alloc: Global,
+    shelf: &mut MemShelf,
+    compare: &str,
+    ending: (Status, &str),
+) -> Result<(), OutOfMemory> {
+    let report = report_of_abd(alloc)?;
+    let altered = with(alloc, report.as_str(), "equal 3", compare)?;
+    shelf.set("r", altered.as_bytes())?;
+    verifies(rt, alloc, shelf, ending)
+}
+
+/// Replays that report with each comparison.
+fn compares_all(rt: &impl Abort, alloc: Global, shelf: &mut MemShelf) -> Result<(), OutOfMemory> {
+    shelf.set("b.bin", b"abd")?;
+    for &(compare, status, text) in &COMPARISONS {
+        compares(rt, alloc, shelf, compare, (status, text))?;
     }
+    Ok(())
+}
+
+#[test]
+fn comparisons_are_judged(rt: HostRuntime) -> Result<(), Fail> {
+    let mut shelf = audit_shelf(rt.alloc(), "", "")?;
+    compares_all(&rt, rt.alloc(), &mut shelf)?;
     Ok(())
 }
 
@@ -383,22 +461,48 @@ static CHANGED: [(&str, &str); 5] = [
     ("b.bin", "refuted input 4\n"),
 ];
 
+/// Adds a byte to a file.
+fn lengthen(alloc: Global, shelf: &mut MemShelf, name: &str) -> Result<(), OutOfMemory> {
+    let mut longer = content(alloc, shelf, name)?;
+    longer.push(b'\n')?;
+    shelf.set(name, longer.as_slice())
+}
+
+/// Replays the report over a changed file.
+fn names_file(
+    rt: &impl Abort,
+    alloc: Global,
+    shelf: &mut MemShelf,
+    name: &str,
+    text: &str,
+) -> Result<(), OutOfMemory> {
+    shelf.set("r", REPORT.as_bytes())?;
+    lengthen(alloc, shelf, name)?;
+    verifies(rt, alloc, shelf, (Status::Refuted, text))
+}
+
+fn names_changed(
+    rt: &impl Abort,
+    alloc: Global,
+    name: &str,
+    text: &str,
+) -> Result<(), OutOfMemory> {
+    let mut shelf = audit_shelf(alloc, "", "")?;
+    names_file(rt, alloc, &mut shelf, name, text)
+}
+
 #[test]
 fn changed_files_are_named(rt: HostRuntime) -> Result<(), Fail> {
-    let alloc = rt.alloc();
     for (name, text) in CHANGED {
-        let mut shelf = audit_shelf(alloc, "", "")?;
-        shelf.set("r", REPORT.as_bytes())?;
-        let mut content = Bytes::from_slice(alloc, shelf.get(name).unwrap_or(&[]))?;
-        content.push(b'\n')?;
-        shelf.set(name, content.as_slice())?;
-        verifies(&rt, alloc, &mut shelf, Status::Refuted, text)?;
+        names_changed(&rt, rt.alloc(), name, text)?;
     }
     Ok(())
 }
 
 /// Stage one's program exits at step 3 and leaves no `out`: with 0, or with 7. The line of its file, its recorded step, and what is printed.
-static EARLIER_EXITS: [(u8, &str, &str, &str); 5] = [
+type Exit = (u8, &'static str, &'static str, &'static str);
+
+static EARLIER_EXITS: [Exit; 5] = [
     (
         0,
         "input prog 132 3b61506bee017bee5e3842a9fac88b3257a2da89ab42a6dd6db5fd86ca0fa559",
@@ -431,150 +535,155 @@ static EARLIER_EXITS: [(u8, &str, &str, &str); 5] = [
     ),
 ];
 
+/// Sets a program that exits with this status.
+fn set_program(shelf: &mut MemShelf, status: u8) -> Result<(), OutOfMemory> {
+    let mut program = EXIT;
+    // the immediate of `addi x10, x0, STATUS`, from its bit 20 on
+    program[122] = status << 4;
+    shelf.set("copy.elf", &program)
+}
+
+/// The report with this line of the program's file, and this step.
+fn report_of_exit(alloc: Global, line: &str, step: &str) -> Result<String, OutOfMemory> {
+    let old = "input prog 232 da8dcb705eb55cbf9f4852135f93a902f4584b973901f37abb829fd299d0b026";
+    let report = with(alloc, REPORT, old, line)?;
+    let stage = format!(in alloc; "stage one {step}\n")?;
+    with(alloc, report.as_str(), "stage one 32\n", stage.as_str())
+}
+
+/// Replays that report over that program.
+fn judges_exit(
+    rt: &impl Abort,
+    alloc: Global,
+    shelf: &mut MemShelf,
+    &(status, line, step, text): &Exit,
+) -> Result<(), OutOfMemory> {
+    set_program(shelf, status)?;
+    shelf.set("r", report_of_exit(alloc, line, step)?.as_bytes())?;
+    verifies(rt, alloc, shelf, (Status::Refuted, text))
+}
+
 #[test]
 fn exits_are_judged(rt: HostRuntime) -> Result<(), Fail> {
-    let alloc = rt.alloc();
-    let old = "input prog 232 da8dcb705eb55cbf9f4852135f93a902f4584b973901f37abb829fd299d0b026";
-    for (status, line, step, text) in EARLIER_EXITS {
-        let mut shelf = audit_shelf(alloc, "", "")?;
-        let mut program = EXIT;
-        // the immediate of `addi x10, x0, STATUS`, from its bit 20 on
-        program[122] = status << 4;
-        shelf.set("copy.elf", &program)?;
-        let report = with(alloc, REPORT, old, line)?;
-        let stage = format!(in alloc; "stage one {step}\n")?;
-        let report = with(alloc, report.as_str(), "stage one 32\n", stage.as_str())?;
-        shelf.set("r", report.as_bytes())?;
-        verifies(&rt, alloc, &mut shelf, Status::Refuted, text)?;
+    let mut shelf = audit_shelf(rt.alloc(), "", "")?;
+    for exit in &EARLIER_EXITS {
+        judges_exit(&rt, rt.alloc(), &mut shelf, exit)?;
     }
     Ok(())
 }
 
-#[test]
-fn texts_that_are_no_report(rt: HostRuntime) -> Result<(), Fail> {
-    let alloc = rt.alloc();
-    let mut shelf = audit_shelf(alloc, "", "")?;
+/// The report with other ends of its lines.
+fn ended_otherwise(alloc: Global) -> Result<Bytes, OutOfMemory> {
     let mut ended = Bytes::new(alloc);
     for line in REPORT.lines() {
         ended.extend(line.as_bytes())?;
         ended.extend(b"\r\n")?;
     }
-    shelf.set("r", ended.as_slice())?;
-    verifies(
-        &rt,
-        alloc,
-        &mut shelf,
-        Status::ReportRefused,
-        "report line 1\n",
-    )?;
+    Ok(ended)
+}
+
+/// Replays two texts that begin no report.
+fn refuses(rt: &impl Abort, alloc: Global, shelf: &mut MemShelf) -> Result<(), OutOfMemory> {
+    let refused = (Status::ReportRefused, "report line 1\n");
+    shelf.set("r", ended_otherwise(alloc)?.as_slice())?;
+    verifies(rt, alloc, shelf, refused)?;
     shelf.set("r", b"")?;
-    verifies(
-        &rt,
-        alloc,
-        &mut shelf,
-        Status::ReportRefused,
-        "report line 1\n",
-    )?;
+    verifies(rt, alloc, shelf, refused)
+}
+
+#[test]
+fn texts_that_are_no_report(rt: HostRuntime) -> Result<(), Fail> {
+    let mut shelf = audit_shelf(rt.alloc(), "", "")?;
+    refuses(&rt, rt.alloc(), &mut shelf)?;
     Ok(())
+}
+
+static FAULTS: [(u64, &str); 6] = [
+    (1, "shelf fault a.toml\n"),
+    (2, "shelf fault r\n"),
+    (3, "shelf fault copy.elf\n"),
+    (4, "shelf fault copy.hex0\n"),
+    (5, "shelf fault a.bin\n"),
+    (6, "shelf fault b.bin\n"),
+];
+
+fn passes(
+    rt: &impl Abort,
+    alloc: Global,
+    shelf: &mut MemShelf,
+    load: u64,
+    text: &str,
+) -> Result<(), OutOfMemory> {
+    shelf.set("r", REPORT.as_bytes())?;
+    shelf.fail_load(load)?;
+    verifies(rt, alloc, shelf, (Status::ShelfFault, text))?;
+    verifies(rt, alloc, shelf, (Status::Yes, "yes\nequal two bin 3\n"))?;
+    unheard(rt, alloc, shelf, &["verify", "a.toml", "r"])
+}
+
+/// The same over files of its own.
+fn fault_passes(rt: &impl Abort, alloc: Global, load: u64, text: &str) -> Result<(), OutOfMemory> {
+    let mut shelf = audit_shelf(alloc, "", "")?;
+    passes(rt, alloc, &mut shelf, load, text)
 }
 
 /// The recipe is load 1, the report load 2, and the inputs are loads 3 to 6.
 #[test]
 fn faults_are_said_and_pass(rt: HostRuntime) -> Result<(), Fail> {
-    let alloc = rt.alloc();
-    let table: [(u64, &str); 6] = [
-        (1, "shelf fault a.toml\n"),
-        (2, "shelf fault r\n"),
-        (3, "shelf fault copy.elf\n"),
-        (4, "shelf fault copy.hex0\n"),
-        (5, "shelf fault a.bin\n"),
-        (6, "shelf fault b.bin\n"),
-    ];
-    for (failing_load, text) in table {
-        let mut shelf = audit_shelf(alloc, "", "")?;
-        shelf.set("r", REPORT.as_bytes())?;
-        shelf.fail_load(failing_load)?;
-        verifies(&rt, alloc, &mut shelf, Status::ShelfFault, text)?;
-        verifies(
-            &rt,
-            alloc,
-            &mut shelf,
-            Status::Yes,
-            "yes\nequal two bin 3\n",
-        )?;
-        let mut out = MemSink::new(alloc);
-        out.fail_put(1)?;
-        assert_eq!(rt;
-            run(alloc, &["verify", "a.toml", "r"], &mut shelf, &mut out)?,
-            Status::OutFault
-        );
+    for (load, text) in FAULTS {
+        fault_passes(&rt, rt.alloc(), load, text)?;
     }
     Ok(())
 }
 
-/// Whether a call is a load of this name, of at most so many bytes.
-fn is_load(call: &Call, wanted: (&str, u64)) -> bool {
-    match call {
-        Call::Load { name, limit } => name.as_slice() == wanted.0.as_bytes() && *limit == wanted.1,
-        Call::Save { .. } => false,
-    }
-}
+static LOADS: [Step; 3] = [
+    Step::Set("r", REPORT),
+    Step::Run(
+        &["verify", "a.toml", "r"],
+        Status::Yes,
+        "yes\nequal two bin 3\n",
+    ),
+    Step::Called(&[
+        ("a.toml", Some(1_048_576)),
+        ("r", Some(1_073_741_824)),
+        ("copy.elf", Some(268_435_456)),
+        ("copy.hex0", Some(268_435_456)),
+        ("a.bin", Some(268_435_456)),
+        ("b.bin", Some(268_435_456)),
+    ]),
+];
 
 #[test]
 fn loads_come_in_order(rt: HostRuntime) -> Result<(), Fail> {
-    let alloc = rt.alloc();
-    let mut shelf = audit_shelf(alloc, "", "")?;
-    shelf.set("r", REPORT.as_bytes())?;
-    verifies(
-        &rt,
-        alloc,
-        &mut shelf,
-        Status::Yes,
-        "yes\nequal two bin 3\n",
-    )?;
-    let loads: [(&str, u64); 6] = [
-        ("a.toml", 1_048_576),
-        ("r", 1_073_741_824),
-        ("copy.elf", 268_435_456),
-        ("copy.hex0", 268_435_456),
-        ("a.bin", 268_435_456),
-        ("b.bin", 268_435_456),
-    ];
-    assert_eq!(rt; shelf.calls().len(), 6);
-    for (call, wanted) in shelf.calls().iter().zip(loads) {
-        assert!(rt; is_load(call, wanted));
-    }
+    over_worked(&rt, rt.alloc(), &LOADS)?;
     Ok(())
 }
 
+static WORDS: [Step; 3] = [
+    Step::Usage(&[
+        &["verify"],
+        &["verify", "a.toml"],
+        &["verify", "a.toml", "r", "r"],
+        &["verify", "a.toml", "a.toml"],
+        &["verify", "a.toml", ""],
+        &["verify", "a.toml", "b.bin"],
+        &["verify", "a.toml", "./a.toml"],
+        &["verify", "a.toml", "././b.bin"],
+    ]),
+    Step::Run(
+        &["verify", "a.toml", "r"],
+        Status::FileRefused,
+        "file refused r absent\n",
+    ),
+    Step::Run(
+        &["verify", "a.bin", "r"],
+        Status::RecipeRefused,
+        "recipe refused 1\n",
+    ),
+];
+
 #[test]
 fn the_words_of_verify_are_judged(rt: HostRuntime) -> Result<(), Fail> {
-    let alloc = rt.alloc();
-    let mut shelf = audit_shelf(alloc, "", "")?;
-    let table: [(&[&str], Status, &str); 10] = [
-        (&["verify"], Status::Usage, "usage\n"),
-        (&["verify", "a.toml"], Status::Usage, "usage\n"),
-        (&["verify", "a.toml", "r", "r"], Status::Usage, "usage\n"),
-        (&["verify", "a.toml", "a.toml"], Status::Usage, "usage\n"),
-        (&["verify", "a.toml", ""], Status::Usage, "usage\n"),
-        (&["verify", "a.toml", "b.bin"], Status::Usage, "usage\n"),
-        (&["verify", "a.toml", "./a.toml"], Status::Usage, "usage\n"),
-        (&["verify", "a.toml", "././b.bin"], Status::Usage, "usage\n"),
-        (
-            &["verify", "a.toml", "r"],
-            Status::FileRefused,
-            "file refused r absent\n",
-        ),
-        (
-            &["verify", "a.bin", "r"],
-            Status::RecipeRefused,
-            "recipe refused 1\n",
-        ),
-    ];
-    for (words, status, text) in table {
-        let mut out = MemSink::new(alloc);
-        assert_eq!(rt; run(alloc, words, &mut shelf, &mut out)?, status);
-        assert_eq!(rt; out.written(), text.as_bytes());
-    }
+    over_worked(&rt, rt.alloc(), &WORDS)?;
     Ok(())
 }
