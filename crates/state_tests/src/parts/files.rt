@@ -1,6 +1,9 @@
 //! Files as lists, and files made of lists. What is wanted follows from docs/reference/files.md.
 
+ghost use Rattle.std.specs.Prelude.{length, ◌≡◌, OnOk, []};
+
 use checkpoints::file_parts::*;
+use ddc_base::OutOfMemory;
 use mem_files::*;
 use std::alloc::Global;
 use std::process::Abort;
@@ -29,62 +32,106 @@ const APPENDING: Slot = Slot::File {
     },
 };
 
-/// A named file, and one that is open and lost its name: 66 is O_RDWR with O_CREAT, 1024 O_APPEND.
-#[test]
-fn lists_files(rt: HostRuntime) -> Result<(), Fail> {
-    let alloc = rt.alloc();
-    let mut files = Files::new(alloc)?;
+/// Whether the file from a number on is this.
+fn is_file(files: &Files, from: u32, number: u32, name: Option<&[u8]>, content: &[u8]) -> bool {
+    match files.file_from(from) {
+        Some(file) => file.number == number && file.name == name && file.content == content,
+        None => false,
+    }
+}
+
+/// Makes a named file, and one that is open and lost its name: 66 is O_RDWR with O_CREAT, 1024 O_APPEND.
+fn fill(rt: &impl Abort, files: &mut Files) {
     assert!(rt; files.place(b"a", b"xyz").is_ok());
-    assert_eq!(rt; open(&rt, &mut files, b"b", 66 + 1024), 3);
-    remove(&rt, &mut files, b"b");
-    let first = files.file_from(0).ok_or("a first file")?;
-    assert_eq!(rt; first.number, 0);
-    assert!(rt; first.name == Some(b"a"));
-    assert!(rt; first.content == b"xyz".as_slice());
-    let second = files.file_from(1).ok_or("a second file")?;
-    assert_eq!(rt; second.number, 1);
-    assert!(rt; second.name.is_none());
-    assert!(rt; second.content.is_empty());
+    assert_eq!(rt; open(rt, files, b"b", 66 + 1024), 3);
+    remove(rt, files, b"b");
+}
+
+fn check_lists(rt: &impl Abort, files: &Files) {
+    assert!(rt; is_file(files, 0, 0, Some(b"a"), b"xyz"));
+    assert!(rt; is_file(files, 1, 1, None, b""));
     assert!(rt; files.file_from(2).is_none());
     assert_eq!(rt; files.slot_from(0), Some((0, Slot::Input)));
     assert_eq!(rt; files.slot_from(3), Some((3, APPENDING)));
     assert_eq!(rt; files.slot_from(4), None);
-    Ok(())
+}
+
+#[test]
+fn lists_files(rt: HostRuntime) -> Result<(), Fail> {
+    let mut files = Files::new(rt.alloc())?;
+    fill(&rt, &mut files);
+    Ok(check_lists(&rt, &files))
+}
+
+/// Adds the same files, with other bytes and streams.
+fn put_parts(parts: &mut FileParts<'static>) -> Result<(), OutOfMemory>
+    requires files { parts.old.files ≡ [] }
+    requires slots { parts.old.slots ≡ [] }
+    requires streams { parts.old.streams ≡ [] }
+    ensures { OnOk result (length parts.new.streams ≡ 2) }
+{
+    parts.push_file(0, Some(b"a"), b"xyz")?;
+    parts.push_file(1, None, b"1")?;
+    parts.push_slot(3, APPENDING)?;
+    parts.push_stream(b"out")?;
+    parts.push_stream(b"")
+}
+
+fn check_made(rt: &impl Abort, files: &mut Files) {
+    assert!(rt; files.content(b"a") == Some(b"xyz"));
+    assert!(rt; files.stream(1) == b"out".as_slice());
+    assert!(rt; files.ready(3, 9) == Ok(b"1"));
+    assert_eq!(rt; files.close(3), Ok(()));
+    assert_eq!(rt; open(rt, files, b"a", 0), 0);
+}
+
+/// Whether files are made of these parts, which are then used.
+fn are_made(rt: &impl Abort, alloc: Global, parts: &FileParts<'_>) -> bool
+    requires { length parts.now.streams ≡ 2 }
+{
+    match restore(alloc, parts) {
+        Ok(mut files) => {
+            check_made(rt, &mut files);
+            true
+        }
+        Err(_) => false,
+    }
 }
 
 /// The same files made of lists, and used.
 #[test]
 fn makes_files(rt: HostRuntime) -> Result<(), Fail> {
-    let alloc = rt.alloc();
-    let mut parts = FileParts::new(alloc);
-    parts.push_file(0, Some(b"a"), b"xyz")?;
-    parts.push_file(1, None, b"1")?;
-    parts.push_slot(3, APPENDING)?;
-    parts.push_stream(b"out")?;
-    parts.push_stream(b"")?;
-    let Ok(mut files) = restore(alloc, &parts) else {
-        return Err("not restored".into());
-    };
-    assert!(rt; files.content(b"a") == Some(b"xyz"));
-    assert!(rt; files.stream(1) == b"out".as_slice());
-    assert!(rt; files.ready(3, 9) == Ok(b"1"));
-    assert_eq!(rt; files.close(3), Ok(()));
-    assert_eq!(rt; open(&rt, &mut files, b"a", 0), 0);
+    let mut parts = FileParts::new(rt.alloc());
+    put_parts(&mut parts)?;
+    assert!(rt; are_made(&rt, rt.alloc(), &parts));
     Ok(())
 }
 
+/// Why parts are refused.
+fn refusal(alloc: Global, parts: &FileParts<'_>) -> Option<RestoreRefusal>
+    requires { length parts.now.streams ≡ 2 }
+{
+    restore(alloc, parts).err()
+}
+
+/// Adds one file and one descriptor, and two streams.
+fn put_row(parts: &mut FileParts<'static>, row: &Row) -> Result<(), OutOfMemory>
+    requires files { parts.old.files ≡ [] }
+    requires slots { parts.old.slots ≡ [] }
+    requires streams { parts.old.streams ≡ [] }
+    ensures { OnOk result (length parts.new.streams ≡ 2) }
+{
+    parts.push_file(row.0, row.1, b"x")?;
+    parts.push_slot(row.2, row.3)?;
+    parts.push_stream(b"")?;
+    parts.push_stream(b"")
+}
+
 /// Why one file and one descriptor are refused.
-fn refusal_of(alloc: Global, row: &Row) -> Result<Option<RestoreRefusal>, Fail> {
-    let (number, name, fd, slot, _) = *row;
+fn refusal_of(alloc: Global, row: &Row) -> Result<Option<RestoreRefusal>, OutOfMemory> {
     let mut parts = FileParts::new(alloc);
-    parts.push_file(number, name, b"x")?;
-    parts.push_slot(fd, slot)?;
-    parts.push_stream(b"")?;
-    parts.push_stream(b"")?;
-    match restore(alloc, &parts) {
-        Ok(_) => Ok(None),
-        Err(refusal) => Ok(Some(refusal)),
-    }
+    put_row(&mut parts, row)?;
+    Ok(refusal(alloc, &parts))
 }
 
 type Row = (
@@ -164,19 +211,24 @@ fn refuses_parts(rt: HostRuntime) -> Result<(), Fail> {
     Ok(())
 }
 
-/// A name that stands twice.
-#[test]
-fn refuses_a_name_twice(rt: HostRuntime) -> Result<(), Fail> {
-    let alloc = rt.alloc();
-    let mut parts = FileParts::new(alloc);
+/// Adds a name that stands twice.
+fn put_twice(parts: &mut FileParts<'static>) -> Result<(), OutOfMemory>
+    requires files { parts.old.files ≡ [] }
+    requires slots { parts.old.slots ≡ [] }
+    requires streams { parts.old.streams ≡ [] }
+    ensures { OnOk result (length parts.new.streams ≡ 2) }
+{
     parts.push_file(0, Some(b"a"), b"x")?;
     parts.push_file(9, Some(b"b"), b"x")?;
     parts.push_file(10, Some(b"a"), b"y")?;
     parts.push_stream(b"")?;
-    parts.push_stream(b"")?;
-    let Err(refusal) = restore(alloc, &parts) else {
-        return Err("restored".into());
-    };
-    assert_eq!(rt; refusal, RestoreRefusal::Range);
+    parts.push_stream(b"")
+}
+
+#[test]
+fn refuses_a_name_twice(rt: HostRuntime) -> Result<(), Fail> {
+    let mut parts = FileParts::new(rt.alloc());
+    put_twice(&mut parts)?;
+    assert_eq!(rt; refusal(rt.alloc(), &parts), Some(RestoreRefusal::Range));
     Ok(())
 }

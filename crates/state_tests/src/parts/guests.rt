@@ -6,6 +6,8 @@ use guest_run::*;
 use linux_calls::Heap;
 use mem_files::Files;
 use rv64_machine::Hart;
+use std::alloc::Global;
+use std::process::Abort;
 use std::test::Fail;
 
 /// A heap of one page at most, of which nothing is mapped.
@@ -39,20 +41,26 @@ static WRONG: [Heap; 4] = [
     },
 ];
 
+/// Whether none of the wrong heaps fits.
+fn fits_none(hart: &Hart<RunRam>) -> bool {
+    WRONG.iter().all(|heap| !fit_together(hart, heap))
+}
+
+/// Whether a guest of these parts stands behind its seven steps where the hart stands.
+fn is_restored(alloc: Global, hart: Hart<RunRam>, files: Files) -> bool {
+    if !fit_together(&hart, &HEAP) {
+        return false;
+    }
+    let guest = Guest::restore(alloc, hart, files, HEAP, 7);
+    guest.steps() == 7 && guest.pc() == 65_536
+}
+
 #[test]
 fn makes_a_guest(rt: HostRuntime) -> Result<(), Fail> {
-    let alloc = rt.alloc();
-    let rows = vec![in alloc; run_at(16, 2), run_at(67_106_816, 2048)]?;
-    let ram: RunRam = map_runs(alloc, &rows)?;
+    let rows = vec![in rt.alloc(); run_at(16, 2), run_at(67_106_816, 2048)]?;
+    let ram: RunRam = map_runs(rt.alloc(), &rows)?;
     let hart = Hart::new(ram, 65_536);
-    for heap in &WRONG {
-        assert!(rt; !fit_together(&hart, heap));
-    }
-    if !fit_together(&hart, &HEAP) {
-        return Err("no fit".into());
-    }
-    let guest = Guest::restore(alloc, hart, Files::new(alloc)?, HEAP, 7);
-    assert_eq!(rt; guest.steps(), 7);
-    assert_eq!(rt; guest.pc(), 65_536);
+    assert!(rt; fits_none(&hart));
+    assert!(rt; is_restored(rt.alloc(), hart, Files::new(rt.alloc())?));
     Ok(())
 }

@@ -4,10 +4,9 @@ use crate::texts::patches::NOTHING;
 use crate::texts::pieces::Piece::*;
 use crate::texts::pieces::*;
 use crate::texts::saves::save;
-use ddc_base::Bytes;
 use ddc_base::digests::Digest;
 use save_text::delta_text;
-use save_text::delta_text::names_other_base;
+use save_text::delta_text::{DeltaParts, names_other_base};
 use save_text::state_text::TextRefusal;
 use std::alloc::{AllocError, Global};
 use std::process::Abort;
@@ -58,118 +57,133 @@ fn delta(alloc: Global) -> Result<Vec<Piece>, AllocError> {
     Ok(pieces)
 }
 
-/// Where the first wrong field begins; none where the text is right. Want of memory has a place that no field has.
-fn wrong<'a>(alloc: Global, base: &'a [u8], text: &'a [u8]) -> Result<Option<u64>, Fail> {
-    let known = save_text::read(alloc, base).ok().ok_or("base")?;
-    match delta_text::read(alloc, known, text) {
-        Ok(_) => Ok(None),
-        Err(TextRefusal::Form(offset)) => Ok(Some(offset)),
-        Err(TextRefusal::OutOfMemory) => Ok(Some(u64::MAX)),
+/// Where the first wrong field of a delta's text begins beside a save.
+fn wrong<'a>(alloc: Global, base: &'a [u8], text: &'a [u8]) -> Option<u64> {
+    match save_text::read(alloc, base) {
+        Ok(known) => match delta_text::read(alloc, known, text) {
+            Ok(_) => None,
+            Err(TextRefusal::Form(offset)) => Some(offset),
+            Err(TextRefusal::OutOfMemory) => Some(u64::MAX),
+        },
+        Err(_) => Some(u64::MAX),
     }
 }
 
-/// The same of a delta's text beside the save.
-fn wrong_in(alloc: Global, text: &[u8]) -> Result<Option<u64>, Fail> {
-    let base = text_of(alloc, &save(alloc)?)?;
-    let known = base.as_slice();
-    wrong(alloc, known, text)
+/// The text of the save.
+fn base(alloc: Global) -> Result<Vec<u8>, AllocError> {
+    text_of(alloc, &save(alloc)?)
+}
+
+/// Deltas beside the save.
+struct DeltaForm;
+
+impl Form for DeltaForm {
+    fn wrong(alloc: Global, text: &[u8]) -> Option<u64> {
+        match base(alloc) {
+            Ok(base) => wrong(alloc, &base, text),
+            Err(_) => Some(u64::MAX),
+        }
+    }
 }
 
 #[test]
 fn a_changed_field_is_named(rt: HostRuntime) -> Result<(), Fail> {
-    for change in CHANGES {
-        let pieces = changed(rt.alloc(), &delta(rt.alloc())?, *change)?;
-        let text = text_of(rt.alloc(), &pieces)?;
-        let want = change.2.map(|field| start(&pieces, field));
-        assert_eq!(rt; wrong_in(rt.alloc(), &text)?, want, "{change:?}");
-    }
-    Ok(())
+    let pieces = delta(rt.alloc())?;
+    Ok(check_changes::<DeltaForm>(&rt, rt.alloc(), &pieces, CHANGES)?)
 }
 
 #[test]
 fn a_cut_field_is_named(rt: HostRuntime) -> Result<(), Fail> {
     let pieces = delta(rt.alloc())?;
-    let text = text_of(rt.alloc(), &pieces)?;
-    assert_eq!(rt; wrong_in(rt.alloc(), &text)?, None);
-    for (byte, _) in text.iter().enumerate() {
-        let front = text.get(..byte).ok_or("cut")?;
-        let want = cut(&pieces, byte);
-        assert_eq!(rt; wrong_in(rt.alloc(), front)?, Some(want), "{byte}");
-    }
-    Ok(())
+    Ok(check_cuts::<DeltaForm>(&rt, rt.alloc(), &pieces, 1)?)
 }
 
 /// A delta that keeps nothing, and has the base's own stage as its first further one, with its artefact.
 fn kept_less(alloc: Global, made: Piece) -> Result<Vec<Piece>, AllocError> {
     let base = save(alloc)?;
     let mut pieces = Vec::from_slice(alloc, &[Text(b"ddcdelt2"), Piece::Digest(9), N4(0), N4(1)])?;
-    for piece in base.iter().skip(6).take(15) {
-        pieces.push(*piece)?;
-    }
+    pieces.extend_from_slice(base.get(6..21).unwrap_or(&[]))?;
     pieces.push(made)?;
     pieces.extend_from_slice(NOTHING)?;
     Ok(pieces)
 }
 
+/// Whether such a delta is wrong at a field: none where it is right.
+fn is_wrong_with(alloc: Global, made: Piece, field: Option<usize>) -> Result<bool, AllocError> {
+    is_wrong_at::<DeltaForm>(alloc, &kept_less(alloc, made)?, field)
+}
+
 #[test]
 fn a_stage_that_could_be_kept_is_named(rt: HostRuntime) -> Result<(), Fail> {
-    let pieces = kept_less(rt.alloc(), Text(b"abc"))?;
-    let text = text_of(rt.alloc(), &pieces)?;
-    assert_eq!(rt; wrong_in(rt.alloc(), &text)?, Some(start(&pieces, 4)));
+    assert!(rt; is_wrong_with(rt.alloc(), Text(b"abc"), Some(4))?);
     // With the last byte of its artefact changed it is another stage.
-    let other = text_of(rt.alloc(), &kept_less(rt.alloc(), Text(b"abd"))?)?;
-    assert_eq!(rt; wrong_in(rt.alloc(), &other)?, None);
+    assert!(rt; is_wrong_with(rt.alloc(), Text(b"abd"), None)?);
     Ok(())
 }
 
-/// The steps and the artefacts of the stages that a delta says, with its base's digest, and the steps and x8 of its state.
-type Said = (Digest, Vec<(u64, Bytes)>, (u64, u64));
-
-fn said<'a>(alloc: Global, base: &'a [u8], text: &'a [u8]) -> Result<Said, Fail> {
-    let known = save_text::read(alloc, base).ok().ok_or("base")?;
-    let parts = delta_text::read(alloc, known, text).ok().ok_or("form")?;
-    let mut stages = Vec::new(alloc);
-    for stage in &parts.done {
-        let made = Bytes::from_slice(alloc, stage.made.as_slice())?;
-        stages.push((stage.steps, made))?;
+fn is_stage(parts: &DeltaParts<'_>, index: usize, steps: u64, made: &[u8]) -> bool {
+    match parts.done.get(index) {
+        Some(stage) => stage.steps == steps && stage.made.as_slice() == made,
+        None => false,
     }
-    let state = (parts.state.steps, parts.state.registers[7]);
-    Ok((parts.base, stages, state))
+}
+
+/// Whether a delta says its base's digest, the base's stage and the further one, and the steps and x8 of its state.
+fn has_parts(parts: &DeltaParts<'_>) -> bool {
+    parts.base == Digest([9; 32])
+        && (parts.state.steps, parts.state.registers[7]) == (5, 8)
+        && parts.done.len() == 2
+        && is_stage(parts, 0, 32, b"abc")
+        && is_stage(parts, 1, 5, b"xy")
+}
+
+fn is_read<'a>(alloc: Global, base: &'a [u8], text: &'a [u8]) -> bool {
+    match save_text::read(alloc, base) {
+        Ok(known) => match delta_text::read(alloc, known, text) {
+            Ok(parts) => has_parts(&parts),
+            Err(_) => false,
+        },
+        Err(_) => false,
+    }
 }
 
 #[test]
 fn stages_are_the_bases_and_the_further_ones(rt: HostRuntime) -> Result<(), Fail> {
-    let base = text_of(rt.alloc(), &save(rt.alloc())?)?;
+    let base = base(rt.alloc())?;
     let text = text_of(rt.alloc(), &delta(rt.alloc())?)?;
-    let known = base.as_slice();
-    let beside = text.as_slice();
-    let (digest, stages, state) = said(rt.alloc(), known, beside)?;
-    assert_eq!(rt; digest, Digest([9; 32]));
-    assert_eq!(rt; state, (5, 8));
-    assert_eq!(rt; stages.len(), 2);
-    let (steps, made) = stages.get(0).ok_or("stages")?;
-    assert_eq!(rt; (*steps, made.as_slice()), (32, b"abc".as_slice()));
-    let (steps, made) = stages.get(1).ok_or("stages")?;
-    assert_eq!(rt; (*steps, made.as_slice()), (5, b"xy".as_slice()));
+    assert!(rt; is_read(rt.alloc(), &base, &text));
     Ok(())
+}
+
+/// The digest that the delta does not name, which differs in its last byte.
+fn other() -> Digest {
+    let mut other = [9; 32];
+    other[31] = 8;
+    Digest(other)
+}
+
+/// Whether so many of a text's first bytes name another base.
+fn is_named_by(text: &[u8], count: usize) -> bool {
+    names_other_base(&other(), text.get(..count).unwrap_or(text))
+}
+
+/// The text of the delta behind an old magic.
+fn old(alloc: Global) -> Result<Vec<u8>, AllocError> {
+    text_of(
+        alloc,
+        &changed(alloc, &delta(alloc)?, (0, Text(b"ddcdelt1"), None))?,
+    )
 }
 
 #[test]
 fn another_base_is_named(rt: HostRuntime) -> Result<(), Fail> {
     let text = text_of(rt.alloc(), &delta(rt.alloc())?)?;
     assert!(rt; !names_other_base(&Digest([9; 32]), &text));
-    let mut other = [9; 32];
-    other[31] = 8;
-    assert!(rt; names_other_base(&Digest(other), &text));
+    assert!(rt; names_other_base(&other(), &text));
     // With the magic and 32 bytes alone it is named, with a byte less it is not, nor behind another magic.
-    assert!(rt; names_other_base(&Digest(other), text.get(..40).ok_or("cut")?));
-    assert!(rt; !names_other_base(&Digest(other), text.get(..39).ok_or("cut")?));
-    let pieces = changed(
-        rt.alloc(),
-        &delta(rt.alloc())?,
-        (0, Text(b"ddcdelt1"), None),
-    )?;
-    let old = text_of(rt.alloc(), &pieces)?;
-    assert!(rt; !names_other_base(&Digest(other), &old));
+    assert!(rt; is_named_by(&text, 40));
+    assert!(rt; !is_named_by(&text, 39));
+    let old = old(rt.alloc())?;
+    assert!(rt; !names_other_base(&other(), &old));
     Ok(())
 }

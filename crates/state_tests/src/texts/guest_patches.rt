@@ -1,11 +1,12 @@
 //! Guests beside the guest of `guests`: what is expected comes from docs/reference/delta.md.
 
-use crate::texts::guests::pieces;
+use crate::texts::guests::{guest_of, has_text, text_with};
 use crate::texts::pieces::Piece::*;
 use crate::texts::pieces::*;
-use checkpoints::{StateRefusal, apply_patch, read_state, write_patch, write_state};
+use checkpoints::{StateRefusal, apply_patch, write_patch};
+use ddc_base::{Bytes, OutOfMemory};
 use guest_run::{Guest, RunRam};
-use std::alloc::Global;
+use std::alloc::{AllocError, Global};
 use std::process::Abort;
 use std::test::Fail;
 
@@ -36,46 +37,81 @@ static OTHERS: &[Changes] = &[
     &[(71, Text(b"\x03\0\0\0err"))],
 ];
 
-/// The guest with some fields changed, and its text.
-fn guest(alloc: Global, changes: &[(usize, Piece)]) -> Result<(Guest<RunRam>, Vec<u8>), Fail> {
-    let mut pieces = pieces(alloc)?;
-    for (place, piece) in changes {
-        pieces = changed(alloc, &pieces, (*place, *piece, None))?;
+/// Whether a patch beside a guest makes the guest of a text.
+fn applies(alloc: Global, known: &Guest<RunRam>, patch: &[u8], wanted: &[u8]) -> bool {
+    let made: Result<Guest<RunRam>, StateRefusal> = apply_patch(alloc, known, patch);
+    match made {
+        Ok(guest) => has_text(alloc, &guest, wanted),
+        Err(_) => false,
     }
-    let text = text_of(alloc, &pieces)?;
-    let read: Result<Guest<RunRam>, StateRefusal> = read_state(alloc, &text);
-    Ok((read.ok().ok_or("state")?, text))
+}
+
+/// The patch beside a guest of the guest that a text says; none where that is refused.
+fn patch_to(alloc: Global, known: &Guest<RunRam>, text: &[u8]) -> Option<Bytes> {
+    match guest_of(alloc, text) {
+        Some(guest) => write_patch(alloc, known, &guest).ok(),
+        None => None,
+    }
+}
+
+/// Whether a guest's patch to the guest of a text makes it.
+fn leads(alloc: Global, known: &Guest<RunRam>, text: &[u8]) -> bool {
+    match patch_to(alloc, known, text) {
+        Some(patch) => applies(alloc, known, patch.as_slice(), text),
+        None => false,
+    }
+}
+
+/// Whether the patch of the guest with some fields changed makes it, beside the guest with others changed.
+fn makes(alloc: Global, base: Changes, now: Changes) -> Result<bool, AllocError> {
+    let base = text_with(alloc, base)?;
+    let text = text_with(alloc, now)?;
+    Ok(match guest_of(alloc, &base) {
+        Some(known) => leads(alloc, &known, &text),
+        None => false,
+    })
 }
 
 #[test]
 fn a_patch_makes_the_guest(rt: HostRuntime) -> Result<(), Fail> {
     for base in OTHERS {
         for now in OTHERS {
-            let (known, _) = guest(rt.alloc(), base)?;
-            let (other, wanted) = guest(rt.alloc(), now)?;
-            let patch = write_patch(rt.alloc(), &known, &other)?;
-            let made: Result<Guest<RunRam>, StateRefusal> = apply_patch(
-                rt.alloc(),
-                &known,
-                patch.as_slice(),
-            );
-            let text = write_state(rt.alloc(), &made.ok().ok_or("patch")?)?;
-            assert_eq!(rt; text.as_slice(), wanted.as_slice(), "{base:?} {now:?}");
+            assert!(rt; makes(rt.alloc(), base, now)?, "{base:?} {now:?}");
         }
     }
     Ok(())
 }
 
+/// How long a guest's patch to itself is.
+fn own_length(alloc: Global, known: &Guest<RunRam>) -> Option<usize> {
+    match write_patch(alloc, known, known) {
+        Ok(patch) => Some(patch.as_slice().len()),
+        Err(_) => None,
+    }
+}
+
+/// How long a guest's patch to the guest of a text is.
+fn length_to(alloc: Global, known: &Guest<RunRam>, text: &[u8]) -> Option<usize> {
+    match patch_to(alloc, known, text) {
+        Some(patch) => Some(patch.as_slice().len()),
+        None => None,
+    }
+}
+
+fn check_lengths(rt: &impl Abort, alloc: Global, known: &Guest<RunRam>, other: &[u8]) {
+    assert_eq!(rt; own_length(alloc, known), Some(144));
+    // One page more, with its number and its byte.
+    assert_eq!(rt; length_to(alloc, known, other), Some(144 + 4_101));
+}
+
 #[test]
 fn a_guest_differs_from_itself_in_nothing(rt: HostRuntime) -> Result<(), Fail> {
-    let (known, _) = guest(rt.alloc(), &[])?;
-    let patch = write_patch(rt.alloc(), &known, &known)?;
-    assert_eq!(rt; patch.as_slice().len(), 144);
-    // One page more, with its number and its byte.
-    let (other, _) = guest(rt.alloc(), &[(47, Page(8))])?;
-    let patch = write_patch(rt.alloc(), &known, &other)?;
-    assert_eq!(rt; patch.as_slice().len(), 144 + 4_101);
-    Ok(())
+    let text = text_with(rt.alloc(), &[])?;
+    let other = text_with(rt.alloc(), &[(47, Page(8))])?;
+    match guest_of(rt.alloc(), &text) {
+        Some(known) => Ok(check_lengths(&rt, rt.alloc(), &known, &other)),
+        None => Err("state".into()),
+    }
 }
 
 /// What applying a patch with one of its bytes changed gives: 0 is a guest, 1 to 3 are the refusals, and the offset of a wrong field.
@@ -107,16 +143,48 @@ static BYTES: &[(usize, u8, (u8, u64))] = &[
     (143, 2, (1, 143)),
 ];
 
-#[test]
-fn each_refusal_of_a_patch(rt: HostRuntime) -> Result<(), Fail> {
-    let (known, _) = guest(rt.alloc(), &[])?;
-    let patch = write_patch(rt.alloc(), &known, &known)?;
+/// The answer to a patch with one of its bytes changed.
+fn answer_at(
+    alloc: Global,
+    known: &Guest<RunRam>,
+    patch: &[u8],
+    place: usize,
+    byte: u8,
+) -> Result<(u8, u64), AllocError> {
+    let mut text = Vec::from_slice(alloc, patch)?;
+    if let Some(at) = text.get_mut(place) {
+        *at = byte;
+    }
+    Ok(answer(alloc, known, &text))
+}
+
+fn check_bytes(
+    rt: &impl Abort,
+    alloc: Global,
+    known: &Guest<RunRam>,
+    patch: &[u8],
+) -> Result<(), AllocError> {
     for (place, byte, want) in BYTES {
-        let mut text = Vec::from_slice(rt.alloc(), patch.as_slice())?;
-        if let Some(at) = text.get_mut(*place) {
-            *at = *byte;
-        }
-        assert_eq!(rt; answer(rt.alloc(), &known, &text), *want, "{place}");
+        let answer = answer_at(alloc, known, patch, *place, *byte)?;
+        assert_eq!(rt; answer, *want, "{place}");
     }
     Ok(())
+}
+
+fn check_own_patch(
+    rt: &impl Abort,
+    alloc: Global,
+    known: &Guest<RunRam>,
+) -> Result<(), OutOfMemory> {
+    let patch = write_patch(alloc, known, known)?;
+    Ok(check_bytes(rt, alloc, known, patch.as_slice())?)
+}
+
+#[test]
+fn each_refusal_of_a_patch(rt: HostRuntime) -> Result<(), Fail> {
+    let text = text_with(rt.alloc(), &[])?;
+    match guest_of(rt.alloc(), &text) {
+        Some(known) => Ok(check_own_patch(&rt, rt.alloc(), &known)?),
+        None => Err("state".into()),
+    }
 }

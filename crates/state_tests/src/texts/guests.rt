@@ -2,9 +2,9 @@ use crate::texts::pieces::Piece::*;
 use crate::texts::pieces::*;
 use crate::texts::states::STATE;
 use checkpoints::{StateRefusal, read_state, write_state};
-use ddc_base::Bytes;
 use guest_run::{Guest, RunRam};
 use paged_mem::Width;
+use rv64_machine::Reservation;
 use std::alloc::{AllocError, Global};
 use std::process::Abort;
 use std::test::Fail;
@@ -247,6 +247,31 @@ pub fn pieces(alloc: Global) -> Result<Vec<Piece>, AllocError> {
     Ok(list)
 }
 
+/// Puts pieces in the places of some.
+fn set_all(pieces: &mut [Piece], changes: &[(usize, Piece)]) {
+    for (place, piece) in changes {
+        set(pieces, *place, *piece);
+    }
+}
+
+/// The guest's text with some fields changed.
+pub fn text_with(alloc: Global, changes: &[(usize, Piece)]) -> Result<Vec<u8>, AllocError> {
+    let mut list = pieces(alloc)?;
+    set_all(&mut list, changes);
+    text_of(alloc, &list)
+}
+
+/// The guest's text with other pieces in place of what is reserved.
+fn text_with_reservation(alloc: Global, others: &[Piece]) -> Result<Vec<u8>, AllocError> {
+    let list = pieces(alloc)?;
+    text_of_replaced(alloc, &list, 34, others)
+}
+
+/// The guest that a text says; none where it is refused.
+pub fn guest_of(alloc: Global, text: &[u8]) -> Option<Guest<RunRam>> {
+    read_state(alloc, text).ok()
+}
+
 /// What reading a text gives.
 fn answer(alloc: Global, text: &[u8]) -> u8 {
     let read: Result<Guest<RunRam>, StateRefusal> = read_state(alloc, text);
@@ -259,46 +284,30 @@ fn answer(alloc: Global, text: &[u8]) -> u8 {
     }
 }
 
-#[test]
-fn each_rule_has_its_refusal(rt: HostRuntime) -> Result<(), Fail> {
-    let whole = pieces(rt.alloc())?;
-    for (place, piece, want) in ROWS {
-        let changes = [(*place, *piece)];
-        assert_eq!(rt;
-            answer_to(rt.alloc(), &whole, &changes)?,
-            *want,
-            "{changes:?}"
-        );
-    }
-    Ok(())
+/// What reading gives where some fields are changed.
+fn answer_to(alloc: Global, changes: &[(usize, Piece)]) -> Result<u8, AllocError> {
+    Ok(answer(alloc, &text_with(alloc, changes)?))
 }
 
-/// What reading gives where several fields are changed.
-fn answer_to(alloc: Global, whole: &[Piece], changes: &[(usize, Piece)]) -> Result<u8, AllocError> {
-    let mut pieces = Vec::from_slice(alloc, whole)?;
-    for (place, piece) in changes {
-        pieces = changed(alloc, &pieces, (*place, *piece, None))?;
+#[test]
+fn each_rule_has_its_refusal(rt: HostRuntime) -> Result<(), Fail> {
+    for (place, piece, want) in ROWS {
+        let changes = [(*place, *piece)];
+        assert_eq!(rt; answer_to(rt.alloc(), &changes)?, *want, "{changes:?}");
     }
-    let text = text_of(alloc, &pieces)?;
-    Ok(answer(alloc, &text))
+    Ok(())
 }
 
 #[test]
 fn each_rule_of_several_fields_has_its_refusal(rt: HostRuntime) -> Result<(), Fail> {
-    let whole = pieces(rt.alloc())?;
     for (changes, want) in SEVERAL {
-        assert_eq!(rt;
-            answer_to(rt.alloc(), &whole, changes)?,
-            *want,
-            "{changes:?}"
-        );
+        assert_eq!(rt; answer_to(rt.alloc(), changes)?, *want, "{changes:?}");
     }
     Ok(())
 }
 
-/// The guest's text with so many named files in place of the two that it has.
-fn crowded(alloc: Global, whole: &[Piece], count: u32) -> Result<Vec<u8>, AllocError> {
-    let mut text = text_of(alloc, whole.get(..48).unwrap_or(&[]))?;
+/// Adds so many named files.
+fn put_files(text: &mut Vec<u8>, count: u32) -> Result<(), AllocError> {
     text.extend_from_slice(&count.to_le_bytes())?;
     for number in 0..count {
         text.extend_from_slice(&number.to_le_bytes())?;
@@ -307,66 +316,110 @@ fn crowded(alloc: Global, whole: &[Piece], count: u32) -> Result<Vec<u8>, AllocE
         text.extend_from_slice(&name)?;
         text.extend_from_slice(&[0; 4])?;
     }
-    text.extend_from_slice(&text_of(alloc, whole.get(57..).unwrap_or(&[]))?)?;
+    Ok(())
+}
+
+/// Adds the pieces with so many named files in place of the two that they have.
+fn put_crowded(text: &mut Vec<u8>, whole: &[Piece], count: u32) -> Result<(), AllocError> {
+    put_all(text, whole.get(..48).unwrap_or(&[]))?;
+    put_files(text, count)?;
+    put_all(text, whole.get(57..).unwrap_or(&[]))
+}
+
+/// The guest's text with so many named files.
+fn crowded(alloc: Global, count: u32) -> Result<Vec<u8>, AllocError> {
+    let whole = pieces(alloc)?;
+    let mut text = Vec::new(alloc);
+    put_crowded(&mut text, &whole, count)?;
     Ok(text)
+}
+
+/// What reading the guest's text with so many named files gives.
+fn answer_to_crowd(alloc: Global, count: u32) -> Result<u8, AllocError> {
+    Ok(answer(alloc, &crowded(alloc, count)?))
 }
 
 #[test]
 fn names_are_counted(rt: HostRuntime) -> Result<(), Fail> {
-    let whole = pieces(rt.alloc())?;
-    let most = crowded(rt.alloc(), &whole, 4_096)?;
-    assert_eq!(rt; answer(rt.alloc(), &most), READ);
-    let more = crowded(rt.alloc(), &whole, 4_097)?;
-    assert_eq!(rt; answer(rt.alloc(), &more), RANGE);
+    assert_eq!(rt; answer_to_crowd(rt.alloc(), 4_096)?, READ);
+    assert_eq!(rt; answer_to_crowd(rt.alloc(), 4_097)?, RANGE);
     Ok(())
 }
 
-#[test]
-fn a_guest_is_written_as_it_was_read(rt: HostRuntime) -> Result<(), Fail> {
-    let text = text_of(rt.alloc(), &pieces(rt.alloc())?)?;
-    let read: Result<Guest<RunRam>, StateRefusal> = read_state(rt.alloc(), &text);
-    let guest = read.ok().ok_or("read")?;
+/// Whether a guest has this text.
+pub fn has_text(alloc: Global, guest: &Guest<RunRam>, text: &[u8]) -> bool {
+    match write_state(alloc, guest) {
+        Ok(written) => written.as_slice() == text,
+        Err(_) => false,
+    }
+}
+
+/// Whether a text says a guest that has the other text.
+fn is_written(alloc: Global, text: &[u8], wanted: &[u8]) -> bool {
+    match guest_of(alloc, text) {
+        Some(guest) => has_text(alloc, &guest, wanted),
+        None => false,
+    }
+}
+
+fn check_guest(rt: &impl Abort, alloc: Global, guest: &Guest<RunRam>, text: &[u8]) {
     assert_eq!(rt; guest.steps(), 5);
     assert_eq!(rt; guest.pc(), 0x10000);
     assert_eq!(rt; guest.reg(31), 31);
     let mut byte = [0];
     assert!(rt; guest.peek(0x10fff, &mut byte));
     assert_eq!(rt; byte, [7]);
-    let again = write_state(rt.alloc(), &guest).ok().ok_or("written")?;
-    assert_eq!(rt; again.as_slice(), text.as_slice());
-    Ok(())
+    assert!(rt; has_text(alloc, guest, text));
 }
 
-/// What is written of the guest that a text says.
-fn again(alloc: Global, text: &[u8]) -> Result<Bytes, Fail> {
-    let read: Result<Guest<RunRam>, StateRefusal> = read_state(alloc, text);
-    let guest = read.ok().ok_or("read")?;
-    Ok(write_state(alloc, &guest)?)
+#[test]
+fn a_guest_is_written_as_it_was_read(rt: HostRuntime) -> Result<(), Fail> {
+    let text = text_with(rt.alloc(), &[])?;
+    match guest_of(rt.alloc(), &text) {
+        Some(guest) => Ok(check_guest(&rt, rt.alloc(), &guest, &text)),
+        None => Err("read".into()),
+    }
+}
+
+/// What the guest of a text holds reserved.
+fn reservation(alloc: Global, text: &[u8]) -> Option<Reservation> {
+    match guest_of(alloc, text) {
+        Some(guest) => guest.hart().reservation(),
+        None => None,
+    }
+}
+
+/// Whether so many bytes, which are reserved at an address, are held and written.
+fn is_held(alloc: Global, count: u8, wide: Width) -> Result<bool, AllocError> {
+    let text = text_with_reservation(alloc, &[N1(count), N8(0x10008)])?;
+    let held = match reservation(alloc, &text) {
+        Some(held) => held.wide == wide && held.at == 0x10008,
+        None => false,
+    };
+    Ok(held && is_written(alloc, &text, &text))
 }
 
 #[test]
 fn a_reservation_is_held_and_written(rt: HostRuntime) -> Result<(), Fail> {
-    for (count, width) in [(4, Width::W4), (8, Width::W8)] {
-        let whole = pieces(rt.alloc())?;
-        let pieces = replaced(rt.alloc(), &whole, 34, &[N1(count), N8(0x10008)])?;
-        let text = text_of(rt.alloc(), &pieces)?;
-        let read: Result<Guest<RunRam>, StateRefusal> = read_state(rt.alloc(), &text);
-        let guest = read.ok().ok_or("read")?;
-        let held = guest.hart().reservation().ok_or("reservation")?;
-        assert_eq!(rt; held.wide, width);
-        assert_eq!(rt; held.at, 0x10008);
-        assert_eq!(rt; again(rt.alloc(), &text)?.as_slice(), text.as_slice());
-    }
+    assert!(rt; is_held(rt.alloc(), 4, Width::W4)?);
+    assert!(rt; is_held(rt.alloc(), 8, Width::W8)?);
     Ok(())
+}
+
+/// The guest's text in the first form.
+fn old(alloc: Global) -> Result<Vec<u8>, AllocError> {
+    let mut list = pieces(alloc)?;
+    set(&mut list, 0, Text(b"ddcstat1"));
+    text_of_replaced(alloc, &list, 34, &[])
+}
+
+fn old_is_written_anew(alloc: Global) -> Result<bool, AllocError> {
+    let wanted = text_with(alloc, &[])?;
+    Ok(is_written(alloc, &old(alloc)?, &wanted))
 }
 
 #[test]
 fn an_old_text_is_a_guest_without_a_reservation(rt: HostRuntime) -> Result<(), Fail> {
-    let whole = pieces(rt.alloc())?;
-    let wanted = text_of(rt.alloc(), &whole)?;
-    let old = replaced(rt.alloc(), &whole, 34, &[])?;
-    let old = replaced(rt.alloc(), &old, 0, &[Text(b"ddcstat1")])?;
-    let text = text_of(rt.alloc(), &old)?;
-    assert_eq!(rt; again(rt.alloc(), &text)?.as_slice(), wanted.as_slice());
+    assert!(rt; old_is_written_anew(rt.alloc())?);
     Ok(())
 }

@@ -2,6 +2,7 @@
 
 ghost use Rattle.save_text.specs.StateText.Seen.{state_view};
 ghost use Rattle.save_text.specs.StateText.Spelled.{IsStateText};
+ghost use Rattle.save_text.specs.PatchText.Spelled.{IsPatched};
 
 use crate::texts::pieces::Piece::*;
 use crate::texts::pieces::*;
@@ -126,32 +127,39 @@ static CHANGES: &[Change] = &[
     (43, Text(b"on"), None),
 ];
 
-/// Where the first wrong field begins; none where the text is right. Want of memory has a place that no field has.
-fn wrong<'a>(alloc: Global, base: &'a [u8], text: &'a [u8]) -> Result<Option<u64>, Fail> {
-    let known = state_text::read(alloc, base).ok().ok_or("base")?;
-    match patch_text::read(alloc, &known, text) {
-        Ok(_) => Ok(None),
-        Err(TextRefusal::Form(offset)) => Ok(Some(offset)),
-        Err(TextRefusal::OutOfMemory) => Ok(Some(u64::MAX)),
+/// Where the first wrong field of a patch's text begins beside a state.
+fn wrong_beside<'a>(alloc: Global, known: &Parts<'a>, text: &'a [u8]) -> Option<u64>
+    requires { IsStateText (state_view known.now) }
+{
+    match patch_text::read(alloc, known, text) {
+        Ok(_) => None,
+        Err(TextRefusal::Form(offset)) => Some(offset),
+        Err(TextRefusal::OutOfMemory) => Some(u64::MAX),
     }
 }
 
-/// The same of a patch's text beside the state.
-fn wrong_in(alloc: Global, text: &[u8]) -> Result<Option<u64>, Fail> {
-    let base = text_of(alloc, STATE)?;
-    let known = base.as_slice();
-    wrong(alloc, known, text)
+fn wrong<'a>(alloc: Global, base: &'a [u8], text: &'a [u8]) -> Option<u64> {
+    match state_text::read(alloc, base) {
+        Ok(known) => wrong_beside(alloc, &known, text),
+        Err(_) => Some(u64::MAX),
+    }
+}
+
+/// Patches beside the state.
+struct PatchForm;
+
+impl Form for PatchForm {
+    fn wrong(alloc: Global, text: &[u8]) -> Option<u64> {
+        match text_of(alloc, STATE) {
+            Ok(base) => wrong(alloc, &base, text),
+            Err(_) => Some(u64::MAX),
+        }
+    }
 }
 
 #[test]
 fn a_changed_field_is_named(rt: HostRuntime) -> Result<(), Fail> {
-    for change in CHANGES {
-        let pieces = changed(rt.alloc(), PATCH, *change)?;
-        let text = text_of(rt.alloc(), &pieces)?;
-        let want = change.2.map(|field| start(&pieces, field));
-        assert_eq!(rt; wrong_in(rt.alloc(), &text)?, want, "{change:?}");
-    }
-    Ok(())
+    Ok(check_changes::<PatchForm>(&rt, rt.alloc(), PATCH, CHANGES)?)
 }
 
 /// The same patch with 8 bytes reserved.
@@ -162,19 +170,9 @@ fn with_reservation(alloc: Global) -> Result<Vec<Piece>, AllocError> {
 /// In a page each 64th byte is enough.
 #[test]
 fn a_cut_field_is_named(rt: HostRuntime) -> Result<(), Fail> {
-    let patch = Vec::from_slice(rt.alloc(), PATCH)?;
-    for pieces in [patch, with_reservation(rt.alloc())?] {
-        let text = text_of(rt.alloc(), &pieces)?;
-        assert_eq!(rt; wrong_in(rt.alloc(), &text)?, None);
-        for (byte, _) in text.iter().enumerate() {
-            let want = cut(&pieces, byte);
-            if want.saturating_add(300) > byte as u64 || byte % 64 == 0 {
-                let front = text.get(..byte).ok_or("cut")?;
-                assert_eq!(rt; wrong_in(rt.alloc(), front)?, Some(want), "{byte}");
-            }
-        }
-    }
-    Ok(())
+    check_cuts::<PatchForm>(&rt, rt.alloc(), PATCH, 64)?;
+    let other = with_reservation(rt.alloc())?;
+    Ok(check_cuts::<PatchForm>(&rt, rt.alloc(), &other, 64)?)
 }
 
 #[test]
@@ -182,106 +180,134 @@ fn a_byte_behind_the_last_field_is_named(rt: HostRuntime) -> Result<(), Fail> {
     let mut text = text_of(rt.alloc(), PATCH)?;
     let end = text.len() as u64;
     text.push(0)?;
-    assert_eq!(rt; wrong_in(rt.alloc(), &text)?, Some(end));
+    assert_eq!(rt; PatchForm::wrong(rt.alloc(), &text), Some(end));
     Ok(())
 }
 
-/// The bytes at the end of each page, with its number.
-fn last_bytes(alloc: Global, parts: &Parts<'_>) -> Result<Vec<(u32, u8)>, Fail> {
-    let mut list = Vec::new(alloc);
-    for page in &parts.pages {
-        let last = page.bytes.get(4095).copied().ok_or("page")?;
-        list.push((page.number, last))?;
-    }
-    Ok(list)
+/// What a patch says beside the state: steps and pc, x1, x2 and x31, its two pages' numbers and last bytes, and the contents of the files and of both
+/// streams.
+struct Said {
+    numbers: (u64, u64),
+    x: (u64, u64, u64),
+    pages: [(u32, u8); 2],
+    contents: &'static [u8],
 }
 
-/// The contents of the files and of both streams, one behind the other.
-fn contents(alloc: Global, parts: &Parts<'_>) -> Result<Bytes, Fail> {
-    let mut out = Bytes::new(alloc);
+fn is_page(parts: &Parts<'_>, index: usize, number: u32, last: u8) -> bool {
+    match parts.pages.get(index) {
+        Some(page) => page.number == number && page.bytes.get(4095) == Some(&last),
+        None => false,
+    }
+}
+
+fn has_numbers(parts: &Parts<'_>, said: &Said) -> bool {
+    let x = (parts.registers[0], parts.registers[1], parts.registers[30]);
+    (parts.steps, parts.pc) == said.numbers && x == said.x
+}
+
+fn has_pages(parts: &Parts<'_>, said: &Said) -> bool {
+    let [(first, end), (second, last)] = said.pages;
+    parts.pages.len() == 2 && is_page(parts, 0, first, end) && is_page(parts, 1, second, last)
+}
+
+/// The contents of the files and of both streams, with a mark between two.
+fn put_contents(out: &mut Bytes, parts: &Parts<'_>) -> Result<(), OutOfMemory> {
     for file in &parts.files {
         out.extend(file.content)?;
         out.push(b'/')?;
     }
     out.extend(parts.stream1)?;
     out.push(b'/')?;
-    out.extend(parts.stream2)?;
-    Ok(out)
+    out.extend(parts.stream2)
 }
 
-/// What a patch's text says beside the state: steps, pc, x1, x2 and x31, the pages, and the contents.
-type Said = ((u64, u64), (u64, u64, u64), Vec<(u32, u8)>, Bytes);
-
-fn said<'a>(alloc: Global, base: &'a [u8], text: &'a [u8]) -> Result<Said, Fail> {
-    let known = state_text::read(alloc, base).ok().ok_or("base")?;
-    let parts = patch_text::read(alloc, &known, text).ok().ok_or("form")?;
-    let x = (parts.registers[0], parts.registers[1], parts.registers[30]);
-    let pages = last_bytes(alloc, &parts)?;
-    let bytes = contents(alloc, &parts)?;
-    Ok(((parts.steps, parts.pc), x, pages, bytes))
+fn has_contents(alloc: Global, parts: &Parts<'_>, said: &Said) -> Result<bool, OutOfMemory> {
+    let mut out = Bytes::new(alloc);
+    put_contents(&mut out, parts)?;
+    Ok(out.as_slice() == said.contents)
 }
 
-#[test]
-fn what_stays_is_the_bases(rt: HostRuntime) -> Result<(), Fail> {
-    let base = text_of(rt.alloc(), STATE)?;
-    let text = text_of(rt.alloc(), PATCH)?;
-    let known = base.as_slice();
-    let patch = text.as_slice();
-    let (numbers, x, pages, bytes) = said(rt.alloc(), known, patch)?;
-    assert_eq!(rt; numbers, (9, 0x10004));
-    assert_eq!(rt; x, (100, 2, 200));
-    assert_eq!(rt; pages.as_slice(), [(17, 3), (18, 8)].as_slice());
-    assert_eq!(rt; bytes.as_slice(), b"abc//x/out/er".as_slice());
-    Ok(())
+/// Whether a patch beside a state has this text.
+fn is_written(
+    alloc: Global,
+    known: &Parts<'_>,
+    parts: &Parts<'_>,
+    text: &[u8],
+) -> Result<bool, OutOfMemory>
+    requires base { IsStateText (state_view known.now) }
+    requires parts { IsPatched (state_view known.now) (state_view parts.now) }
+{
+    let mut out = Bytes::new(alloc);
+    put_patch(alloc, &mut out, known, parts)?;
+    Ok(out.as_slice() == text)
 }
 
-/// The patch that is written for what one says beside the base; none where that is no patch.
-fn written<'a>(
+/// Whether parts say this, and their patch beside a state has this text.
+fn has_parts(
+    alloc: Global,
+    known: &Parts<'_>,
+    parts: &Parts<'_>,
+    text: &[u8],
+    said: &Said,
+) -> Result<bool, OutOfMemory>
+    requires base { IsStateText (state_view known.now) }
+    requires parts { IsPatched (state_view known.now) (state_view parts.now) }
+{
+    let has_contents = has_contents(alloc, parts, said)?;
+    let is_written = is_written(alloc, known, parts, text)?;
+    Ok(has_numbers(parts, said) && has_pages(parts, said) && has_contents && is_written)
+}
+
+fn says_beside<'a>(
     alloc: Global,
     known: &Parts<'a>,
     text: &'a [u8],
-) -> Result<Option<Bytes>, OutOfMemory>
+    said: &Said,
+) -> Result<bool, OutOfMemory>
     requires { IsStateText (state_view known.now) }
 {
     match patch_text::read(alloc, known, text) {
-        Ok(parts) => {
-            let mut out = Bytes::new(alloc);
-            put_patch(alloc, &mut out, known, &parts)?;
-            Ok(Some(out))
-        }
-        Err(_) => Ok(None),
+        Ok(parts) => has_parts(alloc, known, &parts, text, said),
+        Err(_) => Ok(false),
     }
 }
 
-fn written_beside<'a>(
+fn says_beside_text<'a>(
     alloc: Global,
     base: &'a [u8],
     text: &'a [u8],
-) -> Result<Option<Bytes>, OutOfMemory> {
+    said: &Said,
+) -> Result<bool, OutOfMemory> {
     match state_text::read(alloc, base) {
-        Ok(known) => written(alloc, &known, text),
-        Err(_) => Ok(None),
+        Ok(known) => says_beside(alloc, &known, text, said),
+        Err(_) => Ok(false),
     }
 }
 
-fn again<'a>(alloc: Global, base: &'a [u8], text: &'a [u8]) -> Result<Bytes, Fail> {
-    let patch = written_beside(alloc, base, text)?;
-    Ok(patch.ok_or("form")?)
+/// Whether the patch of these pieces says this beside the state, and is written for it.
+fn says(alloc: Global, pieces: &[Piece], said: &Said) -> Result<bool, OutOfMemory> {
+    let base = text_of(alloc, STATE)?;
+    let text = text_of(alloc, pieces)?;
+    says_beside_text(alloc, &base, &text, said)
+}
+
+static PATCH_SAID: Said = Said {
+    numbers: (9, 0x10004),
+    x: (100, 2, 200),
+    pages: [(17, 3), (18, 8)],
+    contents: b"abc//x/out/er",
+};
+
+#[test]
+fn what_stays_is_the_bases(rt: HostRuntime) -> Result<(), Fail> {
+    assert!(rt; says(rt.alloc(), PATCH, &PATCH_SAID)?);
+    Ok(())
 }
 
 #[test]
-fn a_patch_is_written_again(rt: HostRuntime) -> Result<(), Fail> {
-    let base = text_of(rt.alloc(), STATE)?;
-    let known = base.as_slice();
-    for pieces in [
-        Vec::from_slice(rt.alloc(), PATCH)?,
-        with_reservation(rt.alloc())?,
-    ] {
-        let text = text_of(rt.alloc(), &pieces)?;
-        let patch = text.as_slice();
-        let written = again(rt.alloc(), known, patch)?;
-        assert_eq!(rt; written.as_slice(), text.as_slice());
-    }
+fn a_reservation_is_written_again(rt: HostRuntime) -> Result<(), Fail> {
+    let patch = with_reservation(rt.alloc())?;
+    assert!(rt; says(rt.alloc(), &patch, &PATCH_SAID)?);
     Ok(())
 }
 
@@ -325,18 +351,15 @@ pub static NOTHING: &[Piece] = &[
     N1(0),
 ];
 
+static NOTHING_SAID: Said = Said {
+    numbers: (5, 0x10000),
+    x: (1, 2, 31),
+    pages: [(16, 7), (18, 9)],
+    contents: b"abc//out/",
+};
+
 #[test]
 fn a_state_differs_from_itself_in_nothing(rt: HostRuntime) -> Result<(), Fail> {
-    let base = text_of(rt.alloc(), STATE)?;
-    let text = text_of(rt.alloc(), NOTHING)?;
-    let known = base.as_slice();
-    let patch = text.as_slice();
-    let (numbers, x, pages, bytes) = said(rt.alloc(), known, patch)?;
-    assert_eq!(rt; numbers, (5, 0x10000));
-    assert_eq!(rt; x, (1, 2, 31));
-    assert_eq!(rt; pages.as_slice(), [(16, 7), (18, 9)].as_slice());
-    assert_eq!(rt; bytes.as_slice(), b"abc//out/".as_slice());
-    let written = again(rt.alloc(), known, patch)?;
-    assert_eq!(rt; written.as_slice(), text.as_slice());
+    assert!(rt; says(rt.alloc(), NOTHING, &NOTHING_SAID)?);
     Ok(())
 }

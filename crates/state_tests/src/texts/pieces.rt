@@ -2,6 +2,7 @@
 
 use crate::texts::put_digest;
 use std::alloc::{AllocError, Global};
+use std::process::Abort;
 
 /// A field of a text.
 #[derive(Clone, Copy, Debug)]
@@ -48,12 +49,17 @@ fn len(piece: Piece) -> usize {
     }
 }
 
+/// Puts a piece in the place of one.
+pub fn set(pieces: &mut [Piece], place: usize, piece: Piece) {
+    if let Some(at) = pieces.get_mut(place) {
+        *at = piece;
+    }
+}
+
 /// The pieces with one of them changed.
 pub fn changed(alloc: Global, pieces: &[Piece], change: Change) -> Result<Vec<Piece>, AllocError> {
     let mut list = Vec::from_slice(alloc, pieces)?;
-    if let Some(piece) = list.get_mut(change.0) {
-        *piece = change.1;
-    }
+    set(&mut list, change.0, change.1);
     Ok(list)
 }
 
@@ -72,13 +78,30 @@ pub fn replaced(
     Ok(list)
 }
 
+/// Adds the text of these pieces.
+pub fn put_all(out: &mut Vec<u8>, pieces: &[Piece]) -> Result<(), AllocError> {
+    for piece in pieces {
+        put(out, *piece)?;
+    }
+    Ok(())
+}
+
 /// The text of these pieces.
 pub fn text_of(alloc: Global, pieces: &[Piece]) -> Result<Vec<u8>, AllocError> {
     let mut out = Vec::new(alloc);
-    for piece in pieces {
-        put(&mut out, *piece)?;
-    }
+    put_all(&mut out, pieces)?;
     Ok(out)
+}
+
+/// The text of the pieces with others in place of one of them.
+pub fn text_of_replaced(
+    alloc: Global,
+    pieces: &[Piece],
+    index: usize,
+    others: &[Piece],
+) -> Result<Vec<u8>, AllocError> {
+    let list = replaced(alloc, pieces, index, others)?;
+    text_of(alloc, &list)
 }
 
 /// Where a field begins.
@@ -106,4 +129,80 @@ pub fn cut(pieces: &[Piece], byte: usize) -> u64 {
         at = end;
     }
     at as u64
+}
+
+/// A kind of texts.
+pub trait Form {
+    /// Where the first wrong field begins; none where the text is right. Want of memory has a place that no field has.
+    fn wrong(alloc: Global, text: &[u8]) -> Option<u64>;
+}
+
+/// Where the first wrong field of the pieces' text begins.
+pub fn wrong_of<F: Form>(alloc: Global, pieces: &[Piece]) -> Result<Option<u64>, AllocError> {
+    let text = text_of(alloc, pieces)?;
+    Ok(F::wrong(alloc, &text))
+}
+
+/// Whether the text of the pieces is wrong where a field begins: none where it is right.
+pub fn is_wrong_at<F: Form>(
+    alloc: Global,
+    pieces: &[Piece],
+    field: Option<usize>,
+) -> Result<bool, AllocError> {
+    let wrong = wrong_of::<F>(alloc, pieces)?;
+    Ok(match field {
+        Some(index) => wrong == Some(start(pieces, index)),
+        None => wrong.is_none(),
+    })
+}
+
+fn is_named<F: Form>(alloc: Global, pieces: &[Piece], change: Change) -> Result<bool, AllocError> {
+    let pieces = changed(alloc, pieces, change)?;
+    is_wrong_at::<F>(alloc, &pieces, change.2)
+}
+
+/// Asserts that each change leads to the field that it names.
+pub fn check_changes<F: Form>(
+    rt: &impl Abort,
+    alloc: Global,
+    pieces: &[Piece],
+    changes: &[Change],
+) -> Result<(), AllocError> {
+    for change in changes {
+        assert!(rt; is_named::<F>(alloc, pieces, *change)?, "{change:?}");
+    }
+    Ok(())
+}
+
+fn is_wrong_cut<F: Form>(alloc: Global, text: &[u8], byte: usize, begin: u64) -> bool {
+    F::wrong(alloc, text.get(..byte).unwrap_or(text)) == Some(begin)
+}
+
+/// Asserts that a text is right, and wherever it is cut wrong at the field that is cut: behind the first 300 bytes of a field each byte of a
+/// multiple of this is enough.
+pub fn check_cuts<F: Form>(
+    rt: &impl Abort,
+    alloc: Global,
+    pieces: &[Piece],
+    multiple: usize,
+) -> Result<(), AllocError> {
+    let text = text_of(alloc, pieces)?;
+    assert_cuts::<F>(rt, alloc, pieces, &text, multiple);
+    Ok(())
+}
+
+fn assert_cuts<F: Form>(
+    rt: &impl Abort,
+    alloc: Global,
+    pieces: &[Piece],
+    text: &[u8],
+    multiple: usize,
+) {
+    assert_eq!(rt; F::wrong(alloc, text), None);
+    for byte in 0..text.len() {
+        let begin = cut(pieces, byte);
+        if begin.saturating_add(300) > byte as u64 || byte.checked_rem(multiple) == Some(0) {
+            assert!(rt; is_wrong_cut::<F>(alloc, text, byte, begin), "{byte}");
+        }
+    }
 }

@@ -2,8 +2,8 @@
 
 use crate::texts::pieces::Piece::*;
 use crate::texts::pieces::*;
-use crate::texts::starts::{STEPPED, program, stepped};
-use ddc_base::Bytes;
+use crate::texts::starts::{STEPPED, old, program, stepped};
+use ddc_base::OutOfMemory;
 use elf_load::ElfRefusal;
 use guest_run::{RunBox, RunEnd};
 use segments::*;
@@ -30,13 +30,6 @@ fn text(alloc: Global, changes: &[Change]) -> Result<Vec<u8>, AllocError> {
         pieces = replaced(alloc, &pieces, *index, others)?;
     }
     text_of(alloc, &pieces)
-}
-
-/// The setting in which the program starts.
-fn setting(alloc: Global) -> Result<RunBox<'static>, Fail> {
-    let mut setting = RunBox::new(alloc, 4_096);
-    setting.push_arg(b"x")?;
-    Ok(setting)
 }
 
 /// What is changed in each of two texts, and what a check of them answers.
@@ -98,67 +91,82 @@ static ROWS: [Row; 14] = [
     ),
 ];
 
+/// Whether a check of two texts answers so.
+fn is_answer(alloc: Global, row: &Row) -> Result<bool, AllocError> {
+    let (from, to, wanted) = *row;
+    let from = text(alloc, from)?;
+    let to = text(alloc, to)?;
+    Ok(check(alloc, &from, &to) == wanted)
+}
+
 #[test]
 fn pieces_are_checked(rt: HostRuntime) -> Result<(), Fail> {
-    let alloc = rt.alloc();
-    for (from, to, wanted) in &ROWS {
-        let from = text(alloc, from)?;
-        let to = text(alloc, to)?;
-        assert_eq!(&rt; check(alloc, &from, &to), *wanted);
+    for (index, row) in ROWS.iter().enumerate() {
+        assert!(rt; is_answer(rt.alloc(), row)?, "row {index}");
     }
     Ok(())
 }
 
+/// A text's first bytes.
+fn front(text: &[u8], count: usize) -> &[u8] {
+    text.get(..count).unwrap_or(text)
+}
+
+fn check_forms(rt: &impl Abort, alloc: Global, start: &[u8], first: &[u8], old: &[u8]) {
+    let form = StateFault::Form(8);
+    let cut = front(first, 8);
+    assert!(rt; check(alloc, cut, b"") == SegmentAnswer::No(SegmentFault::From(form)));
+    assert!(rt; check(alloc, start, cut) == SegmentAnswer::No(SegmentFault::To(form)));
+    // A text of the first form says the same state.
+    assert!(rt; check(alloc, start, old) == SegmentAnswer::Yes(1));
+}
+
 #[test]
 fn texts_of_pieces_have_their_form(rt: HostRuntime) -> Result<(), Fail> {
-    let alloc = rt.alloc();
-    let start = text(alloc, START)?;
-    let first = text(alloc, &[])?;
-    let cut = first.get(..8).unwrap_or(&first);
-    let form = StateFault::Form(8);
-    assert_eq!(&rt;
-        check(alloc, cut, b""),
-        SegmentAnswer::No(SegmentFault::From(form))
-    );
-    assert_eq!(&rt;
-        check(alloc, &start, cut),
-        SegmentAnswer::No(SegmentFault::To(form))
-    );
-    // A text of the first form says the same state.
-    let old = replaced(alloc, STEPPED, 6, &[])?;
-    let old = replaced(alloc, &old, 0, &[Text(b"ddcstat1")])?;
-    let old = text_of(alloc, &old)?;
-    assert_eq!(&rt; check(alloc, &start, &old), SegmentAnswer::Yes(1));
+    let start = text(rt.alloc(), START)?;
+    let first = text(rt.alloc(), &[])?;
+    let old = old(rt.alloc())?;
+    Ok(check_forms(&rt, rt.alloc(), &start, &first, &old))
+}
+
+/// What a check of a program's first text answers, in the setting in which the program starts.
+fn answer_to_start(alloc: Global, program: &[u8], text: &[u8]) -> Result<StartAnswer, OutOfMemory> {
+    let mut setting = RunBox::new(alloc, 4_096);
+    setting.push_arg(b"x")?;
+    Ok(check_start(alloc, program, &setting, text))
+}
+
+/// Whether the program's first text is another one without an argument.
+fn differs_bare(alloc: Global, text: &[u8]) -> bool {
+    let bare = RunBox::new(alloc, 4_096);
+    matches!(
+        check_start(alloc, program(), &bare, text),
+        StartAnswer::Differs(_)
+    )
+}
+
+fn check_starts(
+    rt: &impl Abort,
+    alloc: Global,
+    start: &[u8],
+    first: &[u8],
+) -> Result<(), OutOfMemory> {
+    assert!(rt; answer_to_start(alloc, program(), start)? == StartAnswer::Yes);
+    assert!(rt; answer_to_start(alloc, program(), first)? == StartAnswer::Differs(8));
+    let cut = front(start, 16);
+    let refused = StartAnswer::NotState(StateFault::Form(16));
+    assert!(rt; answer_to_start(alloc, program(), cut)? == refused);
+    let short = StartAnswer::Start(StartFault::Elf(ElfRefusal::Short));
+    assert!(rt; answer_to_start(alloc, b"", cut)? == short);
+    assert!(rt; differs_bare(alloc, start));
     Ok(())
 }
 
 #[test]
 fn first_texts_are_checked(rt: HostRuntime) -> Result<(), Fail> {
-    let alloc = rt.alloc();
-    let given = setting(alloc)?;
-    let start = text(alloc, START)?;
-    assert_eq!(&rt;
-        check_start(alloc, program(), &given, &start),
-        StartAnswer::Yes
-    );
-    let first = text(alloc, &[])?;
-    assert_eq!(&rt;
-        check_start(alloc, program(), &given, &first),
-        StartAnswer::Differs(8)
-    );
-    let cut = start.get(..16).unwrap_or(&start);
-    let refused = StartAnswer::NotState(StateFault::Form(16));
-    assert_eq!(&rt; check_start(alloc, program(), &given, cut), refused);
-    let short = StartAnswer::Start(StartFault::Elf(ElfRefusal::Short));
-    assert_eq!(&rt; check_start(alloc, b"", &given, cut), short);
-    let bare = RunBox::new(alloc, 4_096);
-    assert!(&rt;
-        matches!(
-            check_start(alloc, program(), &bare, &start),
-            StartAnswer::Differs(_)
-        )
-    );
-    Ok(())
+    let start = text(rt.alloc(), START)?;
+    let first = text(rt.alloc(), &[])?;
+    Ok(check_starts(&rt, rt.alloc(), &start, &first)?)
 }
 
 /// Whether the run from a text exits with 0 behind two steps, at a step up to a limit.
@@ -174,20 +182,28 @@ fn is_over(alloc: Global, text: &[u8], limit: u64) -> bool {
     matches!(check_end(alloc, text, limit), EndAnswer::Over)
 }
 
+/// Whether a text is wrong in the field at 16.
+fn is_refused(alloc: Global, text: &[u8]) -> bool {
+    matches!(
+        check_end(alloc, text, 3),
+        EndAnswer::NotState(StateFault::Form(16))
+    )
+}
+
+/// Whether the run from the text after one step ends at the third, and at none before.
+fn first_text_ends(alloc: Global) -> Result<bool, OutOfMemory> {
+    Ok(match stepped(alloc)? {
+        Some(first) => exits(alloc, first.as_slice(), 3) && is_over(alloc, first.as_slice(), 2),
+        None => false,
+    })
+}
+
 #[test]
 fn last_texts_are_checked(rt: HostRuntime) -> Result<(), Fail> {
-    let alloc = rt.alloc();
-    let second = text(alloc, SECOND)?;
-    let first: Bytes = stepped(alloc)?;
-    assert!(&rt; exits(alloc, &second, 3) && exits(alloc, first.as_slice(), 3));
-    assert!(&rt; exits(alloc, &second, 0xffff_ffff));
-    assert!(&rt; is_over(alloc, &second, 2) && is_over(alloc, &second, 0));
-    assert!(&rt; is_over(alloc, first.as_slice(), 2));
-    let cut = second.get(..16).unwrap_or(&second);
-    let refused = matches!(
-        check_end(alloc, cut, 3),
-        EndAnswer::NotState(StateFault::Form(16))
-    );
-    assert!(&rt; refused);
+    let second = text(rt.alloc(), SECOND)?;
+    assert!(rt; exits(rt.alloc(), &second, 3) && exits(rt.alloc(), &second, 0xffff_ffff));
+    assert!(rt; is_over(rt.alloc(), &second, 2) && is_over(rt.alloc(), &second, 0));
+    assert!(rt; is_refused(rt.alloc(), front(&second, 16)));
+    assert!(rt; first_text_ends(rt.alloc())?);
     Ok(())
 }

@@ -83,70 +83,32 @@ fn old(alloc: Global) -> Result<Vec<Piece>, AllocError> {
     replaced(alloc, &pieces, 0, &[Text(b"ddcsave1")])
 }
 
-/// Where the first wrong field begins; none where the text is right. Want of memory has a place that no field has.
-fn wrong(alloc: Global, text: &[u8]) -> Option<u64> {
-    match read(alloc, text) {
-        Ok(_) => None,
-        Err(TextRefusal::Form(offset)) => Some(offset),
-        Err(TextRefusal::OutOfMemory) => Some(u64::MAX),
+struct SaveForm;
+
+impl Form for SaveForm {
+    fn wrong(alloc: Global, text: &[u8]) -> Option<u64> {
+        match read(alloc, text) {
+            Ok(_) => None,
+            Err(TextRefusal::Form(offset)) => Some(offset),
+            Err(TextRefusal::OutOfMemory) => Some(u64::MAX),
+        }
     }
 }
 
 #[test]
 fn a_changed_field_is_named(rt: HostRuntime) -> Result<(), Fail> {
     let whole = save(rt.alloc())?;
-    for change in CHANGES {
-        let pieces = changed(rt.alloc(), &whole, *change)?;
-        let text = text_of(rt.alloc(), &pieces)?;
-        let want = change.2.map(|field| start(&pieces, field));
-        assert_eq!(rt; wrong(rt.alloc(), &text), want, "{change:?}");
-    }
-    Ok(())
+    Ok(check_changes::<SaveForm>(&rt, rt.alloc(), &whole, CHANGES)?)
+}
+
+fn check_both_cuts(rt: &impl Abort, alloc: Global) -> Result<(), AllocError> {
+    check_cuts::<SaveForm>(rt, alloc, &save(alloc)?, 1)?;
+    check_cuts::<SaveForm>(rt, alloc, &old(alloc)?, 1)
 }
 
 #[test]
 fn a_cut_field_is_named(rt: HostRuntime) -> Result<(), Fail> {
-    for pieces in [save(rt.alloc())?, old(rt.alloc())?] {
-        let text = text_of(rt.alloc(), &pieces)?;
-        for (byte, _) in text.iter().enumerate() {
-            let front = text.get(..byte).ok_or("cut")?;
-            assert_eq!(rt;
-                wrong(rt.alloc(), front),
-                Some(cut(&pieces, byte)),
-                "{byte}"
-            );
-        }
-    }
-    Ok(())
-}
-
-#[test]
-fn an_old_save_says_the_same(rt: HostRuntime) -> Result<(), Fail> {
-    let alloc = rt.alloc();
-    let text = text_of(alloc, &old(alloc)?)?;
-    let parts = read(alloc, &text).ok().ok_or("form")?;
-    assert!(rt; parts.state.reservation.is_none());
-    let mut state = Bytes::new(alloc);
-    put_state_again(&mut state, &parts)?;
-    let wanted = text_of(alloc, STATE)?;
-    assert_eq!(rt; state.as_slice(), wanted.as_slice());
-    let stage = parts.done.get(0).ok_or("stages")?;
-    assert_eq!(rt;
-        (stage.steps, stage.made.as_slice()),
-        (32, b"abc".as_slice())
-    );
-    // A state of the second form is wrong at its first byte, and so is one of the first form behind the second form's magic.
-    let mixed = replaced(alloc, &old(alloc)?, 22, &[Text(b"ddcstat2")])?;
-    assert_eq!(rt;
-        wrong(alloc, &text_of(alloc, &mixed)?),
-        Some(start(&mixed, 22))
-    );
-    let mixed = replaced(alloc, &old(alloc)?, 0, &[Text(b"ddcsave2")])?;
-    assert_eq!(rt;
-        wrong(alloc, &text_of(alloc, &mixed)?),
-        Some(start(&mixed, 22))
-    );
-    Ok(())
+    Ok(check_both_cuts(&rt, rt.alloc())?)
 }
 
 /// Adds a stage's text again.
@@ -167,36 +129,82 @@ fn put_state_again(out: &mut Bytes, parts: &Parts<'_>) -> Result<(), OutOfMemory
     put_parts(out, &parts.state)
 }
 
-/// The text of the state that a save's text says.
-fn state_again(alloc: Global, text: &[u8]) -> Result<Bytes, OutOfMemory> {
-    match read(alloc, text) {
-        Ok(parts) => {
-            let mut state = Bytes::new(alloc);
-            put_state_again(&mut state, &parts)?;
-            Ok(state)
-        }
-        Err(_) => Err(OutOfMemory),
+/// Adds the text of a save again, all but its state.
+fn put_front(rt: &impl Abort, out: &mut Bytes, parts: &Parts<'_>) -> Result<(), OutOfMemory> {
+    out.extend(&MAGIC)?;
+    out.extend(&parts.recipe.0)?;
+    put_u32(out, 2)?;
+    for input in &parts.inputs {
+        out.extend(&input.digest.0)?;
     }
+    put_u32(out, 1)?;
+    for stage in &parts.done {
+        put_again(rt, out, stage)?;
+    }
+    Ok(())
+}
+
+/// The text of the state that a save's text says; no byte where it is wrong.
+fn state_again(alloc: Global, text: &[u8]) -> Result<Bytes, OutOfMemory> {
+    let mut out = Bytes::new(alloc);
+    if let Ok(parts) = read(alloc, text) {
+        put_state_again(&mut out, &parts)?;
+    }
+    Ok(out)
+}
+
+/// The text of the save that a text says; no byte where it is wrong.
+fn again(rt: &impl Abort, alloc: Global, text: &[u8]) -> Result<Bytes, OutOfMemory> {
+    let mut out = Bytes::new(alloc);
+    if let Ok(parts) = read(alloc, text) {
+        put_front(rt, &mut out, &parts)?;
+        put_state_again(&mut out, &parts)?;
+    }
+    Ok(out)
 }
 
 #[test]
 fn a_text_is_written_again(rt: HostRuntime) -> Result<(), Fail> {
-    let alloc = rt.alloc();
-    let text = text_of(alloc, &save(alloc)?)?;
-    let parts = read(alloc, &text).ok().ok_or("form")?;
-    let state = state_again(alloc, &text)?;
-    let mut again = Bytes::new(alloc);
-    again.extend(&MAGIC)?;
-    again.extend(&parts.recipe.0)?;
-    put_u32(&mut again, 2)?;
-    for input in &parts.inputs {
-        again.extend(&input.digest.0)?;
+    let text = text_of(rt.alloc(), &save(rt.alloc())?)?;
+    assert!(rt; again(&rt, rt.alloc(), &text)?.as_slice() == text.as_slice());
+    Ok(())
+}
+
+/// Whether a save has no reservation, and the stage of the save's text.
+fn has_parts(parts: &Parts<'_>) -> bool {
+    match parts.done.get(0) {
+        Some(stage) => {
+            stage.steps == 32
+                && stage.made.as_slice() == b"abc".as_slice()
+                && parts.state.reservation.is_none()
+        }
+        None => false,
     }
-    put_u32(&mut again, 1)?;
-    for stage in &parts.done {
-        put_again(&rt, &mut again, stage)?;
-    }
-    again.extend(state.as_slice())?;
-    assert_eq!(rt; again.as_slice(), text.as_slice());
+}
+
+/// Whether a text says such a save, with the state of `STATE`.
+fn says_the_same(alloc: Global, text: &[u8]) -> Result<bool, OutOfMemory> {
+    let has_parts = match read(alloc, text) {
+        Ok(parts) => has_parts(&parts),
+        Err(_) => false,
+    };
+    let wanted = text_of(alloc, STATE)?;
+    Ok(has_parts && state_again(alloc, text)?.as_slice() == wanted.as_slice())
+}
+
+/// Whether the first form with this piece in its place is wrong where the state begins.
+fn is_mixed(alloc: Global, place: usize, piece: Piece) -> Result<bool, AllocError> {
+    let mut pieces = old(alloc)?;
+    set(&mut pieces, place, piece);
+    is_wrong_at::<SaveForm>(alloc, &pieces, Some(22))
+}
+
+#[test]
+fn an_old_save_says_the_same(rt: HostRuntime) -> Result<(), Fail> {
+    let text = text_of(rt.alloc(), &old(rt.alloc())?)?;
+    assert!(rt; says_the_same(rt.alloc(), &text)?);
+    // A state of the second form is wrong at its first byte, and so is one of the first form behind the second form's magic.
+    assert!(rt; is_mixed(rt.alloc(), 22, Text(b"ddcstat2"))?);
+    assert!(rt; is_mixed(rt.alloc(), 0, Text(b"ddcsave2"))?);
     Ok(())
 }

@@ -1,11 +1,12 @@
 //! The text of a program that took one step, as docs/reference/running.md and loader.md say its start.
 
+use crate::texts::guests::{guest_of, has_text};
 use crate::texts::pieces::Piece::*;
 use crate::texts::pieces::*;
 use checkpoints::{StateRefusal, read_state, write_state};
-use ddc_base::Bytes;
+use ddc_base::{Bytes, OutOfMemory};
 use guest_run::{Guest, RunBox, RunEnd, RunRam};
-use std::alloc::Global;
+use std::alloc::{AllocError, Global};
 use std::process::Abort;
 use std::test::Fail;
 
@@ -73,24 +74,41 @@ pub(crate) fn program() -> &'static [u8] {
     }
 }
 
+/// The text of a guest at its start after one step.
+fn text_after_step(alloc: Global, guest: &mut Guest<RunRam>) -> Option<Bytes> {
+    if guest.steps() == 0 && guest.run(1) == RunEnd::Spent {
+        write_state(alloc, guest).ok()
+    } else {
+        None
+    }
+}
+
+fn stepped_in(alloc: Global, setting: &RunBox<'_>) -> Option<Bytes> {
+    match Guest::<RunRam>::start(alloc, program(), setting) {
+        Ok(mut guest) => text_after_step(alloc, &mut guest),
+        Err(_) => None,
+    }
+}
+
 /// The text of the program after one step.
-pub(crate) fn stepped(alloc: Global) -> Result<Bytes, Fail> {
+pub(crate) fn stepped(alloc: Global) -> Result<Option<Bytes>, OutOfMemory> {
     let mut setting = RunBox::new(alloc, 4_096);
     setting.push_arg(b"x")?;
-    match Guest::<RunRam>::start(alloc, program(), &setting) {
-        Err(_) => Err("no start".into()),
-        Ok(mut guest) => match guest.run(1) {
-            RunEnd::Spent => Ok(write_state(alloc, &guest)?),
-            _ => Err("an end".into()),
-        },
-    }
+    Ok(stepped_in(alloc, &setting))
+}
+
+/// Whether the text of the program after one step is this.
+fn is_stepped(alloc: Global, wanted: &[u8]) -> Result<bool, OutOfMemory> {
+    Ok(match stepped(alloc)? {
+        Some(text) => text.as_slice() == wanted,
+        None => false,
+    })
 }
 
 #[test]
 fn a_step_has_this_text(rt: HostRuntime) -> Result<(), Fail> {
-    let text = stepped(rt.alloc())?;
     let wanted = text_of(rt.alloc(), STEPPED)?;
-    assert_eq!(rt; text.as_slice(), wanted.as_slice());
+    assert!(rt; is_stepped(rt.alloc(), &wanted)?);
     Ok(())
 }
 
@@ -105,52 +123,69 @@ fn ends_at_the_third(guest: &mut Guest<RunRam>) -> bool {
     guest.steps() == 1 && guest.run(2) == RunEnd::Exited(0) && guest.steps() == 2
 }
 
+/// Whether a text says a guest that has the other text, and goes on.
+fn goes_on(alloc: Global, text: &[u8], wanted: &[u8]) -> bool {
+    match guest_of(alloc, text) {
+        Some(mut guest) => has_text(alloc, &guest, wanted) && ends_at_the_third(&mut guest),
+        None => false,
+    }
+}
+
 #[test]
 fn a_step_is_read_and_goes_on(rt: HostRuntime) -> Result<(), Fail> {
     let text = text_of(rt.alloc(), STEPPED)?;
-    let read: Result<Guest<RunRam>, StateRefusal> = read_state(rt.alloc(), &text);
-    let mut guest = read.ok().ok_or("read")?;
-    let again = write_state(rt.alloc(), &guest)?;
-    assert_eq!(rt; again.as_slice(), text.as_slice());
-    assert!(rt; ends_at_the_third(&mut guest));
+    assert!(rt; goes_on(rt.alloc(), &text, &text));
     Ok(())
+}
+
+/// The text after one step in the first form.
+pub(crate) fn old(alloc: Global) -> Result<Vec<u8>, AllocError> {
+    let mut list = Vec::from_slice(alloc, STEPPED)?;
+    set(&mut list, 0, Text(b"ddcstat1"));
+    text_of_replaced(alloc, &list, 6, &[])
 }
 
 #[test]
 fn an_old_text_of_a_step_goes_on(rt: HostRuntime) -> Result<(), Fail> {
-    let old = replaced(rt.alloc(), STEPPED, 6, &[])?;
-    let old = replaced(rt.alloc(), &old, 0, &[Text(b"ddcstat1")])?;
-    let text = text_of(rt.alloc(), &old)?;
-    let read: Result<Guest<RunRam>, StateRefusal> = read_state(rt.alloc(), &text);
-    let mut guest = read.ok().ok_or("read")?;
-    let again = write_state(rt.alloc(), &guest)?;
+    let text = old(rt.alloc())?;
     let wanted = text_of(rt.alloc(), STEPPED)?;
-    assert_eq!(rt; again.as_slice(), wanted.as_slice());
-    assert!(rt; ends_at_the_third(&mut guest));
+    assert!(rt; goes_on(rt.alloc(), &text, &wanted));
     Ok(())
+}
+
+/// Why the text after one step is refused with another byte at an offset.
+fn refusal_with(
+    alloc: Global,
+    offset: usize,
+    byte: u8,
+) -> Result<Option<StateRefusal>, AllocError> {
+    let mut text = text_of(alloc, STEPPED)?;
+    if let Some(at) = text.get_mut(offset) {
+        *at = byte;
+    }
+    Ok(refusal(alloc, &text))
+}
+
+/// Whether the text without its last byte is wrong at its last field, which has four.
+fn is_cut_at_its_last_field(alloc: Global) -> Result<bool, AllocError> {
+    let mut text = text_of(alloc, STEPPED)?;
+    let last = text.len() as u64;
+    text.pop();
+    Ok(refusal(alloc, &text) == Some(StateRefusal::Form(last.saturating_sub(4))))
 }
 
 #[test]
 fn a_step_with_another_byte_is_refused(rt: HostRuntime) -> Result<(), Fail> {
-    let mut text = text_of(rt.alloc(), STEPPED)?;
-    // The pc begins at the offset 16.
-    if let Some(byte) = text.get_mut(16) {
-        *byte = 0x7d;
-    }
-    assert_eq!(rt; refusal(rt.alloc(), &text), Some(StateRefusal::Range));
-    let mut text = text_of(rt.alloc(), STEPPED)?;
-    // What is reserved is said at the offset 272.
-    if let Some(byte) = text.get_mut(272) {
-        *byte = 1;
-    }
-    assert_eq!(rt; refusal(rt.alloc(), &text), Some(StateRefusal::Form(272)));
-    let mut text = text_of(rt.alloc(), STEPPED)?;
-    let last = text.len() as u64;
-    text.pop();
+    // The pc begins at the offset 16, and what is reserved is said at the offset 272.
     assert_eq!(rt;
-        refusal(rt.alloc(), &text),
-        Some(StateRefusal::Form(last.saturating_sub(4)))
+        refusal_with(rt.alloc(), 16, 0x7d)?,
+        Some(StateRefusal::Range)
     );
+    assert_eq!(rt;
+        refusal_with(rt.alloc(), 272, 1)?,
+        Some(StateRefusal::Form(272))
+    );
+    assert!(rt; is_cut_at_its_last_field(rt.alloc())?);
     Ok(())
 }
 
@@ -173,23 +208,25 @@ static FIELDS: [(u32, usize); 14] = [
 ];
 
 /// Whether a text that ends inside a field is wrong where that begins.
-fn is_wrong_at(alloc: Global, text: &[u8], begin: usize, end: usize) -> bool {
+fn is_wrong_within(alloc: Global, text: &[u8], begin: usize, end: usize) -> bool {
     let wanted = Some(StateRefusal::Form(begin as u64));
     (begin..end).all(|size| refusal(alloc, text.get(..size).unwrap_or(text)) == wanted)
 }
 
-#[test]
-fn a_step_that_is_cut_is_wrong_at_its_field(rt: HostRuntime) -> Result<(), Fail> {
-    let alloc = rt.alloc();
-    let text = text_of(alloc, STEPPED)?;
+fn check_fields(rt: &impl Abort, alloc: Global, text: &[u8]) {
     let mut at = 0usize;
     for (count, size) in FIELDS {
         for _ in 0..count {
             let end = at.saturating_add(size);
-            assert!(&rt; is_wrong_at(alloc, &text, at, end), "{at}");
+            assert!(rt; is_wrong_within(alloc, text, at, end), "{at}");
             at = end;
         }
     }
-    assert_eq!(&rt; at, text.len());
-    Ok(())
+    assert_eq!(rt; at, text.len());
+}
+
+#[test]
+fn a_step_that_is_cut_is_wrong_at_its_field(rt: HostRuntime) -> Result<(), Fail> {
+    let text = text_of(rt.alloc(), STEPPED)?;
+    Ok(check_fields(&rt, rt.alloc(), &text))
 }

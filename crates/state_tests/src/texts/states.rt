@@ -1,8 +1,8 @@
 use crate::texts::pieces::Piece::*;
 use crate::texts::pieces::*;
-use ddc_base::Bytes;
+use ddc_base::{Bytes, OutOfMemory};
 use mem_files::{Access, Mode, Slot};
-use save_text::state_text::{TextRefusal, put_parts, read};
+use save_text::state_text::{Parts, TextRefusal, put_parts, read};
 use std::alloc::{AllocError, Global};
 use std::process::Abort;
 use std::test::Fail;
@@ -164,24 +164,21 @@ static CHANGES: &[Change] = &[
     (71, N4(1), Some(72)),
 ];
 
-/// Where the first wrong field begins; none where the text is right. Want of memory has a place that no field has.
-fn wrong(alloc: Global, text: &[u8]) -> Option<u64> {
-    match read(alloc, text) {
-        Ok(_) => None,
-        Err(TextRefusal::Form(offset)) => Some(offset),
-        Err(TextRefusal::OutOfMemory) => Some(u64::MAX),
+struct StateForm;
+
+impl Form for StateForm {
+    fn wrong(alloc: Global, text: &[u8]) -> Option<u64> {
+        match read(alloc, text) {
+            Ok(_) => None,
+            Err(TextRefusal::Form(offset)) => Some(offset),
+            Err(TextRefusal::OutOfMemory) => Some(u64::MAX),
+        }
     }
 }
 
 #[test]
 fn a_changed_field_is_named(rt: HostRuntime) -> Result<(), Fail> {
-    for change in CHANGES {
-        let pieces = changed(rt.alloc(), STATE, *change)?;
-        let text = text_of(rt.alloc(), &pieces)?;
-        let want = change.2.map(|field| start(&pieces, field));
-        assert_eq!(rt; wrong(rt.alloc(), &text), want, "{change:?}");
-    }
-    Ok(())
+    Ok(check_changes::<StateForm>(&rt, rt.alloc(), STATE, CHANGES)?)
 }
 
 /// The same state with 8 bytes reserved, and without a reservation as the first form has it.
@@ -194,152 +191,185 @@ fn old(alloc: Global) -> Result<Vec<Piece>, AllocError> {
     replaced(alloc, &pieces, 0, &[Text(b"ddcstat1")])
 }
 
+/// Of the state with a reservation, and of it in the first form.
+fn check_other_cuts(rt: &impl Abort, alloc: Global) -> Result<(), AllocError> {
+    check_cuts::<StateForm>(rt, alloc, &with_reservation(alloc)?, 1)?;
+    check_cuts::<StateForm>(rt, alloc, &old(alloc)?, 1)
+}
+
 #[test]
 fn a_cut_field_is_named(rt: HostRuntime) -> Result<(), Fail> {
-    let state = Vec::from_slice(rt.alloc(), STATE)?;
-    for pieces in [state, with_reservation(rt.alloc())?, old(rt.alloc())?] {
-        let text = text_of(rt.alloc(), &pieces)?;
-        assert_eq!(rt; wrong(rt.alloc(), &text), None);
-        for (byte, _) in text.iter().enumerate() {
-            let front = text.get(..byte).ok_or("cut")?;
-            assert_eq!(rt;
-                wrong(rt.alloc(), front),
-                Some(cut(&pieces, byte)),
-                "{byte}"
-            );
-        }
-    }
-    Ok(())
+    check_cuts::<StateForm>(&rt, rt.alloc(), STATE, 1)?;
+    Ok(check_other_cuts(&rt, rt.alloc())?)
+}
+
+/// Whether pieces are wrong at the byte before a field.
+fn is_wrong_before(alloc: Global, pieces: &[Piece], index: usize) -> Result<bool, AllocError> {
+    Ok(wrong_of::<StateForm>(alloc, pieces)? == start(pieces, index).checked_sub(1))
 }
 
 /// Behind an old magic the byte that says what is reserved is one of the heap's. So the count of runs has its last byte in front and reads as
 /// 512. Of these the first begins at the page 4,096, the second at 4,608, and the third at 512, which stands where the pages are counted.
+fn is_wrong_before_the_pages(alloc: Global) -> Result<bool, AllocError> {
+    let pieces = changed(alloc, STATE, (0, Text(b"ddcstat1"), None))?;
+    is_wrong_before(alloc, &pieces, 43)
+}
+
 #[test]
 fn an_old_text_has_no_place_for_a_reservation(rt: HostRuntime) -> Result<(), Fail> {
-    let pieces = changed(rt.alloc(), STATE, (0, Text(b"ddcstat1"), None))?;
-    let text = text_of(rt.alloc(), &pieces)?;
-    assert_eq!(rt; wrong(rt.alloc(), &text), start(&pieces, 43).checked_sub(1));
+    assert!(rt; is_wrong_before_the_pages(rt.alloc())?);
     Ok(())
 }
 
 /// Behind a new magic the first byte of an old text's heap has to say how many bytes are reserved.
+fn is_wrong_at_the_reservation(alloc: Global) -> Result<bool, AllocError> {
+    let pieces = replaced(alloc, STATE, 34, &[N8(0x20001)])?;
+    let pieces = replaced(alloc, &pieces, 35, &[])?;
+    is_wrong_at::<StateForm>(alloc, &pieces, Some(34))
+}
+
 #[test]
 fn a_new_text_says_what_is_reserved(rt: HostRuntime) -> Result<(), Fail> {
-    let pieces = replaced(rt.alloc(), STATE, 34, &[N8(0x20001)])?;
-    let pieces = replaced(rt.alloc(), &pieces, 35, &[])?;
-    let text = text_of(rt.alloc(), &pieces)?;
-    assert_eq!(rt; wrong(rt.alloc(), &text), Some(start(&pieces, 34)));
+    assert!(rt; is_wrong_at_the_reservation(rt.alloc())?);
+    Ok(())
+}
+
+/// Asserts that a text is right, and wrong at its end with one byte or two behind it.
+fn check_longer(rt: &impl Abort, alloc: Global, text: &mut Vec<u8>) -> Result<(), AllocError> {
+    let end = text.len() as u64;
+    assert_eq!(rt; StateForm::wrong(alloc, text), None);
+    text.push(0)?;
+    assert_eq!(rt; StateForm::wrong(alloc, text), Some(end));
+    text.push(1)?;
+    assert_eq!(rt; StateForm::wrong(alloc, text), Some(end));
     Ok(())
 }
 
 #[test]
 fn a_byte_behind_the_last_field_is_named(rt: HostRuntime) -> Result<(), Fail> {
     let mut text = text_of(rt.alloc(), STATE)?;
-    let end = text.len() as u64;
-    assert_eq!(rt; wrong(rt.alloc(), &text), None);
-    text.push(0)?;
-    assert_eq!(rt; wrong(rt.alloc(), &text), Some(end));
-    text.push(1)?;
-    assert_eq!(rt; wrong(rt.alloc(), &text), Some(end));
-    Ok(())
+    Ok(check_longer(&rt, rt.alloc(), &mut text)?)
 }
 
-#[test]
-fn numbers_are_read(rt: HostRuntime) -> Result<(), Fail> {
-    let text = text_of(rt.alloc(), STATE)?;
-    let parts = read(rt.alloc(), &text).ok().ok_or("form")?;
-    let x8 = parts.registers[7];
-    assert_eq!(rt; (parts.steps, parts.pc, x8), (5, 0x10000, 8));
-    // x8 stands at the offset 80.
-    assert_eq!(rt; text.get(80).copied(), Some(8));
-    // What is reserved is said at the offset 272.
-    assert_eq!(rt; text.get(272).copied(), Some(0));
-    assert!(rt; parts.reservation.is_none());
-    let heap = (parts.heap.first, parts.heap.now, parts.heap.limit);
-    assert_eq!(rt; heap, (0x20000, 0x20010, 0x1000));
-    Ok(())
+/// Whether the numbers of the state are read.
+fn has_numbers(parts: &Parts<'_>) -> bool {
+    (parts.steps, parts.pc, parts.registers[7]) == (5, 0x10000, 8)
+        && parts.reservation.is_none()
+        && (parts.heap.first, parts.heap.now, parts.heap.limit) == (0x20000, 0x20010, 0x1000)
 }
 
-#[test]
-fn runs_and_pages_are_read(rt: HostRuntime) -> Result<(), Fail> {
-    let text = text_of(rt.alloc(), STATE)?;
-    let parts = read(rt.alloc(), &text).ok().ok_or("form")?;
-    let runs = parts.runs.get(1).ok_or("runs")?;
-    assert_eq!(rt; (runs.first, runs.pages), (18, 3));
-    let page = parts.pages.get(1).ok_or("pages")?;
-    assert_eq!(rt; page.number, 18);
-    assert_eq!(rt; page.bytes.get(4095).copied(), Some(9));
-    Ok(())
+/// Whether its second run is, and its second page.
+fn has_runs_and_pages(parts: &Parts<'_>) -> bool {
+    let (Some(run), Some(page)) = (parts.runs.get(1), parts.pages.get(1)) else {
+        return false;
+    };
+    (run.first, run.pages) == (18, 3) && page.number == 18 && page.bytes.get(4095) == Some(&9)
 }
 
-#[test]
-fn files_and_streams_are_read(rt: HostRuntime) -> Result<(), Fail> {
-    let text = text_of(rt.alloc(), STATE)?;
-    let parts = read(rt.alloc(), &text).ok().ok_or("form")?;
-    let first = parts.files.get(0).ok_or("files")?;
-    let name = first.name.ok_or("name")?;
-    assert_eq!(rt; name, b"in".as_slice());
-    assert_eq!(rt; first.content, b"abc".as_slice());
-    let second = parts.files.get(1).ok_or("files")?;
-    assert_eq!(rt; (second.number, second.name.is_none()), (3, true));
-    assert_eq!(rt; parts.stream1, b"out".as_slice());
-    Ok(())
+/// Whether its files are, and its streams.
+fn has_files_and_streams(parts: &Parts<'_>) -> bool {
+    let (Some(first), Some(second)) = (parts.files.get(0), parts.files.get(1)) else {
+        return false;
+    };
+    first.name == Some(b"in")
+        && first.content == b"abc".as_slice()
+        && second.number == 3
+        && second.name.is_none()
+        && parts.stream1 == b"out".as_slice()
 }
 
-#[test]
-fn descriptors_are_read(rt: HostRuntime) -> Result<(), Fail> {
-    let text = text_of(rt.alloc(), STATE)?;
-    let parts = read(rt.alloc(), &text).ok().ok_or("form")?;
-    let held = parts.descriptors.get(3).ok_or("descriptors")?;
-    let access = Access {
+const OPEN: Slot = Slot::File {
+    number: 0,
+    cursor: 1,
+    access: Access {
         mode: Mode::Read,
         appends: true,
-    };
-    let open = Slot::File {
-        number: 0,
-        cursor: 1,
-        access,
-    };
-    assert_eq!(rt; held.fd, 3);
-    assert_eq!(rt; held.slot, open);
-    Ok(())
+    },
+};
+
+/// Whether its fourth descriptor is.
+fn has_descriptors(parts: &Parts<'_>) -> bool {
+    match parts.descriptors.get(3) {
+        Some(held) => held.fd == 3 && held.slot == OPEN,
+        None => false,
+    }
 }
 
-/// The text that is written for what a text says.
-fn again(alloc: Global, text: &[u8]) -> Result<Bytes, Fail> {
-    let parts = read(alloc, text).ok().ok_or("form")?;
+fn check_parts(rt: &impl Abort, parts: &Parts<'_>) {
+    assert!(rt; has_numbers(parts));
+    assert!(rt; has_runs_and_pages(parts));
+    assert!(rt; has_files_and_streams(parts));
+    assert!(rt; has_descriptors(parts));
+}
+
+#[test]
+fn a_text_is_read(rt: HostRuntime) -> Result<(), Fail> {
+    let text = text_of(rt.alloc(), STATE)?;
+    // x8 stands at the offset 80, and at 272 what is reserved is said.
+    assert_eq!(rt;
+        (text.get(80).copied(), text.get(272).copied()),
+        (Some(8), Some(0))
+    );
+    match read(rt.alloc(), &text) {
+        Ok(parts) => Ok(check_parts(&rt, &parts)),
+        Err(_) => Err("form".into()),
+    }
+}
+
+/// The text that is written for what a text says; no byte where it is wrong.
+fn again(alloc: Global, text: &[u8]) -> Result<Bytes, OutOfMemory> {
     let mut out = Bytes::new(alloc);
-    put_parts(&mut out, &parts)?;
+    if let Ok(parts) = read(alloc, text) {
+        put_parts(&mut out, &parts)?;
+    }
     Ok(out)
+}
+
+/// Whether the text of these pieces is written for what the text of others says.
+fn is_written(alloc: Global, pieces: &[Piece], wanted: &[Piece]) -> Result<bool, OutOfMemory> {
+    let text = text_of(alloc, pieces)?;
+    let wanted = text_of(alloc, wanted)?;
+    Ok(again(alloc, &text)?.as_slice() == wanted.as_slice())
 }
 
 #[test]
 fn a_text_is_written_again(rt: HostRuntime) -> Result<(), Fail> {
-    let text = text_of(rt.alloc(), STATE)?;
-    assert_eq!(rt; again(rt.alloc(), &text)?.as_slice(), text.as_slice());
+    assert!(rt; is_written(rt.alloc(), STATE, STATE)?);
     Ok(())
+}
+
+/// Whether a text says that so many bytes are reserved, and where.
+fn reserves(alloc: Global, text: &[u8], count: u64, at: u64) -> bool {
+    match read(alloc, text) {
+        Ok(parts) => match parts.reservation {
+            Some(held) => (held.width.count(), held.at) == (count, at),
+            None => false,
+        },
+        Err(_) => false,
+    }
+}
+
+/// Whether the state with a reservation says it, and is written again.
+fn keeps_reservation(alloc: Global, count: u8, at: u64) -> Result<bool, OutOfMemory> {
+    let pieces = replaced(alloc, STATE, 34, &[N1(count), N8(at)])?;
+    let text = text_of(alloc, &pieces)?;
+    Ok(reserves(alloc, &text, count as u64, at) && is_written(alloc, &pieces, &pieces)?)
 }
 
 #[test]
 fn a_reservation_is_written_again(rt: HostRuntime) -> Result<(), Fail> {
-    let text = text_of(rt.alloc(), &with_reservation(rt.alloc())?)?;
-    let parts = read(rt.alloc(), &text).ok().ok_or("form")?;
-    let held = parts.reservation.ok_or("reservation")?;
-    assert_eq!(rt; (held.width.count(), held.at), (8, 0x10008));
-    assert_eq!(rt; again(rt.alloc(), &text)?.as_slice(), text.as_slice());
-    let pieces = replaced(rt.alloc(), STATE, 34, &[N1(4), N8(0x1000c)])?;
-    let text = text_of(rt.alloc(), &pieces)?;
-    let parts = read(rt.alloc(), &text).ok().ok_or("form")?;
-    let held = parts.reservation.ok_or("reservation")?;
-    assert_eq!(rt; (held.width.count(), held.at), (4, 0x1000c));
-    assert_eq!(rt; again(rt.alloc(), &text)?.as_slice(), text.as_slice());
+    assert!(rt; keeps_reservation(rt.alloc(), 8, 0x10008)?);
+    assert!(rt; keeps_reservation(rt.alloc(), 4, 0x1000c)?);
     Ok(())
+}
+
+fn old_is_written_anew(alloc: Global) -> Result<bool, OutOfMemory> {
+    let old = old(alloc)?;
+    is_written(alloc, &old, STATE)
 }
 
 #[test]
 fn an_old_text_is_written_in_the_second_form(rt: HostRuntime) -> Result<(), Fail> {
-    let text = text_of(rt.alloc(), &old(rt.alloc())?)?;
-    let wanted = text_of(rt.alloc(), STATE)?;
-    assert_eq!(rt; again(rt.alloc(), &text)?.as_slice(), wanted.as_slice());
+    assert!(rt; old_is_written_anew(rt.alloc())?);
     Ok(())
 }
