@@ -458,7 +458,7 @@ fn opens(
     rt: &impl Abort,
     alloc: Global,
     shelf: &mut MemShelf,
-    command: &str,
+    command: &'static str,
     &(words, status, text, calls): &Opening,
 ) -> Result<(), OutOfMemory> {
     says_of(rt, alloc, shelf, command, words, (status, text))?;
@@ -469,7 +469,7 @@ fn opens(
 pub(crate) fn opens_worked(
     rt: &impl Abort,
     alloc: Global,
-    command: &str,
+    command: &'static str,
     opening: &Opening,
 ) -> Result<(), OutOfMemory> {
     let mut shelf = audit_shelf(alloc, "", "")?;

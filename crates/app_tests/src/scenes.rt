@@ -83,12 +83,12 @@ pub(crate) fn are_usage(
 }
 
 /// Runs a command with further words, and compares its status and text.
-pub(crate) fn says_of(
+pub(crate) fn says_of<'w>(
     rt: &impl Abort,
     alloc: Global,
     shelf: &mut MemShelf,
-    command: &str,
-    words: &[&str],
+    command: &'w str,
+    words: &[&'w str],
     ending: (Status, &str),
 ) -> Result<(), OutOfMemory> {
     let mut all = vec![in alloc; command]?;
@@ -97,12 +97,12 @@ pub(crate) fn says_of(
 }
 
 /// Runs a command with lines of further words, none of which is one of its own.
-pub(crate) fn are_usage_of(
+pub(crate) fn are_usage_of<'w>(
     rt: &impl Abort,
     alloc: Global,
     shelf: &mut MemShelf,
-    command: &str,
-    lines: &[&[&str]],
+    command: &'w str,
+    lines: &[&[&'w str]],
 ) -> Result<(), OutOfMemory> {
     for words in lines {
         says_of(rt, alloc, shelf, command, words, (Status::Usage, "usage\n"))?;
