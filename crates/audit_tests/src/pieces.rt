@@ -5,9 +5,12 @@ ghost use Rattle.std.specs.Prelude.{◌≤◌};
 use crate::place_after;
 use audit_run::{Audit, Progress};
 use ddc_base::{Bytes, MemShelf, OutOfMemory, read_hex};
-use guest_run::{Guest, RunRam};
+use guest_run::{Guest, RunBox, RunRam};
+use mem_files::Files;
+use recipe::Recipe;
 use recipe_plan::{fetch_inputs, fetch_recipe};
 use std::alloc::Global;
+use std::process::Abort;
 use std::test::Fail;
 
 /// copy.elf, which copies the file `in` to `out`, with a line's end: its source in hex0.
@@ -55,25 +58,45 @@ stage = "two"
 binary = "bin"
 "#;
 
-/// An audit of the recipe, which has not started.
-fn worked(alloc: Global) -> Result<Audit, OutOfMemory> {
-    let program = match read_hex(alloc, COPY.trim_end().as_bytes()) {
-        Ok(program) => program,
-        Err(_) => return Err(OutOfMemory),
-    };
-    let mut shelf = MemShelf::new(alloc);
-    shelf.set("copy.elf", program.as_slice())?;
+/// Sets the recipe and its files.
+fn put_files(shelf: &mut MemShelf, program: &[u8]) -> Result<(), OutOfMemory> {
+    shelf.set("copy.elf", program)?;
     shelf.set("copy.hex0", COPY.as_bytes())?;
     shelf.set("a.bin", b"abc")?;
     shelf.set("b.bin", b"abc")?;
-    shelf.set("a.toml", RECIPE.as_bytes())?;
-    let recipe = match fetch_recipe(alloc, &mut shelf, "a.toml") {
-        Ok(recipe) => recipe,
-        Err(_) => return Err(OutOfMemory),
-    };
-    match fetch_inputs(alloc, &mut shelf, &recipe) {
+    shelf.set("a.toml", RECIPE.as_bytes())
+}
+
+/// Sets them, with the program of the source.
+fn fill(alloc: Global, shelf: &mut MemShelf) -> Result<(), OutOfMemory> {
+    match read_hex(alloc, COPY.trim_end().as_bytes()) {
+        Ok(program) => put_files(shelf, program.as_slice()),
+        Err(_) => Err(OutOfMemory),
+    }
+}
+
+/// An audit of a recipe, whose inputs a shelf has.
+fn audit_of(alloc: Global, shelf: &mut MemShelf, recipe: Recipe) -> Result<Audit, OutOfMemory> {
+    match fetch_inputs(alloc, shelf, &recipe) {
         Ok(inputs) => Ok(Audit::new(alloc, recipe, inputs)),
         Err(_) => Err(OutOfMemory),
+    }
+}
+
+/// An audit of the recipe that a shelf has.
+fn audit_in(alloc: Global, shelf: &mut MemShelf) -> Result<Audit, OutOfMemory> {
+    match fetch_recipe(alloc, shelf, "a.toml") {
+        Ok(recipe) => audit_of(alloc, shelf, recipe),
+        Err(_) => Err(OutOfMemory),
+    }
+}
+
+/// An audit of the recipe, which has not started.
+fn worked(alloc: Global) -> Result<Audit, OutOfMemory> {
+    let mut shelf = MemShelf::new(alloc);
+    match fill(alloc, &mut shelf) {
+        Ok(()) => audit_in(alloc, &mut shelf),
+        Err(OutOfMemory) => Err(OutOfMemory),
     }
 }
 
@@ -85,11 +108,26 @@ fn report_text(alloc: Global, audit: &Audit) -> Result<Bytes, OutOfMemory> {
     }
 }
 
+/// Whether an audit has this report.
+fn has_text(alloc: Global, audit: &Audit, text: &[u8]) -> bool {
+    match report_text(alloc, audit) {
+        Ok(own) => own.as_slice() == text,
+        Err(OutOfMemory) => false,
+    }
+}
+
+/// The text of the report of an audit that goes on to its end.
+fn last_text(alloc: Global, audit: &mut Audit) -> Result<Bytes, OutOfMemory> {
+    audit.advance(u64::MAX);
+    report_text(alloc, audit)
+}
+
 /// The text of the report of the undivided audit.
 fn whole_text(alloc: Global) -> Result<Bytes, OutOfMemory> {
-    let mut audit = worked(alloc)?;
-    audit.advance(u64::MAX);
-    report_text(alloc, &audit)
+    match worked(alloc) {
+        Ok(mut audit) => last_text(alloc, &mut audit),
+        Err(OutOfMemory) => Err(OutOfMemory),
+    }
 }
 
 /// Whether an audit stands after so many steps where they lead.
@@ -102,99 +140,146 @@ fn stands_after(audit: &mut Audit, steps: u64) -> bool
         && audit.report().is_some() != is_paused
 }
 
-/// Whether it comes to an end, with this report.
-fn ends_with(alloc: Global, audit: &mut Audit, text: &[u8]) -> Result<bool, OutOfMemory> {
-    let is_over = audit.advance(64) == Progress::Equal && audit.place() == (0, 0);
-    Ok(is_over && report_text(alloc, audit)?.as_slice() == text)
+/// Whether it stands there, and comes to an end with this report.
+fn goes_on(alloc: Global, audit: &mut Audit, steps: u64, text: &[u8]) -> bool
+    requires { 1 ≤ steps }
+{
+    stands_after(audit, steps)
+        && audit.advance(64) == Progress::Equal
+        && audit.place() == (0, 0)
+        && has_text(alloc, audit, text)
 }
 
 /// The same of a new audit.
-fn goes_on(alloc: Global, steps: u64, text: &[u8]) -> Result<bool, OutOfMemory>
+fn new_goes_on(alloc: Global, steps: u64, text: &[u8]) -> bool
     requires { 1 ≤ steps }
 {
-    let mut audit = worked(alloc)?;
-    let stands = stands_after(&mut audit, steps);
-    let ends = ends_with(alloc, &mut audit, text);
-    Ok(stands && ends?)
+    match worked(alloc) {
+        Ok(mut audit) => goes_on(alloc, &mut audit, steps, text),
+        Err(OutOfMemory) => false,
+    }
+}
+
+fn check_places(rt: &impl Abort, alloc: Global, text: &[u8]) {
+    assert!(rt; text.starts_with("ddc-report 1\n".as_bytes()));
+    for steps in 1..66 {
+        assert!(rt; new_goes_on(alloc, steps, text), "{steps}");
+    }
 }
 
 #[test]
 fn an_audit_stands_where_its_steps_lead(rt: HostRuntime) -> Result<(), Fail> {
-    let alloc = rt.alloc();
-    let text = whole_text(alloc)?;
-    assert!(rt; text.as_slice().starts_with("ddc-report 1\n".as_bytes()));
-    for steps in 1..66 {
-        assert!(rt; goes_on(alloc, steps, text.as_slice())?, "{steps}");
+    let text = whole_text(rt.alloc())?;
+    Ok(check_places(&rt, rt.alloc(), text.as_slice()))
+}
+
+/// Whether an audit is over, with this report.
+fn is_over(alloc: Global, audit: &Audit, text: &[u8]) -> bool {
+    audit.place() == (0, 0) && has_text(alloc, audit, text)
+}
+
+/// Whether an audit that is handed on comes to its end, with this report.
+fn ends_handed_on(alloc: Global, audit: Audit, text: &[u8]) -> bool {
+    match audit.advanced(64) {
+        Ok(audit) => is_over(alloc, &audit, text),
+        Err(OutOfMemory) => false,
     }
-    Ok(())
+}
+
+/// Whether an audit that was handed on stands after so many steps where they lead.
+fn stands_at(audit: &Audit, steps: u64) -> bool {
+    audit.place() == place_after(steps) && audit.answer().is_some() == (steps >= 64)
+}
+
+/// The same of one that stands there, and first is asked for its place.
+fn takes_last(alloc: Global, audit: Audit, steps: u64, text: &[u8]) -> bool {
+    let stands = stands_at(&audit, steps);
+    ends_handed_on(alloc, audit, text) && stands
 }
 
 /// Whether an audit that is handed on stands after so many steps where they lead, and then comes to its end with this report.
-fn takes_pieces(alloc: Global, audit: Audit, steps: u64, text: &[u8]) -> Result<bool, OutOfMemory>
-    requires { 1 ≤ steps }
-{
-    let audit = audit.advanced(steps)?;
-    let stands = audit.place() == place_after(steps) && audit.answer().is_some() == (steps >= 64);
-    let audit = audit.advanced(64)?;
-    let is_over = audit.place() == (0, 0);
-    Ok(stands && is_over && report_text(alloc, &audit)?.as_slice() == text)
+fn takes_pieces(alloc: Global, audit: Audit, steps: u64, text: &[u8]) -> bool {
+    match audit.advanced(steps) {
+        Ok(audit) => takes_last(alloc, audit, steps, text),
+        Err(OutOfMemory) => false,
+    }
+}
+
+/// The same of a new audit.
+fn new_takes_pieces(alloc: Global, steps: u64, text: &[u8]) -> bool {
+    match worked(alloc) {
+        Ok(audit) => takes_pieces(alloc, audit, steps, text),
+        Err(OutOfMemory) => false,
+    }
+}
+
+fn check_pieces(rt: &impl Abort, alloc: Global, text: &[u8]) {
+    for steps in [1, 31, 32, 33, 63, 64, 65] {
+        assert!(rt; new_takes_pieces(alloc, steps, text), "{steps}");
+    }
 }
 
 #[test]
 fn an_audit_that_is_handed_on_stands_there_too(rt: HostRuntime) -> Result<(), Fail> {
-    let alloc = rt.alloc();
-    let text = whole_text(alloc)?;
-    for steps in [1, 31, 32, 33, 63, 64, 65] {
-        let audit = worked(alloc)?;
-        assert!(rt;
-            takes_pieces(alloc, audit, steps, text.as_slice())?,
-            "{steps}"
-        );
-    }
-    Ok(())
+    let text = whole_text(rt.alloc())?;
+    Ok(check_pieces(&rt, rt.alloc(), text.as_slice()))
 }
+
+/// After so many steps, the length of the first file of a program that is started with the present setting.
+static LENGTHS: [(u64, Option<u64>); 6] = [
+    (0, Some(232)),
+    (1, Some(232)),
+    (31, Some(232)),
+    (32, Some(3)),
+    (63, Some(3)),
+    (64, None),
+];
 
 /// A program that is started with the present setting has the stage's file; there is no setting where the audit is over.
 #[test]
 fn a_setting_is_the_present_stage(rt: HostRuntime) -> Result<(), Fail> {
-    let alloc = rt.alloc();
-    let table: [(u64, Option<u64>); 6] = [
-        (0, Some(232)),
-        (1, Some(232)),
-        (31, Some(232)),
-        (32, Some(3)),
-        (63, Some(3)),
-        (64, None),
-    ];
-    for (steps, length) in table {
-        assert_eq!(rt; given_after(alloc, steps)?, length);
+    for (steps, length) in LENGTHS {
+        assert_eq!(rt; given_after(rt.alloc(), steps)?, length);
     }
     Ok(())
 }
 
 /// The length that `given` says after so many steps.
 fn given_after(alloc: Global, steps: u64) -> Result<Option<u64>, OutOfMemory> {
-    let mut audit = worked(alloc)?;
+    match worked(alloc) {
+        Ok(mut audit) => given_behind(alloc, &mut audit, steps),
+        Err(OutOfMemory) => Err(OutOfMemory),
+    }
+}
+
+/// The same of an audit that has not started.
+fn given_behind(alloc: Global, audit: &mut Audit, steps: u64) -> Result<Option<u64>, OutOfMemory> {
     if steps > 0 {
         audit.advance(steps);
     }
-    given(alloc, &audit)
+    given(alloc, audit)
 }
 
 /// The length of the first file of a program that is started with the present setting.
 fn given(alloc: Global, audit: &Audit) -> Result<Option<u64>, OutOfMemory> {
-    let (program, setting) = match audit.setting(alloc)? {
-        Some(setting) => setting,
-        None => return Ok(None),
-    };
-    let guest = match Guest::<RunRam>::start(alloc, program, &setting) {
-        Ok(guest) => guest,
-        Err(_) => return Err(OutOfMemory),
-    };
-    Ok(
-        guest
-            .files()
-            .file_from(0)
-            .map(|file| file.content.len() as u64),
-    )
+    match audit.setting(alloc) {
+        Ok(Some((program, setting))) => started(alloc, program, &setting),
+        Ok(None) => Ok(None),
+        Err(OutOfMemory) => Err(OutOfMemory),
+    }
+}
+
+fn started(
+    alloc: Global,
+    program: &[u8],
+    setting: &RunBox<'_>,
+) -> Result<Option<u64>, OutOfMemory> {
+    match Guest::<RunRam>::start(alloc, program, setting) {
+        Ok(guest) => Ok(first_length(guest.files())),
+        Err(_) => Err(OutOfMemory),
+    }
+}
+
+fn first_length(files: &Files) -> Option<u64> {
+    files.file_from(0).map(|file| file.content.len() as u64)
 }

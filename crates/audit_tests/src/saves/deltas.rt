@@ -1,32 +1,31 @@
 //! Deltas of the worked recipe. What they come to is what whole saves say, or was written down from docs/reference/delta.md.
 
-use crate::saves::are_inputs;
 use crate::saves::kept::{delta_from, delta_of_none, save_beside};
-use crate::saves::saves::{old_save_at, recipe_of, save_at};
-use crate::saves::worked::{Edit, RECIPE, edited, inputs};
+use crate::saves::saves::{old_save_at, save_at};
+use crate::saves::worked::{Edit, RECIPE, edited, given};
 use audit_run::{DeltaRefusal, SaveRefusal};
 use ddc_base::{Bytes, OutOfMemory};
 use std::alloc::Global;
+use std::process::Abort;
 use std::test::Fail;
 
 /// The delta of the worked audit against a save of it, behind so many steps more.
 fn delta_of(alloc: Global, base: &[u8], more: u64) -> Result<Bytes, OutOfMemory> {
-    let recipe = recipe_of(alloc, RECIPE)?;
-    let inputs = inputs(alloc, b"abc")?;
-    if !are_inputs(&recipe, &inputs) || more < 1 {
+    if more < 1 {
         return Err(OutOfMemory);
     }
-    delta_from(alloc, recipe, inputs, base, more)
+    match given(alloc, RECIPE, b"abc") {
+        Ok((recipe, inputs)) => delta_from(alloc, recipe, inputs, base, more),
+        Err(OutOfMemory) => Err(OutOfMemory),
+    }
 }
 
 /// The save of the worked audit that a base and a delta say.
 fn resumed(alloc: Global, base: &[u8], delta: &[u8]) -> Result<Bytes, DeltaRefusal> {
-    let recipe = recipe_of(alloc, RECIPE)?;
-    let inputs = inputs(alloc, b"abc")?;
-    if !are_inputs(&recipe, &inputs) {
-        return Err(DeltaRefusal::OutOfMemory);
+    match given(alloc, RECIPE, b"abc") {
+        Ok((recipe, inputs)) => save_beside(alloc, recipe, inputs, base, delta),
+        Err(OutOfMemory) => Err(DeltaRefusal::OutOfMemory),
     }
-    save_beside(alloc, recipe, inputs, base, delta)
 }
 
 /// Whether a delta says beside its base what a whole save says.
@@ -37,120 +36,166 @@ fn says(alloc: Global, base: &[u8], delta: &[u8], save: &[u8]) -> bool {
     }
 }
 
+/// Adds the save of the worked audit after so many steps.
+fn put_save(alloc: Global, saves: &mut Vec<Bytes>, steps: u64) -> Result<(), OutOfMemory> {
+    let save = save_at(alloc, steps)?;
+    saves.push(save)?;
+    Ok(())
+}
+
+fn put_saves(alloc: Global, saves: &mut Vec<Bytes>) -> Result<(), OutOfMemory> {
+    for steps in 1..64 {
+        put_save(alloc, saves, steps)?;
+    }
+    Ok(())
+}
+
 /// The saves of the worked audit after each number of steps from 1 on.
 fn saves(alloc: Global) -> Result<Vec<Bytes>, OutOfMemory> {
     let mut saves = Vec::new(alloc);
-    for steps in 1..64 {
-        saves.push(save_at(alloc, steps)?)?;
-    }
+    put_saves(alloc, &mut saves)?;
     Ok(saves)
 }
 
+/// Whether a later pause, so many steps behind the base, comes back beside it.
+fn comes_back(alloc: Global, base: &[u8], more: u64, save: &[u8]) -> bool {
+    match delta_of(alloc, base, more) {
+        Ok(delta) => says(alloc, base, delta.as_slice(), save),
+        Err(OutOfMemory) => false,
+    }
+}
+
 /// Whether each of these later pauses, the first of them a step behind the base, comes back beside it.
-fn come_back(alloc: Global, base: &[u8], later: &[Bytes]) -> Result<bool, OutOfMemory> {
+fn come_back(alloc: Global, base: &[u8], later: &[Bytes]) -> bool {
     let mut more = 0;
     for save in later {
         more = u64::saturating_add(more, 1);
-        let delta = delta_of(alloc, base, more)?;
-        if !says(alloc, base, delta.as_slice(), save.as_slice()) {
-            return Ok(false);
+        if !comes_back(alloc, base, more, save.as_slice()) {
+            return false;
         }
     }
-    Ok(true)
+    true
+}
+
+/// Whether all others come back beside the first.
+fn all_come_back(alloc: Global, saves: &[Bytes]) -> bool {
+    match saves {
+        [base, later @ ..] => come_back(alloc, base.as_slice(), later),
+        [] => false,
+    }
 }
 
 /// Whether each later pause comes back beside the save with so many before it.
-fn all_come_back(alloc: Global, first: usize) -> Result<bool, OutOfMemory> {
+fn all_come_back_from(alloc: Global, first: usize) -> Result<bool, OutOfMemory> {
     let saves = saves(alloc)?;
-    match saves.as_slice().get(first..) {
-        Some([base, later @ ..]) => come_back(alloc, base.as_slice(), later),
-        _ => Err(OutOfMemory),
-    }
+    Ok(all_come_back(alloc, saves.as_slice().get(first..).unwrap_or(&[])))
 }
 
 #[test]
 fn pauses_come_back_beside_the_first_one(rt: HostRuntime) -> Result<(), Fail> {
-    assert!(rt; all_come_back(rt.alloc(), 0)?);
+    assert!(rt; all_come_back_from(rt.alloc(), 0)?);
     Ok(())
 }
 
 #[test]
 fn pauses_come_back_beside_the_last_one_of_a_stage(rt: HostRuntime) -> Result<(), Fail> {
-    assert!(rt; all_come_back(rt.alloc(), 30)?);
+    assert!(rt; all_come_back_from(rt.alloc(), 30)?);
     Ok(())
 }
 
 #[test]
 fn pauses_come_back_beside_the_next_stages_start(rt: HostRuntime) -> Result<(), Fail> {
-    assert!(rt; all_come_back(rt.alloc(), 31)?);
+    assert!(rt; all_come_back_from(rt.alloc(), 31)?);
     Ok(())
+}
+
+fn check_pairs(rt: &impl Abort, alloc: Global, saves: &[Bytes]) {
+    for index in 0..62 {
+        let pair = saves.get(index..index + 2).unwrap_or(&[]);
+        assert!(rt; all_come_back(alloc, pair), "{index}");
+    }
 }
 
 #[test]
 fn each_pause_comes_back_beside_the_one_before_it(rt: HostRuntime) -> Result<(), Fail> {
-    let alloc = rt.alloc();
-    let saves = saves(alloc)?;
-    for index in 0..62 {
-        let pair = saves.as_slice().get(index..index + 2).unwrap_or(&[]);
-        if let [base, later @ ..] = pair {
-            assert!(rt; come_back(alloc, base.as_slice(), later)?, "{index}");
-        }
+    let saves = saves(rt.alloc())?;
+    Ok(check_pairs(&rt, rt.alloc(), saves.as_slice()))
+}
+
+/// Whether this is the worked audit's delta behind so many steps more.
+fn is_delta(alloc: Global, base: &[u8], more: u64, wanted: &[u8]) -> bool {
+    match delta_of(alloc, base, more) {
+        Ok(delta) => delta.as_slice() == wanted,
+        Err(OutOfMemory) => false,
     }
-    Ok(())
+}
+
+/// Whether a delta against the first form is that against the second, and comes back beside the first as the save after so many steps.
+fn is_of_both(alloc: Global, old: &[u8], first: u64, delta: &[u8]) -> Result<bool, OutOfMemory> {
+    let base = save_at(alloc, first)?;
+    let save = save_at(alloc, first.saturating_add(5))?;
+    Ok(is_delta(alloc, base.as_slice(), 5, delta) && says(alloc, old, delta, save.as_slice()))
+}
+
+/// Whether the save after so many steps has in its first form the deltas of the second.
+fn has_the_same_delta(alloc: Global, first: u64) -> Result<bool, OutOfMemory> {
+    let old = old_save_at(alloc, first)?;
+    let delta = delta_of(alloc, old.as_slice(), 5)?;
+    is_of_both(alloc, old.as_slice(), first, delta.as_slice())
 }
 
 /// A base of the first form has the deltas of the second, and they come back beside either.
 #[test]
 fn an_old_base_has_the_same_deltas(rt: HostRuntime) -> Result<(), Fail> {
-    let alloc = rt.alloc();
     for first in [1, 31, 32, 40] {
-        let base = save_at(alloc, first)?;
-        let old = old_save_at(alloc, first)?;
-        let delta = delta_of(alloc, old.as_slice(), 5)?;
-        assert_eq!(rt;
-            delta.as_slice(),
-            delta_of(alloc, base.as_slice(), 5)?.as_slice(),
-            "{first}"
-        );
-        let save = save_at(alloc, first + 5)?;
-        assert!(rt;
-            says(alloc, old.as_slice(), delta.as_slice(), save.as_slice()),
-            "{first}"
-        );
+        assert!(rt; has_the_same_delta(rt.alloc(), first)?, "{first}");
     }
     Ok(())
+}
+
+/// The delta against itself of the worked audit that a save says.
+fn delta_against_itself(alloc: Global, save: &[u8]) -> Result<Bytes, OutOfMemory> {
+    match given(alloc, RECIPE, b"abc") {
+        Ok((recipe, inputs)) => delta_of_none(alloc, recipe, inputs, save),
+        Err(OutOfMemory) => Err(OutOfMemory),
+    }
+}
+
+/// Whether the worked audit after so many steps comes back beside itself.
+fn says_itself(alloc: Global, steps: u64) -> Result<bool, OutOfMemory> {
+    let save = save_at(alloc, steps)?;
+    let delta = delta_against_itself(alloc, save.as_slice())?;
+    Ok(says(alloc, save.as_slice(), delta.as_slice(), save.as_slice()))
 }
 
 /// Of two audits that stand at one place, the one says nothing beside the other. The texts have a header, the present place and no stage.
 #[test]
 fn an_audit_has_a_delta_against_itself(rt: HostRuntime) -> Result<(), Fail> {
-    let alloc = rt.alloc();
     for steps in [1, 31, 32, 63] {
-        let save = save_at(alloc, steps)?;
-        let recipe = recipe_of(alloc, RECIPE)?;
-        let inputs = inputs(alloc, b"abc")?;
-        assert!(rt; are_inputs(&recipe, &inputs));
-        if are_inputs(&recipe, &inputs) {
-            let delta = delta_of_none(alloc, recipe, inputs, save.as_slice())?;
-            assert!(rt;
-                says(alloc, save.as_slice(), delta.as_slice(), save.as_slice()),
-                "{steps}"
-            );
-        }
+        assert!(rt; says_itself(rt.alloc(), steps)?, "{steps}");
     }
+    Ok(())
+}
+
+/// How long the delta is behind so many steps more.
+fn length_of(alloc: Global, base: &[u8], more: u64) -> Result<usize, OutOfMemory> {
+    match delta_of(alloc, base, more) {
+        Ok(delta) => Ok(delta.len()),
+        Err(OutOfMemory) => Err(OutOfMemory),
+    }
+}
+
+fn check_lengths(rt: &impl Abort, alloc: Global, base: &[u8]) -> Result<(), OutOfMemory> {
+    assert_eq!(rt; length_of(alloc, base, 13)?, 257);
+    assert_eq!(rt; length_of(alloc, base, 31)?, 4_353);
     Ok(())
 }
 
 /// From the second stage's start, the stack is written between 13 steps and 31. The fields beside pages and changed registers are counted by the table.
 #[test]
 fn a_delta_grows_with_what_differs(rt: HostRuntime) -> Result<(), Fail> {
-    let alloc = rt.alloc();
-    let base = save_at(alloc, 32)?;
-    let first = delta_of(alloc, base.as_slice(), 13)?;
-    assert_eq!(rt; first.len(), 257);
-    let second = delta_of(alloc, base.as_slice(), 31)?;
-    assert_eq!(rt; second.len(), 4_353);
-    Ok(())
+    let base = save_at(rt.alloc(), 32)?;
+    Ok(check_lengths(&rt, rt.alloc(), base.as_slice())?)
 }
 
 /// What is changed in a base, from its end on, what in a delta against the base as it was, and why they are refused then.
@@ -206,6 +251,17 @@ static SECOND: &[Row] = &[
     (&[], &[(64, 1, &[1])], STATE),
 ];
 
+/// Why a delta is refused beside a base behind these edits.
+fn refusal_beside(
+    alloc: Global,
+    base: &[u8],
+    delta: &[u8],
+    edits: &[(usize, usize, &[u8])],
+) -> Result<Option<DeltaRefusal>, OutOfMemory> {
+    let text = edited(alloc, delta, edits)?;
+    Ok(resumed(alloc, base, text.as_slice()).err())
+}
+
 /// Why a base and its delta are refused behind these edits.
 fn refusal_of(
     alloc: Global,
@@ -213,25 +269,19 @@ fn refusal_of(
     delta: &[u8],
     edits: (&[Edit], &[Edit]),
 ) -> Result<Option<DeltaRefusal>, OutOfMemory> {
-    let mut save = Bytes::from_slice(alloc, base)?;
-    for edit in edits.0 {
-        save = edited(alloc, save.as_slice(), *edit)?;
-    }
-    let mut text = Bytes::from_slice(alloc, delta)?;
-    for edit in edits.1 {
-        text = edited(alloc, text.as_slice(), *edit)?;
-    }
-    Ok(resumed(alloc, save.as_slice(), text.as_slice()).err())
+    let save = edited(alloc, base, edits.0)?;
+    refusal_beside(alloc, save.as_slice(), delta, edits.1)
 }
 
-#[test]
-fn each_rule_has_its_refusal(rt: HostRuntime) -> Result<(), Fail> {
-    let alloc = rt.alloc();
-    let base = save_at(alloc, 40)?;
-    let delta = delta_of(alloc, base.as_slice(), 5)?;
+fn check_rows(
+    rt: &impl Abort,
+    alloc: Global,
+    base: &[u8],
+    delta: &[u8],
+) -> Result<(), OutOfMemory> {
     for (first, second, wanted) in SECOND {
         assert_eq!(rt;
-            refusal_of(alloc, base.as_slice(), delta.as_slice(), (first, second))?,
+            refusal_of(alloc, base, delta, (first, second))?,
             *wanted,
             "{first:?} {second:?}"
         );
@@ -239,29 +289,70 @@ fn each_rule_has_its_refusal(rt: HostRuntime) -> Result<(), Fail> {
     Ok(())
 }
 
-/// The stage that is done, at 176 of its save, in the place of one that is kept: it could have been; with another step it could not.
 #[test]
-fn kept_stages_are_the_most(rt: HostRuntime) -> Result<(), Fail> {
-    let alloc = rt.alloc();
-    let base = save_at(alloc, 40)?;
-    let delta = delta_of(alloc, base.as_slice(), 5)?;
-    let record = base.as_slice().get(176..577).unwrap_or(&[]);
-    let fewer = edited(alloc, delta.as_slice(), (48, 0, record))?;
-    let fewer = edited(alloc, fewer.as_slice(), (40, 5, &[0, 0, 0, 0, 1]))?;
+fn each_rule_has_its_refusal(rt: HostRuntime) -> Result<(), Fail> {
+    let base = save_at(rt.alloc(), 40)?;
+    let delta = delta_of(rt.alloc(), base.as_slice(), 5)?;
+    Ok(check_rows(&rt, rt.alloc(), base.as_slice(), delta.as_slice())?)
+}
+
+fn check_kept(
+    rt: &impl Abort,
+    alloc: Global,
+    base: &[u8],
+    delta: &[u8],
+) -> Result<(), OutOfMemory> {
+    let record = base.get(176..577).unwrap_or(&[]);
+    let fewer = edited(alloc, delta, &[(48, 0, record), (40, 5, &[0, 0, 0, 0, 1])])?;
+    check_fewer(rt, alloc, base, fewer.as_slice())
+}
+
+fn check_fewer(
+    rt: &impl Abort,
+    alloc: Global,
+    base: &[u8],
+    fewer: &[u8],
+) -> Result<(), OutOfMemory> {
     assert_eq!(rt;
-        resumed(alloc, base.as_slice(), fewer.as_slice()).err(),
+        resumed(alloc, base, fewer).err(),
         Some(DeltaRefusal::Form(48))
     );
-    let other = edited(alloc, fewer.as_slice(), (48, 1, &[1]))?;
     assert_eq!(rt;
-        resumed(alloc, base.as_slice(), other.as_slice()).err(),
+        refusal_beside(alloc, base, fewer, &[(48, 1, &[1])])?,
         NEITHER
     );
     // It stands behind the kept one: then no stage is left to be the present one.
-    let both = edited(alloc, other.as_slice(), (40, 1, &[1]))?;
     assert_eq!(rt;
-        resumed(alloc, base.as_slice(), both.as_slice()).err(),
+        refusal_beside(alloc, base, fewer, &[(48, 1, &[1]), (40, 1, &[1])])?,
         STATE
+    );
+    Ok(())
+}
+
+/// The stage that is done, at 176 of its save, in the place of one that is kept: it could have been; with another step it could not.
+#[test]
+fn kept_stages_are_the_most(rt: HostRuntime) -> Result<(), Fail> {
+    let base = save_at(rt.alloc(), 40)?;
+    let delta = delta_of(rt.alloc(), base.as_slice(), 5)?;
+    Ok(check_kept(&rt, rt.alloc(), base.as_slice(), delta.as_slice())?)
+}
+
+fn check_ends(
+    rt: &impl Abort,
+    alloc: Global,
+    base: &[u8],
+    delta: &[u8],
+) -> Result<(), OutOfMemory> {
+    let end = delta.len();
+    assert_eq!(rt;
+        refusal_beside(alloc, base, delta, &[(end, 0, &[0])])?,
+        Some(DeltaRefusal::Form(end as u64))
+    );
+    let last = end.saturating_sub(1);
+    let shorter = delta.get(..last).unwrap_or(&[]);
+    assert_eq!(rt;
+        resumed(alloc, base, shorter).err(),
+        Some(DeltaRefusal::Form(last as u64))
     );
     Ok(())
 }
@@ -269,20 +360,7 @@ fn kept_stages_are_the_most(rt: HostRuntime) -> Result<(), Fail> {
 /// A delta that is longer or shorter by a byte. It ends with the bytes that say that both streams are the base's.
 #[test]
 fn a_delta_ends_with_its_last_field(rt: HostRuntime) -> Result<(), Fail> {
-    let alloc = rt.alloc();
-    let base = save_at(alloc, 40)?;
-    let delta = delta_of(alloc, base.as_slice(), 5)?;
-    let end = delta.len();
-    let longer = edited(alloc, delta.as_slice(), (end, 0, &[0]))?;
-    assert_eq!(rt;
-        resumed(alloc, base.as_slice(), longer.as_slice()).err(),
-        Some(DeltaRefusal::Form(end as u64))
-    );
-    let last = end.saturating_sub(1);
-    let shorter = delta.as_slice().get(..last).unwrap_or(&[]);
-    assert_eq!(rt;
-        resumed(alloc, base.as_slice(), shorter).err(),
-        Some(DeltaRefusal::Form(last as u64))
-    );
-    Ok(())
+    let base = save_at(rt.alloc(), 40)?;
+    let delta = delta_of(rt.alloc(), base.as_slice(), 5)?;
+    Ok(check_ends(&rt, rt.alloc(), base.as_slice(), delta.as_slice())?)
 }

@@ -2,6 +2,7 @@
 
 ghost use Rattle.std.specs.Prelude.{◌≤◌};
 ghost use Rattle.audit_run.specs.Delta.Deltas.{IsBaseAt};
+ghost use Rattle.audit_run.specs.Saved.{IsOn};
 ghost use Rattle.wheeler.specs.Positions.{Position};
 ghost use Rattle.wheeler.specs.Valid.{IsInputs};
 
@@ -38,6 +39,13 @@ pub fn delta_from(
     }
 }
 
+/// The save of an audit.
+fn save_of(audit: &Audit) -> Result<Bytes, DeltaRefusal>
+    requires { IsOn audit.now.stands }
+{
+    Ok(audit.save()?)
+}
+
 /// The save of the audit that a base and a delta say.
 pub fn save_beside(
     alloc: Global,
@@ -48,9 +56,10 @@ pub fn save_beside(
 ) -> Result<Bytes, DeltaRefusal>
     requires { IsInputs recipe inputs }
 {
-    let audit = Audit::resume_delta(alloc, recipe, inputs, base, delta)?;
-    let text = audit.save()?;
-    Ok(text)
+    match Audit::resume_delta(alloc, recipe, inputs, base, delta) {
+        Ok(audit) => save_of(&audit),
+        Err(why) => Err(why),
+    }
 }
 
 /// The delta of the audit that a save says against itself.

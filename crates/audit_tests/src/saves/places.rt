@@ -5,6 +5,7 @@ use crate::saves::worked::{Edit, RECIPE, edited};
 use audit_run::SaveRefusal;
 use ddc_base::{Bytes, OutOfMemory};
 use std::alloc::Global;
+use std::process::Abort;
 use std::test::Fail;
 
 /// What is changed in the save after 45 steps, from its end on, and why the text is refused then.
@@ -146,67 +147,87 @@ static PRESENT: &[Row] = &[
 fn refusal_of(
     alloc: Global,
     text: &[u8],
-    edits: &[Edit],
+    edits: &[(usize, usize, &[u8])],
 ) -> Result<Option<SaveRefusal>, OutOfMemory> {
-    let mut new = Bytes::from_slice(alloc, text)?;
-    for edit in edits {
-        new = edited(alloc, new.as_slice(), *edit)?;
-    }
+    let new = edited(alloc, text, edits)?;
     Ok(refusal(alloc, RECIPE, b"abc", new.as_slice()))
+}
+
+fn check_rows(
+    rt: &impl Abort,
+    alloc: Global,
+    text: &[u8],
+    rows: &[Row],
+) -> Result<(), OutOfMemory> {
+    for (edits, wanted) in rows {
+        assert_eq!(rt; refusal_of(alloc, text, edits)?, *wanted, "{edits:?}");
+    }
+    Ok(())
+}
+
+fn check_rules(rt: &impl Abort, alloc: Global, text: &[u8]) -> Result<(), OutOfMemory> {
+    assert_eq!(rt; text.len(), 9_193);
+    for rows in [FRONT, DONE, PRESENT] {
+        check_rows(rt, alloc, text, rows)?;
+    }
+    Ok(())
 }
 
 #[test]
 fn each_rule_has_its_refusal(rt: HostRuntime) -> Result<(), Fail> {
-    let alloc = rt.alloc();
-    let text = save_at(alloc, 45)?;
-    assert_eq!(rt; text.len(), 9_193);
-    for rows in [FRONT, DONE, PRESENT] {
-        for (edits, wanted) in rows {
-            assert_eq!(rt;
-                refusal_of(alloc, text.as_slice(), edits)?,
-                *wanted,
-                "{edits:?}"
-            );
-        }
-    }
+    let text = save_at(rt.alloc(), 45)?;
+    Ok(check_rules(&rt, rt.alloc(), text.as_slice())?)
+}
+
+fn check_stages(rt: &impl Abort, alloc: Global, text: &[u8]) -> Result<(), OutOfMemory> {
+    let record = text.get(176..577).unwrap_or(&[]);
+    let two = [(577, 0, record), (172, 1, &[2])];
+    assert_eq!(rt; refusal_of(alloc, text, &two)?, STATE);
+    let three = [(577, 0, record), (577, 0, record), (172, 1, &[3])];
+    assert_eq!(rt; refusal_of(alloc, text, &three)?, STATE);
     Ok(())
 }
 
 /// The record of the stage that is done stands for both stages; then none is left to be the present one.
 #[test]
 fn a_stage_is_left(rt: HostRuntime) -> Result<(), Fail> {
-    let alloc = rt.alloc();
-    let text = save_at(alloc, 45)?;
-    let record = text.as_slice().get(176..577).unwrap_or(&[]);
-    let two = edited(alloc, text.as_slice(), (577, 0, record))?;
-    let two = edited(alloc, two.as_slice(), (172, 1, &[2]))?;
-    assert_eq!(rt; refusal(alloc, RECIPE, b"abc", two.as_slice()), STATE);
-    let three = edited(alloc, two.as_slice(), (577, 0, record))?;
-    let three = edited(alloc, three.as_slice(), (172, 1, &[3]))?;
-    assert_eq!(rt; refusal(alloc, RECIPE, b"abc", three.as_slice()), STATE);
+    let text = save_at(rt.alloc(), 45)?;
+    Ok(check_stages(&rt, rt.alloc(), text.as_slice())?)
+}
+
+/// Adds a left file.
+fn put_left(files: &mut Bytes, number: u16) -> Result<(), OutOfMemory> {
+    let name = [(number / 128 % 64) as u8 + 1, (number % 128) as u8 + 1];
+    files.extend(&[2, 0])?;
+    files.extend(&name)?;
+    files.extend(&[0; 36])
+}
+
+/// Adds so many left files, behind how many they are with the others.
+fn put_more(files: &mut Bytes, more: u16) -> Result<(), OutOfMemory> {
+    files.extend(&more.saturating_add(2).to_le_bytes())?;
+    files.extend(&[0; 2])?;
+    for number in 0..more {
+        put_left(files, number)?;
+    }
     Ok(())
 }
 
-/// A save whose done stage has left so many files more, before the others.
-fn crowded(alloc: Global, more: u16) -> Result<Bytes, OutOfMemory> {
-    let text = save_at(alloc, 45)?;
-    let mut files = Bytes::from_slice(alloc, &more.saturating_add(2).to_le_bytes())?;
-    files.extend(&[0; 2])?;
-    for number in 0..more {
-        let name = [(number / 128 % 64) as u8 + 1, (number % 128) as u8 + 1];
-        files.extend(&[2, 0])?;
-        files.extend(&name)?;
-        files.extend(&[0; 36])?;
-    }
-    edited(alloc, text.as_slice(), (256, 4, files.as_slice()))
+/// Why a save is refused whose done stage has left so many files more, before the others.
+fn crowded(alloc: Global, text: &[u8], more: u16) -> Result<Option<SaveRefusal>, OutOfMemory> {
+    let mut files = Bytes::new(alloc);
+    put_more(&mut files, more)?;
+    refusal_of(alloc, text, &[(256, 4, files.as_slice())])
+}
+
+fn check_crowds(rt: &impl Abort, alloc: Global, text: &[u8]) -> Result<(), OutOfMemory> {
+    assert_eq!(rt; crowded(alloc, text, 4_094)?, None);
+    assert_eq!(rt; crowded(alloc, text, 4_095)?, STATE);
+    Ok(())
 }
 
 #[test]
 fn left_files_are_counted(rt: HostRuntime) -> Result<(), Fail> {
-    let alloc = rt.alloc();
-    let most = crowded(alloc, 4_094)?;
-    assert_eq!(rt; refusal(alloc, RECIPE, b"abc", most.as_slice()), None);
-    let more = crowded(alloc, 4_095)?;
-    assert_eq!(rt; refusal(alloc, RECIPE, b"abc", more.as_slice()), STATE);
-    Ok(())
+    let text = save_at(rt.alloc(), 45)?;
+    Ok(check_crowds(&rt, rt.alloc(), text.as_slice())?)
 }

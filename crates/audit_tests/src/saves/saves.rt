@@ -1,49 +1,56 @@
 ghost use Rattle.std.specs.Prelude.{◌≤◌};
+ghost use Rattle.wheeler.specs.Valid.{IsInputs};
 
-use crate::saves::are_inputs;
-use crate::saves::worked::{RECIPE, REPORT, edited, inputs, with};
+use crate::place_after;
+use crate::saves::worked::{RECIPE, REPORT, edited, given, with};
 use audit_run::{Audit, Progress, SaveRefusal};
 use ddc_base::{Bytes, OutOfMemory};
-use recipe::Recipe;
+use recipe::{Inputs, Recipe};
 use std::alloc::Global;
+use std::process::Abort;
 use std::test::Fail;
 
-/// The recipe of a text.
-pub(crate) fn recipe_of(alloc: Global, text: &str) -> Result<Recipe, OutOfMemory> {
-    match recipe::read(alloc, text.as_bytes()) {
-        Ok(recipe) => Ok(recipe),
-        Err(_) => Err(OutOfMemory),
-    }
-}
-
-/// The worked audit after so many steps, and its save.
-pub(crate) fn save_at(alloc: Global, steps: u64) -> Result<Bytes, OutOfMemory> {
-    let recipe = recipe_of(alloc, RECIPE)?;
-    let inputs = inputs(alloc, b"abc")?;
-    if !are_inputs(&recipe, &inputs) || steps < 1 {
-        return Err(OutOfMemory);
-    }
-    let mut audit = Audit::new(alloc, recipe, inputs);
+/// The save of an audit behind so many steps more.
+fn save_behind(audit: &mut Audit, steps: u64) -> Result<Bytes, OutOfMemory>
+    requires { 1 ≤ steps }
+{
     match audit.advance(steps) {
         Progress::Paused => audit.save(),
         _ => Err(OutOfMemory),
     }
 }
 
+/// The save of a new audit after so many steps.
+fn save_after(
+    alloc: Global,
+    recipe: Recipe,
+    inputs: Inputs,
+    steps: u64,
+) -> Result<Bytes, OutOfMemory>
+    requires given { IsInputs recipe inputs }
+    requires some { 1 ≤ steps }
+{
+    let mut audit = Audit::new(alloc, recipe, inputs);
+    save_behind(&mut audit, steps)
+}
+
+/// The save of the worked audit after so many steps.
+pub(crate) fn save_at(alloc: Global, steps: u64) -> Result<Bytes, OutOfMemory> {
+    if steps < 1 {
+        return Err(OutOfMemory);
+    }
+    match given(alloc, RECIPE, b"abc") {
+        Ok((recipe, inputs)) => save_after(alloc, recipe, inputs, steps),
+        Err(OutOfMemory) => Err(OutOfMemory),
+    }
+}
+
 /// What is resumed of a text, for this recipe and this third input.
 fn resumed(alloc: Global, recipe: &str, source: &[u8], text: &[u8]) -> Result<Audit, SaveRefusal> {
-    let recipe = match recipe_of(alloc, recipe) {
-        Ok(recipe) => recipe,
-        Err(OutOfMemory) => return Err(SaveRefusal::OutOfMemory),
-    };
-    let inputs = match inputs(alloc, source) {
-        Ok(inputs) => inputs,
-        Err(OutOfMemory) => return Err(SaveRefusal::OutOfMemory),
-    };
-    if !are_inputs(&recipe, &inputs) {
-        return Err(SaveRefusal::OutOfMemory);
+    match given(alloc, recipe, source) {
+        Ok((recipe, inputs)) => Audit::resume(alloc, recipe, inputs, text),
+        Err(OutOfMemory) => Err(SaveRefusal::OutOfMemory),
     }
-    Audit::resume(alloc, recipe, inputs, text)
 }
 
 /// Why a text is refused as a save of this recipe and this third input.
@@ -53,10 +60,7 @@ pub(crate) fn refusal(
     source: &[u8],
     text: &[u8],
 ) -> Option<SaveRefusal> {
-    match resumed(alloc, recipe, source, text) {
-        Ok(_) => None,
-        Err(why) => Some(why),
-    }
+    resumed(alloc, recipe, source, text).err()
 }
 
 /// The report of an audit that is over with one.
@@ -67,43 +71,50 @@ fn report_of(alloc: Global, audit: &Audit) -> Result<Bytes, OutOfMemory> {
     }
 }
 
-/// The place of the worked audit after so many steps: each of its two stages takes 32.
-fn place_after(steps: u64) -> (u32, u64) {
-    if steps < 32 {
-        (1, steps)
-    } else {
-        (2, steps - 32)
+/// Whether an audit is over with this report.
+fn has_report(alloc: Global, audit: &Audit, wanted: &str) -> bool {
+    match report_of(alloc, audit) {
+        Ok(report) => report.as_slice() == wanted.as_bytes(),
+        Err(OutOfMemory) => false,
     }
 }
 
 /// Whether a resumed audit stands after so many steps, and has the undivided report.
-fn goes_on(alloc: Global, audit: &mut Audit, steps: u64) -> Result<bool, OutOfMemory> {
-    let stands = audit.place() == place_after(steps) && audit.advance(100) == Progress::Equal;
-    Ok(stands && report_of(alloc, audit)?.as_slice() == REPORT.as_bytes())
+fn goes_on(alloc: Global, audit: &mut Audit, steps: u64) -> bool {
+    audit.place() == place_after(steps)
+        && audit.advance(100) == Progress::Equal
+        && has_report(alloc, audit, REPORT)
 }
 
 /// The same of the audit that a save says.
-fn is_resumed(alloc: Global, text: &[u8], steps: u64) -> Result<bool, OutOfMemory> {
+fn is_resumed(alloc: Global, text: &[u8], steps: u64) -> bool {
     match resumed(alloc, RECIPE, b"abc", text) {
         Ok(mut audit) => goes_on(alloc, &mut audit, steps),
-        Err(_) => Ok(false),
+        Err(_) => false,
+    }
+}
+
+/// The same of the save after so many steps.
+fn is_resumed_at(alloc: Global, steps: u64) -> bool {
+    match save_at(alloc, steps) {
+        Ok(text) => is_resumed(alloc, text.as_slice(), steps),
+        Err(OutOfMemory) => false,
     }
 }
 
 #[test]
 fn a_resumed_audit_has_the_undivided_report(rt: HostRuntime) -> Result<(), Fail> {
-    let alloc = rt.alloc();
     for steps in 1..64 {
-        let text = save_at(alloc, steps)?;
-        assert!(rt; is_resumed(alloc, text.as_slice(), steps)?, "{steps}");
+        assert!(rt; is_resumed_at(rt.alloc(), steps), "{steps}");
     }
     Ok(())
 }
 
 /// What the next piece of an audit comes to: a save, or the report.
-enum Came {
-    Saved(Bytes),
-    Reported(Bytes),
+#[derive(Drop)]
+struct Came {
+    is_over: bool,
+    text: Bytes,
 }
 
 /// Advances an audit by so many steps.
@@ -111,9 +122,16 @@ fn advanced(alloc: Global, audit: &mut Audit, steps: u64) -> Result<Came, OutOfM
     requires { 1 ≤ steps }
 {
     match audit.advance(steps) {
-        Progress::Paused => Ok(Came::Saved(audit.save()?)),
-        Progress::Equal => Ok(Came::Reported(report_of(alloc, audit)?)),
+        Progress::Paused => came_to(false, audit.save()),
+        Progress::Equal => came_to(true, report_of(alloc, audit)),
         _ => Err(OutOfMemory),
+    }
+}
+
+fn came_to(is_over: bool, text: Result<Bytes, OutOfMemory>) -> Result<Came, OutOfMemory> {
+    match text {
+        Ok(text) => Ok(Came { is_over, text }),
+        Err(OutOfMemory) => Err(OutOfMemory),
     }
 }
 
@@ -127,56 +145,89 @@ fn resumed_by(alloc: Global, text: &[u8], steps: u64) -> Result<Came, OutOfMemor
     }
 }
 
-/// The report of the worked audit in pieces of so many steps, which is saved and resumed behind each of them.
-fn report_by(alloc: Global, steps: u64) -> Result<Bytes, OutOfMemory> {
-    let mut text = save_at(alloc, steps)?;
-    if steps == 0 {
-        return Err(OutOfMemory);
+/// Resumes what came, where it is no report, and advances it by so many steps.
+fn take_piece(alloc: Global, last: &mut Came, steps: u64) -> Result<(), OutOfMemory>
+    requires { 1 ≤ steps }
+{
+    if last.is_over {
+        return Ok(());
     }
+    *last = resumed_by(alloc, last.text.as_slice(), steps)?;
+    Ok(())
+}
+
+/// Whether the report of the worked audit comes in pieces of so many steps, which is saved and resumed behind each of them.
+fn reports_by(alloc: Global, last: &mut Came, steps: u64) -> Result<bool, OutOfMemory>
+    requires { 1 ≤ steps }
+{
     for _ in 0..64 {
-        match resumed_by(alloc, text.as_slice(), steps)? {
-            Came::Saved(save) => text = save,
-            Came::Reported(report) => return Ok(report),
-        }
+        take_piece(alloc, last, steps)?;
     }
-    Err(OutOfMemory)
+    Ok(last.is_over && last.text.as_slice() == REPORT.as_bytes())
+}
+
+/// The same from its start on.
+fn pieces_report(alloc: Global, steps: u64) -> Result<bool, OutOfMemory>
+    requires { 1 ≤ steps }
+{
+    let text = save_at(alloc, steps)?;
+    let mut last = Came {
+        is_over: false,
+        text,
+    };
+    reports_by(alloc, &mut last, steps)
 }
 
 #[test]
 fn pieces_have_the_undivided_report(rt: HostRuntime) -> Result<(), Fail> {
-    let alloc = rt.alloc();
     for steps in [1, 7, 20, 31, 32, 63] {
-        let report = report_by(alloc, steps)?;
-        assert_eq!(rt; report.as_slice(), REPORT.as_bytes(), "{steps}");
+        assert!(rt; pieces_report(rt.alloc(), steps)?, "{steps}");
     }
     Ok(())
 }
 
-/// The report of an audit that goes on from a text.
-fn report_from(alloc: Global, text: &[u8]) -> Result<Bytes, OutOfMemory> {
-    match resumed_by(alloc, text, 1_000)? {
-        Came::Reported(report) => Ok(report),
-        Came::Saved(_) => Err(OutOfMemory),
+/// Whether an audit that goes on by 1,000 steps comes to this report.
+fn ends_with(alloc: Global, audit: &mut Audit, wanted: &str) -> bool {
+    audit.advance(1_000) == Progress::Equal && has_report(alloc, audit, wanted)
+}
+
+/// The same of the audit that a text says.
+fn reports_from(alloc: Global, text: &[u8], wanted: &str) -> bool {
+    match resumed(alloc, RECIPE, b"abc", text) {
+        Ok(mut audit) => ends_with(alloc, &mut audit, wanted),
+        Err(_) => false,
     }
 }
 
 /// After 45 steps x8, at 657, has how many bytes the copier reads at once, and a turn of its loop takes 11 steps.
-#[test]
-fn an_audit_goes_on_from_what_a_save_says(rt: HostRuntime) -> Result<(), Fail> {
-    let alloc = rt.alloc();
-    let text = save_at(alloc, 45)?;
-    let table: [(u8, &str); 3] = [
-        (3, "stage two 32"),
-        (2, "stage two 43"),
-        (1, "stage two 54"),
-    ];
-    for (bytes, line) in table {
-        let text = edited(alloc, text.as_slice(), (657, 2, &[bytes, 0]))?;
-        let report = report_from(alloc, text.as_slice())?;
-        let wanted = with(alloc, REPORT, "stage two 32", line)?;
-        assert_eq!(rt; report.as_slice(), wanted.as_bytes(), "{line}");
+static TURNS: [(u8, &str); 3] = [
+    (3, "stage two 32"),
+    (2, "stage two 43"),
+    (1, "stage two 54"),
+];
+
+/// Whether a save with so many bytes in x8 comes to a report with this line.
+fn reads_at_once(alloc: Global, text: &[u8], bytes: u8, line: &str) -> Result<bool, OutOfMemory> {
+    let wanted = with(alloc, REPORT, "stage two 32", line)?;
+    reads_as(alloc, text, bytes, wanted.as_str())
+}
+
+fn reads_as(alloc: Global, text: &[u8], bytes: u8, wanted: &str) -> Result<bool, OutOfMemory> {
+    let text = edited(alloc, text, &[(657, 2, &[bytes, 0])])?;
+    Ok(reports_from(alloc, text.as_slice(), wanted))
+}
+
+fn check_turns(rt: &impl Abort, alloc: Global, text: &[u8]) -> Result<(), OutOfMemory> {
+    for (bytes, line) in TURNS {
+        assert!(rt; reads_at_once(alloc, text, bytes, line)?, "{line}");
     }
     Ok(())
+}
+
+#[test]
+fn an_audit_goes_on_from_what_a_save_says(rt: HostRuntime) -> Result<(), Fail> {
+    let text = save_at(rt.alloc(), 45)?;
+    Ok(check_turns(&rt, rt.alloc(), text.as_slice())?)
 }
 
 /// The save after so many steps as the first form has it: both magics end with another byte, and nothing says what is reserved. The state
@@ -184,46 +235,64 @@ fn an_audit_goes_on_from_what_a_save_says(rt: HostRuntime) -> Result<(), Fail> {
 pub(crate) fn old_save_at(alloc: Global, steps: u64) -> Result<Bytes, OutOfMemory> {
     let (magic, reserved) = if steps < 32 { (183, 448) } else { (584, 849) };
     let text = save_at(alloc, steps)?;
-    let text = edited(alloc, text.as_slice(), (reserved, 1, b""))?;
-    let text = edited(alloc, text.as_slice(), (magic, 1, b"1"))?;
-    edited(alloc, text.as_slice(), (7, 1, b"1"))
+    edited(
+        alloc,
+        text.as_slice(),
+        &[(reserved, 1, b""), (magic, 1, b"1"), (7, 1, b"1")],
+    )
+}
+
+fn old_is_resumed_at(alloc: Global, steps: u64) -> bool {
+    match old_save_at(alloc, steps) {
+        Ok(text) => is_resumed(alloc, text.as_slice(), steps),
+        Err(OutOfMemory) => false,
+    }
 }
 
 #[test]
 fn an_old_save_has_the_undivided_report(rt: HostRuntime) -> Result<(), Fail> {
-    let alloc = rt.alloc();
     for steps in 1..64 {
-        let old = old_save_at(alloc, steps)?;
-        assert!(rt; is_resumed(alloc, old.as_slice(), steps)?, "{steps}");
+        assert!(rt; old_is_resumed_at(rt.alloc(), steps), "{steps}");
     }
     Ok(())
 }
 
-/// The save of an audit that goes on from a text by so many steps.
-fn saved_from(alloc: Global, text: &[u8], steps: u64) -> Result<Bytes, OutOfMemory>
+/// Whether an audit is saved like this behind so many steps more.
+fn saves_as(audit: &mut Audit, steps: u64, wanted: &[u8]) -> bool
     requires { 1 ≤ steps }
 {
-    match resumed_by(alloc, text, steps)? {
-        Came::Saved(save) => Ok(save),
-        Came::Reported(_) => Err(OutOfMemory),
+    match save_behind(audit, steps) {
+        Ok(save) => save.as_slice() == wanted,
+        Err(OutOfMemory) => false,
+    }
+}
+
+/// The same of the audit that a text says.
+fn is_saved_as(alloc: Global, text: &[u8], steps: u64, wanted: &[u8]) -> bool
+    requires { 1 ≤ steps }
+{
+    match resumed(alloc, RECIPE, b"abc", text) {
+        Ok(mut audit) => saves_as(&mut audit, steps, wanted),
+        Err(_) => false,
     }
 }
 
 /// It is saved again in the second form.
 #[test]
 fn an_old_save_is_saved_anew(rt: HostRuntime) -> Result<(), Fail> {
-    let alloc = rt.alloc();
-    let old = old_save_at(alloc, 40)?;
-    let saved = saved_from(alloc, old.as_slice(), 5)?;
-    assert_eq!(rt; saved.as_slice(), save_at(alloc, 45)?.as_slice());
+    let old = old_save_at(rt.alloc(), 40)?;
+    let wanted = save_at(rt.alloc(), 45)?;
+    assert!(rt; is_saved_as(rt.alloc(), old.as_slice(), 5, wanted.as_slice()));
     Ok(())
 }
 
-#[test]
-fn saves_of_others_are_refused(rt: HostRuntime) -> Result<(), Fail> {
-    let alloc = rt.alloc();
-    let text = save_at(alloc, 45)?;
-    let text = text.as_slice();
+/// Whether a save is refused beside a recipe with other limits.
+fn is_of_another(alloc: Global, text: &[u8]) -> Result<bool, OutOfMemory> {
+    let other = with(alloc, RECIPE, "steps = 100000", "steps = 200000")?;
+    Ok(refusal(alloc, other.as_str(), b"abc", text) == Some(SaveRefusal::OtherRecipe))
+}
+
+fn check_others(rt: &impl Abort, alloc: Global, text: &[u8]) -> Result<(), OutOfMemory> {
     assert_eq!(rt;
         refusal(alloc, RECIPE, b"abc", &[]),
         Some(SaveRefusal::Form(0))
@@ -232,10 +301,12 @@ fn saves_of_others_are_refused(rt: HostRuntime) -> Result<(), Fail> {
         refusal(alloc, RECIPE, b"abd", text),
         Some(SaveRefusal::OtherRecipe)
     );
-    let other = with(alloc, RECIPE, "steps = 100000", "steps = 200000")?;
-    assert_eq!(rt;
-        refusal(alloc, other.as_str(), b"abc", text),
-        Some(SaveRefusal::OtherRecipe)
-    );
+    assert!(rt; is_of_another(alloc, text)?);
     Ok(())
+}
+
+#[test]
+fn saves_of_others_are_refused(rt: HostRuntime) -> Result<(), Fail> {
+    let text = save_at(rt.alloc(), 45)?;
+    Ok(check_others(&rt, rt.alloc(), text.as_slice())?)
 }

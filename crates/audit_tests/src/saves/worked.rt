@@ -1,7 +1,11 @@
 //! A worked recipe, its files and its report; the digests are those of `sha256sum`.
 
+ghost use Rattle.std.specs.Prelude.{IfOk};
+ghost use Rattle.wheeler.specs.Valid.{IsInputs};
+
+use crate::saves::are_inputs;
 use ddc_base::{Bytes, OutOfMemory, read_hex};
-use recipe::Inputs;
+use recipe::{Inputs, Recipe};
 use std::alloc::Global;
 
 /// copy.elf, which copies the file `in` to `out`, with a line's end: its source in hex0.
@@ -81,14 +85,52 @@ pub(crate) const REPORT: &str = "ddc-report 1\n\
     compare two bin equal 3\n\
     end\n";
 
-/// The four inputs, the third with these bytes.
-pub(crate) fn inputs(alloc: Global, source: &[u8]) -> Result<Inputs, OutOfMemory> {
-    let mut inputs = Inputs::new(alloc);
+/// Adds the four inputs, the third with these bytes.
+fn put_inputs(alloc: Global, inputs: &mut Inputs, source: &[u8]) -> Result<(), OutOfMemory> {
     inputs.push(decoded(alloc, COPY)?)?;
     inputs.push(Bytes::from_slice(alloc, COPY.as_bytes())?)?;
     inputs.push(Bytes::from_slice(alloc, source)?)?;
-    inputs.push(Bytes::from_slice(alloc, b"abc")?)?;
+    inputs.push(Bytes::from_slice(alloc, b"abc")?)
+}
+
+fn inputs(alloc: Global, source: &[u8]) -> Result<Inputs, OutOfMemory> {
+    let mut inputs = Inputs::new(alloc);
+    put_inputs(alloc, &mut inputs, source)?;
     Ok(inputs)
+}
+
+/// A recipe and what can be its inputs.
+type Given = (Recipe, Inputs);
+
+/// The two, where these can be the recipe's inputs.
+fn fitting(recipe: Recipe, inputs: Inputs) -> Result<Given, OutOfMemory>
+    ensures { IfOk result (λ given. IsInputs given.0 given.1) }
+{
+    if are_inputs(&recipe, &inputs) {
+        Ok((recipe, inputs))
+    } else {
+        Err(OutOfMemory)
+    }
+}
+
+/// A recipe and the four inputs, the third with these bytes.
+fn given_of(alloc: Global, recipe: Recipe, source: &[u8]) -> Result<Given, OutOfMemory>
+    ensures { IfOk result (λ given. IsInputs given.0 given.1) }
+{
+    match inputs(alloc, source) {
+        Ok(inputs) => fitting(recipe, inputs),
+        Err(OutOfMemory) => Err(OutOfMemory),
+    }
+}
+
+/// The recipe of a text and the four inputs, the third with these bytes.
+pub(crate) fn given(alloc: Global, recipe: &str, source: &[u8]) -> Result<Given, OutOfMemory>
+    ensures { IfOk result (λ given. IsInputs given.0 given.1) }
+{
+    match recipe::read(alloc, recipe.as_bytes()) {
+        Ok(recipe) => given_of(alloc, recipe, source),
+        Err(_) => Err(OutOfMemory),
+    }
 }
 
 /// A text with another in place of the first piece that is `old`.
@@ -102,17 +144,48 @@ pub(crate) fn with(alloc: Global, text: &str, old: &str, new: &str) -> Result<St
 /// An offset, how many bytes from there on give way, and to which.
 pub(crate) type Edit = (usize, usize, &'static [u8]);
 
-/// A text with bytes in place of others.
+/// Adds a text with bytes in place of others.
+fn put_edited(
+    new: &mut Bytes,
+    text: &[u8],
+    edit: (usize, usize, &[u8]),
+) -> Result<(), OutOfMemory> {
+    let (at, count, bytes) = edit;
+    let after = text.get(at..).unwrap_or(&[]);
+    new.extend(text.get(..at).unwrap_or(&[]))?;
+    new.extend(bytes)?;
+    new.extend(after.get(count..).unwrap_or(&[]))
+}
+
+fn edit_once(
+    alloc: Global,
+    text: &mut Bytes,
+    edit: (usize, usize, &[u8]),
+) -> Result<(), OutOfMemory> {
+    let mut new = Bytes::new(alloc);
+    put_edited(&mut new, text.as_slice(), edit)?;
+    *text = new;
+    Ok(())
+}
+
+fn edit_all(
+    alloc: Global,
+    text: &mut Bytes,
+    edits: &[(usize, usize, &[u8])],
+) -> Result<(), OutOfMemory> {
+    for one in edits {
+        edit_once(alloc, text, *one)?;
+    }
+    Ok(())
+}
+
+/// A text behind edits, one after the other.
 pub(crate) fn edited(
     alloc: Global,
     text: &[u8],
-    edit: (usize, usize, &[u8]),
+    edits: &[(usize, usize, &[u8])],
 ) -> Result<Bytes, OutOfMemory> {
-    let (at, count, bytes) = edit;
-    let before = text.get(..at).unwrap_or(&[]);
-    let after = text.get(at..).unwrap_or(&[]);
-    let mut new = Bytes::from_slice(alloc, before)?;
-    new.extend(bytes)?;
-    new.extend(after.get(count..).unwrap_or(&[]))?;
+    let mut new = Bytes::from_slice(alloc, text)?;
+    edit_all(alloc, &mut new, edits)?;
     Ok(new)
 }
