@@ -2,7 +2,7 @@
 
 ghost use Rattle.std.specs.Prelude.{◌≤◌};
 
-use crate::place_after;
+use crate::{let_go, place_after};
 use audit_run::{Audit, Progress};
 use ddc_base::{Bytes, MemShelf, OutOfMemory, read_hex};
 use guest_run::{Guest, RunBox, RunRam};
@@ -79,7 +79,11 @@ fn fill(alloc: Global, shelf: &mut MemShelf) -> Result<(), OutOfMemory> {
 fn audit_of(alloc: Global, shelf: &mut MemShelf, recipe: Recipe) -> Result<Audit, OutOfMemory> {
     match fetch_inputs(alloc, shelf, &recipe) {
         Ok(inputs) => Ok(Audit::new(alloc, recipe, inputs)),
-        Err(_) => Err(OutOfMemory),
+        Err(stop) => {
+            let_go(stop);
+            let_go(recipe);
+            Err(OutOfMemory)
+        }
     }
 }
 
@@ -87,17 +91,22 @@ fn audit_of(alloc: Global, shelf: &mut MemShelf, recipe: Recipe) -> Result<Audit
 fn audit_in(alloc: Global, shelf: &mut MemShelf) -> Result<Audit, OutOfMemory> {
     match fetch_recipe(alloc, shelf, "a.toml") {
         Ok(recipe) => audit_of(alloc, shelf, recipe),
-        Err(_) => Err(OutOfMemory),
+        Err(stop) => {
+            let_go(stop);
+            Err(OutOfMemory)
+        }
     }
 }
 
 /// An audit of the recipe, which has not started.
 fn worked(alloc: Global) -> Result<Audit, OutOfMemory> {
     let mut shelf = MemShelf::new(alloc);
-    match fill(alloc, &mut shelf) {
+    let audit = match fill(alloc, &mut shelf) {
         Ok(()) => audit_in(alloc, &mut shelf),
         Err(OutOfMemory) => Err(OutOfMemory),
-    }
+    };
+    let_go(shelf);
+    audit
 }
 
 /// The text of the report of an audit that is over.
@@ -125,7 +134,11 @@ fn last_text(alloc: Global, audit: &mut Audit) -> Result<Bytes, OutOfMemory> {
 /// The text of the report of the undivided audit.
 fn whole_text(alloc: Global) -> Result<Bytes, OutOfMemory> {
     match worked(alloc) {
-        Ok(mut audit) => last_text(alloc, &mut audit),
+        Ok(mut audit) => {
+            let text = last_text(alloc, &mut audit);
+            let_go(audit);
+            text
+        }
         Err(OutOfMemory) => Err(OutOfMemory),
     }
 }
@@ -155,7 +168,11 @@ fn new_goes_on(alloc: Global, steps: u64, text: &[u8]) -> bool
     requires { 1 ≤ steps }
 {
     match worked(alloc) {
-        Ok(mut audit) => goes_on(alloc, &mut audit, steps, text),
+        Ok(mut audit) => {
+            let goes = goes_on(alloc, &mut audit, steps, text);
+            let_go(audit);
+            goes
+        }
         Err(OutOfMemory) => false,
     }
 }
@@ -181,7 +198,11 @@ fn is_over(alloc: Global, audit: &Audit, text: &[u8]) -> bool {
 /// Whether an audit that is handed on comes to its end, with this report.
 fn ends_handed_on(alloc: Global, audit: Audit, text: &[u8]) -> bool {
     match audit.advanced(64) {
-        Ok(audit) => is_over(alloc, &audit, text),
+        Ok(audit) => {
+            let ends = is_over(alloc, &audit, text);
+            let_go(audit);
+            ends
+        }
         Err(OutOfMemory) => false,
     }
 }
@@ -239,7 +260,7 @@ static LENGTHS: [(u64, Option<u64>); 6] = [
 #[test]
 fn a_setting_is_the_present_stage(rt: HostRuntime) -> Result<(), Fail> {
     for (steps, length) in LENGTHS {
-        assert_eq!(rt; given_after(rt.alloc(), steps)?, length);
+        assert!(rt; given_after(rt.alloc(), steps)? == length, "{steps}");
     }
     Ok(())
 }
@@ -247,7 +268,11 @@ fn a_setting_is_the_present_stage(rt: HostRuntime) -> Result<(), Fail> {
 /// The length that `given` says after so many steps.
 fn given_after(alloc: Global, steps: u64) -> Result<Option<u64>, OutOfMemory> {
     match worked(alloc) {
-        Ok(mut audit) => given_behind(alloc, &mut audit, steps),
+        Ok(mut audit) => {
+            let length = given_behind(alloc, &mut audit, steps);
+            let_go(audit);
+            length
+        }
         Err(OutOfMemory) => Err(OutOfMemory),
     }
 }
@@ -263,7 +288,11 @@ fn given_behind(alloc: Global, audit: &mut Audit, steps: u64) -> Result<Option<u
 /// The length of the first file of a program that is started with the present setting.
 fn given(alloc: Global, audit: &Audit) -> Result<Option<u64>, OutOfMemory> {
     match audit.setting(alloc) {
-        Ok(Some((program, setting))) => started(alloc, program, &setting),
+        Ok(Some((program, setting))) => {
+            let length = started(alloc, program, &setting);
+            let_go(setting);
+            length
+        }
         Ok(None) => Ok(None),
         Err(OutOfMemory) => Err(OutOfMemory),
     }
@@ -275,7 +304,11 @@ fn started(
     setting: &RunBox<'_>,
 ) -> Result<Option<u64>, OutOfMemory> {
     match Guest::<RunRam>::start(alloc, program, setting) {
-        Ok(guest) => Ok(first_length(guest.files())),
+        Ok(guest) => {
+            let length = first_length(guest.files());
+            let_go(guest);
+            Ok(length)
+        }
         Err(_) => Err(OutOfMemory),
     }
 }

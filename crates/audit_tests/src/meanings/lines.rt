@@ -1,5 +1,6 @@
 //! The assumptions of each recipe of the tables, as lines.
 
+use crate::let_go;
 use crate::meanings::recipes::{CHECKED, FRONT, INPUTS, KEYS, UNCHECKED};
 use crate::meanings::with_stages;
 use ddc_base::{Name, OutOfMemory};
@@ -13,47 +14,45 @@ fn text(name: &Name) -> &str {
     std::str::from_utf8(name.bytes()).unwrap_or("no text")
 }
 
-fn line(alloc: Global, assumption: &Assumption) -> Result<String, OutOfMemory> {
+fn put_word(lines: &mut String, word: &str) -> Result<(), OutOfMemory> {
+    lines.push_str(" ")?;
+    lines.push_str(word)?;
+    Ok(())
+}
+
+fn put_words(lines: &mut String, first: &str, names: &[&Name]) -> Result<(), OutOfMemory> {
+    lines.push_str(first)?;
+    for name in names {
+        put_word(lines, text(name))?;
+    }
+    lines.push_str("\n")?;
+    Ok(())
+}
+
+fn put_line(lines: &mut String, assumption: &Assumption) -> Result<(), OutOfMemory> {
     match assumption {
-        Assumption::Implements { made, source } => Ok(format!(in alloc;
-            "implements {} {}\n",
-            text(made),
-            text(source)
-        )?),
+        Assumption::Implements { made, source } => {
+            put_words(lines, "implements", &[made, source])
+        }
         Assumption::Compiles {
             source,
             stage,
             becomes,
-        } => Ok(format!(in alloc;
-            "compiles {} {} {}\n",
-            text(source),
-            text(stage),
-            text(becomes)
-        )?),
+        } => put_words(lines, "compiles", &[source, stage, becomes]),
     }
 }
 
 /// Adds the lines of assumptions.
-pub(crate) fn put_lines(
-    alloc: Global,
-    lines: &mut String,
-    found: &[Assumption],
-) -> Result<(), OutOfMemory> {
+pub(crate) fn put_lines(lines: &mut String, found: &[Assumption]) -> Result<(), OutOfMemory> {
     for assumption in found {
-        put_line(alloc, lines, assumption)?;
+        put_line(lines, assumption)?;
     }
-    Ok(())
-}
-
-fn put_line(alloc: Global, lines: &mut String, assumption: &Assumption) -> Result<(), OutOfMemory> {
-    let line = line(alloc, assumption)?;
-    lines.push_str(line.as_str())?;
     Ok(())
 }
 
 fn put_assumptions(alloc: Global, lines: &mut String, recipe: &Recipe) -> Result<(), OutOfMemory> {
     let found = assumptions(alloc, recipe)?;
-    put_lines(alloc, lines, found.as_slice())
+    put_lines(lines, found.as_slice())
 }
 
 fn put_refusal(alloc: Global, lines: &mut String, number: u8) -> Result<(), OutOfMemory> {
@@ -65,7 +64,11 @@ fn put_refusal(alloc: Global, lines: &mut String, number: u8) -> Result<(), OutO
 /// Adds the lines of a recipe, or the number of its refusal.
 fn put_recipe(alloc: Global, lines: &mut String, text: &str) -> Result<(), OutOfMemory> {
     match read(alloc, text.as_bytes()) {
-        Ok(recipe) => put_assumptions(alloc, lines, &recipe),
+        Ok(recipe) => {
+            let put = put_assumptions(alloc, lines, &recipe);
+            let_go(recipe);
+            put
+        }
         Err(refusal) => put_refusal(alloc, lines, refusal.number()),
     }
 }

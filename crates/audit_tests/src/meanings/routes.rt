@@ -2,6 +2,7 @@
 
 ghost use Rattle.std.specs.Prelude.{◌≤◌, length};
 
+use crate::let_go;
 use crate::meanings::lines::{put_lines, recipe_text};
 use ddc_base::OutOfMemory;
 use meaning::assumptions_for;
@@ -99,7 +100,7 @@ fn put_route(
 {
     put_number(alloc, lines, number)?;
     let found = assumptions_for(alloc, recipe, number)?;
-    put_lines(alloc, lines, found.as_slice())
+    put_lines(lines, found.as_slice())
 }
 
 fn put_number(alloc: Global, lines: &mut String, number: u32) -> Result<(), OutOfMemory> {
@@ -120,7 +121,11 @@ fn put_routes(alloc: Global, lines: &mut String, recipe: &Recipe) -> Result<(), 
 /// The same of a recipe's text, where it is one.
 fn put_recipe(alloc: Global, lines: &mut String, text: &str) -> Result<(), OutOfMemory> {
     match read(alloc, text.as_bytes()) {
-        Ok(recipe) => put_routes(alloc, lines, &recipe),
+        Ok(recipe) => {
+            let put = put_routes(alloc, lines, &recipe);
+            let_go(recipe);
+            put
+        }
         Err(_) => Ok(()),
     }
 }

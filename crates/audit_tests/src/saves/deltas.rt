@@ -186,8 +186,8 @@ fn length_of(alloc: Global, base: &[u8], more: u64) -> Result<usize, OutOfMemory
 }
 
 fn check_lengths(rt: &impl Abort, alloc: Global, base: &[u8]) -> Result<(), OutOfMemory> {
-    assert_eq!(rt; length_of(alloc, base, 13)?, 257);
-    assert_eq!(rt; length_of(alloc, base, 31)?, 4_353);
+    assert!(rt; length_of(alloc, base, 13)? == 257);
+    assert!(rt; length_of(alloc, base, 31)? == 4_353);
     Ok(())
 }
 
@@ -251,26 +251,22 @@ static SECOND: &[Row] = &[
     (&[], &[(64, 1, &[1])], STATE),
 ];
 
-/// Why a delta is refused beside a base behind these edits.
-fn refusal_beside(
+/// Whether this is why a delta is refused beside a base behind these edits.
+fn is_refused_beside(
     alloc: Global,
     base: &[u8],
     delta: &[u8],
     edits: &[(usize, usize, &[u8])],
-) -> Result<Option<DeltaRefusal>, OutOfMemory> {
+    wanted: Option<DeltaRefusal>,
+) -> Result<bool, OutOfMemory> {
     let text = edited(alloc, delta, edits)?;
-    Ok(resumed(alloc, base, text.as_slice()).err())
+    Ok(resumed(alloc, base, text.as_slice()).err() == wanted)
 }
 
-/// Why a base and its delta are refused behind these edits.
-fn refusal_of(
-    alloc: Global,
-    base: &[u8],
-    delta: &[u8],
-    edits: (&[Edit], &[Edit]),
-) -> Result<Option<DeltaRefusal>, OutOfMemory> {
-    let save = edited(alloc, base, edits.0)?;
-    refusal_beside(alloc, save.as_slice(), delta, edits.1)
+/// The same of the row's edits.
+fn is_refused(alloc: Global, base: &[u8], delta: &[u8], row: &Row) -> Result<bool, OutOfMemory> {
+    let base = edited(alloc, base, row.0)?;
+    is_refused_beside(alloc, base.as_slice(), delta, row.1, row.2)
 }
 
 fn check_rows(
@@ -279,12 +275,8 @@ fn check_rows(
     base: &[u8],
     delta: &[u8],
 ) -> Result<(), OutOfMemory> {
-    for (first, second, wanted) in SECOND {
-        assert_eq!(rt;
-            refusal_of(alloc, base, delta, (first, second))?,
-            *wanted,
-            "{first:?} {second:?}"
-        );
+    for row in SECOND {
+        assert!(rt; is_refused(alloc, base, delta, row)?, "{row:?}");
     }
     Ok(())
 }
@@ -303,29 +295,17 @@ fn check_kept(
     delta: &[u8],
 ) -> Result<(), OutOfMemory> {
     let record = base.get(176..577).unwrap_or(&[]);
-    let fewer = edited(alloc, delta, &[(48, 0, record), (40, 5, &[0, 0, 0, 0, 1])])?;
-    check_fewer(rt, alloc, base, fewer.as_slice())
-}
-
-fn check_fewer(
-    rt: &impl Abort,
-    alloc: Global,
-    base: &[u8],
-    fewer: &[u8],
-) -> Result<(), OutOfMemory> {
-    assert_eq!(rt;
-        resumed(alloc, base, fewer).err(),
-        Some(DeltaRefusal::Form(48))
-    );
-    assert_eq!(rt;
-        refusal_beside(alloc, base, fewer, &[(48, 1, &[1])])?,
-        NEITHER
-    );
+    let edits = [
+        (48, 0, record),
+        (40, 5, &[0, 0, 0, 0, 1]),
+        (48, 1, &[1]),
+        (40, 1, &[1]),
+    ];
+    let could = Some(DeltaRefusal::Form(48));
+    assert!(rt; is_refused_beside(alloc, base, delta, &edits[..2], could)?);
+    assert!(rt; is_refused_beside(alloc, base, delta, &edits[..3], NEITHER)?);
     // It stands behind the kept one: then no stage is left to be the present one.
-    assert_eq!(rt;
-        refusal_beside(alloc, base, fewer, &[(48, 1, &[1]), (40, 1, &[1])])?,
-        STATE
-    );
+    assert!(rt; is_refused_beside(alloc, base, delta, &edits, STATE)?);
     Ok(())
 }
 
@@ -344,16 +324,11 @@ fn check_ends(
     delta: &[u8],
 ) -> Result<(), OutOfMemory> {
     let end = delta.len();
-    assert_eq!(rt;
-        refusal_beside(alloc, base, delta, &[(end, 0, &[0])])?,
-        Some(DeltaRefusal::Form(end as u64))
-    );
+    let longer = Some(DeltaRefusal::Form(end as u64));
+    assert!(rt; is_refused_beside(alloc, base, delta, &[(end, 0, &[0])], longer)?);
     let last = end.saturating_sub(1);
-    let shorter = delta.get(..last).unwrap_or(&[]);
-    assert_eq!(rt;
-        resumed(alloc, base, shorter).err(),
-        Some(DeltaRefusal::Form(last as u64))
-    );
+    let shorter = Some(DeltaRefusal::Form(last as u64));
+    assert!(rt; is_refused_beside(alloc, base, delta, &[(last, 1, b"")], shorter)?);
     Ok(())
 }
 

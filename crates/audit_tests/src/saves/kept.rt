@@ -6,6 +6,7 @@ ghost use Rattle.audit_run.specs.Saved.{IsOn};
 ghost use Rattle.wheeler.specs.Positions.{Position};
 ghost use Rattle.wheeler.specs.Valid.{IsInputs};
 
+use crate::let_go;
 use audit_run::{Audit, DeltaRefusal, Progress};
 use ddc_base::{Bytes, OutOfMemory};
 use recipe::{Inputs, Recipe};
@@ -34,7 +35,11 @@ pub fn delta_from(
     requires some { 1 ≤ more }
 {
     match Audit::resume(alloc, recipe, inputs, base) {
-        Ok(mut audit) => delta_behind(&mut audit, base, more),
+        Ok(mut audit) => {
+            let text = delta_behind(&mut audit, base, more);
+            let_go(audit);
+            text
+        }
         Err(_) => Err(OutOfMemory),
     }
 }
@@ -57,7 +62,11 @@ pub fn save_beside(
     requires { IsInputs recipe inputs }
 {
     match Audit::resume_delta(alloc, recipe, inputs, base, delta) {
-        Ok(audit) => save_of(&audit),
+        Ok(audit) => {
+            let text = save_of(&audit);
+            let_go(audit);
+            text
+        }
         Err(why) => Err(why),
     }
 }
@@ -72,7 +81,11 @@ pub fn delta_of_none(
     requires given { IsInputs recipe inputs }
 {
     match Audit::resume(alloc, recipe, inputs, save) {
-        Ok(audit) => audit.save_delta(&audit),
+        Ok(audit) => {
+            let text = audit.save_delta(&audit);
+            let_go(audit);
+            text
+        }
         Err(_) => Err(OutOfMemory),
     }
 }

@@ -1,8 +1,8 @@
 ghost use Rattle.std.specs.Prelude.{◌≤◌};
 ghost use Rattle.wheeler.specs.Valid.{IsInputs};
 
-use crate::place_after;
 use crate::saves::worked::{RECIPE, REPORT, edited, given, with};
+use crate::{let_go, place_after};
 use audit_run::{Audit, Progress, SaveRefusal};
 use ddc_base::{Bytes, OutOfMemory};
 use recipe::{Inputs, Recipe};
@@ -31,7 +31,9 @@ fn save_after(
     requires some { 1 ≤ steps }
 {
     let mut audit = Audit::new(alloc, recipe, inputs);
-    save_behind(&mut audit, steps)
+    let save = save_behind(&mut audit, steps);
+    let_go(audit);
+    save
 }
 
 /// The save of the worked audit after so many steps.
@@ -89,7 +91,11 @@ fn goes_on(alloc: Global, audit: &mut Audit, steps: u64) -> bool {
 /// The same of the audit that a save says.
 fn is_resumed(alloc: Global, text: &[u8], steps: u64) -> bool {
     match resumed(alloc, RECIPE, b"abc", text) {
-        Ok(mut audit) => goes_on(alloc, &mut audit, steps),
+        Ok(mut audit) => {
+            let goes = goes_on(alloc, &mut audit, steps);
+            let_go(audit);
+            goes
+        }
         Err(_) => false,
     }
 }
@@ -140,7 +146,11 @@ fn resumed_by(alloc: Global, text: &[u8], steps: u64) -> Result<Came, OutOfMemor
     requires { 1 ≤ steps }
 {
     match resumed(alloc, RECIPE, b"abc", text) {
-        Ok(mut audit) => advanced(alloc, &mut audit, steps),
+        Ok(mut audit) => {
+            let next = advanced(alloc, &mut audit, steps);
+            let_go(audit);
+            next
+        }
         Err(_) => Err(OutOfMemory),
     }
 }
@@ -194,7 +204,11 @@ fn ends_with(alloc: Global, audit: &mut Audit, wanted: &str) -> bool {
 /// The same of the audit that a text says.
 fn reports_from(alloc: Global, text: &[u8], wanted: &str) -> bool {
     match resumed(alloc, RECIPE, b"abc", text) {
-        Ok(mut audit) => ends_with(alloc, &mut audit, wanted),
+        Ok(mut audit) => {
+            let ends = ends_with(alloc, &mut audit, wanted);
+            let_go(audit);
+            ends
+        }
         Err(_) => false,
     }
 }
@@ -272,7 +286,11 @@ fn is_saved_as(alloc: Global, text: &[u8], steps: u64, wanted: &[u8]) -> bool
     requires { 1 ≤ steps }
 {
     match resumed(alloc, RECIPE, b"abc", text) {
-        Ok(mut audit) => saves_as(&mut audit, steps, wanted),
+        Ok(mut audit) => {
+            let is_saved = saves_as(&mut audit, steps, wanted);
+            let_go(audit);
+            is_saved
+        }
         Err(_) => false,
     }
 }
@@ -293,14 +311,8 @@ fn is_of_another(alloc: Global, text: &[u8]) -> Result<bool, OutOfMemory> {
 }
 
 fn check_others(rt: &impl Abort, alloc: Global, text: &[u8]) -> Result<(), OutOfMemory> {
-    assert_eq!(rt;
-        refusal(alloc, RECIPE, b"abc", &[]),
-        Some(SaveRefusal::Form(0))
-    );
-    assert_eq!(rt;
-        refusal(alloc, RECIPE, b"abd", text),
-        Some(SaveRefusal::OtherRecipe)
-    );
+    assert!(rt; refusal(alloc, RECIPE, b"abc", &[]) == Some(SaveRefusal::Form(0)));
+    assert!(rt; refusal(alloc, RECIPE, b"abd", text) == Some(SaveRefusal::OtherRecipe));
     assert!(rt; is_of_another(alloc, text)?);
     Ok(())
 }

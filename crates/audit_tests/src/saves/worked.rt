@@ -3,6 +3,7 @@
 ghost use Rattle.std.specs.Prelude.{IfOk};
 ghost use Rattle.wheeler.specs.Valid.{IsInputs};
 
+use crate::let_go;
 use crate::saves::are_inputs;
 use ddc_base::{Bytes, OutOfMemory, read_hex};
 use recipe::{Inputs, Recipe};
@@ -107,10 +108,11 @@ fn fitting(recipe: Recipe, inputs: Inputs) -> Result<Given, OutOfMemory>
     ensures { IfOk result (λ given. IsInputs given.0 given.1) }
 {
     if are_inputs(&recipe, &inputs) {
-        Ok((recipe, inputs))
-    } else {
-        Err(OutOfMemory)
+        return Ok((recipe, inputs));
     }
+    let_go(recipe);
+    let_go(inputs);
+    Err(OutOfMemory)
 }
 
 /// A recipe and the four inputs, the third with these bytes.
@@ -119,7 +121,10 @@ fn given_of(alloc: Global, recipe: Recipe, source: &[u8]) -> Result<Given, OutOf
 {
     match inputs(alloc, source) {
         Ok(inputs) => fitting(recipe, inputs),
-        Err(OutOfMemory) => Err(OutOfMemory),
+        Err(OutOfMemory) => {
+            let_go(recipe);
+            Err(OutOfMemory)
+        }
     }
 }
 
