@@ -86,27 +86,26 @@ fn all_come_back(alloc: Global, saves: &[Bytes]) -> bool {
 }
 
 /// Whether each later pause comes back beside the save with so many before it.
-fn all_come_back_from(alloc: Global, first: usize) -> Result<bool, OutOfMemory> {
-    let saves = saves(alloc)?;
-    Ok(all_come_back(alloc, saves.as_slice().get(first..).unwrap_or(&[])))
+fn all_come_back_from(alloc: Global, first: usize) -> bool {
+    match saves(alloc) {
+        Ok(saves) => all_come_back(alloc, saves.as_slice().get(first..).unwrap_or(&[])),
+        Err(OutOfMemory) => false,
+    }
 }
 
 #[test]
-fn pauses_come_back_beside_the_first_one(rt: HostRuntime) -> Result<(), Fail> {
-    assert!(rt; all_come_back_from(rt.alloc(), 0)?);
-    Ok(())
+fn pauses_come_back_beside_the_first_one(rt: HostRuntime) {
+    assert!(rt; all_come_back_from(rt.alloc(), 0));
 }
 
 #[test]
-fn pauses_come_back_beside_the_last_one_of_a_stage(rt: HostRuntime) -> Result<(), Fail> {
-    assert!(rt; all_come_back_from(rt.alloc(), 30)?);
-    Ok(())
+fn pauses_come_back_beside_the_last_one_of_a_stage(rt: HostRuntime) {
+    assert!(rt; all_come_back_from(rt.alloc(), 30));
 }
 
 #[test]
-fn pauses_come_back_beside_the_next_stages_start(rt: HostRuntime) -> Result<(), Fail> {
-    assert!(rt; all_come_back_from(rt.alloc(), 31)?);
-    Ok(())
+fn pauses_come_back_beside_the_next_stages_start(rt: HostRuntime) {
+    assert!(rt; all_come_back_from(rt.alloc(), 31));
 }
 
 fn check_pairs(rt: &impl Abort, alloc: Global, saves: &[Bytes]) {
@@ -122,35 +121,53 @@ fn each_pause_comes_back_beside_the_one_before_it(rt: HostRuntime) -> Result<(),
     Ok(check_pairs(&rt, rt.alloc(), saves.as_slice()))
 }
 
-/// Whether this is the worked audit's delta behind so many steps more.
-fn is_delta(alloc: Global, base: &[u8], more: u64, wanted: &[u8]) -> bool {
-    match delta_of(alloc, base, more) {
+/// Whether this is the delta, behind 5 steps more, of the worked audit against its save after so many steps.
+fn is_delta_at(alloc: Global, steps: u64, delta: &[u8]) -> bool {
+    match save_at(alloc, steps) {
+        Ok(base) => is_delta(alloc, base.as_slice(), delta),
+        Err(OutOfMemory) => false,
+    }
+}
+
+fn is_delta(alloc: Global, base: &[u8], wanted: &[u8]) -> bool {
+    match delta_of(alloc, base, 5) {
         Ok(delta) => delta.as_slice() == wanted,
         Err(OutOfMemory) => false,
     }
 }
 
-/// Whether a delta against the first form is that against the second, and comes back beside the first as the save after so many steps.
-fn is_of_both(alloc: Global, old: &[u8], first: u64, delta: &[u8]) -> Result<bool, OutOfMemory> {
-    let base = save_at(alloc, first)?;
-    let save = save_at(alloc, first.saturating_add(5))?;
-    Ok(is_delta(alloc, base.as_slice(), 5, delta) && says(alloc, old, delta, save.as_slice()))
+/// Whether a delta says beside its base what the save after so many steps says.
+fn says_at(alloc: Global, base: &[u8], delta: &[u8], steps: u64) -> bool {
+    match save_at(alloc, steps) {
+        Ok(save) => says(alloc, base, delta, save.as_slice()),
+        Err(OutOfMemory) => false,
+    }
 }
 
-/// Whether the save after so many steps has in its first form the deltas of the second.
-fn has_the_same_delta(alloc: Global, first: u64) -> Result<bool, OutOfMemory> {
-    let old = old_save_at(alloc, first)?;
-    let delta = delta_of(alloc, old.as_slice(), 5)?;
-    is_of_both(alloc, old.as_slice(), first, delta.as_slice())
+/// Whether a save after so many steps of the first form has the delta of the second.
+fn has_the_delta(alloc: Global, old: &[u8], first: u64) -> bool {
+    match delta_of(alloc, old, 5) {
+        Ok(delta) => {
+            is_delta_at(alloc, first, delta.as_slice())
+                && says_at(alloc, old, delta.as_slice(), first.saturating_add(5))
+        }
+        Err(OutOfMemory) => false,
+    }
+}
+
+fn old_has_the_delta(alloc: Global, first: u64) -> bool {
+    match old_save_at(alloc, first) {
+        Ok(old) => has_the_delta(alloc, old.as_slice(), first),
+        Err(OutOfMemory) => false,
+    }
 }
 
 /// A base of the first form has the deltas of the second, and they come back beside either.
 #[test]
-fn an_old_base_has_the_same_deltas(rt: HostRuntime) -> Result<(), Fail> {
+fn an_old_base_has_the_same_deltas(rt: HostRuntime) {
     for first in [1, 31, 32, 40] {
-        assert!(rt; has_the_same_delta(rt.alloc(), first)?, "{first}");
+        assert!(rt; old_has_the_delta(rt.alloc(), first), "{first}");
     }
-    Ok(())
 }
 
 /// The delta against itself of the worked audit that a save says.
@@ -161,41 +178,47 @@ fn delta_against_itself(alloc: Global, save: &[u8]) -> Result<Bytes, OutOfMemory
     }
 }
 
-/// Whether the worked audit after so many steps comes back beside itself.
-fn says_itself(alloc: Global, steps: u64) -> Result<bool, OutOfMemory> {
-    let save = save_at(alloc, steps)?;
-    let delta = delta_against_itself(alloc, save.as_slice())?;
-    Ok(says(alloc, save.as_slice(), delta.as_slice(), save.as_slice()))
+/// Whether a save comes back beside itself.
+fn says_itself(alloc: Global, save: &[u8]) -> bool {
+    match delta_against_itself(alloc, save) {
+        Ok(delta) => says(alloc, save, delta.as_slice(), save),
+        Err(OutOfMemory) => false,
+    }
+}
+
+fn says_itself_at(alloc: Global, steps: u64) -> bool {
+    match save_at(alloc, steps) {
+        Ok(save) => says_itself(alloc, save.as_slice()),
+        Err(OutOfMemory) => false,
+    }
 }
 
 /// Of two audits that stand at one place, the one says nothing beside the other. The texts have a header, the present place and no stage.
 #[test]
-fn an_audit_has_a_delta_against_itself(rt: HostRuntime) -> Result<(), Fail> {
+fn an_audit_has_a_delta_against_itself(rt: HostRuntime) {
     for steps in [1, 31, 32, 63] {
-        assert!(rt; says_itself(rt.alloc(), steps)?, "{steps}");
+        assert!(rt; says_itself_at(rt.alloc(), steps), "{steps}");
     }
-    Ok(())
 }
 
-/// How long the delta is behind so many steps more.
-fn length_of(alloc: Global, base: &[u8], more: u64) -> Result<usize, OutOfMemory> {
+/// Whether the delta behind so many steps more is so long.
+fn is_long(alloc: Global, base: &[u8], more: u64, length: usize) -> bool {
     match delta_of(alloc, base, more) {
-        Ok(delta) => Ok(delta.len()),
-        Err(OutOfMemory) => Err(OutOfMemory),
+        Ok(delta) => delta.len() == length,
+        Err(OutOfMemory) => false,
     }
 }
 
-fn check_lengths(rt: &impl Abort, alloc: Global, base: &[u8]) -> Result<(), OutOfMemory> {
-    assert!(rt; length_of(alloc, base, 13)? == 257);
-    assert!(rt; length_of(alloc, base, 31)? == 4_353);
-    Ok(())
+fn check_lengths(rt: &impl Abort, alloc: Global, base: &[u8]) {
+    assert!(rt; is_long(alloc, base, 13, 257));
+    assert!(rt; is_long(alloc, base, 31, 4_353));
 }
 
 /// From the second stage's start, the stack is written between 13 steps and 31. The fields beside pages and changed registers are counted by the table.
 #[test]
 fn a_delta_grows_with_what_differs(rt: HostRuntime) -> Result<(), Fail> {
     let base = save_at(rt.alloc(), 32)?;
-    Ok(check_lengths(&rt, rt.alloc(), base.as_slice())?)
+    Ok(check_lengths(&rt, rt.alloc(), base.as_slice()))
 }
 
 /// What is changed in a base, from its end on, what in a delta against the base as it was, and why they are refused then.
@@ -251,49 +274,57 @@ static SECOND: &[Row] = &[
     (&[], &[(64, 1, &[1])], STATE),
 ];
 
+/// A base, after 40 steps, and a delta, 5 steps later.
+#[derive(Drop)]
+struct Texts {
+    base: Bytes,
+    delta: Bytes,
+}
+
+fn worked_texts(alloc: Global) -> Result<Texts, OutOfMemory> {
+    let base = save_at(alloc, 40)?;
+    match delta_of(alloc, base.as_slice(), 5) {
+        Ok(delta) => Ok(Texts { base, delta }),
+        Err(OutOfMemory) => Err(OutOfMemory),
+    }
+}
+
 /// Whether this is why a delta is refused beside a base behind these edits.
 fn is_refused_beside(
     alloc: Global,
     base: &[u8],
-    delta: &[u8],
+    delta: &Bytes,
     edits: &[(usize, usize, &[u8])],
     wanted: Option<DeltaRefusal>,
-) -> Result<bool, OutOfMemory> {
-    let text = edited(alloc, delta, edits)?;
-    Ok(resumed(alloc, base, text.as_slice()).err() == wanted)
-}
-
-/// The same of the row's edits.
-fn is_refused(alloc: Global, base: &[u8], delta: &[u8], row: &Row) -> Result<bool, OutOfMemory> {
-    let base = edited(alloc, base, row.0)?;
-    is_refused_beside(alloc, base.as_slice(), delta, row.1, row.2)
-}
-
-fn check_rows(
-    rt: &impl Abort,
-    alloc: Global,
-    base: &[u8],
-    delta: &[u8],
-) -> Result<(), OutOfMemory> {
-    for row in SECOND {
-        assert!(rt; is_refused(alloc, base, delta, row)?, "{row:?}");
+) -> bool {
+    match edited(alloc, delta.as_slice(), edits) {
+        Ok(text) => resumed(alloc, base, text.as_slice()).err() == wanted,
+        Err(OutOfMemory) => false,
     }
-    Ok(())
+}
+
+/// The same of a row's edits.
+fn is_refused(alloc: Global, texts: &Texts, row: &Row) -> bool {
+    match edited(alloc, texts.base.as_slice(), row.0) {
+        Ok(base) => is_refused_beside(alloc, base.as_slice(), &texts.delta, row.1, row.2),
+        Err(OutOfMemory) => false,
+    }
+}
+
+fn check_rows(rt: &impl Abort, alloc: Global, texts: &Texts, rows: &[Row]) {
+    for row in rows {
+        assert!(rt; is_refused(alloc, texts, row), "{row:?}");
+    }
 }
 
 #[test]
 fn each_rule_has_its_refusal(rt: HostRuntime) -> Result<(), Fail> {
-    let base = save_at(rt.alloc(), 40)?;
-    let delta = delta_of(rt.alloc(), base.as_slice(), 5)?;
-    Ok(check_rows(&rt, rt.alloc(), base.as_slice(), delta.as_slice())?)
+    let texts = worked_texts(rt.alloc())?;
+    Ok(check_rows(&rt, rt.alloc(), &texts, SECOND))
 }
 
-fn check_kept(
-    rt: &impl Abort,
-    alloc: Global,
-    base: &[u8],
-    delta: &[u8],
-) -> Result<(), OutOfMemory> {
+fn check_kept(rt: &impl Abort, alloc: Global, texts: &Texts) {
+    let base = texts.base.as_slice();
     let record = base.get(176..577).unwrap_or(&[]);
     let edits = [
         (48, 0, record),
@@ -302,40 +333,32 @@ fn check_kept(
         (40, 1, &[1]),
     ];
     let could = Some(DeltaRefusal::Form(48));
-    assert!(rt; is_refused_beside(alloc, base, delta, &edits[..2], could)?);
-    assert!(rt; is_refused_beside(alloc, base, delta, &edits[..3], NEITHER)?);
+    assert!(rt; is_refused_beside(alloc, base, &texts.delta, &edits[..2], could));
+    assert!(rt; is_refused_beside(alloc, base, &texts.delta, &edits[..3], NEITHER));
     // It stands behind the kept one: then no stage is left to be the present one.
-    assert!(rt; is_refused_beside(alloc, base, delta, &edits, STATE)?);
-    Ok(())
+    assert!(rt; is_refused_beside(alloc, base, &texts.delta, &edits, STATE));
 }
 
 /// The stage that is done, at 176 of its save, in the place of one that is kept: it could have been; with another step it could not.
 #[test]
 fn kept_stages_are_the_most(rt: HostRuntime) -> Result<(), Fail> {
-    let base = save_at(rt.alloc(), 40)?;
-    let delta = delta_of(rt.alloc(), base.as_slice(), 5)?;
-    Ok(check_kept(&rt, rt.alloc(), base.as_slice(), delta.as_slice())?)
+    let texts = worked_texts(rt.alloc())?;
+    Ok(check_kept(&rt, rt.alloc(), &texts))
 }
 
-fn check_ends(
-    rt: &impl Abort,
-    alloc: Global,
-    base: &[u8],
-    delta: &[u8],
-) -> Result<(), OutOfMemory> {
-    let end = delta.len();
+fn check_ends(rt: &impl Abort, alloc: Global, texts: &Texts) {
+    let base = texts.base.as_slice();
+    let end = texts.delta.len();
     let longer = Some(DeltaRefusal::Form(end as u64));
-    assert!(rt; is_refused_beside(alloc, base, delta, &[(end, 0, &[0])], longer)?);
+    assert!(rt; is_refused_beside(alloc, base, &texts.delta, &[(end, 0, &[0])], longer));
     let last = end.saturating_sub(1);
     let shorter = Some(DeltaRefusal::Form(last as u64));
-    assert!(rt; is_refused_beside(alloc, base, delta, &[(last, 1, b"")], shorter)?);
-    Ok(())
+    assert!(rt; is_refused_beside(alloc, base, &texts.delta, &[(last, 1, b"")], shorter));
 }
 
 /// A delta that is longer or shorter by a byte. It ends with the bytes that say that both streams are the base's.
 #[test]
 fn a_delta_ends_with_its_last_field(rt: HostRuntime) -> Result<(), Fail> {
-    let base = save_at(rt.alloc(), 40)?;
-    let delta = delta_of(rt.alloc(), base.as_slice(), 5)?;
-    Ok(check_ends(&rt, rt.alloc(), base.as_slice(), delta.as_slice())?)
+    let texts = worked_texts(rt.alloc())?;
+    Ok(check_ends(&rt, rt.alloc(), &texts))
 }

@@ -109,11 +109,10 @@ fn is_resumed_at(alloc: Global, steps: u64) -> bool {
 }
 
 #[test]
-fn a_resumed_audit_has_the_undivided_report(rt: HostRuntime) -> Result<(), Fail> {
+fn a_resumed_audit_has_the_undivided_report(rt: HostRuntime) {
     for steps in 1..64 {
         assert!(rt; is_resumed_at(rt.alloc(), steps), "{steps}");
     }
-    Ok(())
 }
 
 /// What the next piece of an audit comes to: a save, or the report.
@@ -156,44 +155,48 @@ fn resumed_by(alloc: Global, text: &[u8], steps: u64) -> Result<Came, OutOfMemor
 }
 
 /// Resumes what came, where it is no report, and advances it by so many steps.
-fn take_piece(alloc: Global, last: &mut Came, steps: u64) -> Result<(), OutOfMemory>
+fn take_piece(alloc: Global, last: &mut Came, steps: u64) -> bool
     requires { 1 ≤ steps }
 {
     if last.is_over {
-        return Ok(());
+        return true;
     }
-    *last = resumed_by(alloc, last.text.as_slice(), steps)?;
-    Ok(())
+    match resumed_by(alloc, last.text.as_slice(), steps) {
+        Ok(next) => {
+            *last = next;
+            true
+        }
+        Err(OutOfMemory) => false,
+    }
 }
 
 /// Whether the report of the worked audit comes in pieces of so many steps, which is saved and resumed behind each of them.
-fn reports_by(alloc: Global, last: &mut Came, steps: u64) -> Result<bool, OutOfMemory>
+fn reports_by(alloc: Global, last: &mut Came, steps: u64) -> bool
     requires { 1 ≤ steps }
 {
     for _ in 0..64 {
-        take_piece(alloc, last, steps)?;
+        if !take_piece(alloc, last, steps) {
+            return false;
+        }
     }
-    Ok(last.is_over && last.text.as_slice() == REPORT.as_bytes())
+    last.is_over && last.text.as_slice() == REPORT.as_bytes()
 }
 
 /// The same from its start on.
-fn pieces_report(alloc: Global, steps: u64) -> Result<bool, OutOfMemory>
+fn pieces_report(alloc: Global, steps: u64) -> bool
     requires { 1 ≤ steps }
 {
-    let text = save_at(alloc, steps)?;
-    let mut last = Came {
-        is_over: false,
-        text,
-    };
-    reports_by(alloc, &mut last, steps)
+    match came_to(false, save_at(alloc, steps)) {
+        Ok(mut last) => reports_by(alloc, &mut last, steps),
+        Err(OutOfMemory) => false,
+    }
 }
 
 #[test]
-fn pieces_have_the_undivided_report(rt: HostRuntime) -> Result<(), Fail> {
+fn pieces_have_the_undivided_report(rt: HostRuntime) {
     for steps in [1, 7, 20, 31, 32, 63] {
-        assert!(rt; pieces_report(rt.alloc(), steps)?, "{steps}");
+        assert!(rt; pieces_report(rt.alloc(), steps), "{steps}");
     }
-    Ok(())
 }
 
 /// Whether an audit that goes on by 1,000 steps comes to this report.
@@ -221,27 +224,30 @@ static TURNS: [(u8, &str); 3] = [
 ];
 
 /// Whether a save with so many bytes in x8 comes to a report with this line.
-fn reads_at_once(alloc: Global, text: &[u8], bytes: u8, line: &str) -> Result<bool, OutOfMemory> {
-    let wanted = with(alloc, REPORT, "stage two 32", line)?;
-    reads_as(alloc, text, bytes, wanted.as_str())
-}
-
-fn reads_as(alloc: Global, text: &[u8], bytes: u8, wanted: &str) -> Result<bool, OutOfMemory> {
-    let text = edited(alloc, text, &[(657, 2, &[bytes, 0])])?;
-    Ok(reports_from(alloc, text.as_slice(), wanted))
-}
-
-fn check_turns(rt: &impl Abort, alloc: Global, text: &[u8]) -> Result<(), OutOfMemory> {
-    for (bytes, line) in TURNS {
-        assert!(rt; reads_at_once(alloc, text, bytes, line)?, "{line}");
+fn reads_at_once(alloc: Global, text: &[u8], bytes: u8, line: &str) -> bool {
+    match with(alloc, REPORT, "stage two 32", line) {
+        Ok(wanted) => reads_as(alloc, text, bytes, wanted.as_str()),
+        Err(OutOfMemory) => false,
     }
-    Ok(())
+}
+
+fn reads_as(alloc: Global, text: &[u8], bytes: u8, wanted: &str) -> bool {
+    match edited(alloc, text, &[(657, 2, &[bytes, 0])]) {
+        Ok(text) => reports_from(alloc, text.as_slice(), wanted),
+        Err(OutOfMemory) => false,
+    }
+}
+
+fn check_turns(rt: &impl Abort, alloc: Global, text: &[u8]) {
+    for (bytes, line) in &TURNS {
+        assert!(rt; reads_at_once(alloc, text, *bytes, line), "{line}");
+    }
 }
 
 #[test]
 fn an_audit_goes_on_from_what_a_save_says(rt: HostRuntime) -> Result<(), Fail> {
     let text = save_at(rt.alloc(), 45)?;
-    Ok(check_turns(&rt, rt.alloc(), text.as_slice())?)
+    Ok(check_turns(&rt, rt.alloc(), text.as_slice()))
 }
 
 /// The save after so many steps as the first form has it: both magics end with another byte, and nothing says what is reserved. The state
@@ -264,11 +270,10 @@ fn old_is_resumed_at(alloc: Global, steps: u64) -> bool {
 }
 
 #[test]
-fn an_old_save_has_the_undivided_report(rt: HostRuntime) -> Result<(), Fail> {
+fn an_old_save_has_the_undivided_report(rt: HostRuntime) {
     for steps in 1..64 {
         assert!(rt; old_is_resumed_at(rt.alloc(), steps), "{steps}");
     }
-    Ok(())
 }
 
 /// Whether an audit is saved like this behind so many steps more.
@@ -295,30 +300,60 @@ fn is_saved_as(alloc: Global, text: &[u8], steps: u64, wanted: &[u8]) -> bool
     }
 }
 
+/// The same of its save after so many steps, behind 5 steps more.
+fn is_saved_at(alloc: Global, text: &[u8], steps: u64) -> bool {
+    match save_at(alloc, steps) {
+        Ok(wanted) => is_saved_as(alloc, text, 5, wanted.as_slice()),
+        Err(OutOfMemory) => false,
+    }
+}
+
+fn old_is_saved_anew(alloc: Global) -> bool {
+    match old_save_at(alloc, 40) {
+        Ok(old) => is_saved_at(alloc, old.as_slice(), 45),
+        Err(OutOfMemory) => false,
+    }
+}
+
 /// It is saved again in the second form.
 #[test]
-fn an_old_save_is_saved_anew(rt: HostRuntime) -> Result<(), Fail> {
-    let old = old_save_at(rt.alloc(), 40)?;
-    let wanted = save_at(rt.alloc(), 45)?;
-    assert!(rt; is_saved_as(rt.alloc(), old.as_slice(), 5, wanted.as_slice()));
-    Ok(())
+fn an_old_save_is_saved_anew(rt: HostRuntime) {
+    assert!(rt; old_is_saved_anew(rt.alloc()));
+}
+
+/// Whether this is why a text is refused as a save of this recipe and this third input.
+fn is_refused(
+    alloc: Global,
+    recipe: &str,
+    source: &[u8],
+    text: &[u8],
+    wanted: SaveRefusal,
+) -> bool {
+    refusal(alloc, recipe, source, text) == Some(wanted)
 }
 
 /// Whether a save is refused beside a recipe with other limits.
-fn is_of_another(alloc: Global, text: &[u8]) -> Result<bool, OutOfMemory> {
-    let other = with(alloc, RECIPE, "steps = 100000", "steps = 200000")?;
-    Ok(refusal(alloc, other.as_str(), b"abc", text) == Some(SaveRefusal::OtherRecipe))
+fn is_of_another(alloc: Global, text: &[u8]) -> bool {
+    match with(alloc, RECIPE, "steps = 100000", "steps = 200000") {
+        Ok(other) => is_refused(
+            alloc,
+            other.as_str(),
+            b"abc",
+            text,
+            SaveRefusal::OtherRecipe,
+        ),
+        Err(OutOfMemory) => false,
+    }
 }
 
-fn check_others(rt: &impl Abort, alloc: Global, text: &[u8]) -> Result<(), OutOfMemory> {
-    assert!(rt; refusal(alloc, RECIPE, b"abc", &[]) == Some(SaveRefusal::Form(0)));
-    assert!(rt; refusal(alloc, RECIPE, b"abd", text) == Some(SaveRefusal::OtherRecipe));
-    assert!(rt; is_of_another(alloc, text)?);
-    Ok(())
+fn check_others(rt: &impl Abort, alloc: Global, text: &[u8]) {
+    assert!(rt; is_refused(alloc, RECIPE, b"abc", &[], SaveRefusal::Form(0)));
+    assert!(rt; is_refused(alloc, RECIPE, b"abd", text, SaveRefusal::OtherRecipe));
+    assert!(rt; is_of_another(alloc, text));
 }
 
 #[test]
 fn saves_of_others_are_refused(rt: HostRuntime) -> Result<(), Fail> {
     let text = save_at(rt.alloc(), 45)?;
-    Ok(check_others(&rt, rt.alloc(), text.as_slice())?)
+    Ok(check_others(&rt, rt.alloc(), text.as_slice()))
 }

@@ -17,7 +17,7 @@ pub(crate) const COPY: &str =
     9308d00573000000696e006f75740000\n";
 
 /// The bytes of a text of hexadecimal digits.
-pub(crate) fn decoded(alloc: Global, text: &str) -> Result<Bytes, OutOfMemory> {
+fn decoded(alloc: Global, text: &str) -> Result<Bytes, OutOfMemory> {
     match read_hex(alloc, text.trim_end().as_bytes()) {
         Ok(bytes) => Ok(bytes),
         Err(_) => Err(OutOfMemory),
@@ -86,12 +86,21 @@ pub(crate) const REPORT: &str = "ddc-report 1\n\
     compare two bin equal 3\n\
     end\n";
 
+/// Adds an input of these bytes.
+fn put_input(alloc: Global, inputs: &mut Inputs, bytes: &[u8]) -> Result<(), OutOfMemory> {
+    inputs.push(Bytes::from_slice(alloc, bytes)?)
+}
+
+fn put_program(alloc: Global, inputs: &mut Inputs) -> Result<(), OutOfMemory> {
+    inputs.push(decoded(alloc, COPY)?)
+}
+
 /// Adds the four inputs, the third with these bytes.
 fn put_inputs(alloc: Global, inputs: &mut Inputs, source: &[u8]) -> Result<(), OutOfMemory> {
-    inputs.push(decoded(alloc, COPY)?)?;
-    inputs.push(Bytes::from_slice(alloc, COPY.as_bytes())?)?;
-    inputs.push(Bytes::from_slice(alloc, source)?)?;
-    inputs.push(Bytes::from_slice(alloc, b"abc")?)
+    put_program(alloc, inputs)?;
+    put_input(alloc, inputs, COPY.as_bytes())?;
+    put_input(alloc, inputs, source)?;
+    put_input(alloc, inputs, b"abc")
 }
 
 fn inputs(alloc: Global, source: &[u8]) -> Result<Inputs, OutOfMemory> {
