@@ -11,7 +11,6 @@ use recipe::Recipe;
 use recipe_plan::{fetch_inputs, fetch_recipe};
 use std::alloc::Global;
 use std::process::Abort;
-use std::test::Fail;
 
 /// copy.elf, which copies the file `in` to `out`, with a line's end: its source in hex0.
 const COPY: &str =
@@ -197,9 +196,9 @@ fn check_places(rt: &impl Abort, alloc: Global, text: &[u8]) {
 }
 
 #[test]
-fn an_audit_stands_where_its_steps_lead(rt: HostRuntime) -> Result<(), Fail> {
-    let text = whole_text(rt.alloc())?;
-    Ok(check_places(&rt, rt.alloc(), text.as_slice()))
+fn an_audit_stands_where_its_steps_lead(rt: HostRuntime) {
+    let text = whole_text(rt.alloc()).expect(&rt, "a report");
+    check_places(&rt, rt.alloc(), text.as_slice());
 }
 
 /// Whether an audit is over, with this report.
@@ -253,9 +252,9 @@ fn check_pieces(rt: &impl Abort, alloc: Global, text: &[u8]) {
 }
 
 #[test]
-fn an_audit_that_is_handed_on_stands_there_too(rt: HostRuntime) -> Result<(), Fail> {
-    let text = whole_text(rt.alloc())?;
-    Ok(check_pieces(&rt, rt.alloc(), text.as_slice()))
+fn an_audit_that_is_handed_on_stands_there_too(rt: HostRuntime) {
+    let text = whole_text(rt.alloc()).expect(&rt, "a report");
+    check_pieces(&rt, rt.alloc(), text.as_slice());
 }
 
 /// After so many steps, the length of the first file of a program that is started with the present setting.

@@ -7,7 +7,6 @@ use audit_run::{DeltaRefusal, SaveRefusal};
 use ddc_base::{Bytes, OutOfMemory};
 use std::alloc::Global;
 use std::process::Abort;
-use std::test::Fail;
 
 /// The delta of the worked audit against a save of it, behind so many steps more.
 fn delta_of(alloc: Global, base: &[u8], more: u64) -> Result<Bytes, OutOfMemory> {
@@ -116,9 +115,9 @@ fn check_pairs(rt: &impl Abort, alloc: Global, saves: &[Bytes]) {
 }
 
 #[test]
-fn each_pause_comes_back_beside_the_one_before_it(rt: HostRuntime) -> Result<(), Fail> {
-    let saves = saves(rt.alloc())?;
-    Ok(check_pairs(&rt, rt.alloc(), saves.as_slice()))
+fn each_pause_comes_back_beside_the_one_before_it(rt: HostRuntime) {
+    let saves = saves(rt.alloc()).expect(&rt, "saves");
+    check_pairs(&rt, rt.alloc(), saves.as_slice());
 }
 
 /// Whether this is the delta, behind 5 steps more, of the worked audit against its save after so many steps.
@@ -216,9 +215,9 @@ fn check_lengths(rt: &impl Abort, alloc: Global, base: &[u8]) {
 
 /// From the second stage's start, the stack is written between 13 steps and 31. The fields beside pages and changed registers are counted by the table.
 #[test]
-fn a_delta_grows_with_what_differs(rt: HostRuntime) -> Result<(), Fail> {
-    let base = save_at(rt.alloc(), 32)?;
-    Ok(check_lengths(&rt, rt.alloc(), base.as_slice()))
+fn a_delta_grows_with_what_differs(rt: HostRuntime) {
+    let base = save_at(rt.alloc(), 32).expect(&rt, "a save");
+    check_lengths(&rt, rt.alloc(), base.as_slice());
 }
 
 /// What is changed in a base, from its end on, what in a delta against the base as it was, and why they are refused then.
@@ -318,9 +317,9 @@ fn check_rows(rt: &impl Abort, alloc: Global, texts: &Texts, rows: &[Row]) {
 }
 
 #[test]
-fn each_rule_has_its_refusal(rt: HostRuntime) -> Result<(), Fail> {
-    let texts = worked_texts(rt.alloc())?;
-    Ok(check_rows(&rt, rt.alloc(), &texts, SECOND))
+fn each_rule_has_its_refusal(rt: HostRuntime) {
+    let texts = worked_texts(rt.alloc()).expect(&rt, "a base and a delta");
+    check_rows(&rt, rt.alloc(), &texts, SECOND);
 }
 
 fn check_kept(rt: &impl Abort, alloc: Global, texts: &Texts) {
@@ -341,9 +340,9 @@ fn check_kept(rt: &impl Abort, alloc: Global, texts: &Texts) {
 
 /// The stage that is done, at 176 of its save, in the place of one that is kept: it could have been; with another step it could not.
 #[test]
-fn kept_stages_are_the_most(rt: HostRuntime) -> Result<(), Fail> {
-    let texts = worked_texts(rt.alloc())?;
-    Ok(check_kept(&rt, rt.alloc(), &texts))
+fn kept_stages_are_the_most(rt: HostRuntime) {
+    let texts = worked_texts(rt.alloc()).expect(&rt, "a base and a delta");
+    check_kept(&rt, rt.alloc(), &texts);
 }
 
 fn check_ends(rt: &impl Abort, alloc: Global, texts: &Texts) {
@@ -358,7 +357,7 @@ fn check_ends(rt: &impl Abort, alloc: Global, texts: &Texts) {
 
 /// A delta that is longer or shorter by a byte. It ends with the bytes that say that both streams are the base's.
 #[test]
-fn a_delta_ends_with_its_last_field(rt: HostRuntime) -> Result<(), Fail> {
-    let texts = worked_texts(rt.alloc())?;
-    Ok(check_ends(&rt, rt.alloc(), &texts))
+fn a_delta_ends_with_its_last_field(rt: HostRuntime) {
+    let texts = worked_texts(rt.alloc()).expect(&rt, "a base and a delta");
+    check_ends(&rt, rt.alloc(), &texts);
 }

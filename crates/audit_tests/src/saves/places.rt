@@ -6,7 +6,6 @@ use audit_run::SaveRefusal;
 use ddc_base::{Bytes, OutOfMemory};
 use std::alloc::Global;
 use std::process::Abort;
-use std::test::Fail;
 
 /// What is changed in the save after 45 steps, from its end on, and why the text is refused then.
 type Row = (&'static [Edit], Option<SaveRefusal>);
@@ -170,9 +169,9 @@ fn check_rules(rt: &impl Abort, alloc: Global, text: &[u8]) {
 }
 
 #[test]
-fn each_rule_has_its_refusal(rt: HostRuntime) -> Result<(), Fail> {
-    let text = save_at(rt.alloc(), 45)?;
-    Ok(check_rules(&rt, rt.alloc(), text.as_slice()))
+fn each_rule_has_its_refusal(rt: HostRuntime) {
+    let text = save_at(rt.alloc(), 45).expect(&rt, "a save");
+    check_rules(&rt, rt.alloc(), text.as_slice());
 }
 
 fn check_stages(rt: &impl Abort, alloc: Global, text: &[u8]) {
@@ -185,9 +184,9 @@ fn check_stages(rt: &impl Abort, alloc: Global, text: &[u8]) {
 
 /// The record of the stage that is done stands for both stages; then none is left to be the present one.
 #[test]
-fn a_stage_is_left(rt: HostRuntime) -> Result<(), Fail> {
-    let text = save_at(rt.alloc(), 45)?;
-    Ok(check_stages(&rt, rt.alloc(), text.as_slice()))
+fn a_stage_is_left(rt: HostRuntime) {
+    let text = save_at(rt.alloc(), 45).expect(&rt, "a save");
+    check_stages(&rt, rt.alloc(), text.as_slice());
 }
 
 /// Adds a left file.
@@ -223,7 +222,7 @@ fn check_crowds(rt: &impl Abort, alloc: Global, text: &[u8]) {
 }
 
 #[test]
-fn left_files_are_counted(rt: HostRuntime) -> Result<(), Fail> {
-    let text = save_at(rt.alloc(), 45)?;
-    Ok(check_crowds(&rt, rt.alloc(), text.as_slice()))
+fn left_files_are_counted(rt: HostRuntime) {
+    let text = save_at(rt.alloc(), 45).expect(&rt, "a save");
+    check_crowds(&rt, rt.alloc(), text.as_slice());
 }

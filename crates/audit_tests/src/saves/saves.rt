@@ -8,7 +8,6 @@ use ddc_base::{Bytes, OutOfMemory};
 use recipe::{Inputs, Recipe};
 use std::alloc::Global;
 use std::process::Abort;
-use std::test::Fail;
 
 /// The save of an audit behind so many steps more.
 fn save_behind(audit: &mut Audit, steps: u64) -> Result<Bytes, OutOfMemory>
@@ -245,9 +244,9 @@ fn check_turns(rt: &impl Abort, alloc: Global, text: &[u8]) {
 }
 
 #[test]
-fn an_audit_goes_on_from_what_a_save_says(rt: HostRuntime) -> Result<(), Fail> {
-    let text = save_at(rt.alloc(), 45)?;
-    Ok(check_turns(&rt, rt.alloc(), text.as_slice()))
+fn an_audit_goes_on_from_what_a_save_says(rt: HostRuntime) {
+    let text = save_at(rt.alloc(), 45).expect(&rt, "a save");
+    check_turns(&rt, rt.alloc(), text.as_slice());
 }
 
 /// The save after so many steps as the first form has it: both magics end with another byte, and nothing says what is reserved. The state
@@ -353,7 +352,7 @@ fn check_others(rt: &impl Abort, alloc: Global, text: &[u8]) {
 }
 
 #[test]
-fn saves_of_others_are_refused(rt: HostRuntime) -> Result<(), Fail> {
-    let text = save_at(rt.alloc(), 45)?;
-    Ok(check_others(&rt, rt.alloc(), text.as_slice()))
+fn saves_of_others_are_refused(rt: HostRuntime) {
+    let text = save_at(rt.alloc(), 45).expect(&rt, "a save");
+    check_others(&rt, rt.alloc(), text.as_slice());
 }

@@ -149,10 +149,8 @@ pub(crate) fn given(alloc: Global, recipe: &str, source: &[u8]) -> Result<Given,
 
 /// A text with another in place of the first piece that is `old`.
 pub(crate) fn with(alloc: Global, text: &str, old: &str, new: &str) -> Result<String, OutOfMemory> {
-    match text.split_once(old) {
-        Some((before, after)) => Ok(format!(in alloc; "{before}{new}{after}")?),
-        None => Ok(format!(in alloc; "nothing to change: {old}")?),
-    }
+    let (before, after) = text.split_once(old).unwrap_or(("nothing to change: ", old));
+    Ok(format!(in alloc; "{before}{new}{after}")?)
 }
 
 /// An offset, how many bytes from there on give way, and to which.
