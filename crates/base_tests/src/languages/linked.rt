@@ -1,10 +1,9 @@
 //! hex2 sources and what Debian's hex2 makes of them, as tests/languages/make-cases prints it.
 
 use crate::languages::zeros;
-use ddc_base::Bytes;
+use ddc_base::{Bytes, OutOfMemory};
 use hex_langs::link::{HexLanguage, value};
 use std::alloc::Global;
-use std::process::Abort;
 use std::test::Fail;
 
 /// A base, a source's front, how many bytes ` 00` follow, and its back; the length of its value, and the value's first and last bytes.
@@ -60,35 +59,50 @@ static ROWS: [Row; 38] = [
     (536870908, ":a &a &b 00 :b", 0, "", 9, b"\xfc\xff\xff\x1f\x05\x00\x00\x20", b"\xff\xff\x1f\x05\x00\x00\x20\x00"),
 ];
 
-/// The source of a row.
-fn source_of(alloc: Global, row: &Row) -> Result<Bytes, Fail> {
-    let mut source = Bytes::new(alloc);
+/// Adds so many bytes ` 00`.
+fn put_zeros(alloc: Global, source: &mut Bytes, count: usize) -> Result<(), OutOfMemory> {
+    let zeros = zeros(alloc, count)?;
+    source.extend(zeros.as_bytes())
+}
+
+/// Adds the source of a row.
+fn put_row(alloc: Global, source: &mut Bytes, row: &Row) -> Result<(), OutOfMemory> {
     source.extend(row.1.as_bytes())?;
-    source.extend(zeros(alloc, row.2)?.as_bytes())?;
-    source.extend(row.3.as_bytes())?;
+    put_zeros(alloc, source, row.2)?;
+    source.extend(row.3.as_bytes())
+}
+
+/// The source of a row.
+fn source_of(alloc: Global, row: &Row) -> Result<Bytes, OutOfMemory> {
+    let mut source = Bytes::new(alloc);
+    put_row(alloc, &mut source, row)?;
     Ok(source)
 }
 
-fn compare(rt: &impl Abort, alloc: Global, row: &Row) -> Result<(), Fail> {
-    assert!(rt; row.0 <= 137_438_953_472);
-    let source = source_of(alloc, row)?;
-    match value(alloc, HexLanguage::Hex2, row.0, source.as_slice()) {
-        Ok(bytes) => {
-            assert_eq!(rt; bytes.len(), row.4);
-            assert!(rt; bytes.as_slice().starts_with(row.5));
-            assert!(rt; bytes.as_slice().ends_with(row.6));
-        }
-        Err(refusal) => {
-            assert_eq!(rt; refusal.number(), 0);
-        }
+fn are_bytes(bytes: &[u8], row: &Row) -> bool {
+    bytes.len() == row.4 && bytes.starts_with(row.5) && bytes.ends_with(row.6)
+}
+
+/// Whether a source has the value of a row. No base is above 2^37.
+fn has_value(alloc: Global, row: &Row, source: &[u8]) -> bool {
+    if row.0 > 137_438_953_472 {
+        return false;
     }
-    Ok(())
+    match value(alloc, HexLanguage::Hex2, row.0, source) {
+        Ok(bytes) => are_bytes(bytes.as_slice(), row),
+        Err(_) => false,
+    }
+}
+
+fn is_linked(alloc: Global, row: &Row) -> Result<bool, OutOfMemory> {
+    let source = source_of(alloc, row)?;
+    Ok(has_value(alloc, row, source.as_slice()))
 }
 
 #[test]
 fn values_of_debians_hex2(rt: HostRuntime) -> Result<(), Fail> {
     for row in &ROWS {
-        compare(&rt, rt.alloc(), row)?;
+        assert!(rt; is_linked(rt.alloc(), row)?, "{row:?}");
     }
     Ok(())
 }
