@@ -5,12 +5,13 @@ use prompt::{Asked, Failed, MemPrompt, Prompt, ReaderPrompt};
 use std::alloc::Global;
 use std::io;
 use std::io::Read;
+use std::process::Abort;
 use std::test::Fail;
 
 /// A front part of so many bytes `x`, the bytes behind it, and the lines that are given: how many bytes each has, 999 for one that is too long.
 type Row = (usize, &'static str, &'static [usize]);
 
-const ROWS: [Row; 16] = [
+static ROWS: [Row; 16] = [
     (0, "", &[]),
     (0, "\n", &[0]),
     (0, "\n\n", &[0, 0]),
@@ -113,12 +114,16 @@ fn is_given(alloc: Global, row: &Row) -> Result<bool, OutOfMemory> {
     are_given(alloc, bytes.as_slice(), row.2)
 }
 
-#[test]
-fn lines_are_given(rt: HostRuntime) -> Result<(), Fail> {
-    for row in &ROWS {
-        assert!(rt; is_given(rt.alloc(), row)?, "{row:?}");
+fn check(rt: &impl Abort, alloc: Global, rows: &[Row]) -> Result<(), OutOfMemory> {
+    for row in rows {
+        assert!(rt; is_given(alloc, row)?, "{row:?}");
     }
     Ok(())
+}
+
+#[test]
+fn lines_are_given(rt: HostRuntime) -> Result<(), Fail> {
+    Ok(check(&rt, rt.alloc(), &ROWS)?)
 }
 
 /// Whether a prompt gives a line, and then fails.

@@ -27,25 +27,39 @@ fn fails_where<R: Files + AllocGlobal>(rt: &R, breaks: Breaks) -> bool {
     fails(rt, &mut shelf)
 }
 
+static FAILING: [Breaks; 4] = [
+    Breaks::Creation(ErrorKind::StorageFull),
+    Breaks::Writing,
+    Breaks::Syncing,
+    Breaks::Renaming(ErrorKind::StorageFull),
+];
+
+/// Whether each of these breaks a save.
+fn all_fail<R: Files + AllocGlobal>(rt: &R, breaks: &[Breaks]) -> bool {
+    for at in breaks {
+        if !fails_where(rt, *at) {
+            return false;
+        }
+    }
+    true
+}
+
 #[test]
 fn failed_saves_keep_the_file(rt: HostRuntime) -> Result<(), Fail> {
     fs::write(&rt, "kept", b"the old content")?;
-    for breaks in [
-        Breaks::Creation(ErrorKind::StorageFull),
-        Breaks::Writing,
-        Breaks::Syncing,
-        Breaks::Renaming(ErrorKind::StorageFull),
-    ] {
-        assert!(rt; fails_where(&rt, breaks));
-    }
+    assert!(rt; all_fail(&rt, &FAILING));
     fs::remove_file(&rt, "kept")?;
     Ok(())
 }
 
+fn is_written<R: Files>(rt: &R, name: &str, content: &[u8]) -> bool {
+    fs::write(rt, name, content).is_ok()
+}
+
 /// Whether a save writes a file in place.
 fn places<R: Files + AllocGlobal, S: Shelf>(rt: &R, shelf: &mut S) -> bool {
-    fs::write(rt, "placed", b"the old content").is_ok()
-        && shelf.save("placed", b"new") == Ok(())
+    is_written(rt, "placed", b"the old content")
+        && shelf.save("placed", b"new").is_ok()
         && is_content(rt, "placed", b"new")
         && !is_there(rt, "placed.ddc-0")
 }
@@ -55,21 +69,42 @@ fn places_where<R: Files + AllocGlobal>(rt: &R, breaks: Breaks) -> bool {
     places(rt, &mut shelf)
 }
 
+static PLACING: [Breaks; 4] = [
+    Breaks::Creation(ErrorKind::PermissionDenied),
+    Breaks::Creation(ErrorKind::ReadOnlyFilesystem),
+    Breaks::Renaming(ErrorKind::ResourceBusy),
+    Breaks::Renaming(ErrorKind::PermissionDenied),
+];
+
+/// Whether a save writes in place at each of these.
+fn all_place<R: Files + AllocGlobal>(rt: &R, breaks: &[Breaks]) -> bool {
+    for at in breaks {
+        if !places_where(rt, *at) {
+            return false;
+        }
+    }
+    true
+}
+
 #[test]
 fn saves_in_place_where_nothing_can_stand_beside(rt: HostRuntime) -> Result<(), Fail> {
-    for breaks in [
-        Breaks::Creation(ErrorKind::PermissionDenied),
-        Breaks::Creation(ErrorKind::ReadOnlyFilesystem),
-        Breaks::Renaming(ErrorKind::ResourceBusy),
-        Breaks::Renaming(ErrorKind::PermissionDenied),
-    ] {
-        assert!(rt; places_where(&rt, breaks));
-    }
+    assert!(rt; all_place(&rt, &PLACING));
     fs::remove_file(&rt, "placed")?;
     Ok(())
 }
 
 static ENDINGS: [&str; 10] = ["0", "1", "2", "3", "4", "5", "6", "7", "8", "9"];
+
+fn saves_with<R: Files + AllocGlobal, S: Shelf>(
+    rt: &R,
+    shelf: &mut S,
+    taken: &str,
+    ending: &str,
+) -> bool {
+    is_written(rt, taken, b"of the user")
+        && shelf.save("mine", ending.as_bytes()).is_ok()
+        && is_content(rt, "mine", ending.as_bytes())
+}
 
 /// Whether a save is one where the user has taken a name beside it.
 fn saves_beside<R: Files + AllocGlobal, S: Shelf>(
@@ -78,18 +113,15 @@ fn saves_beside<R: Files + AllocGlobal, S: Shelf>(
     ending: &str,
 ) -> Result<bool, OutOfMemory> {
     let taken = format!(in rt.alloc(); "mine.ddc-{ending}")?;
-    Ok(
-        fs::write(rt, taken.as_str(), b"of the user").is_ok()
-            && shelf.save("mine", ending.as_bytes()) == Ok(())
-            && is_content(rt, "mine", ending.as_bytes()),
-    )
+    Ok(saves_with(rt, shelf, taken.as_str(), ending))
 }
 
 fn all_save_beside<R: Files + AllocGlobal, S: Shelf>(
     rt: &R,
     shelf: &mut S,
+    endings: &[&str],
 ) -> Result<bool, OutOfMemory> {
-    for ending in ENDINGS {
+    for ending in endings {
         if !saves_beside(rt, shelf, ending)? {
             return Ok(false);
         }
@@ -97,27 +129,35 @@ fn all_save_beside<R: Files + AllocGlobal, S: Shelf>(
     Ok(true)
 }
 
+fn is_removed<R: Files>(rt: &R, name: &str) -> bool {
+    fs::remove_file(rt, name).is_ok()
+}
+
 /// Whether a file of the user is as it was, and is removed.
 fn is_left<R: Files + AllocGlobal>(rt: &R, ending: &str) -> Result<bool, OutOfMemory> {
     let taken = format!(in rt.alloc(); "mine.ddc-{ending}")?;
-    Ok(
-        is_content(rt, taken.as_str(), b"of the user")
-            && fs::remove_file(rt, taken.as_str()).is_ok(),
-    )
+    Ok(is_content(rt, taken.as_str(), b"of the user") && is_removed(rt, taken.as_str()))
+}
+
+fn all_are_left<R: Files + AllocGlobal>(rt: &R, endings: &[&str]) -> Result<bool, OutOfMemory> {
+    for ending in endings {
+        if !is_left(rt, ending)? {
+            return Ok(false);
+        }
+    }
+    Ok(true)
 }
 
 fn shelf_saves_beside<R: Files + AllocGlobal>(rt: &R) -> Result<bool, OutOfMemory> {
     let mut shelf = DirShelf::new(rt);
-    all_save_beside(rt, &mut shelf)
+    all_save_beside(rt, &mut shelf, &ENDINGS)
 }
 
 #[test]
 fn saves_beside_the_users_own_names(rt: HostRuntime) -> Result<(), Fail> {
     fs::write(&rt, "mine", b"the old content")?;
     assert!(rt; shelf_saves_beside(&rt)?);
-    for ending in ENDINGS {
-        assert!(rt; is_left(&rt, ending)?);
-    }
+    assert!(rt; all_are_left(&rt, &ENDINGS)?);
     fs::remove_file(&rt, "mine")?;
     Ok(())
 }
@@ -139,13 +179,13 @@ fn is_symlink<R: Files>(rt: &R, name: &str) -> bool {
 
 fn keeps_mode<R: Files, S: Shelf>(rt: &R, shelf: &mut S) -> bool {
     fs::set_permissions(rt, "moded", fs::Permissions::from_mode(0o751)).is_ok()
-        && shelf.save("moded", b"new") == Ok(())
+        && shelf.save("moded", b"new").is_ok()
         && mode(rt, "moded") == Some(0o751)
 }
 
 fn follows_link<R: Files + AllocGlobal, S: Shelf>(rt: &R, shelf: &mut S) -> bool {
     rt.symlink("moded", "link").is_ok()
-        && shelf.save("link", b"newer") == Ok(())
+        && shelf.save("link", b"newer").is_ok()
         && is_symlink(rt, "link")
         && is_content(rt, "moded", b"newer")
 }

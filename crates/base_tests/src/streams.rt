@@ -5,6 +5,7 @@ use ddc_base::{Deliver, Loaded, PutFail, Sink, WriterSink, read_within, write_wh
 use std::alloc::Global;
 use std::io;
 use std::io::{ErrorKind, Read, Write};
+use std::process::Abort;
 
 /// A reader of so many bytes, which gives a few at a time, is interrupted at first, and may fail after some of them.
 #[derive(Drop)]
@@ -96,19 +97,27 @@ fn fails(alloc: Global, mut stream: Stream, expected: u64, limit: u64) -> bool {
     read_within(alloc, &mut stream, expected, limit).is_err()
 }
 
+fn check_reads(rt: &impl Abort, alloc: Global, rows: &[Row]) {
+    for row in rows {
+        assert!(rt; reads(alloc, row), "{row:?}");
+    }
+}
+
+/// An error in mid-stream is no shorter content.
+fn check_breaks(rt: &impl Abort, alloc: Global, places: &[usize]) {
+    for fails_after in places {
+        let broken = Stream::new(9_000, 512, *fails_after);
+        assert!(rt; fails(alloc, broken, 9_000, 9_000));
+    }
+}
+
 #[test]
 fn reads_within_a_limit(rt: HostRuntime) {
-    for row in &ROWS {
-        assert!(rt; reads(rt.alloc(), row), "{row:?}");
-    }
+    check_reads(&rt, rt.alloc(), &ROWS);
     // Fewer bytes than are expected, where these are over the limit, are an error.
     let short = Stream::new(20_000, 4_096, usize::MAX);
     assert!(rt; fails(rt.alloc(), short, 20_001, 20_000));
-    // An error in mid-stream is no shorter content.
-    for fails_after in [0, 1, 4_096, 9_000] {
-        let broken = Stream::new(9_000, 512, fails_after);
-        assert!(rt; fails(rt.alloc(), broken, 9_000, 9_000));
-    }
+    check_breaks(&rt, rt.alloc(), &[0, 1, 4_096, 9_000]);
 }
 
 /// A writer that takes a few bytes at a time, and nothing once it is full. It tells what it holds, and what of it has arrived.

@@ -3,6 +3,7 @@ use ddc_base::{
     read_decimal, read_hex,
 };
 use std::alloc::Global;
+use std::process::Abort;
 use std::test::Fail;
 
 fn put_all(bytes: &mut Bytes) -> Result<(), OutOfMemory> {
@@ -77,11 +78,15 @@ fn is_digest(alloc: Global) -> Result<bool, OutOfMemory> {
     put_digest(&mut text)
 }
 
-#[test]
-fn numbers_as_text(rt: HostRuntime) -> Result<(), Fail> {
-    for (text, value) in &DECIMALS {
+fn check_decimals(rt: &impl Abort, rows: &[(&[u8], Option<u64>)]) {
+    for (text, value) in rows {
         assert_eq!(rt; read_decimal(text), *value);
     }
+}
+
+#[test]
+fn numbers_as_text(rt: HostRuntime) -> Result<(), Fail> {
+    check_decimals(&rt, &DECIMALS);
     assert!(rt; is_digest(rt.alloc())?);
     Ok(())
 }
@@ -104,11 +109,15 @@ fn is_read(alloc: Global, text: &[u8], value: Result<&[u8], HexFail>) -> bool {
     }
 }
 
+fn check_hex(rt: &impl Abort, alloc: Global, rows: &[(&[u8], Result<&[u8], HexFail>)]) {
+    for (text, value) in rows {
+        assert!(rt; is_read(alloc, text, *value), "{text:?}");
+    }
+}
+
 #[test]
 fn bytes_from_text(rt: HostRuntime) {
-    for (text, value) in &HEX {
-        assert!(rt; is_read(rt.alloc(), text, *value), "{text:?}");
-    }
+    check_hex(&rt, rt.alloc(), &HEX);
 }
 
 static NAMES: [(&[u8], bool); 9] = [
@@ -143,8 +152,8 @@ fn put_text(names: &mut ListOf<Name>, text: &[u8], is_name: bool) -> Result<bool
     }
 }
 
-fn put_names(names: &mut ListOf<Name>) -> Result<bool, OutOfMemory> {
-    for (text, is_name) in &NAMES {
+fn put_names(names: &mut ListOf<Name>, rows: &[(&[u8], bool)]) -> Result<bool, OutOfMemory> {
+    for (text, is_name) in rows {
         if !put_text(names, text, *is_name)? {
             return Ok(false);
         }
@@ -161,7 +170,7 @@ fn is_name(name: Option<&Name>, text: &[u8]) -> bool {
 
 fn list(names: &mut ListOf<Name>) -> Result<bool, OutOfMemory> {
     let is_empty = names.is_empty();
-    let are_put = put_names(names)?;
+    let are_put = put_names(names, &NAMES)?;
     Ok(
         is_empty
             && are_put
@@ -192,10 +201,14 @@ static DIFFERENCES: [(&[u8], &[u8], Option<u64>); 6] = [
     (b"xbc", b"abcd", Some(0)),
 ];
 
-#[test]
-fn first_differences(rt: HostRuntime) {
-    for (a, b, offset) in &DIFFERENCES {
+fn check_differences(rt: &impl Abort, rows: &[(&[u8], &[u8], Option<u64>)]) {
+    for (a, b, offset) in rows {
         assert_eq!(rt; first_difference(a, b), *offset);
         assert_eq!(rt; first_difference(b, a), *offset);
     }
+}
+
+#[test]
+fn first_differences(rt: HostRuntime) {
+    check_differences(&rt, &DIFFERENCES);
 }

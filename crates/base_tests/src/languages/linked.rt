@@ -4,6 +4,7 @@ use crate::languages::zeros;
 use ddc_base::{Bytes, OutOfMemory};
 use hex_langs::link::{HexLanguage, value};
 use std::alloc::Global;
+use std::process::Abort;
 use std::test::Fail;
 
 /// A base, a source's front, how many bytes ` 00` follow, and its back; the length of its value, and the value's first and last bytes.
@@ -99,10 +100,14 @@ fn is_linked(alloc: Global, row: &Row) -> Result<bool, OutOfMemory> {
     Ok(has_value(alloc, row, source.as_slice()))
 }
 
-#[test]
-fn values_of_debians_hex2(rt: HostRuntime) -> Result<(), Fail> {
-    for row in &ROWS {
-        assert!(rt; is_linked(rt.alloc(), row)?, "{row:?}");
+fn check(rt: &impl Abort, alloc: Global, rows: &[Row]) -> Result<(), OutOfMemory> {
+    for row in rows {
+        assert!(rt; is_linked(alloc, row)?, "{} {} {}", row.1, row.2, row.3);
     }
     Ok(())
+}
+
+#[test]
+fn values_of_debians_hex2(rt: HostRuntime) -> Result<(), Fail> {
+    Ok(check(&rt, rt.alloc(), &ROWS)?)
 }

@@ -6,6 +6,7 @@ use hex_langs::items::Items;
 use hex_langs::link::link;
 use m1_lang::expand;
 use std::alloc::Global;
+use std::process::Abort;
 
 /// A base, a source, and its bytes.
 type Row = (u64, &'static str, &'static [u8]);
@@ -106,9 +107,13 @@ fn has_bytes(alloc: Global, row: &Row) -> bool {
     }
 }
 
+fn check(rt: &impl Abort, alloc: Global, rows: &[Row]) {
+    for row in rows {
+        assert!(rt; has_bytes(alloc, row), "{}", row.1);
+    }
+}
+
 #[test]
 fn values_of_debians_m1(rt: HostRuntime) {
-    for row in &ROWS {
-        assert!(rt; has_bytes(rt.alloc(), row), "{}", row.1);
-    }
+    check(&rt, rt.alloc(), &ROWS);
 }

@@ -4,6 +4,7 @@ use crate::languages::m1::blanks;
 use ddc_base::{Bytes, OutOfMemory};
 use m1_lang::{M1Refusal, expand, laws, write_items};
 use std::alloc::Global;
+use std::process::Abort;
 use std::test::Fail;
 
 #[rattlefmt::skip]
@@ -160,11 +161,15 @@ fn has_answer(alloc: Global, source: &str, answer: Result<&str, M1Refusal>) -> b
     }
 }
 
+fn check(rt: &impl Abort, alloc: Global, rows: &[(&str, Result<&str, M1Refusal>)]) {
+    for (source, answer) in rows {
+        assert!(rt; has_answer(alloc, source, *answer), "{source}");
+    }
+}
+
 #[test]
 fn sources_of_the_reference_page(rt: HostRuntime) {
-    for (source, answer) in &SOURCES {
-        assert!(rt; has_answer(rt.alloc(), source, *answer), "{source}");
-    }
+    check(&rt, rt.alloc(), &SOURCES);
     laws::expansions_are_read_again();
     laws::words_are_those_laid_out();
     laws::layout_does_not_matter();
