@@ -1,10 +1,10 @@
 //! The example of docs/reference/recipe.md and that page's changes of it.
 
-use crate::texts::{EXAMPLE, answer, with};
+use crate::texts::{Change, EXAMPLE, answers, answers_twice};
+use ddc_base::OutOfMemory;
+use std::alloc::Global;
+use std::process::Abort;
 use std::test::Fail;
-
-/// What is changed, and into what.
-type Change = (&'static str, &'static str);
 
 /// An input that implements the source.
 const IMPLEMENTS: Change = (
@@ -22,7 +22,9 @@ const NO_SOURCE: Change = (
 const NOTHING: Change = ("", "");
 
 /// Two changes of the example, and the answer.
-static CHANGES: [(Change, Change, &str); 36] = [
+type Row = (Change, Change, &'static str);
+
+static CHANGES: [Row; 36] = [
     (("format = 1\n", "format\nformat = 1\n"), NOTHING, "1"),
     (("format = 1", ""), NOTHING, "2 top 0 format"),
     (("format = 1", "format = \"1\""), NOTHING, "2 top 0 format"),
@@ -172,17 +174,20 @@ static CHANGES: [(Change, Change, &str); 36] = [
     ),
 ];
 
+fn compare(rt: &impl Abort, alloc: Global, rows: &[Row]) -> Result<(), OutOfMemory> {
+    for row in rows {
+        assert!(rt;
+            answers_twice(alloc, EXAMPLE, row.0, row.1, row.2)?,
+            "{row:?}"
+        );
+    }
+    Ok(())
+}
+
 #[test]
 fn changes_of_the_example(rt: HostRuntime) -> Result<(), Fail> {
-    for (first, second, wanted) in &CHANGES {
-        let once = with(rt.alloc(), EXAMPLE, first.0, first.1)?;
-        let twice = with(rt.alloc(), once.as_str(), second.0, second.1)?;
-        let answer = answer(rt.alloc(), twice.as_bytes())?;
-        assert_eq!(rt; answer.as_str(), *wanted);
-    }
-    let cut = answer(rt.alloc(), b"format = 1 # \xff")?;
-    assert_eq!(rt; cut.as_str(), "1");
-    let empty = answer(rt.alloc(), b"")?;
-    assert_eq!(rt; empty.as_str(), "2 top 0 format");
+    compare(&rt, rt.alloc(), &CHANGES)?;
+    assert!(rt; answers(rt.alloc(), b"format = 1 # \xff", "1")?);
+    assert!(rt; answers(rt.alloc(), b"", "2 top 0 format")?);
     Ok(())
 }
