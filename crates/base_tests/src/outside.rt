@@ -186,12 +186,23 @@ fn host_loads<R: Files>(rt: &R, alloc: Global) -> bool {
     give(alloc, &mut shelf, &HOST_LOADS)
 }
 
+/// Whether a file of the host is written.
+pub(crate) fn is_written<R: Files>(rt: &R, name: &str, content: &[u8]) -> bool {
+    fs::write(rt, name, content).is_ok()
+}
+
+/// Whether a file of the host is removed.
+pub(crate) fn is_removed<R: Files>(rt: &R, name: &str) -> bool {
+    fs::remove_file(rt, name).is_ok()
+}
+
+fn loads_written<R: Files>(rt: &R, alloc: Global) -> bool {
+    is_written(rt, "four", b"1234") && host_loads(rt, alloc) && is_removed(rt, "four")
+}
+
 #[test]
-fn loads_of_the_host(rt: HostRuntime) -> Result<(), Fail> {
-    fs::write(&rt, "four", b"1234")?;
-    assert!(rt; host_loads(&rt, rt.alloc()));
-    fs::remove_file(&rt, "four")?;
-    Ok(())
+fn loads_of_the_host(rt: HostRuntime) {
+    assert!(rt; loads_written(&rt, rt.alloc()));
 }
 
 /// Whether a file of the host has this content.
@@ -247,13 +258,12 @@ fn host_replaces<R: Files + AllocGlobal>(rt: &R, content: &[u8]) -> bool {
 fn host_saves<R: Files + AllocGlobal>(rt: &R) -> Result<bool, AllocError> {
     let mut content = Vec::new(rt.alloc());
     put_numbers(&mut content)?;
-    Ok(host_replaces(rt, &content))
+    Ok(host_replaces(rt, &content) && is_removed(rt, "large"))
 }
 
 #[test]
 fn large_files_of_the_host(rt: HostRuntime) -> Result<(), Fail> {
     assert!(rt; host_saves(&rt)?);
-    fs::remove_file(&rt, "large")?;
     Ok(())
 }
 

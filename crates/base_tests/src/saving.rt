@@ -1,5 +1,5 @@
 use crate::hosts::{Breaks, BrokenHost};
-use crate::outside::is_content;
+use crate::outside::{is_content, is_removed, is_written};
 use ddc_base::{DirShelf, OutOfMemory, SaveFail, Shelf};
 use std::fs;
 use std::io::ErrorKind;
@@ -34,7 +34,7 @@ static FAILING: [Breaks; 4] = [
     Breaks::Renaming(ErrorKind::StorageFull),
 ];
 
-/// Whether each of these breaks a save.
+/// Whether each of these breaks a save of a file.
 fn all_fail<R: Files + AllocGlobal>(rt: &R, breaks: &[Breaks]) -> bool {
     for at in breaks {
         if !fails_where(rt, *at) {
@@ -44,16 +44,13 @@ fn all_fail<R: Files + AllocGlobal>(rt: &R, breaks: &[Breaks]) -> bool {
     true
 }
 
-#[test]
-fn failed_saves_keep_the_file(rt: HostRuntime) -> Result<(), Fail> {
-    fs::write(&rt, "kept", b"the old content")?;
-    assert!(rt; all_fail(&rt, &FAILING));
-    fs::remove_file(&rt, "kept")?;
-    Ok(())
+fn keeps_written<R: Files + AllocGlobal>(rt: &R) -> bool {
+    is_written(rt, "kept", b"the old content") && all_fail(rt, &FAILING) && is_removed(rt, "kept")
 }
 
-fn is_written<R: Files>(rt: &R, name: &str, content: &[u8]) -> bool {
-    fs::write(rt, name, content).is_ok()
+#[test]
+fn failed_saves_keep_the_file(rt: HostRuntime) {
+    assert!(rt; keeps_written(&rt));
 }
 
 /// Whether a save writes a file in place.
@@ -86,11 +83,13 @@ fn all_place<R: Files + AllocGlobal>(rt: &R, breaks: &[Breaks]) -> bool {
     true
 }
 
+fn places_all<R: Files + AllocGlobal>(rt: &R) -> bool {
+    all_place(rt, &PLACING) && is_removed(rt, "placed")
+}
+
 #[test]
-fn saves_in_place_where_nothing_can_stand_beside(rt: HostRuntime) -> Result<(), Fail> {
-    assert!(rt; all_place(&rt, &PLACING));
-    fs::remove_file(&rt, "placed")?;
-    Ok(())
+fn saves_in_place_where_nothing_can_stand_beside(rt: HostRuntime) {
+    assert!(rt; places_all(&rt));
 }
 
 static ENDINGS: [&str; 10] = ["0", "1", "2", "3", "4", "5", "6", "7", "8", "9"];
@@ -129,10 +128,6 @@ fn all_save_beside<R: Files + AllocGlobal, S: Shelf>(
     Ok(true)
 }
 
-fn is_removed<R: Files>(rt: &R, name: &str) -> bool {
-    fs::remove_file(rt, name).is_ok()
-}
-
 /// Whether a file of the user is as it was, and is removed.
 fn is_left<R: Files + AllocGlobal>(rt: &R, ending: &str) -> Result<bool, OutOfMemory> {
     let taken = format!(in rt.alloc(); "mine.ddc-{ending}")?;
@@ -153,12 +148,18 @@ fn shelf_saves_beside<R: Files + AllocGlobal>(rt: &R) -> Result<bool, OutOfMemor
     all_save_beside(rt, &mut shelf, &ENDINGS)
 }
 
+fn leaves_the_users_own<R: Files + AllocGlobal>(rt: &R) -> Result<bool, OutOfMemory> {
+    Ok(
+        is_written(rt, "mine", b"the old content")
+            && shelf_saves_beside(rt)?
+            && all_are_left(rt, &ENDINGS)?
+            && is_removed(rt, "mine"),
+    )
+}
+
 #[test]
 fn saves_beside_the_users_own_names(rt: HostRuntime) -> Result<(), Fail> {
-    fs::write(&rt, "mine", b"the old content")?;
-    assert!(rt; shelf_saves_beside(&rt)?);
-    assert!(rt; all_are_left(&rt, &ENDINGS)?);
-    fs::remove_file(&rt, "mine")?;
+    assert!(rt; leaves_the_users_own(&rt)?);
     Ok(())
 }
 
@@ -195,11 +196,14 @@ fn keeps_and_follows<R: Files + AllocGlobal>(rt: &R) -> bool {
     keeps_mode(rt, &mut shelf) && follows_link(rt, &mut shelf)
 }
 
+fn keeps_and_follows_written<R: Files + AllocGlobal>(rt: &R) -> bool {
+    is_written(rt, "moded", b"the old content")
+        && keeps_and_follows(rt)
+        && is_removed(rt, "link")
+        && is_removed(rt, "moded")
+}
+
 #[test]
-fn saves_keep_the_mode_and_follow_links(rt: HostRuntime) -> Result<(), Fail> {
-    fs::write(&rt, "moded", b"the old content")?;
-    assert!(rt; keeps_and_follows(&rt));
-    fs::remove_file(&rt, "link")?;
-    fs::remove_file(&rt, "moded")?;
-    Ok(())
+fn saves_keep_the_mode_and_follow_links(rt: HostRuntime) {
+    assert!(rt; keeps_and_follows_written(&rt));
 }
