@@ -184,9 +184,13 @@ fn compare(rt: &impl Abort, alloc: Global, rows: &[Row]) -> Result<(), OutOfMemo
     Ok(())
 }
 
+fn compare_all(rt: &impl Abort, alloc: Global) -> Result<(), OutOfMemory> {
+    compare(rt, alloc, &CHANGES)
+}
+
 #[test]
 fn changes_of_the_example(rt: HostRuntime) -> Result<(), Fail> {
-    compare(&rt, rt.alloc(), &CHANGES)?;
+    compare_all(&rt, rt.alloc())?;
     assert!(rt; answers(rt.alloc(), b"format = 1 # \xff", "1")?);
     assert!(rt; answers(rt.alloc(), b"", "2 top 0 format")?);
     Ok(())
