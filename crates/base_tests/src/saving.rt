@@ -22,9 +22,41 @@ fn fails<R: Files + AllocGlobal, S: Shelf>(rt: &R, shelf: &mut S) -> bool {
         && !is_there(rt, "kept.ddc-0")
 }
 
-fn fails_where<R: Files + AllocGlobal>(rt: &R, breaks: Breaks) -> bool {
+/// Whether a save writes a file in place.
+fn places<R: Files + AllocGlobal, S: Shelf>(rt: &R, shelf: &mut S) -> bool {
+    is_written(rt, "placed", b"the old content")
+        && shelf.save("placed", b"new").is_ok()
+        && is_content(rt, "placed", b"new")
+        && !is_there(rt, "placed.ddc-0")
+}
+
+/// What a save does where a call of the host breaks.
+#[derive(Clone, Copy)]
+enum Outcome {
+    Fails,
+    Places,
+}
+
+fn does<R: Files + AllocGlobal, S: Shelf>(rt: &R, shelf: &mut S, outcome: Outcome) -> bool {
+    match outcome {
+        Outcome::Fails => fails(rt, shelf),
+        Outcome::Places => places(rt, shelf),
+    }
+}
+
+fn does_where<R: Files + AllocGlobal>(rt: &R, breaks: Breaks, outcome: Outcome) -> bool {
     let mut shelf = DirShelf::new(BrokenHost { host: rt, breaks });
-    fails(rt, &mut shelf)
+    does(rt, &mut shelf, outcome)
+}
+
+/// Whether a save does this at each of these breaks.
+fn all_do<R: Files + AllocGlobal>(rt: &R, breaks: &[Breaks], outcome: Outcome) -> bool {
+    for at in breaks {
+        if !does_where(rt, *at, outcome) {
+            return false;
+        }
+    }
+    true
 }
 
 static FAILING: [Breaks; 4] = [
@@ -34,36 +66,15 @@ static FAILING: [Breaks; 4] = [
     Breaks::Renaming(ErrorKind::StorageFull),
 ];
 
-/// Whether each of these breaks a save of a file.
-fn all_fail<R: Files + AllocGlobal>(rt: &R, breaks: &[Breaks]) -> bool {
-    for at in breaks {
-        if !fails_where(rt, *at) {
-            return false;
-        }
-    }
-    true
-}
-
 fn keeps_written<R: Files + AllocGlobal>(rt: &R) -> bool {
-    is_written(rt, "kept", b"the old content") && all_fail(rt, &FAILING) && is_removed(rt, "kept")
+    is_written(rt, "kept", b"the old content")
+        && all_do(rt, &FAILING, Outcome::Fails)
+        && is_removed(rt, "kept")
 }
 
 #[test]
 fn failed_saves_keep_the_file(rt: HostRuntime) {
     assert!(rt; keeps_written(&rt));
-}
-
-/// Whether a save writes a file in place.
-fn places<R: Files + AllocGlobal, S: Shelf>(rt: &R, shelf: &mut S) -> bool {
-    is_written(rt, "placed", b"the old content")
-        && shelf.save("placed", b"new").is_ok()
-        && is_content(rt, "placed", b"new")
-        && !is_there(rt, "placed.ddc-0")
-}
-
-fn places_where<R: Files + AllocGlobal>(rt: &R, breaks: Breaks) -> bool {
-    let mut shelf = DirShelf::new(BrokenHost { host: rt, breaks });
-    places(rt, &mut shelf)
 }
 
 static PLACING: [Breaks; 4] = [
@@ -73,18 +84,8 @@ static PLACING: [Breaks; 4] = [
     Breaks::Renaming(ErrorKind::PermissionDenied),
 ];
 
-/// Whether a save writes in place at each of these.
-fn all_place<R: Files + AllocGlobal>(rt: &R, breaks: &[Breaks]) -> bool {
-    for at in breaks {
-        if !places_where(rt, *at) {
-            return false;
-        }
-    }
-    true
-}
-
 fn places_all<R: Files + AllocGlobal>(rt: &R) -> bool {
-    all_place(rt, &PLACING) && is_removed(rt, "placed")
+    all_do(rt, &PLACING, Outcome::Places) && is_removed(rt, "placed")
 }
 
 #[test]

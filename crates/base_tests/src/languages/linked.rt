@@ -18,8 +18,9 @@ type Row = (
     &'static [u8],
 );
 
+/// Bytes, fields and addresses.
 #[rattlefmt::skip]
-static ROWS: [Row; 38] = [
+static BYTES: [Row; 7] = [
     (0, "7f 45 4C46", 0, "", 4, b"\x7f\x45\x4c\x46", b"\x7f\x45\x4c\x46"),
     (0, "# a comment\n7F 4\n5;x", 0, "", 2, b"\x7f\x45", b"\x7f\x45"),
     (0, ".00050000 13000000", 0, "", 4, b"\x13\x05\x00\x00", b"\x13\x05\x00\x00"),
@@ -27,6 +28,11 @@ static ROWS: [Row; 38] = [
     (0, ":a", 0, " &a", 4, b"\x00\x00\x00\x00", b"\x00\x00\x00\x00"),
     (6291456, ":a 00 &a &b :b", 0, "", 9, b"\x00\x00\x00\x60\x00\x09\x00\x60", b"\x00\x00\x60\x00\x09\x00\x60\x00"),
     (6291456, "&end", 300, " :end", 304, b"\x30\x01\x60\x00\x00\x00\x00\x00", b"\x00\x00\x00\x00\x00\x00\x00\x00"),
+];
+
+/// References by `~` and `!`.
+#[rattlefmt::skip]
+static PAIRS: [Row; 8] = [
     (6291456, "~x 97020000 !x 93820200", 2040, " :x", 2048, b"\x97\x12\x00\x00\x93\x82\x02\x80", b"\x00\x00\x00\x00\x00\x00\x00\x00"),
     (6291456, "~x 97020000 !x 93820200", 2039, " :x", 2047, b"\x97\x02\x00\x00\x93\x82\xf2\x7f", b"\x00\x00\x00\x00\x00\x00\x00\x00"),
     (6291456, ":x", 2048, " ~x 97020000 !x 93820200", 2056, b"\x00\x00\x00\x00\x00\x00\x00\x00", b"\x97\x02\x00\x00\x93\x82\x02\x80"),
@@ -35,21 +41,41 @@ static ROWS: [Row; 38] = [
     (0, "!x 13000000", 2044, " :x", 2048, b"\x13\x00\x40\x80\x00\x00\x00\x00", b"\x00\x00\x00\x00\x00\x00\x00\x00"),
     (0, ":x", 2052, " !x 13000000", 2056, b"\x00\x00\x00\x00\x00\x00\x00\x00", b"\x00\x00\x00\x00\x13\x00\x00\x80"),
     (0, ":x", 2056, " !x 13000000", 2060, b"\x00\x00\x00\x00\x00\x00\x00\x00", b"\x00\x00\x00\x00\x13\x00\xc0\x7f"),
+];
+
+/// References by `@`.
+#[rattlefmt::skip]
+static BRANCHES: [Row; 5] = [
     (0, "@x 63000000", 0, ":x", 4, b"\x63\x02\x00\x00", b"\x63\x02\x00\x00"),
     (0, "@x 63000000", 4090, " :x", 4094, b"\xe3\x0f\x00\x7e\x00\x00\x00\x00", b"\x00\x00\x00\x00\x00\x00\x00\x00"),
     (0, ":x", 4096, " @x 63000000", 4100, b"\x00\x00\x00\x00\x00\x00\x00\x00", b"\x00\x00\x00\x00\x63\x00\x00\x80"),
     (0, "@x 63104500", 26, " :x", 30, b"\x63\x1f\x45\x00\x00\x00\x00\x00", b"\x00\x00\x00\x00\x00\x00\x00\x00"),
     (0, ":x", 1234, " @x 63104500", 1238, b"\x00\x00\x00\x00\x00\x00\x00\x00", b"\x00\x00\x00\x00\xe3\x17\x45\xb2"),
+];
+
+/// References by `$`.
+#[rattlefmt::skip]
+static JUMPS: [Row; 5] = [
     (0, "$x ef000000", 0, ":x", 4, b"\xef\x00\x40\x00", b"\xef\x00\x40\x00"),
     (0, "$x ef000000", 1048570, " :x", 1048574, b"\xef\xf0\xff\x7f\x00\x00\x00\x00", b"\x00\x00\x00\x00\x00\x00\x00\x00"),
     (0, ":x", 1048576, " $x ef000000", 1048580, b"\x00\x00\x00\x00\x00\x00\x00\x00", b"\x00\x00\x00\x00\xef\x00\x00\x80"),
     (0, "$x ef000000", 699050, " :x", 699054, b"\xef\xa0\xfa\x2a\x00\x00\x00\x00", b"\x00\x00\x00\x00\x00\x00\x00\x00"),
     (0, ":x", 349526, " $x ef000000", 349530, b"\x00\x00\x00\x00\x00\x00\x00\x00", b"\x00\x00\x00\x00\xef\xa0\xba\xaa"),
+];
+
+/// References by `%`.
+#[rattlefmt::skip]
+static DISTANCES: [Row; 5] = [
     (0, "%x", 0, " :x", 4, b"\x00\x00\x00\x00", b"\x00\x00\x00\x00"),
     (0, "%x", 1000, " :x", 1004, b"\xe8\x03\x00\x00\x00\x00\x00\x00", b"\x00\x00\x00\x00\x00\x00\x00\x00"),
     (0, ":x", 1000, " %x", 1004, b"\x00\x00\x00\x00\x00\x00\x00\x00", b"\x00\x00\x00\x00\x14\xfc\xff\xff"),
     (0, "%b>a :a", 700, " :b %a>b", 708, b"\xbc\x02\x00\x00\x00\x00\x00\x00", b"\x00\x00\x00\x00\x44\xfd\xff\xff"),
     (0, "%a>b :a", 700, " :b %b>b", 708, b"\x44\xfd\xff\xff\x00\x00\x00\x00", b"\x00\x00\x00\x00\x00\x00\x00\x00"),
+];
+
+/// Alignment, further names and fields, and the greatest addresses.
+#[rattlefmt::skip]
+static ALIGNMENT_AND_NAMES: [Row; 8] = [
     (0, "00 < 01 < <", 0, "", 8, b"\x00\x00\x00\x00\x01\x00\x00\x00", b"\x00\x00\x00\x00\x01\x00\x00\x00"),
     (3, "00 < 01 :x < &x", 0, "", 9, b"\x00\x01\x00\x00\x00\x05\x00\x00", b"\x01\x00\x00\x00\x05\x00\x00\x00"),
     (0, ":#x !#x 13050500", 0, "", 4, b"\x13\x05\x45\x00", b"\x13\x05\x45\x00"),
@@ -109,5 +135,11 @@ fn check(rt: &impl Abort, alloc: Global, rows: &[Row]) -> Result<(), OutOfMemory
 
 #[test]
 fn values_of_debians_hex2(rt: HostRuntime) -> Result<(), Fail> {
-    Ok(check(&rt, rt.alloc(), &ROWS)?)
+    check(&rt, rt.alloc(), &BYTES)?;
+    check(&rt, rt.alloc(), &PAIRS)?;
+    check(&rt, rt.alloc(), &BRANCHES)?;
+    check(&rt, rt.alloc(), &JUMPS)?;
+    check(&rt, rt.alloc(), &DISTANCES)?;
+    check(&rt, rt.alloc(), &ALIGNMENT_AND_NAMES)?;
+    Ok(())
 }

@@ -11,8 +11,9 @@ use std::process::Abort;
 /// A base, a source, and its bytes.
 type Row = (u64, &'static str, &'static [u8]);
 
+/// Words, definitions and texts.
 #[rattlefmt::skip]
-static ROWS: [Row; 72] = [
+static WORDS: [Row; 12] = [
     (6291456, "DEFINE addi 13000000\nDEFINE rd_a0 .00050000\n:s rd_a0 !5 addi \"hi!\"", b"\x13\x05\x50\x00\x68\x69\x21\x00"),
     (0, "DEFINE a 11\nDEFINE b 2233\nb a b", b"\x22\x33\x11\x22\x33"),
     (0, "DEFINE f .01020304\nDEFINE g .10203040\nDEFINE w 00000000\nf g w f f w", b"\x11\x22\x33\x44\x00\x00\x00\x00"),
@@ -25,6 +26,11 @@ static ROWS: [Row; 72] = [
     (0, "\"one\ntwo\"", b"\x6f\x6e\x65\x0a\x74\x77\x6f\x00"),
     (0, "'00112233'", b"\x00\x11\x22\x33"),
     (0, "'aAbBcC' '00'", b"\xaa\xbb\xcc\x00"),
+];
+
+/// Numbers behind `!`.
+#[rattlefmt::skip]
+static IMMEDIATE_NUMBERS: [Row; 13] = [
     (0, "DEFINE w 00000000\n!0 w", b"\x00\x00\x00\x00"),
     (0, "DEFINE w 00000000\n!1 w", b"\x00\x00\x10\x00"),
     (0, "DEFINE w 00000000\n!5 w", b"\x00\x00\x50\x00"),
@@ -38,6 +44,11 @@ static ROWS: [Row; 72] = [
     (0, "DEFINE w 00000000\n!1365 w", b"\x00\x00\x50\x55"),
     (0, "DEFINE w 00000000\n!-1366 w", b"\x00\x00\xa0\xaa"),
     (0, "DEFINE w FFFFFFFF\n!1365 w !-1 w", b"\xff\xff\xaf\xaa\xff\xff\x0f\x00"),
+];
+
+/// Numbers behind `@`.
+#[rattlefmt::skip]
+static BRANCH_NUMBERS: [Row; 12] = [
     (0, "DEFINE w 00000000\n@0 w", b"\x00\x00\x00\x00"),
     (0, "DEFINE w 00000000\n@1 w", b"\x80\x00\x00\x00"),
     (0, "DEFINE w 00000000\n@31 w", b"\x80\x0f\x00\x00"),
@@ -50,6 +61,11 @@ static ROWS: [Row; 72] = [
     (0, "DEFINE w 00000000\n@0x555 w", b"\x80\x0a\x00\x54"),
     (0, "DEFINE w 00000000\n@1365 w", b"\x80\x0a\x00\x54"),
     (0, "DEFINE w 00000000\n@-1366 w", b"\x00\x05\x00\xaa"),
+];
+
+/// Numbers behind `~`.
+#[rattlefmt::skip]
+static UPPER_NUMBERS: [Row; 14] = [
     (0, "DEFINE w 00000000\n~0 w", b"\x00\x00\x00\x00"),
     (0, "DEFINE w 00000000\n~1 w", b"\x00\x00\x00\x00"),
     (0, "DEFINE w 00000000\n~2047 w", b"\x00\x00\x00\x00"),
@@ -64,6 +80,11 @@ static ROWS: [Row; 72] = [
     (0, "DEFINE w 00000000\n~4294967295 w", b"\x00\x00\x00\x00"),
     (0, "DEFINE w 00000000\n~-2147483648 w", b"\x00\x00\x00\x80"),
     (0, "DEFINE w 00000000\n~0xffffffff w", b"\x00\x00\x00\x00"),
+];
+
+/// Numbers behind `%`.
+#[rattlefmt::skip]
+static WORD_NUMBERS: [Row; 12] = [
     (0, "%0", b"\x00\x00\x00\x00"),
     (0, "%1", b"\x01\x00\x00\x00"),
     (0, "%255", b"\xff\x00\x00\x00"),
@@ -76,6 +97,11 @@ static ROWS: [Row; 72] = [
     (0, "%4294967295", b"\xff\xff\xff\xff"),
     (0, "%2147483648", b"\x00\x00\x00\x80"),
     (0, "%-2147483648", b"\x00\x00\x00\x80"),
+];
+
+/// Instructions and labels.
+#[rattlefmt::skip]
+static SOURCES: [Row; 9] = [
     (0, "DEFINE addi 13000000\nDEFINE rd_a0 .00050000\nDEFINE rs1_sp .00000100\nrd_a0 rs1_sp !-16 addi", b"\x13\x05\x01\xff"),
     (0, "DEFINE sd 23300000\nDEFINE rs1_sp .00000100\nDEFINE rs2_ra .00001000\nrs1_sp rs2_ra @8 sd rs2_ra rs1_sp @-8 sd", b"\x23\x34\x11\x00\x23\x3c\x11\xfe"),
     (0, "DEFINE lui 37000000\nDEFINE rd_a0 .00050000\nrd_a0 ~0x12345678 lui", b"\x37\x55\x34\x12"),
@@ -115,5 +141,10 @@ fn check(rt: &impl Abort, alloc: Global, rows: &[Row]) {
 
 #[test]
 fn values_of_debians_m1(rt: HostRuntime) {
-    check(&rt, rt.alloc(), &ROWS);
+    check(&rt, rt.alloc(), &WORDS);
+    check(&rt, rt.alloc(), &IMMEDIATE_NUMBERS);
+    check(&rt, rt.alloc(), &BRANCH_NUMBERS);
+    check(&rt, rt.alloc(), &UPPER_NUMBERS);
+    check(&rt, rt.alloc(), &WORD_NUMBERS);
+    check(&rt, rt.alloc(), &SOURCES);
 }
