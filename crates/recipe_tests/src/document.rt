@@ -24,7 +24,8 @@ const NOTHING: Change = ("", "");
 /// Two changes of the example, and the answer.
 type Row = (Change, Change, &'static str);
 
-static CHANGES: [Row; 36] = [
+/// Changes of the top.
+static TOP: [Row; 9] = [
     (("format = 1\n", "format\nformat = 1\n"), NOTHING, "1"),
     (("format = 1", ""), NOTHING, "2 top 0 format"),
     (("format = 1", "format = \"1\""), NOTHING, "2 top 0 format"),
@@ -50,6 +51,10 @@ static CHANGES: [Row; 36] = [
         NOTHING,
         "3 top 0",
     ),
+];
+
+/// Changes of inputs and sources.
+static INPUTS_AND_SOURCES: [Row; 8] = [
     (
         ("name = \"prog\"", "name = \"Prog\""),
         NOTHING,
@@ -90,6 +95,10 @@ static CHANGES: [Row; 36] = [
         NOTHING,
         "6 source 1 files",
     ),
+];
+
+/// Changes of a stage's values.
+static STAGES: [Row; 8] = [
     (
         ("args = [\"copy\"]", "args = []"),
         NOTHING,
@@ -125,6 +134,10 @@ static CHANGES: [Row; 36] = [
         "7 stage 1 output",
     ),
     (("steps = 100000", "steps = 0"), NOTHING, "8 stage 1 steps"),
+];
+
+/// Names that stand for nothing that is there by then.
+static NAMES: [Row; 5] = [
     (
         ("program = \"prog\"", "program = \"two\""),
         NOTHING,
@@ -150,6 +163,10 @@ static CHANGES: [Row; 36] = [
         NOTHING,
         "6 compare 0 stage",
     ),
+];
+
+/// Programs and their sources.
+static PROGRAMS: [Row; 6] = [
     (
         ("check = \"copy_src\"", ""),
         NOTHING,
@@ -184,14 +201,26 @@ fn compare(rt: &impl Abort, alloc: Global, rows: &[Row]) -> Result<(), OutOfMemo
     Ok(())
 }
 
-fn compare_all(rt: &impl Abort, alloc: Global) -> Result<(), OutOfMemory> {
-    compare(rt, alloc, &CHANGES)
+fn compare_all(rt: &impl Abort, alloc: Global, tables: &[&[Row]]) -> Result<(), OutOfMemory> {
+    for rows in tables {
+        compare(rt, alloc, rows)?;
+    }
+    Ok(())
+}
+
+fn compare_changes(rt: &impl Abort, alloc: Global) -> Result<(), OutOfMemory> {
+    let tables: [&[Row]; 5] = [&TOP, &INPUTS_AND_SOURCES, &STAGES, &NAMES, &PROGRAMS];
+    compare_all(rt, alloc, &tables)
+}
+
+/// Texts that are no changes of it.
+fn answers_others(alloc: Global) -> Result<bool, OutOfMemory> {
+    Ok(answers(alloc, b"format = 1 # \xff", "1")? && answers(alloc, b"", "2 top 0 format")?)
 }
 
 #[test]
 fn changes_of_the_example(rt: HostRuntime) -> Result<(), Fail> {
-    compare_all(&rt, rt.alloc())?;
-    assert!(rt; answers(rt.alloc(), b"format = 1 # \xff", "1")?);
-    assert!(rt; answers(rt.alloc(), b"", "2 top 0 format")?);
+    compare_changes(&rt, rt.alloc())?;
+    assert!(rt; answers_others(rt.alloc())?);
     Ok(())
 }

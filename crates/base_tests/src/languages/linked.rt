@@ -133,13 +133,22 @@ fn check(rt: &impl Abort, alloc: Global, rows: &[Row]) -> Result<(), OutOfMemory
     Ok(())
 }
 
+fn check_all(rt: &impl Abort, alloc: Global, tables: &[&[Row]]) -> Result<(), OutOfMemory> {
+    for rows in tables {
+        check(rt, alloc, rows)?;
+    }
+    Ok(())
+}
+
 #[test]
 fn values_of_debians_hex2(rt: HostRuntime) -> Result<(), Fail> {
-    check(&rt, rt.alloc(), &BYTES)?;
-    check(&rt, rt.alloc(), &PAIRS)?;
-    check(&rt, rt.alloc(), &BRANCHES)?;
-    check(&rt, rt.alloc(), &JUMPS)?;
-    check(&rt, rt.alloc(), &DISTANCES)?;
-    check(&rt, rt.alloc(), &ALIGNMENT_AND_NAMES)?;
-    Ok(())
+    let tables: [&[Row]; 6] = [
+        &BYTES,
+        &PAIRS,
+        &BRANCHES,
+        &JUMPS,
+        &DISTANCES,
+        &ALIGNMENT_AND_NAMES,
+    ];
+    Ok(check_all(&rt, rt.alloc(), &tables)?)
 }

@@ -41,8 +41,8 @@ const LINES: u64 = 22;
 /// of it is no report from this line on, or a report's text where the number is 0, as the grammar of docs/reference/report.md has it.
 type Row = (u64, u64, &'static str, u64);
 
-static CHANGES: &[Row] = &[
-    // Each field, letter and blank of a line.
+/// Each field, letter and blank of the first two lines.
+static FIRST_LINES: [Row; 23] = [
     (1, 1, "ddc-report 0\n", 1),
     (1, 1, "ddc-report 2\n", 0),
     (1, 1, "ddc-report 3\n", 1),
@@ -76,6 +76,10 @@ static CHANGES: &[Row] = &[
     (2, 1, "recipe * \n", 2),
     (2, 1, "recipe\n", 2),
     (2, 1, "recipes *\n", 2),
+];
+
+/// The same of the lines of inputs, stages and streams.
+static INPUTS_AND_STAGES: [Row; 24] = [
     (
         3,
         1,
@@ -105,6 +109,10 @@ static CHANGES: &[Row] = &[
     (8, 1, "stream 01 0 *\n", 8),
     (8, 1, "stream 1 *\n", 8),
     (8, 1, "stream1 0 *\n", 8),
+];
+
+/// The same of what is left, made and checked.
+static LEFT_AND_MADE: [Row; 24] = [
     (10, 1, "left 69 0 *\n", 0),
     (10, 1, "left 6F 0 *\n", 10),
     (10, 1, "left 6 0 *\n", 10),
@@ -129,6 +137,10 @@ static CHANGES: &[Row] = &[
     (13, 1, "checked \n", 13),
     (13, 1, "checked hex0 \n", 13),
     (13, 1, "unchecked \n", 13),
+];
+
+/// The same of the last two lines.
+static LAST_LINES: [Row; 23] = [
     (21, 1, "compare two bin differs 0 0 1\n", 0),
     (21, 1, "compare two bin differs 3 3 4\n", 0),
     (21, 1, "compare two bin differs 3 4 3\n", 0),
@@ -152,7 +164,10 @@ static CHANGES: &[Row] = &[
     (22, 1, "end\r\n", 22),
     (22, 1, " end\n", 22),
     (22, 1, "end 0\n", 22),
-    // A line left out.
+];
+
+/// A line or a whole part left out.
+static LEFT_OUT: [Row; 28] = [
     (1, 1, "", 1),
     (2, 1, "", 2),
     (3, 1, "", 0),
@@ -175,14 +190,16 @@ static CHANGES: &[Row] = &[
     (20, 1, "", 20),
     (21, 1, "", 21),
     (22, 1, "", 22),
-    // Whole parts left out.
     (3, 4, "", 3),
     (7, 7, "", 0),
     (14, 7, "", 0),
     (7, 14, "", 7),
     (10, 2, "", 0),
     (17, 2, "", 0),
-    // A line too many.
+];
+
+/// A line too many.
+static ADDED: [Row; 9] = [
     (14, 0, "compare two bin equal 3\n", 15),
     (22, 0, "compare one bin equal 3\n", 22),
     (21, 0, "compare one bin differs 0 1 1\n", 22),
@@ -322,9 +339,27 @@ fn check_changes(rt: &impl Abort, alloc: Global, rows: &[Row]) -> Result<(), Out
     Ok(())
 }
 
+fn check_all(rt: &impl Abort, alloc: Global, tables: &[&[Row]]) -> Result<(), OutOfMemory> {
+    for rows in tables {
+        check_changes(rt, alloc, rows)?;
+    }
+    Ok(())
+}
+
 #[test]
 fn changes_are_refused_at_their_line(rt: HostRuntime) -> Result<(), Fail> {
-    Ok(check_changes(&rt, rt.alloc(), CHANGES)?)
+    Ok(check_all(
+        &rt,
+        rt.alloc(),
+        &[
+            &FIRST_LINES,
+            &INPUTS_AND_STAGES,
+            &LEFT_AND_MADE,
+            &LAST_LINES,
+            &LEFT_OUT,
+            &ADDED,
+        ],
+    )?)
 }
 
 /// Adds the example with a line twice.

@@ -33,8 +33,8 @@ const LINES: u64 = 14;
 /// of it is no report from this line on, or a report's text where the number is 0, as the grammar of docs/reference/kaem-report.md has it.
 type Row = (u64, u64, &'static str, u64);
 
-static CHANGES: &[Row] = &[
-    // Each field, letter and blank of a line.
+/// Each field, letter and blank of the first two lines.
+static FIRST_LINES: [Row; 20] = [
     (1, 1, "kaem-report 0\n", 1),
     (1, 1, "kaem-report 2\n", 1),
     (1, 1, "kaem-report 01\n", 1),
@@ -65,6 +65,10 @@ static CHANGES: &[Row] = &[
         "script g3b0c44298fc1c149afbf4c8996fb92427ae41e4649b934ca495991b7852b855\n",
         2,
     ),
+];
+
+/// The same of the lines of files and commands.
+static FILES_AND_COMMANDS: [Row; 25] = [
     (3, 1, "file 00 18446744073709551615 *\n", 0),
     (3, 1, "file 69 18446744073709551616 *\n", 3),
     (3, 1, "file 69 00 *\n", 3),
@@ -90,6 +94,10 @@ static CHANGES: &[Row] = &[
     (5, 1, "command\n", 5),
     (5, 1, "command \n", 5),
     (5, 1, "stage one 32\n", 5),
+];
+
+/// The same of streams, of what is left, and of the last line.
+static STREAMS_AND_LEFT: [Row; 22] = [
     (6, 1, "stream 0 0 *\n", 6),
     (6, 1, "stream 2 0 *\n", 6),
     (6, 1, "stream 3 0 *\n", 6),
@@ -112,7 +120,10 @@ static CHANGES: &[Row] = &[
     (14, 1, "End\n", 14),
     (14, 1, "end\r\n", 14),
     (14, 1, "end 0\n", 14),
-    // A line left out.
+];
+
+/// A line or a whole part left out.
+static LEFT_OUT: [Row; 23] = [
     (1, 1, "", 1),
     (2, 1, "", 2),
     (3, 1, "", 0),
@@ -127,7 +138,6 @@ static CHANGES: &[Row] = &[
     (12, 1, "", 0),
     (13, 1, "", 0),
     (14, 1, "", 14),
-    // Whole parts left out.
     (3, 2, "", 0),
     (5, 3, "", 0),
     (8, 3, "", 0),
@@ -137,7 +147,10 @@ static CHANGES: &[Row] = &[
     (3, 12, "", 3),
     (5, 10, "", 5),
     (11, 4, "", 11),
-    // A line too many, and parts in another order.
+];
+
+/// A line too many, and parts in another order.
+static ADDED: [Row; 15] = [
     (5, 0, "file 69 0 *\n", 0),
     (8, 0, "file 69 0 *\n", 8),
     (11, 0, "file 69 0 *\n", 11),
@@ -272,9 +285,26 @@ fn check_changes(rt: &impl Abort, alloc: Global, rows: &[Row]) -> Result<(), Out
     Ok(())
 }
 
+fn check_all(rt: &impl Abort, alloc: Global, tables: &[&[Row]]) -> Result<(), OutOfMemory> {
+    for rows in tables {
+        check_changes(rt, alloc, rows)?;
+    }
+    Ok(())
+}
+
 #[test]
 fn changes_are_refused_at_their_line(rt: HostRuntime) -> Result<(), Fail> {
-    Ok(check_changes(&rt, rt.alloc(), CHANGES)?)
+    Ok(check_all(
+        &rt,
+        rt.alloc(),
+        &[
+            &FIRST_LINES,
+            &FILES_AND_COMMANDS,
+            &STREAMS_AND_LEFT,
+            &LEFT_OUT,
+            &ADDED,
+        ],
+    )?)
 }
 
 /// Adds the example with a line twice.

@@ -139,12 +139,21 @@ fn check(rt: &impl Abort, alloc: Global, rows: &[Row]) {
     }
 }
 
+fn check_all(rt: &impl Abort, alloc: Global, tables: &[&[Row]]) {
+    for rows in tables {
+        check(rt, alloc, rows);
+    }
+}
+
 #[test]
 fn values_of_debians_m1(rt: HostRuntime) {
-    check(&rt, rt.alloc(), &WORDS);
-    check(&rt, rt.alloc(), &IMMEDIATE_NUMBERS);
-    check(&rt, rt.alloc(), &BRANCH_NUMBERS);
-    check(&rt, rt.alloc(), &UPPER_NUMBERS);
-    check(&rt, rt.alloc(), &WORD_NUMBERS);
-    check(&rt, rt.alloc(), &SOURCES);
+    let tables: [&[Row]; 6] = [
+        &WORDS,
+        &IMMEDIATE_NUMBERS,
+        &BRANCH_NUMBERS,
+        &UPPER_NUMBERS,
+        &WORD_NUMBERS,
+        &SOURCES,
+    ];
+    check_all(&rt, rt.alloc(), &tables);
 }
