@@ -1,7 +1,11 @@
 //! The audit of a script.
 
-ghost use Rattle.kaem_script.specs.Reported.{Audits, HasReport, end_of_script};
-ghost use Rattle.std.specs.Prelude.{◌≡◌, ◌≤◌, ◌^◌, IfOk};
+ghost use Rattle.kaem_script.specs.FilesListed.{listed_files};
+ghost use Rattle.kaem_script.specs.Reported.{Audits, HasReport, end_of_script, marked};
+ghost use Rattle.mem_files.specs.Outputs.{left};
+ghost use Rattle.report.specs.Reports.{IsDigest};
+ghost use Rattle.report.specs.Script.Reports.{IsCommandLine, IsScriptReport};
+ghost use Rattle.std.specs.Prelude.{◌≡◌, ◌≤◌, ◌^◌, All, IfOk, length, map};
 
 use crate::cause::CommandCause;
 use crate::files::FileList;
@@ -10,7 +14,8 @@ use crate::marks::{left_lines, listed_lines};
 use crate::present::files_in;
 use crate::script::Script;
 use ddc_base::OutOfMemory;
-use report::script::ScriptReport;
+use mem_files::Files;
+use report::script::{CommandLines, ScriptReport};
 use std::alloc::Global;
 
 /// How the audit of a script ended.
@@ -59,19 +64,10 @@ fn script_ended(
     ensures answer { IfOk result (λ end. end ≡ end_of_script most script.now files.now) }
     ensures report { IfOk result HasReport }
 {
-    // What a list and its files keep is told by calls of theirs.
-    files.len();
-    files.files().stream(1);
     match fold(alloc, script.commands(), files.files(), most)? {
         Folding::RanAll(commands, present) => {
-            let left = files_in(&present);
-            left.stream(1);
-            Ok(ScriptEnd::Done(ScriptReport {
-                script: *script.digest(),
-                files: listed_lines(alloc, files)?,
-                commands,
-                left: left_lines(alloc, left)?,
-            }))
+            let report = report_of(alloc, script, files, commands, files_in(&present))?;
+            Ok(ScriptEnd::Done(report))
         }
         Folding::Stopped(command, (cause, step)) => Ok(ScriptEnd::Failed {
             command,
@@ -79,4 +75,32 @@ fn script_ended(
             step,
         }),
     }
+}
+
+/// The report on a script whose commands all ran, with these lines, and left these files.
+fn report_of(
+    alloc: Global,
+    script: &Script,
+    list: &FileList,
+    commands: CommandLines,
+    world: &Files,
+) -> Result<ScriptReport, OutOfMemory>
+    requires digest { IsDigest script.now.digest }
+    requires each { All IsCommandLine commands }
+    requires few { length commands ≤ 4_096 }
+    ensures value { IfOk result (λ report. report ≡ record { script = script.now.digest; files = map marked (listed_files list.now); commands = commands; left = map marked (left world.now) }) }
+    ensures text { IfOk result IsScriptReport }
+{
+    // What a list and its files keep is told by calls of theirs.
+    list.len();
+    list.files().stream(1);
+    world.stream(1);
+    let files = listed_lines(alloc, list)?;
+    let left = left_lines(alloc, world)?;
+    Ok(ScriptReport {
+        script: *script.digest(),
+        files,
+        commands,
+        left,
+    })
 }

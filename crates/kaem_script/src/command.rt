@@ -3,10 +3,10 @@
 ghost use Rattle.guest_run.specs.Run.{first_end};
 ghost use Rattle.guest_run.specs.Start.{start_of};
 ghost use Rattle.kaem_script.specs.Fold.{by_first_end, command, program_name};
-ghost use Rattle.kaem_script.specs.Inside.Commands.{Comes, Exits, StartsWith, texts_of, world_in};
+ghost use Rattle.kaem_script.specs.Inside.Commands.{Begins, Comes, Exits, StartsWith, renewed, texts_of, world_in};
 ghost use Rattle.kaem_script.specs.Kept.{IsCommand};
 ghost use Rattle.kaem_script.specs.Reported.{command_line};
-ghost use Rattle.std.specs.Prelude.{◌≡◌, ◌+◌, ◌<◌, ◌≤◌, ◌^◌, IfOk};
+ghost use Rattle.std.specs.Prelude.{◌≡◌, ◌+◌, ◌<◌, ◌≤◌, ◌^◌, ℕ, IfOk};
 
 use crate::cause::CommandCause;
 use crate::present::{Present, files_in, renewed};
@@ -29,7 +29,6 @@ pub(crate) type Exited = (CommandLine, Files);
 pub(crate) type Stop = (CommandCause, u64);
 
 /// Runs a command over the files that are there, within so many steps.
-#[tactic(auto, unfolding(crate::specs::Fold::command))]
 pub(crate) fn run_command(
     alloc: Global,
     present: Present<'_>,
@@ -41,16 +40,48 @@ pub(crate) fn run_command(
     requires few { most ≤ 2 ^ 48 }
     ensures { IfOk result (Comes (command most (world_in present.entry) words.now)) }
 {
-    let files = files_in(&present);
+    match begun(alloc, files_in(&present), words)? {
+        Ok(guest) => run_over(alloc, guest, present, most),
+        Err(cause) => Ok(Err((cause, 0))),
+    }
+}
+
+/// Starts the program that a command names among these files, without files, or says why it does not start.
+#[tactic(auto, unfolding(crate::specs::Fold::command))]
+pub(crate) fn begun(
+    alloc: Global,
+    files: &Files,
+    words: &Command,
+) -> Result<Result<Guest<RunRam>, CommandCause>, OutOfMemory>
+    requires { IsCommand words.now }
+    ensures begins { (most : ℕ) → IfOk result (Begins files.now words.now most) }
+    ensures fresh { IfOk result (λ begun. IfOk begun (λ guest. guest.steps ≡ 0)) }
+{
     // What files keep is told by a call of theirs.
     files.stream(1);
     let Some(program) = files.content(program_name(words)) else {
-        return Ok(Err((CommandCause::NoProgram, 0)));
+        return Ok(Err(CommandCause::NoProgram));
     };
     match start(alloc, program, words)? {
-        Ok(guest) => run(guest.with_files(renewed(alloc, present)?), most),
-        Err(refusal) => Ok(Err((CommandCause::Elf(refusal), 0))),
+        Ok(guest) => Ok(Ok(guest)),
+        Err(refusal) => Ok(Err(CommandCause::Elf(refusal))),
     }
+}
+
+/// Runs a guest that is given the files that are there.
+fn run_over(
+    alloc: Global,
+    guest: Guest<RunRam>,
+    present: Present<'_>,
+    most: u64,
+) -> Result<Result<Exited, Stop>, OutOfMemory>
+    requires fresh { guest.steps ≡ 0 }
+    requires some { 1 ≤ most }
+    requires few { most ≤ 2 ^ 48 }
+    ensures { IfOk result (Comes (by_first_end most (first_end (record guest { world = renewed (world_in present.entry) }) most))) }
+{
+    let files = renewed(alloc, present)?;
+    run(guest.with_files(files), most)
 }
 
 /// The name of a command's program.

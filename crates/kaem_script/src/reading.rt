@@ -1,5 +1,6 @@
 //! The commands of a script.
 ghost use Rattle.std.specs.Prelude.{◌≡◌, ◌+◌, ◌≤◌, ◌<◌, [], false, length, Err, OnOk, IfOk};
+ghost use Rattle.kaem_script.specs.Inside.Commands.{with_value};
 ghost use Rattle.kaem_script.specs.Script.{Reads, commands_of, ends_or_begins, ends_word, next_word, with_line};
 
 use crate::refusal::{ScriptFault, ScriptRefusal};
@@ -22,19 +23,34 @@ pub fn commands_of(alloc: Global, script: &[u8]) -> Result<ListOf<Command>, Scri
 {
     let mut commands = ListOf::new(alloc);
     let mut words = ListOf::new(alloc);
+    read(alloc, script, &mut commands, &mut words)?;
+    Ok(commands)
+}
+
+/// Reads a script into its commands, with the words of the line that is read.
+fn read(
+    alloc: Global,
+    script: &[u8],
+    commands: &mut ListOf<Command>,
+    words: &mut Command,
+) -> Result<(), ScriptRefusal>
+    requires none { commands.old ≡ [] }
+    requires no_word { words.old ≡ [] }
+    ensures { Reads (commands_of script.now) (with_value commands.new result) }
+{
     let mut at = 0;
     while at < script.len() {
         let here = &script[at..];
         let byte = here[0];
         if byte == b'\n' {
-            end_line(alloc, &mut commands, &mut words)?;
+            end_line(alloc, commands, words)?;
             at += 1;
         } else if parts_words(byte) {
             at += 1;
         } else if byte == b'#' {
             at += 1 + until_line_end(&here[1..]);
         } else {
-            match next_word(&commands, &words, here) {
+            match next_word(commands, words, here) {
                 Ok(word) => {
                     words.push(Bytes::from_slice(alloc, word.text)?)?;
                     at += word.size;
@@ -43,8 +59,8 @@ pub fn commands_of(alloc: Global, script: &[u8]) -> Result<ListOf<Command>, Scri
             }
         }
     }
-    end_line(alloc, &mut commands, &mut words)?;
-    Ok(commands)
+    end_line(alloc, commands, words)?;
+    Ok(())
 }
 
 /// The next word, after so many commands and so many words of its line.

@@ -3,13 +3,13 @@
 ghost use Rattle.guest_run.specs.Run.{first_end};
 ghost use Rattle.kaem_script.specs.Faults.{left_after_steps, left_at_step, replayed_command, says_streams};
 ghost use Rattle.kaem_script.specs.Fold.{by_first_end, command};
-ghost use Rattle.kaem_script.specs.Inside.Commands.{world_in};
+ghost use Rattle.kaem_script.specs.Inside.Commands.{renewed, world_in};
 ghost use Rattle.kaem_script.specs.Inside.Replays.{Judged, or_no_run};
 ghost use Rattle.kaem_script.specs.Kept.{IsCommand};
 ghost use Rattle.kaem_script.specs.declared.replay.Stop.TheVariants.{OutOfMemory};
 ghost use Rattle.std.specs.Prelude.{◌≡◌, ◌≤◌, ◌^◌};
 
-use crate::command::{program_name, start};
+use crate::command::begun;
 use crate::present::{Present, files_in, renewed};
 use crate::reading::Command;
 use crate::verdict::ScriptPart;
@@ -74,7 +74,6 @@ fn exited(
 }
 
 /// Runs a command's program up to its exit with 0 at exactly this step.
-#[tactic(auto, unfolding(crate::specs::Fold::command))]
 fn run_command(
     alloc: Global,
     present: Present<'_>,
@@ -86,16 +85,26 @@ fn run_command(
     requires few { step ≤ 2 ^ 48 }
     ensures { Judged (λ guest. guest.world) (or_no_run (left_after_steps step (command step (world_in present.entry) words.now))) result }
 {
-    let files = files_in(&present);
-    // What files keep is told by a call of theirs.
-    files.stream(1);
-    let Some(program) = files.content(program_name(words)) else {
-        return Err(Stop::Refuted(ScriptPart::Run));
-    };
-    match start(alloc, program, words)? {
-        Ok(guest) => run_to(guest.with_files(renewed(alloc, present)?), step),
+    match begun(alloc, files_in(&present), words)? {
+        Ok(guest) => run_over(alloc, guest, present, step),
         Err(_) => Err(Stop::Refuted(ScriptPart::Run)),
     }
+}
+
+/// The same of a guest that is given the files that are there.
+fn run_over(
+    alloc: Global,
+    guest: Guest<RunRam>,
+    present: Present<'_>,
+    step: u64,
+) -> Result<Guest<RunRam>, Stop>
+    requires fresh { guest.steps ≡ 0 }
+    requires some { 1 ≤ step }
+    requires few { step ≤ 2 ^ 48 }
+    ensures { Judged (λ guest. guest.world) (or_no_run (left_after_steps step (by_first_end step (first_end (record guest { world = renewed (world_in present.entry) }) step)))) result }
+{
+    let files = renewed(alloc, present)?;
+    run_to(guest.with_files(files), step)
 }
 
 /// Runs a fresh guest for so many steps, the last of which has to be its exit with 0.

@@ -1,2 +1,3 @@
 -- How the code's values are seen. It serves the proofs: no promise rests on its being read.
+pub mod StageParts
 pub mod Views

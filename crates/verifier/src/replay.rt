@@ -6,7 +6,7 @@ ghost use Rattle.mem_files.specs.Outputs.{out};
 ghost use Rattle.std.specs.Option.{option_copied};
 ghost use Rattle.std.specs.Prelude.{◌≡◌, ◌+◌, ◌≤◌, ◌^◌, Contains};
 ghost use Rattle.verifier.specs.Faults.{exit_of, left_at, or_fails, recorded, replayed, size_of};
-ghost use Rattle.verifier.specs.Inside.Holdings.{IsHeld, IsOutputName, Judged, so_far};
+ghost use Rattle.verifier.specs.Inside.Holdings.{IsHeld, IsOutputName, Judged, judged_left, so_far};
 ghost use Rattle.verifier.specs.declared.part.Part.TheVariants as part;
 ghost use Rattle.wheeler.specs.Contents.{Contents, box_of, program_of};
 ghost use Rattle.wheeler.specs.Stages.{output_of};
@@ -41,7 +41,25 @@ pub(crate) fn replay(
     ensures { Judged (λ made. made) (replayed held.now.recipe.now (so_far held.now) stage.now line.now) result }
 {
     let guest = exited(alloc, held, stage, line.steps)?;
-    let Some(made) = recorded(stage, line, total, guest.files()) else {
+    left(alloc, held, stage, line, total, guest.files())
+}
+
+/// The artefact among what a run left, where all of it is as the line says, and the artefact is what its source stands for.
+fn left(
+    alloc: Global,
+    held: &Held<'_>,
+    stage: &Stage,
+    line: &StageLine,
+    total: u64,
+    files: &Files,
+) -> Result<Bytes, Stop>
+    requires held { IsHeld held.now }
+    requires known { Contains held.now.recipe.now.stages stage.now }
+    requires total { total ≡ size_of (so_far held.now) }
+    requires small { total ≤ MAX_ARTEFACTS }
+    ensures { Judged (λ made. made) (judged_left held.now.recipe.now (so_far held.now) stage.now line.now files.now) result }
+{
+    let Some(made) = recorded(stage, line, total, files) else {
         return Err(Stop::Refuted(Part::Files));
     };
     if !is_right(alloc, held, stage, made)? {
@@ -61,7 +79,7 @@ fn exited(alloc: Global, held: &Held<'_>, stage: &Stage, step: u64) -> Result<Gu
     }
     let given = box_of(alloc, held, stage)?;
     match Guest::<RunRam>::start(alloc, held.bytes(&stage.program), &given) {
-        Ok(guest) => run_to(guest, step),
+        Ok(guest) => run_out(guest, step),
         Err(StartRefusal::Elf(_)) => Err(Stop::Refuted(Part::Run)),
         Err(StartRefusal::ArgsTooLong) => Err(Stop::Refuted(Part::Run)),
         Err(StartRefusal::BoxTooLarge) => Err(Stop::Refuted(Part::Run)),
@@ -69,14 +87,25 @@ fn exited(alloc: Global, held: &Held<'_>, stage: &Stage, step: u64) -> Result<Gu
     }
 }
 
-/// Runs a fresh guest for so many steps, the last of which has to be its exit with 0.
-fn run_to(guest: Guest<RunRam>, step: u64) -> Result<Guest<RunRam>, Stop>
+/// The same guest after so many steps, the last of which has to be its exit with 0.
+fn run_out(guest: Guest<RunRam>, step: u64) -> Result<Guest<RunRam>, Stop>
     requires fresh { guest.steps ≡ 0 }
     requires some { 1 ≤ step }
     requires few { step ≤ 2 ^ 48 }
     ensures { Judged (λ guest. guest.world) (or_fails part.Run (exit_of (end_at guest step))) result }
 {
     let mut guest = guest;
+    run_to(&mut guest, step)?;
+    Ok(guest)
+}
+
+/// Runs a fresh guest for so many steps, the last of which has to be its exit with 0.
+fn run_to(guest: &mut Guest<RunRam>, step: u64) -> Result<(), Stop>
+    requires fresh { guest.old.steps ≡ 0 }
+    requires some { 1 ≤ step }
+    requires few { step ≤ 2 ^ 48 }
+    ensures { Judged (λ _. guest.new.world) (or_fails part.Run (exit_of (end_at guest.old step))) result }
+{
     match guest.run(step) {
         RunEnd::Exited(status) => {
             if status != 0 {
@@ -85,7 +114,7 @@ fn run_to(guest: Guest<RunRam>, step: u64) -> Result<Guest<RunRam>, Stop>
             if guest.steps() + 1 != step {
                 return Err(Stop::Refuted(Part::Run));
             }
-            Ok(guest)
+            Ok(())
         }
         RunEnd::Trapped(_) => Err(Stop::Refuted(Part::Run)),
         RunEnd::UnknownCall(_) => Err(Stop::Refuted(Part::Run)),

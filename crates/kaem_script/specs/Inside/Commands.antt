@@ -9,6 +9,7 @@ use Rattle.mem_files.specs.Calls.{first_world}
 use Rattle.mem_files.specs.Outputs.{left}
 use Rattle.guest_run.specs.Setting.{Setting}
 use Rattle.guest_run.specs.Start.{Elf, Refusal, with_given}
+use Rattle.guest_run.specs.Run.{first_end}
 use Rattle.guest_run.specs.State.{GuestState}
 use Rattle.kaem_script.specs.declared.cause.CommandCause.{CommandCause}
 use Rattle.report.specs.declared.script.types.CommandLine.{CommandLine}
@@ -16,8 +17,13 @@ use Rattle.kaem_script.specs.declared.present.Present.{Present}
 use Rattle.kaem_script.specs.declared.present.Present.TheVariants.{Given, Left}
 use Rattle.kaem_script.specs.declared.fold.Folding.{Folding}
 use Rattle.kaem_script.specs.declared.fold.Folding.TheVariants as fold
-use Rattle.kaem_script.specs.Fold.{CommandResult, RanAll, Folded, Ran, Stopped}
+use Rattle.kaem_script.specs.Fold.{CommandResult, RanAll, Folded, Ran, Stopped, by_first_end, command}
 use Rattle.kaem_script.specs.Reported.{command_line}
+
+-- an answer with this value where it has one
+abbrev pub with_value : {A B E : Type 0} → B → Result A E → Result B E
+with_value value (Ok _) = Ok value
+with_value value (Err why) = Err why
 
 -- the files that are there
 abbrev pub world_in : Present → World
@@ -36,6 +42,11 @@ texts_of words = record { args = words; env = []; files = files.empty; heap = 53
 abbrev pub StartsWith : Result GuestState Refusal → Result GuestState ElfRefusal → Type 0
 StartsWith meant (Ok guest) = meant ≡ Ok guest
 StartsWith meant (Err refusal) = meant ≡ Err (Elf refusal)
+
+-- how a command goes on with the guest that its program starts as, without files, or why that does not start
+abbrev pub Begins : World → List (List ℕ) → ℕ → Result GuestState CommandCause → Type 0
+Begins world words most (Ok guest) = command most world words ≡ by_first_end most (first_end (record guest { world = renewed world }) most)
+Begins world words most (Err why) = command most world words ≡ Err (why, 0)
 
 -- a command that ran, by its line and by the files that it left
 abbrev pub ran_with : CommandLine → World → Ran

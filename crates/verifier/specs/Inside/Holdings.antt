@@ -1,5 +1,5 @@
 -- What a replay holds, as the definitions say it. No promise rests on its being read.
-use Rattle.std.specs.Prelude.{◌≡◌, ◌+◌, ◌≤◌, false, bytes_eq, IsTrue, Result, Ok, Err, List, length, map, All}
+use Rattle.std.specs.Prelude.{ℕ, ◌≡◌, ◌+◌, ◌≤◌, false, bytes_eq, IsTrue, Result, Ok, Err, List, length, map, All}
 use Rattle.std.specs.List.{IsDistinct}
 use Rattle.std.specs.FinMap as finite
 use Rattle.mem_files.specs.Names.{is_stripped_name}
@@ -9,7 +9,13 @@ use Rattle.recipe.specs.Kept.{IsRecipe}
 use Rattle.recipe.specs.declared.parts.Output.{Output}
 use Rattle.recipe.specs.declared.parts.Output.TheVariants.{Stream, File}
 use Rattle.recipe.specs.declared.parts.StageFile.{StageFile}
-use Rattle.wheeler.specs.Contents.{Contents}
+use Rattle.mem_files.specs.World.{World}
+use Rattle.recipe.specs.declared.contents.Said.{Said}
+use Rattle.recipe.specs.declared.parts.Stage.{Stage}
+use Rattle.report.specs.declared.types.StageLine.{StageLine}
+use Rattle.verifier.specs.Faults.{◌>>=◌, checked_artefact, or_fails, recorded}
+use Rattle.verifier.specs.declared.part.Part.TheVariants as part
+use Rattle.wheeler.specs.Contents.{Contents, check_of}
 use Rattle.verifier.specs.declared.held.Held.{Held}
 use Rattle.verifier.specs.declared.part.Part.{Part}
 use Rattle.verifier.specs.declared.stop.Stop.{Stop}
@@ -31,6 +37,12 @@ pub record CanPlace (held : FileMap) (files : List StageFile) : Type 0 where
   pub absent : All (λ file. finite.contains_key held file.path ≡ false) files
   pub distinct : IsDistinct bytes_eq (map (λ file. file.path) files)
   pub few : finite.len held + length files ≤ 256
+
+-- what a line comes to, once the run of its stage has left these files
+abbrev pub judged_left : Said → Contents → Stage → StageLine → World → Result (List ℕ) Part
+judged_left recipe so_far stage line world = do
+  made ← or_fails part.Files (recorded so_far stage line world)
+  checked_artefact made (check_of recipe so_far stage made)
 
 -- an output in a file is at a name as files hold it
 abbrev pub IsOutputName : Output → Type 0

@@ -1,33 +1,12 @@
-use Rattle.std.proofs.Common.{◌≡◌, Some, ap, sym, ◌∙◌, subst}
+use Rattle.std.proofs.Common.{sym, subst}
 use Rattle.std.specs.Prelude.{IfOk}
-use Rattle.mem_files.specs.Calls.{content_at}
-use Rattle.mem_files.specs.Sound.{IsSound}
-use Rattle.mem_files.specs.World.{World}
-use Rattle.guest_run.specs.Run.{first_end}
-use Rattle.guest_run.specs.State.{GuestState}
-use Rattle.kaem_script.specs.Fold.{by_first_end, program_name}
-use Rattle.kaem_script.specs.Inside.Commands.{Comes, world_in}
-use Rattle.kaem_script.proofs.Starting.{command-refused, command-starts, program-named}
+use Rattle.kaem_script.specs.Inside.Commands.{Comes}
 use Rattle.kaem_script.proofs.command.run_command.Goals as goal
 
-pub content-requires : goal.content-requires
-content-requires c = rw c.program_name.ensures (program-named c.args.words.now c.requires.words)
-
-pub returns-in_ok-renewed-in-Ok : goal.returns-in_ok-renewed-in-Ok
-returns-in_ok-renewed-in-Ok c =
-    let sound = subst IsSound c.files_in-files.ensures c.stream.ensures.sound in
-    let there : content_at (world_in c.args.present) (program_name c.args.words.now) ≡ Some c.in-Some.program.now =
-    rw (c.files_in-files.ensures, c.program_name.ensures) at (sym c.in-Some.ensures) in
-    let started = rw c.in-Ok.is at c.in_ok-guest.ensures.meant in
-    let guest = c.with_files.ensures ∙ ap (λ (w : World). record c.in-Ok.guest { world = w }) c.in_ok-renewed-in-Ok.ensures in
-    let is = command-starts c.args.most (world_in c.args.present) c.args.words.now c.in-Some.program.now c.in-Ok.guest sound c.requires.words there started
-    ∙ ap (λ (g : GuestState). by_first_end c.args.most (first_end g c.args.most)) (sym guest) in
-    subst (λ m. IfOk c.run.result (Comes m)) (sym is) c.run.ensures
+pub returns-in-Ok : goal.returns-in-Ok
+returns-in-Ok c =
+    let is = rw (c.in-Ok.is, c.files_in.ensures) at (c.in_ok-guest.ensures.begins c.args.most) in
+    subst (λ m. IfOk c.run_over.result (Comes m)) (sym is) c.run_over.ensures
 
 pub returns-in-Err : goal.returns-in-Err
-returns-in-Err c =
-    let sound = subst IsSound c.files_in-files.ensures c.stream.ensures.sound in
-    let there : content_at (world_in c.args.present) (program_name c.args.words.now) ≡ Some c.in-Some.program.now =
-    rw (c.files_in-files.ensures, c.program_name.ensures) at (sym c.in-Some.ensures) in
-    let refused = rw c.in-Err.is at c.in_ok-guest.ensures.meant in
-    command-refused c.args.most (world_in c.args.present) c.args.words.now c.in-Some.program.now c.in-Err.refusal sound c.requires.words there refused
+returns-in-Err c = rw (c.in-Err.is, c.files_in.ensures) at (c.in_ok-guest.ensures.begins c.args.most)

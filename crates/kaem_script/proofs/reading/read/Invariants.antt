@@ -1,6 +1,6 @@
 use Rattle.std.proofs.Common.{◌≡◌, ◌-◌, ◌≤◌, length, drop}
 use Rattle.kaem_script.specs.Script.{commands_from, commands_of}
-use Rattle.kaem_script.proofs.reading.commands_of.Given as goal
+use Rattle.kaem_script.proofs.reading.read.Given as goal
 
 abbrev pub decreases-loop-at : goal.decreases-loop-at
 decreases-loop-at l = length l.script - l.at

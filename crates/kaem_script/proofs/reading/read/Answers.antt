@@ -1,7 +1,7 @@
 use Rattle.std.proofs.Common.{◌≡◌, ◌+◌, ◌-◌, ℕ, List, [], ◌∷◌, ◌++◌, length, drop, take, arith, sym, ap, ◌∙◌, Ok}
 use Rattle.std.proofs.lemmas.List.{length-drop}
 use Rattle.kaem_script.proofs.Steps.{Begins, at-blank, at-comment, at-end, at-fault, at-line-end, at-word, behind_is, rest_is}
-use Rattle.kaem_script.proofs.reading.commands_of.Goals as goal
+use Rattle.kaem_script.proofs.reading.read.Goals as goal
 
 pub loop-at-preserved-then-byte-eq10 : goal.loop-at-preserved-then-byte-eq10
 loop-at-preserved-then-byte-eq10 c =
