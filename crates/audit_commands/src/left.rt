@@ -17,6 +17,7 @@ ghost use Rattle.audit_commands.specs.Left.{absent_status, are_left_words, run_l
 use crate::audit::undone;
 use crate::causes::run_cause;
 use crate::step::{run_before, stages_before};
+use crate::texts::about_stage;
 use audit_run::stage::{Done, start_stage};
 use command_plan::words::{are_two_files, has_no_zero_byte};
 use command_plan::{Answer, Status, Stop, keep, usage};
@@ -314,10 +315,8 @@ fn file_left_line(
     ensures { IfOk result (λ text. text ≡ file_left_line stage.now file.now size cause step) }
 {
     let cause = run_cause(alloc, cause)?;
-    let mut text = Bytes::from_slice(alloc, b"left ")?;
-    text.extend(stage)?;
-    text.extend(format!(in alloc; " {file} {size} {cause} step {step}\n")?.as_bytes())?;
-    Ok(text)
+    let behind = format!(in alloc; " {file} {size} {cause} step {step}\n")?;
+    about_stage(alloc, b"left ", stage, &behind)
 }
 
 /// FILE was not left, and the run ended so.
@@ -332,8 +331,6 @@ fn none_left_line(
     ensures { IfOk result (λ text. text ≡ none_left_line stage.now file.now cause step) }
 {
     let cause = run_cause(alloc, cause)?;
-    let mut text = Bytes::from_slice(alloc, b"not left ")?;
-    text.extend(stage)?;
-    text.extend(format!(in alloc; " {file} {cause} step {step}\n")?.as_bytes())?;
-    Ok(text)
+    let behind = format!(in alloc; " {file} {cause} step {step}\n")?;
+    about_stage(alloc, b"not left ", stage, &behind)
 }
