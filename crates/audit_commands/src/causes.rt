@@ -1,6 +1,7 @@
 //! The texts of causes.
 
-ghost use Rattle.std.specs.Prelude.{◌≡◌, IfOk, string_bytes};
+ghost use Rattle.std.specs.Prelude.{◌≡◌, ◌∷◌, [], IfOk, decimal, string_bytes};
+ghost use Rattle.command_plan.specs.Causes.Texts.{spaced};
 ghost use Rattle.audit_commands.specs.Texts.{start_cause_text, run_cause_text, check_cause_text};
 
 use ddc_base::OutOfMemory;
@@ -39,21 +40,16 @@ pub fn check_cause(alloc: Global, cause: CheckCause) -> Result<String, OutOfMemo
     ensures { IfOk result (λ text. string_bytes text ≡ check_cause_text cause) }
 {
     match cause {
-        CheckCause::Hex(cause) => {
-            let number = cause.number();
-            let place = cause.place();
-            Ok(format!(in alloc; "hex {number} {place}")?)
-        }
-        CheckCause::M1(cause) => {
-            let number = cause.number();
-            let place = cause.place();
-            Ok(format!(in alloc; "m1 {number} {place}")?)
-        }
-        CheckCause::NotItems(cause) => {
-            let number = cause.number();
-            let place = cause.place();
-            Ok(format!(in alloc; "items {number} {place}")?)
-        }
+        CheckCause::Hex(cause) => numbered(alloc, "hex", cause.number(), cause.place()),
+        CheckCause::M1(cause) => numbered(alloc, "m1", cause.number(), cause.place()),
+        CheckCause::NotItems(cause) => numbered(alloc, "items", cause.number(), cause.place()),
         CheckCause::Differs(place) => Ok(format!(in alloc; "differs {place}")?),
     }
+}
+
+/// A cause that has a number in its language, and a place.
+fn numbered(alloc: Global, language: &str, number: u8, place: u64) -> Result<String, OutOfMemory>
+    ensures { IfOk result (λ text. string_bytes text ≡ spaced (language.now ∷ decimal number ∷ decimal place ∷ [])) }
+{
+    Ok(format!(in alloc; "{language} {number} {place}")?)
 }

@@ -17,6 +17,7 @@ ghost use Rattle.audit_commands.specs.Left.{absent_status, are_left_words, run_l
 use crate::audit::undone;
 use crate::causes::run_cause;
 use crate::step::{run_before, stages_before};
+use crate::texts::about_stage;
 use audit_run::stage::{Done, start_stage};
 use command_plan::words::{are_two_files, has_no_zero_byte};
 use command_plan::{Answer, Status, Stop, keep, usage};
@@ -26,6 +27,7 @@ use mem_files::{Files, is_stripped_name, strip};
 use recipe::{Inputs, Recipe, Stage};
 use recipe_plan::{apart, fetch_inputs, fetch_recipe};
 use std::alloc::Global;
+use std::mem::drop;
 use wheeler::{Fault, RunCause};
 
 /// Performs the command on the words after its name.
@@ -86,7 +88,10 @@ fn left<S: Shelf>(
     ensures { Performs (left_files recipe.now stage.now file.now out.now) (S.state shelf.old) (S.state shelf.new) result }
 {
     let recipe = fetch_recipe(alloc, shelf, recipe)?;
-    find(alloc, shelf, &recipe, stage, file, out)
+    let answer = find(alloc, shelf, &recipe, stage, file, out);
+    // By a call, since a drop at the end is written out here with that of each part.
+    drop(recipe);
+    answer
 }
 
 /// The command on a recipe, which it leaves to its caller to let go.
@@ -205,7 +210,29 @@ fn run_out<S: Shelf>(
     ensures { Performs (ends_left stage.now.name file.now out.now (run_left guest stage.now.steps)) (S.state shelf.old) (S.state shelf.new) result }
 {
     let mut guest = guest;
-    match end_of(&mut guest, stage.steps) {
+    let answer = run_lent(alloc, shelf, stage, &mut guest, file, out);
+    // By a call, since a drop at the end is written out here with that of each part.
+    drop(guest);
+    answer
+}
+
+/// The same of a guest that is lent.
+fn run_lent<S: Shelf>(
+    alloc: Global,
+    shelf: &mut S,
+    stage: &Stage,
+    guest: &mut Guest<RunRam>,
+    file: &str,
+    out: &str,
+) -> Result<Answer, Stop>
+    requires fresh { guest.old.steps ≡ 0 }
+    requires some { 1 ≤ stage.now.steps }
+    requires few { stage.now.steps ≤ 2 ^ 48 }
+    requires file { IsTrue (is_stripped_name (stripped file.now)) }
+    requires out { IsFileName out.now }
+    ensures { Performs (ends_left stage.now.name file.now out.now (run_left guest.old stage.now.steps)) (S.state shelf.old) (S.state shelf.new) result }
+{
+    match end_of(guest, stage.steps) {
         Some(end) => save_left(
             alloc,
             shelf,
@@ -314,10 +341,8 @@ fn file_left_line(
     ensures { IfOk result (λ text. text ≡ file_left_line stage.now file.now size cause step) }
 {
     let cause = run_cause(alloc, cause)?;
-    let mut text = Bytes::from_slice(alloc, b"left ")?;
-    text.extend(stage)?;
-    text.extend(format!(in alloc; " {file} {size} {cause} step {step}\n")?.as_bytes())?;
-    Ok(text)
+    let behind = format!(in alloc; " {file} {size} {cause} step {step}\n")?;
+    about_stage(alloc, b"left ", stage, &behind)
 }
 
 /// FILE was not left, and the run ended so.
@@ -332,8 +357,6 @@ fn none_left_line(
     ensures { IfOk result (λ text. text ≡ none_left_line stage.now file.now cause step) }
 {
     let cause = run_cause(alloc, cause)?;
-    let mut text = Bytes::from_slice(alloc, b"not left ")?;
-    text.extend(stage)?;
-    text.extend(format!(in alloc; " {file} {cause} step {step}\n")?.as_bytes())?;
-    Ok(text)
+    let behind = format!(in alloc; " {file} {cause} step {step}\n")?;
+    about_stage(alloc, b"not left ", stage, &behind)
 }

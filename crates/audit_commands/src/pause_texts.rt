@@ -3,20 +3,19 @@
 ghost use Rattle.std.specs.Prelude.{◌≡◌, IfOk};
 ghost use Rattle.audit_commands.specs.PauseTexts.{delta_refused_line, paused_line, save_refused_line};
 
+use crate::texts::about_stage;
 use audit_run::DeltaRefusal;
 use audit_run::save::SaveRefusal;
 use ddc_base::{Bytes, OutOfMemory};
 use std::alloc::Global;
 
 /// An audit stands in this stage, after so many steps of it.
-#[tactic(auto, using(crate::proofs::PauseWritten::written), unfolding(crate::specs::PauseTexts::paused_line))]
+#[tactic(auto, using(crate::proofs::Written::written), unfolding(crate::specs::PauseTexts::paused_line))]
 pub fn paused(alloc: Global, stage: &[u8], steps: u64) -> Result<Bytes, OutOfMemory>
     ensures { IfOk result (λ text. text ≡ paused_line stage.now steps) }
 {
-    let mut text = Bytes::from_slice(alloc, b"paused ")?;
-    text.extend(stage)?;
-    text.extend(format!(in alloc; " {steps}\n")?.as_bytes())?;
-    Ok(text)
+    let behind = format!(in alloc; " {steps}\n")?;
+    about_stage(alloc, b"paused ", stage, &behind)
 }
 
 /// A file is no save of the recipe and its inputs.

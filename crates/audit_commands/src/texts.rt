@@ -1,6 +1,6 @@
 //! The lines of an audit that fails.
 
-ghost use Rattle.std.specs.Prelude.{◌≡◌, IfOk};
+ghost use Rattle.std.specs.Prelude.{◌≡◌, ◌++◌, IfOk};
 ghost use Rattle.audit_commands.specs.Texts.{stage_name, run_failed_line, check_failed_line};
 
 use crate::causes::{check_cause, run_cause};
@@ -21,6 +21,29 @@ pub fn stage_name(recipe: &Recipe, number: u32) -> &[u8]
     }
 }
 
+/// A line about a stage: what stands in front of its name, the name, and what stands behind it.
+pub(crate) fn about_stage(
+    alloc: Global,
+    front: &[u8],
+    stage: &[u8],
+    behind: &str,
+) -> Result<Bytes, OutOfMemory>
+    ensures { IfOk result (λ text. text ≡ front.now ++ (stage.now ++ behind.now)) }
+{
+    let mut text = Bytes::from_slice(alloc, front)?;
+    put_two(&mut text, stage, behind.as_bytes())?;
+    Ok(text)
+}
+
+/// Writes both behind a text.
+fn put_two(text: &mut Bytes, first: &[u8], second: &[u8]) -> Result<(), OutOfMemory>
+    ensures { IfOk result (λ _. text.new ≡ text.old ++ (first.now ++ second.now)) }
+{
+    text.extend(first)?;
+    text.extend(second)?;
+    Ok(())
+}
+
 /// A stage made no artefact.
 #[tactic(auto, using(crate::proofs::Written::written), unfolding(crate::specs::Texts::run_failed_line))]
 pub fn run_failed(
@@ -32,10 +55,8 @@ pub fn run_failed(
     ensures { IfOk result (λ text. text ≡ run_failed_line stage.now cause step) }
 {
     let cause = run_cause(alloc, cause)?;
-    let mut text = Bytes::from_slice(alloc, b"run failed ")?;
-    text.extend(stage)?;
-    text.extend(format!(in alloc; " {cause} step {step}\n")?.as_bytes())?;
-    Ok(text)
+    let behind = format!(in alloc; " {cause} step {step}\n")?;
+    about_stage(alloc, b"run failed ", stage, &behind)
 }
 
 /// A stage made an artefact that is not what its source stands for.
@@ -44,8 +65,6 @@ pub fn check_failed(alloc: Global, stage: &[u8], cause: CheckCause) -> Result<By
     ensures { IfOk result (λ text. text ≡ check_failed_line stage.now cause) }
 {
     let cause = check_cause(alloc, cause)?;
-    let mut text = Bytes::from_slice(alloc, b"check failed ")?;
-    text.extend(stage)?;
-    text.extend(format!(in alloc; " {cause}\n")?.as_bytes())?;
-    Ok(text)
+    let behind = format!(in alloc; " {cause}\n")?;
+    about_stage(alloc, b"check failed ", stage, &behind)
 }

@@ -5,6 +5,7 @@ ghost use Rattle.ddc_base.specs.Lines.{line};
 ghost use Rattle.std.specs.Prelude.{◌≡◌, ◌++◌, ◌<◌, ◌^◌, [], ◌∷◌, IfOk, OnOk, codes, decimal, flat_map, length};
 ghost use Rattle.verify_commands.specs.ChainTexts.{audit_line, chain_text, remaining_line, verified_line};
 
+use crate::texts::{put_pair, put_word};
 use audit_chain::{ChainLine, ChainLinks, remaining};
 use ddc_base::{Bytes, Name, OutOfMemory};
 use meaning::Assumption;
@@ -71,10 +72,7 @@ fn implements(alloc: Global, audit: u32, made: &Name, source: &Name) -> Result<B
     ensures { IfOk result (λ text. text ≡ line (codes "assumes" ∷ decimal audit ∷ codes "implements" ∷ made.now ∷ source.now ∷ [])) }
 {
     let mut text = Bytes::from_vec(format!(in alloc; "assumes {audit} implements ")?.into_bytes());
-    text.extend(made.bytes())?;
-    text.push(b' ')?;
-    text.extend(source.bytes())?;
-    text.push(b'\n')?;
+    put_pair(&mut text, made, source)?;
     Ok(text)
 }
 
@@ -90,11 +88,7 @@ fn compiles(
     ensures { IfOk result (λ text. text ≡ line (codes "assumes" ∷ decimal audit ∷ codes "compiles" ∷ source.now ∷ stage.now ∷ becomes.now ∷ [])) }
 {
     let mut text = Bytes::from_vec(format!(in alloc; "assumes {audit} compiles ")?.into_bytes());
-    text.extend(source.bytes())?;
-    text.push(b' ')?;
-    text.extend(stage.bytes())?;
-    text.push(b' ')?;
-    text.extend(becomes.bytes())?;
-    text.push(b'\n')?;
+    put_word(&mut text, source)?;
+    put_pair(&mut text, stage, becomes)?;
     Ok(text)
 }

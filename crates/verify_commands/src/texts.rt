@@ -155,10 +155,7 @@ fn implements(alloc: Global, made: &Name, source: &Name) -> Result<Bytes, OutOfM
     ensures { IfOk result (λ text. text ≡ line (codes "assumes" ∷ codes "implements" ∷ made.now ∷ source.now ∷ [])) }
 {
     let mut text = Bytes::from_slice(alloc, b"assumes implements ")?;
-    text.extend(made.bytes())?;
-    text.push(b' ')?;
-    text.extend(source.bytes())?;
-    text.push(b'\n')?;
+    put_pair(&mut text, made, source)?;
     Ok(text)
 }
 
@@ -173,11 +170,28 @@ fn compiles(
     ensures { IfOk result (λ text. text ≡ line (codes "assumes" ∷ codes "compiles" ∷ source.now ∷ stage.now ∷ becomes.now ∷ [])) }
 {
     let mut text = Bytes::from_slice(alloc, b"assumes compiles ")?;
-    text.extend(source.bytes())?;
-    text.push(b' ')?;
-    text.extend(stage.bytes())?;
-    text.push(b' ')?;
-    text.extend(becomes.bytes())?;
-    text.push(b'\n')?;
+    put_word(&mut text, source)?;
+    put_pair(&mut text, stage, becomes)?;
     Ok(text)
+}
+
+/// Adds a name, and the space behind it.
+#[tactic(auto, using(crate::proofs::Written::written))]
+pub(crate) fn put_word(text: &mut Bytes, name: &Name) -> Result<(), OutOfMemory>
+    ensures { OnOk result (text.new ≡ text.old ++ (name.now ++ codes " ")) }
+{
+    text.extend(name.bytes())?;
+    text.push(b' ')?;
+    Ok(())
+}
+
+/// Adds the last two names of a line, and its end.
+#[tactic(auto, using(crate::proofs::Written::written))]
+pub(crate) fn put_pair(text: &mut Bytes, first: &Name, second: &Name) -> Result<(), OutOfMemory>
+    ensures { OnOk result (text.new ≡ text.old ++ line (first.now ∷ second.now ∷ [])) }
+{
+    put_word(text, first)?;
+    text.extend(second.bytes())?;
+    text.push(b'\n')?;
+    Ok(())
 }
