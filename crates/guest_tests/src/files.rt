@@ -7,10 +7,9 @@ use ddc_base::OutOfMemory;
 use mem_files::*;
 use std::alloc::Global;
 use std::process::Abort;
-use std::test::Fail;
 
 /// One call of a script. `Read`, `Stream`, `Content` and `NameAfter` hold what is wanted last, and answer 0 where it comes.
-#[derive(Clone, Copy, Debug)]
+#[derive(Clone, Copy)]
 enum Call<'a> {
     Place(&'a [u8], &'a [u8]),
     Open(&'a [u8], u32),
@@ -36,37 +35,68 @@ const WRONG: i64 = -1000;
 /// A call's answer as a program sees it: a value, or an error's number negated.
 fn answer(files: &mut Files, call: Call<'_>) -> i64 {
     match call {
-        Call::Place(name, content) => match files.place(name, content) {
-            Ok(()) => 0,
-            Err(PlaceRefusal::BadName) => 1,
-            Err(PlaceRefusal::Twice) => 2,
-            Err(PlaceRefusal::Full) => 3,
-            Err(PlaceRefusal::OutOfMemory) => WRONG,
-        },
-        Call::Open(name, flags) if is_stripped_name(name) => match files.open_name(name, flags) {
-            Ok(fd) => i64::from(fd),
-            Err(FileRefusal::Errno(errno)) => -i64::from(errno),
-            Err(FileRefusal::OutOfMemory) => WRONG,
-        },
+        Call::Place(name, content) => place(files, name, content),
         Call::Close(fd) => done(files.close(fd)),
-        Call::Seek(fd, offset, whence) => match files.seek(fd, offset, whence) {
-            Ok(cursor) => i64::try_from(cursor).unwrap_or(WRONG),
-            Err(errno) => -i64::from(errno),
-        },
+        Call::Seek(fd, offset, whence) => seek(files, fd, offset, whence),
         Call::Read(fd, count, want) => read(files, fd, count, want),
-        Call::Write(fd, bytes) => match files.fits(fd, bytes.len() as u64) {
-            Ok(()) => write(files, fd, bytes),
-            Err(errno) => -i64::from(errno),
-        },
+        Call::Write(fd, bytes) => write_if_fits(files, fd, bytes),
         Call::Fits(fd, count) => done(files.fits(fd, count)),
-        Call::Remove(name) if is_stripped_name(name) => done(files.remove(name)),
-        Call::Exists(name) if is_stripped_name(name) => i64::from(files.exists(name)),
-        Call::Content(name, want) if is_stripped_name(name) => zero_if(files.content(name) == want),
         Call::Out(want) => zero_if(files.stream(1) == want),
         Call::Errors(want) => zero_if(files.stream(2) == want),
         Call::NameAfter(name, want) => zero_if(files.name_after(name) == want),
-        _ => WRONG,
+        Call::Open(name, flags) => open(files, name, flags),
+        Call::Remove(name) => remove(files, name),
+        Call::Exists(name) => exists(files, name),
+        Call::Content(name, want) => content(files, name, want),
     }
+}
+
+fn place(files: &mut Files, name: &[u8], content: &[u8]) -> i64 {
+    match files.place(name, content) {
+        Ok(()) => 0,
+        Err(PlaceRefusal::BadName) => 1,
+        Err(PlaceRefusal::Twice) => 2,
+        Err(PlaceRefusal::Full) => 3,
+        Err(PlaceRefusal::OutOfMemory) => WRONG,
+    }
+}
+
+fn open(files: &mut Files, name: &[u8], flags: u32) -> i64 {
+    if !is_stripped_name(name) {
+        return WRONG;
+    }
+    match files.open_name(name, flags) {
+        Ok(fd) => i64::from(fd),
+        Err(FileRefusal::Errno(errno)) => -i64::from(errno),
+        Err(FileRefusal::OutOfMemory) => WRONG,
+    }
+}
+
+fn seek(files: &mut Files, fd: u32, offset: i64, whence: u32) -> i64 {
+    match files.seek(fd, offset, whence) {
+        Ok(cursor) => i64::try_from(cursor).unwrap_or(WRONG),
+        Err(errno) => -i64::from(errno),
+    }
+}
+
+fn remove(files: &mut Files, name: &[u8]) -> i64 {
+    if is_stripped_name(name) {
+        done(files.remove(name))
+    } else {
+        WRONG
+    }
+}
+
+fn exists(files: &Files, name: &[u8]) -> i64 {
+    if is_stripped_name(name) {
+        i64::from(files.exists(name))
+    } else {
+        WRONG
+    }
+}
+
+fn content(files: &Files, name: &[u8], want: Option<&[u8]>) -> i64 {
+    zero_if(is_stripped_name(name) && files.content(name) == want)
 }
 
 fn zero_if(is: bool) -> i64 {
@@ -76,6 +106,13 @@ fn zero_if(is: bool) -> i64 {
 fn done(outcome: Result<(), u16>) -> i64 {
     match outcome {
         Ok(()) => 0,
+        Err(errno) => -i64::from(errno),
+    }
+}
+
+fn write_if_fits(files: &mut Files, fd: u32, bytes: &[u8]) -> i64 {
+    match files.fits(fd, bytes.len() as u64) {
+        Ok(()) => write(files, fd, bytes),
         Err(errno) => -i64::from(errno),
     }
 }
@@ -101,17 +138,17 @@ fn read(files: &mut Files, fd: u32, count: u64, want: &[u8]) -> i64 {
     0
 }
 
-/// Runs a script on new files, and asks for each call's answer.
-fn run(rt: &impl Abort, alloc: Global, script: &[Row]) -> Result<Files, Fail> {
-    let mut files = Files::new(alloc)?;
-    go_on(rt, &mut files, script);
-    Ok(files)
+/// Runs a script, and asks for each call's answer.
+fn run(rt: &impl Abort, files: &mut Files, script: &[Row]) {
+    for (index, (call, want)) in script.iter().enumerate() {
+        assert!(rt; answer(files, *call) == *want, "call {index}");
+    }
 }
 
-fn go_on(rt: &impl Abort, files: &mut Files, script: &[Row]) {
-    for (index, (call, want)) in script.iter().enumerate() {
-        assert_eq!(rt; answer(files, *call), *want, "call {index}");
-    }
+/// Runs a script on new files.
+fn run_anew(rt: &impl Abort, alloc: Global, script: &[Row]) {
+    let mut files = Files::new(alloc).expect(rt, "memory");
+    run(rt, &mut files, script);
 }
 
 /// Names that are guest file names, those that are held already, and what is no name.
@@ -285,52 +322,61 @@ static HELD: [Row; 1] = [(Call::Place(b"f", b"x"), 0)];
 
 /// Scripts that begin with no files.
 #[test]
-fn runs_scripts(rt: HostRuntime) -> Result<(), Fail> {
-    let scripts = [
-        NAMES.as_slice(),
-        ORDERED.as_slice(),
-        NO_MORE_BYTES.as_slice(),
-        SEEKS.as_slice(),
-        WRITES_AND_READS.as_slice(),
-        CLOSES_AND_FITS.as_slice(),
-    ];
-    for script in scripts {
-        run(&rt, rt.alloc(), script)?;
-    }
-    Ok(())
+fn runs_scripts(rt: HostRuntime) {
+    let alloc = rt.alloc();
+    run_anew(&rt, alloc, &NAMES);
+    run_anew(&rt, alloc, &ORDERED);
+    run_anew(&rt, alloc, &NO_MORE_BYTES);
+    run_anew(&rt, alloc, &SEEKS);
+    run_anew(&rt, alloc, &WRITES_AND_READS);
+    run_anew(&rt, alloc, &CLOSES_AND_FITS);
+}
+
+/// What opening `f` with flags answers on new files behind a script.
+fn opened(rt: &impl Abort, alloc: Global, script: &[Row], flags: u32) -> i64 {
+    let mut files = Files::new(alloc).expect(rt, "memory");
+    run(rt, &mut files, script);
+    answer(&mut files, Call::Open(b"f", flags))
 }
 
 #[test]
-fn opens_by_flags(rt: HostRuntime) -> Result<(), Fail> {
+fn opens_by_flags(rt: HostRuntime) {
     for &(flags, absent, present) in &OPENS {
-        let mut files = run(&rt, rt.alloc(), &[])?;
-        assert_eq!(rt; answer(&mut files, Call::Open(b"f", flags)), absent);
-        let mut files = run(&rt, rt.alloc(), &HELD)?;
-        assert_eq!(rt; answer(&mut files, Call::Open(b"f", flags)), present);
+        assert!(rt; opened(&rt, rt.alloc(), &[], flags) == absent, "{flags}");
+        assert!(rt; opened(&rt, rt.alloc(), &HELD, flags) == present, "{flags}");
     }
-    Ok(())
+}
+
+fn open_all(rt: &impl Abort, files: &mut Files) {
+    run(rt, files, &HELD);
+    for fd in 3..1024 {
+        assert!(rt; answer(files, Call::Open(b"f", O_RDONLY)) == fd, "{fd}");
+    }
+    run(rt, files, &NO_MORE_DESCRIPTORS);
 }
 
 /// The 1,024th descriptor is the last.
 #[test]
-fn runs_out_of_descriptors(rt: HostRuntime) -> Result<(), Fail> {
-    let mut files = run(&rt, rt.alloc(), &HELD)?;
-    for fd in 3..1024 {
-        assert_eq!(rt; answer(&mut files, Call::Open(b"f", O_RDONLY)), fd);
+fn runs_out_of_descriptors(rt: HostRuntime) {
+    let mut files = Files::new(rt.alloc()).expect(&rt, "memory");
+    open_all(&rt, &mut files);
+}
+
+fn place_all(rt: &impl Abort, files: &mut Files) {
+    for first in 64..128 {
+        for second in 64..128 {
+            assert!(rt;
+                place(files, &[first, second], b"") == 0,
+                "{first} {second}"
+            );
+        }
     }
-    go_on(&rt, &mut files, &NO_MORE_DESCRIPTORS);
-    Ok(())
+    run(rt, files, &NO_MORE_NAMES);
 }
 
 /// The 4,096th name is the last.
 #[test]
-fn runs_out_of_names(rt: HostRuntime) -> Result<(), Fail> {
-    let mut files = run(&rt, rt.alloc(), &[])?;
-    for first in 64..128 {
-        for second in 64..128 {
-            assert_eq!(rt; answer(&mut files, Call::Place(&[first, second], b"")), 0);
-        }
-    }
-    go_on(&rt, &mut files, &NO_MORE_NAMES);
-    Ok(())
+fn runs_out_of_names(rt: HostRuntime) {
+    let mut files = Files::new(rt.alloc()).expect(&rt, "memory");
+    place_all(&rt, &mut files);
 }

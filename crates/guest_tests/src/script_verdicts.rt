@@ -1,12 +1,12 @@
 //! Verdicts on reports of scripts: a true one, and one fault or two at each part.
 
 use crate::exit_program::EXIT;
-use crate::scripts::{copier, listed};
+use crate::scripts::{listed, listed_twice};
 use ddc_base::{Bytes, OutOfMemory};
-use kaem_script::{FileList, ScriptEnd, ScriptPart, ScriptVerdict, audit, read, verify};
+use kaem_script::{FileList, Script, ScriptEnd, ScriptPart, ScriptVerdict, audit, read, verify};
 use report::script;
 use std::alloc::Global;
-use std::test::Fail;
+use std::process::Abort;
 
 /// The script that is run twice: it makes `out`, and then runs it.
 static SCRIPT: &[u8] = b"./copy.elf\n# made\n\"out\" x\n";
@@ -68,20 +68,25 @@ fn put_changed(out: &mut Bytes, first: u64, count: u64, change: &str) -> Result<
     put_lines(out, first.saturating_add(count), LINES)
 }
 
-/// What a replay says of a report text of a script over files.
-fn judged(
+/// What a replay says of a report's text over files; nothing where it is no report.
+fn judged_text(
     alloc: Global,
-    source: &[u8],
+    script: &Script,
     files: &FileList,
     text: &[u8],
-) -> Result<ScriptVerdict, Fail> {
-    let Ok(script) = read(alloc, source) else {
-        return Err("the script is refused".into());
-    };
-    let Ok(report) = script::read(alloc, text) else {
-        return Err("no report".into());
-    };
-    Ok(verify(alloc, &script, files, &report))
+) -> Option<ScriptVerdict> {
+    match script::read(alloc, text) {
+        Ok(report) => Some(verify(alloc, script, files, &report)),
+        Err(_) => None,
+    }
+}
+
+/// The same of a script's text; nothing where it is refused.
+fn judged(alloc: Global, source: &[u8], files: &FileList, text: &[u8]) -> Option<ScriptVerdict> {
+    match read(alloc, source) {
+        Ok(script) => judged_text(alloc, &script, files, text),
+        Err(_) => None,
+    }
 }
 
 /// What a replay says over files of the example with such a change.
@@ -91,17 +96,24 @@ fn judged_change(
     first: u64,
     count: u64,
     change: &str,
-) -> Result<ScriptVerdict, Fail> {
+) -> Option<ScriptVerdict> {
     let mut text = Bytes::new(alloc);
-    put_changed(&mut text, first, count, change)?;
-    judged(alloc, SCRIPT, files, text.as_slice())
+    match put_changed(&mut text, first, count, change) {
+        Ok(()) => judged(alloc, SCRIPT, files, text.as_slice()),
+        Err(OutOfMemory) => None,
+    }
 }
 
 /// What a replay says of the example over copy.elf and a copy of it, in this order or the other.
-fn judged_example(alloc: Global, reversed: bool) -> Result<ScriptVerdict, Fail> {
-    let copy = copier(alloc)?;
-    let files = listed(alloc, copy.as_slice(), reversed)?;
-    judged_change(alloc, &files, 1, 0, "")
+fn judged_example(alloc: Global, reversed: bool) -> Option<ScriptVerdict> {
+    match listed_twice(alloc, reversed) {
+        Some(files) => judged_change(alloc, &files, 1, 0, ""),
+        None => None,
+    }
+}
+
+fn refuted(part: ScriptPart, place: u32) -> Option<ScriptVerdict> {
+    Some(ScriptVerdict::Refuted { part, place })
 }
 
 /// Changes of the example: from this line on so many lines are replaced by a text; the first part that is then not true, and its place.
@@ -162,30 +174,25 @@ static CHANGES: &[(u64, u64, &str, ScriptPart, u32)] = &[
 ];
 
 #[test]
-fn a_true_report_is_a_yes(rt: HostRuntime) -> Result<(), Fail> {
-    assert!(rt; judged_example(rt.alloc(), false)? == ScriptVerdict::Yes);
+fn a_true_report_is_a_yes(rt: HostRuntime) {
+    assert!(rt; judged_example(rt.alloc(), false) == Some(ScriptVerdict::Yes));
     // The files that are given are another list in another order.
-    let refuted = ScriptVerdict::Refuted {
-        part: ScriptPart::File,
-        place: 1,
-    };
-    assert!(rt; judged_example(rt.alloc(), true)? == refuted);
-    Ok(())
+    assert!(rt; judged_example(rt.alloc(), true) == refuted(ScriptPart::File, 1));
+}
+
+fn check_changes(rt: &impl Abort, alloc: Global, files: &FileList) {
+    for &(first, count, change, part, place) in CHANGES {
+        let verdict = judged_change(alloc, files, first, count, change);
+        assert!(rt; verdict == refuted(part, place), "{change}");
+    }
 }
 
 #[test]
-fn the_first_part_that_fails_is_named(rt: HostRuntime) -> Result<(), Fail> {
-    let alloc = rt.alloc();
-    let copy = copier(alloc)?;
-    let files = listed(alloc, copy.as_slice(), false)?;
-    for (first, count, change, part, place) in CHANGES {
-        let refuted = ScriptVerdict::Refuted {
-            part: *part,
-            place: *place,
-        };
-        assert!(rt; judged_change(alloc, &files, *first, *count, change)? == refuted);
+fn the_first_part_that_fails_is_named(rt: HostRuntime) {
+    match listed_twice(rt.alloc(), false) {
+        Some(files) => check_changes(&rt, rt.alloc(), &files),
+        None => panic!(rt; "no list"),
     }
-    Ok(())
 }
 
 /// Scripts of one command over copy.elf and a file `in` of the bytes `abc`, with their digests by sha256sum: the program is not there, or is none.
@@ -212,74 +219,96 @@ left 696e 3 ba7816bf8f01cfea414140de5dae2223b00361a396177a9cb410ff61f20015ad\n\
 end\n\
 ";
 
+/// Adds this claim of a script.
+fn put_claim(text: &mut Bytes, digest: &str) -> Result<(), OutOfMemory> {
+    text.extend(b"kaem-report 1\nscript ")?;
+    text.extend(digest.as_bytes())?;
+    put_text(text, CLAIM.as_bytes())
+}
+
 /// What a replay says over files of this claim of a script.
 fn judged_claim(
     alloc: Global,
     source: &[u8],
     digest: &str,
     files: &FileList,
-) -> Result<ScriptVerdict, Fail> {
+) -> Option<ScriptVerdict> {
     let mut text = Bytes::new(alloc);
-    text.extend(b"kaem-report 1\nscript ")?;
-    text.extend(digest.as_bytes())?;
-    put_text(&mut text, CLAIM.as_bytes())?;
-    judged(alloc, source, files, text.as_slice())
+    match put_claim(&mut text, digest) {
+        Ok(()) => judged(alloc, source, files, text.as_slice()),
+        Err(OutOfMemory) => None,
+    }
+}
+
+fn check_claims(rt: &impl Abort, alloc: Global, files: &FileList) {
+    for &(source, digest) in &NO_RUNS {
+        let verdict = judged_claim(alloc, source, digest, files);
+        assert!(rt; verdict == refuted(ScriptPart::Run, 1), "{digest}");
+    }
 }
 
 #[test]
-fn a_program_that_does_not_start_has_no_run(rt: HostRuntime) -> Result<(), Fail> {
-    let alloc = rt.alloc();
-    let files = listed(alloc, b"abc", false)?;
-    for (source, digest) in NO_RUNS {
-        let refuted = ScriptVerdict::Refuted {
-            part: ScriptPart::Run,
-            place: 1,
-        };
-        assert!(rt; judged_claim(alloc, source, digest, &files)? == refuted);
+fn a_program_that_does_not_start_has_no_run(rt: HostRuntime) {
+    match listed(rt.alloc(), b"abc", false) {
+        Some(files) => check_claims(&rt, rt.alloc(), &files),
+        None => panic!(rt; "no list"),
     }
-    Ok(())
 }
 
-/// Whether what an audit of a script over files reports is verified over them, and not over others.
-fn is_verified(
+/// Whether what an audit of a script reports is verified over files, and not over others.
+fn is_verified_end(
     alloc: Global,
-    source: &[u8],
+    script: &Script,
+    end: &ScriptEnd,
     files: &FileList,
     others: &FileList,
-) -> Result<bool, Fail> {
-    let Ok(script) = read(alloc, source) else {
-        return Err("the script is refused".into());
-    };
-    let ScriptEnd::Done(report) = audit(alloc, &script, files, 100) else {
-        return Err("not done".into());
-    };
-    Ok(
-        verify(alloc, &script, files, &report) == ScriptVerdict::Yes
-            && verify(alloc, &script, others, &report) != ScriptVerdict::Yes,
-    )
+) -> bool {
+    match end {
+        ScriptEnd::Done(report) => {
+            verify(alloc, script, files, report) == ScriptVerdict::Yes
+                && verify(alloc, script, others, report) != ScriptVerdict::Yes
+        }
+        _ => false,
+    }
 }
 
-/// The same of copy.elf and this file `in`, where the others have another `in`.
-fn is_verified_over(
-    alloc: Global,
-    source: &[u8],
-    input: &[u8],
-    reversed: bool,
-) -> Result<bool, Fail> {
-    let files = listed(alloc, input, reversed)?;
-    let others = listed(alloc, b"other", reversed)?;
-    is_verified(alloc, source, &files, &others)
+/// The same of an audit of it over the files.
+fn is_audited(alloc: Global, script: &Script, files: &FileList, others: &FileList) -> bool {
+    let end = audit(alloc, script, files, 100);
+    is_verified_end(alloc, script, &end, files, others)
+}
+
+/// The same of a script's text.
+fn is_verified(alloc: Global, source: &[u8], files: &FileList, others: &FileList) -> bool {
+    match read(alloc, source) {
+        Ok(script) => is_audited(alloc, &script, files, others),
+        Err(_) => false,
+    }
+}
+
+/// The same where the others have another `in`.
+fn is_verified_beside(alloc: Global, source: &[u8], files: &FileList, reversed: bool) -> bool {
+    match listed(alloc, b"other", reversed) {
+        Some(others) => is_verified(alloc, source, files, &others),
+        None => false,
+    }
+}
+
+/// The same of copy.elf and this file `in`.
+fn is_verified_over(alloc: Global, source: &[u8], input: &[u8], reversed: bool) -> bool {
+    match listed(alloc, input, reversed) {
+        Some(files) => is_verified_beside(alloc, source, &files, reversed),
+        None => false,
+    }
 }
 
 #[test]
-fn what_is_audited_is_verified(rt: HostRuntime) -> Result<(), Fail> {
-    let alloc = rt.alloc();
+fn what_is_audited_is_verified(rt: HostRuntime) {
     for (source, input, reversed) in [
         (b"".as_slice(), b"abc".as_slice(), true),
         (b"copy.elf\n", b"abc", true),
         (b"copy.elf\nout\n./in\n", &EXIT, false),
     ] {
-        assert!(rt; is_verified_over(alloc, source, input, reversed)?);
+        assert!(rt; is_verified_over(rt.alloc(), source, input, reversed));
     }
-    Ok(())
 }
