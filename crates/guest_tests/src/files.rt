@@ -8,11 +8,13 @@ use mem_files::*;
 use std::alloc::Global;
 use std::process::Abort;
 
-/// One call of a script. `Read`, `Stream`, `Content` and `NameAfter` hold what is wanted last, and answer 0 where it comes.
+/// One call of a script, or as many as there are names or descriptors. `Read`, `Stream`, `Content` and `NameAfter` hold what is wanted last, and answer 0 where it comes.
 #[derive(Clone, Copy)]
 enum Call<'a> {
     Place(&'a [u8], &'a [u8]),
     Open(&'a [u8], u32),
+    PlaceAll,
+    OpenAll(&'a [u8]),
     Close(u32),
     Seek(u32, i64, u32),
     Read(u32, u64, &'a [u8]),
@@ -36,6 +38,8 @@ const WRONG: i64 = -1000;
 fn answer(files: &mut Files, call: Call<'_>) -> i64 {
     match call {
         Call::Place(name, content) => place(files, name, content),
+        Call::PlaceAll => place_all(files),
+        Call::OpenAll(name) => open_all(files, name),
         Call::Close(fd) => done(files.close(fd)),
         Call::Seek(fd, offset, whence) => seek(files, fd, offset, whence),
         Call::Read(fd, count, want) => read(files, fd, count, want),
@@ -180,7 +184,9 @@ static ORDERED: [Row; 10] = [
 ];
 
 /// The flags are looked at before the descriptors, and these before the name.
-static NO_MORE_DESCRIPTORS: [Row; 8] = [
+static NO_MORE_DESCRIPTORS: [Row; 10] = [
+    (Call::Place(b"f", b"x"), 0),
+    (Call::OpenAll(b"f"), 0),
     (Call::Open(b"f", O_RDONLY), -24),
     (Call::Open(b"g", O_RDONLY), -24),
     (Call::Open(b"f", O_CREAT | O_EXCL), -24),
@@ -192,7 +198,8 @@ static NO_MORE_DESCRIPTORS: [Row; 8] = [
 ];
 
 /// What goes on with 4,096 names, and what does not.
-static NO_MORE_NAMES: [Row; 9] = [
+static NO_MORE_NAMES: [Row; 10] = [
+    (Call::PlaceAll, 0),
     (Call::Place(b"f", b""), 3),
     (Call::Place(b"@@", b""), 2),
     (Call::Place(b"", b""), 1),
@@ -318,8 +325,6 @@ static OPENS: [(u32, i64, i64); 8] = [
     (O_WRONLY | O_TRUNC, -2, 3),
 ];
 
-static HELD: [Row; 1] = [(Call::Place(b"f", b"x"), 0)];
-
 /// Scripts that begin with no files.
 #[test]
 fn runs_scripts(rt: HostRuntime) {
@@ -332,51 +337,48 @@ fn runs_scripts(rt: HostRuntime) {
     run_anew(&rt, alloc, &CLOSES_AND_FITS);
 }
 
-/// What opening `f` with flags answers on new files behind a script.
-fn opened(rt: &impl Abort, alloc: Global, script: &[Row], flags: u32) -> i64 {
-    let mut files = Files::new(alloc).expect(rt, "memory");
-    run(rt, &mut files, script);
-    answer(&mut files, Call::Open(b"f", flags))
+/// Opens `f` where it is absent, and where it is present.
+fn check_flags(rt: &impl Abort, alloc: Global, flags: u32, absent: i64, present: i64) {
+    let open = Call::Open(b"f", flags);
+    run_anew(rt, alloc, &[(open, absent)]);
+    run_anew(rt, alloc, &[(Call::Place(b"f", b"x"), 0), (open, present)]);
 }
 
 #[test]
 fn opens_by_flags(rt: HostRuntime) {
     for &(flags, absent, present) in &OPENS {
-        assert!(rt; opened(&rt, rt.alloc(), &[], flags) == absent, "{flags}");
-        assert!(rt; opened(&rt, rt.alloc(), &HELD, flags) == present, "{flags}");
+        check_flags(&rt, rt.alloc(), flags, absent, present);
     }
 }
 
-fn open_all(rt: &impl Abort, files: &mut Files) {
-    run(rt, files, &HELD);
+/// Opens a file as often as there are descriptors: the 1,024th is the last.
+fn open_all(files: &mut Files, name: &[u8]) -> i64 {
     for fd in 3..1024 {
-        assert!(rt; answer(files, Call::Open(b"f", O_RDONLY)) == fd, "{fd}");
-    }
-    run(rt, files, &NO_MORE_DESCRIPTORS);
-}
-
-/// The 1,024th descriptor is the last.
-#[test]
-fn runs_out_of_descriptors(rt: HostRuntime) {
-    let mut files = Files::new(rt.alloc()).expect(&rt, "memory");
-    open_all(&rt, &mut files);
-}
-
-fn place_all(rt: &impl Abort, files: &mut Files) {
-    for first in 64..128 {
-        for second in 64..128 {
-            assert!(rt;
-                place(files, &[first, second], b"") == 0,
-                "{first} {second}"
-            );
+        if open(files, name, O_RDONLY) != fd {
+            return WRONG;
         }
     }
-    run(rt, files, &NO_MORE_NAMES);
+    0
 }
 
-/// The 4,096th name is the last.
+#[test]
+fn runs_out_of_descriptors(rt: HostRuntime) {
+    run_anew(&rt, rt.alloc(), &NO_MORE_DESCRIPTORS);
+}
+
+/// Places files of two letters as often as there are names: the 4,096th is the last.
+fn place_all(files: &mut Files) -> i64 {
+    for first in 64..128 {
+        for second in 64..128 {
+            if place(files, &[first, second], b"") != 0 {
+                return WRONG;
+            }
+        }
+    }
+    0
+}
+
 #[test]
 fn runs_out_of_names(rt: HostRuntime) {
-    let mut files = Files::new(rt.alloc()).expect(&rt, "memory");
-    place_all(&rt, &mut files);
+    run_anew(&rt, rt.alloc(), &NO_MORE_NAMES);
 }

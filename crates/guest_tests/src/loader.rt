@@ -84,18 +84,19 @@ fn refusal_of_repeated(alloc: Global, count: u8) -> Result<Option<ElfRefusal>, A
     Ok(refusal_of(&file))
 }
 
+/// How often the program header stands, and what the program is refused for.
+static REPEATED: [(u8, Option<ElfRefusal>); 4] = [
+    (1, None),
+    (2, Some(ElfRefusal::Overlap)),
+    (16, Some(ElfRefusal::Overlap)),
+    (17, Some(ElfRefusal::TooMany)),
+];
+
 /// At most 16 segments are loaded, and no two of them lie on one page; that they are too many comes first.
 #[test]
 fn refuses_repeated_headers(rt: HostRuntime) -> Result<(), Fail> {
-    let alloc = rt.alloc();
-    let table = [
-        (1, None),
-        (2, Some(ElfRefusal::Overlap)),
-        (16, Some(ElfRefusal::Overlap)),
-        (17, Some(ElfRefusal::TooMany)),
-    ];
-    for (count, refusal) in table {
-        assert!(&rt; refusal_of_repeated(alloc, count)? == refusal);
+    for &(count, refusal) in &REPEATED {
+        assert!(rt; refusal_of_repeated(rt.alloc(), count)? == refusal);
     }
     Ok(())
 }

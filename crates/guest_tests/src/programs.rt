@@ -3,23 +3,14 @@
 ghost use Rattle.guest_run.specs.Setting.{IsText};
 ghost use Rattle.std.specs.Prelude.{◌≤◌, ◌^◌, IfOk};
 
-use crate::exit_program::EXIT;
+use crate::exit_program::{EXIT, altered};
 use ddc_base::OutOfMemory;
 use guest_run::*;
+use paged_mem::Ram;
 use rv64_machine::Cause;
 use std::alloc::{AllocError, Global};
 use std::process::Abort;
 use std::test::Fail;
-
-/// exit.elf with another code word at a byte offset.
-fn altered(offset: usize, word: u32) -> [u8; 132] {
-    let mut file = EXIT;
-    let bytes = word.to_le_bytes();
-    for (place, byte) in file.iter_mut().skip(offset).zip(bytes) {
-        *place = byte;
-    }
-    file
-}
 
 /// Adds a program with exit.elf's header and these code words.
 fn put_program(file: &mut Vec<u8>, words: &[u32]) -> Result<(), AllocError> {
@@ -72,15 +63,15 @@ enum Step {
 }
 
 /// Whether a run ends so; none of no step.
-fn runs(guest: &mut Guest<RunRam>, most: u32, want: RunEnd) -> bool {
+fn runs<R: Ram>(guest: &mut Guest<R>, most: u32, want: RunEnd) -> bool {
     guest.steps() < 1_000 && most != 0 && guest.run(u64::from(most)) == want
 }
 
-fn runs_to(guest: &mut Guest<RunRam>, most: u32, stop: Option<u64>, want: RunEnd) -> bool {
+fn runs_to<R: Ram>(guest: &mut Guest<R>, most: u32, stop: Option<u64>, want: RunEnd) -> bool {
     guest.steps() < 1_000 && guest.run_to(u64::from(most), stop) == want
 }
 
-fn has_bytes(guest: &Guest<RunRam>, at: u64, want: &[u8]) -> bool {
+fn has_bytes<R: Ram>(guest: &Guest<R>, at: u64, want: &[u8]) -> bool {
     let mut bytes = [0xff; 16];
     match bytes.get_mut(..want.len()) {
         Some(out) => guest.peek(at, out) && &*out == want,
@@ -89,7 +80,7 @@ fn has_bytes(guest: &Guest<RunRam>, at: u64, want: &[u8]) -> bool {
 }
 
 /// Whether a step is as it has to be.
-fn is_right(guest: &mut Guest<RunRam>, step: Step) -> bool {
+fn is_right<R: Ram>(guest: &mut Guest<R>, step: Step) -> bool {
     match step {
         Step::Run(most, want) => runs(guest, most, want),
         Step::RunTo(most, stop, want) => runs_to(guest, most, stop, want),
@@ -102,15 +93,21 @@ fn is_right(guest: &mut Guest<RunRam>, step: Step) -> bool {
     }
 }
 
-fn walk(rt: &impl Abort, guest: &mut Guest<RunRam>, steps: &[Step]) {
+fn walk<R: Ram>(rt: &impl Abort, guest: &mut Guest<R>, steps: &[Step]) {
     for (index, step) in steps.iter().enumerate() {
         assert!(rt; is_right(guest, *step), "step {index}");
     }
 }
 
 /// Takes steps with a program that starts in a setting.
-fn check_in(rt: &impl Abort, alloc: Global, program: &[u8], setting: &RunBox<'_>, steps: &[Step]) {
-    match Guest::<RunRam>::start(alloc, program, setting) {
+fn check_in<R: Ram>(
+    rt: &impl Abort,
+    alloc: Global,
+    program: &[u8],
+    setting: &RunBox<'_>,
+    steps: &[Step],
+) {
+    match Guest::<R>::start(alloc, program, setting) {
         Ok(mut guest) => walk(rt, &mut guest, steps),
         Err(_) => panic!(rt; "no start"),
     }
@@ -121,7 +118,7 @@ fn check(rt: &impl Abort, alloc: Global, program: &[u8], heap: u64, steps: &[Ste
     requires { heap ≤ 2 ^ 30 }
 {
     let setting = RunBox::new(alloc, heap);
-    check_in(rt, alloc, program, &setting, steps);
+    check_in::<RunRam>(rt, alloc, program, &setting, steps);
 }
 
 /// The same of the program of these code words.
@@ -220,7 +217,7 @@ static STARTED: [Step; 7] = [
 fn starts_with_an_argument_and_a_file(rt: HostRuntime) {
     let mut setting = RunBox::new(rt.alloc(), 4_096);
     assert!(rt; give_argument_and_files(&mut setting));
-    check_in(&rt, rt.alloc(), &EXIT, &setting, &STARTED);
+    check_in::<RunRam>(&rt, rt.alloc(), &EXIT, &setting, &STARTED);
 }
 
 fn give_environment(setting: &mut RunBox<'_>) -> bool {
@@ -238,7 +235,7 @@ static WITH_ENVIRONMENT: [Step; 3] = [
 fn starts_with_an_environment_text(rt: HostRuntime) {
     let mut setting = RunBox::new(rt.alloc(), 4_096);
     assert!(rt; give_environment(&mut setting));
-    check_in(&rt, rt.alloc(), &EXIT, &setting, &WITH_ENVIRONMENT);
+    check_in::<RunRam>(&rt, rt.alloc(), &EXIT, &setting, &WITH_ENVIRONMENT);
 }
 
 /// A store rewrites the next instruction.

@@ -1,12 +1,11 @@
 //! Verdicts on reports of scripts: a true one, and one fault or two at each part.
 
 use crate::exit_program::EXIT;
-use crate::scripts::{listed, listed_twice};
+use crate::scripts::listed;
 use ddc_base::{Bytes, OutOfMemory};
 use kaem_script::{FileList, Script, ScriptEnd, ScriptPart, ScriptVerdict, audit, read, verify};
 use report::script;
 use std::alloc::Global;
-use std::process::Abort;
 
 /// The script that is run twice: it makes `out`, and then runs it.
 static SCRIPT: &[u8] = b"./copy.elf\n# made\n\"out\" x\n";
@@ -89,26 +88,32 @@ fn judged(alloc: Global, source: &[u8], files: &FileList, text: &[u8]) -> Option
     }
 }
 
-/// What a replay says over files of the example with such a change.
+/// The same over copy.elf and a file `in`; nothing where one is refused.
+fn judged_over(
+    alloc: Global,
+    source: &[u8],
+    input: Option<&[u8]>,
+    reversed: bool,
+    text: &[u8],
+) -> Option<ScriptVerdict> {
+    match listed(alloc, input, reversed) {
+        Some(files) => judged(alloc, source, &files, text),
+        None => None,
+    }
+}
+
+/// What a replay says of the example with such a change over copy.elf and a copy of it, in this order or the other.
 fn judged_change(
     alloc: Global,
-    files: &FileList,
+    reversed: bool,
     first: u64,
     count: u64,
     change: &str,
 ) -> Option<ScriptVerdict> {
     let mut text = Bytes::new(alloc);
     match put_changed(&mut text, first, count, change) {
-        Ok(()) => judged(alloc, SCRIPT, files, text.as_slice()),
+        Ok(()) => judged_over(alloc, SCRIPT, None, reversed, text.as_slice()),
         Err(OutOfMemory) => None,
-    }
-}
-
-/// What a replay says of the example over copy.elf and a copy of it, in this order or the other.
-fn judged_example(alloc: Global, reversed: bool) -> Option<ScriptVerdict> {
-    match listed_twice(alloc, reversed) {
-        Some(files) => judged_change(alloc, &files, 1, 0, ""),
-        None => None,
     }
 }
 
@@ -175,23 +180,16 @@ static CHANGES: &[(u64, u64, &str, ScriptPart, u32)] = &[
 
 #[test]
 fn a_true_report_is_a_yes(rt: HostRuntime) {
-    assert!(rt; judged_example(rt.alloc(), false) == Some(ScriptVerdict::Yes));
+    assert!(rt; judged_change(rt.alloc(), false, 1, 0, "") == Some(ScriptVerdict::Yes));
     // The files that are given are another list in another order.
-    assert!(rt; judged_example(rt.alloc(), true) == refuted(ScriptPart::File, 1));
-}
-
-fn check_changes(rt: &impl Abort, alloc: Global, files: &FileList) {
-    for &(first, count, change, part, place) in CHANGES {
-        let verdict = judged_change(alloc, files, first, count, change);
-        assert!(rt; verdict == refuted(part, place), "{change}");
-    }
+    assert!(rt; judged_change(rt.alloc(), true, 1, 0, "") == refuted(ScriptPart::File, 1));
 }
 
 #[test]
 fn the_first_part_that_fails_is_named(rt: HostRuntime) {
-    match listed_twice(rt.alloc(), false) {
-        Some(files) => check_changes(&rt, rt.alloc(), &files),
-        None => panic!(rt; "no list"),
+    for &(first, count, change, part, place) in CHANGES {
+        let verdict = judged_change(rt.alloc(), false, first, count, change);
+        assert!(rt; verdict == refuted(part, place), "{change}");
     }
 }
 
@@ -226,32 +224,20 @@ fn put_claim(text: &mut Bytes, digest: &str) -> Result<(), OutOfMemory> {
     put_text(text, CLAIM.as_bytes())
 }
 
-/// What a replay says over files of this claim of a script.
-fn judged_claim(
-    alloc: Global,
-    source: &[u8],
-    digest: &str,
-    files: &FileList,
-) -> Option<ScriptVerdict> {
+/// What a replay says over copy.elf and the file `in` of this claim of a script.
+fn judged_claim(alloc: Global, source: &[u8], digest: &str) -> Option<ScriptVerdict> {
     let mut text = Bytes::new(alloc);
     match put_claim(&mut text, digest) {
-        Ok(()) => judged(alloc, source, files, text.as_slice()),
+        Ok(()) => judged_over(alloc, source, Some(b"abc"), false, text.as_slice()),
         Err(OutOfMemory) => None,
-    }
-}
-
-fn check_claims(rt: &impl Abort, alloc: Global, files: &FileList) {
-    for &(source, digest) in &NO_RUNS {
-        let verdict = judged_claim(alloc, source, digest, files);
-        assert!(rt; verdict == refuted(ScriptPart::Run, 1), "{digest}");
     }
 }
 
 #[test]
 fn a_program_that_does_not_start_has_no_run(rt: HostRuntime) {
-    match listed(rt.alloc(), b"abc", false) {
-        Some(files) => check_claims(&rt, rt.alloc(), &files),
-        None => panic!(rt; "no list"),
+    for &(source, digest) in &NO_RUNS {
+        let verdict = judged_claim(rt.alloc(), source, digest);
+        assert!(rt; verdict == refuted(ScriptPart::Run, 1), "{digest}");
     }
 }
 
@@ -288,7 +274,7 @@ fn is_verified(alloc: Global, source: &[u8], files: &FileList, others: &FileList
 
 /// The same where the others have another `in`.
 fn is_verified_beside(alloc: Global, source: &[u8], files: &FileList, reversed: bool) -> bool {
-    match listed(alloc, b"other", reversed) {
+    match listed(alloc, Some(b"other"), reversed) {
         Some(others) => is_verified(alloc, source, files, &others),
         None => false,
     }
@@ -296,7 +282,7 @@ fn is_verified_beside(alloc: Global, source: &[u8], files: &FileList, reversed: 
 
 /// The same of copy.elf and this file `in`.
 fn is_verified_over(alloc: Global, source: &[u8], input: &[u8], reversed: bool) -> bool {
-    match listed(alloc, input, reversed) {
+    match listed(alloc, Some(input), reversed) {
         Some(files) => is_verified_beside(alloc, source, &files, reversed),
         None => false,
     }

@@ -2,7 +2,7 @@
 
 ghost use Rattle.std.specs.Prelude.{◌≤◌, ◌^◌};
 
-use crate::exit_program::EXIT;
+use crate::exit_program::{EXIT, altered};
 use ddc_base::digests::Digest;
 use ddc_base::{Bytes, OutOfMemory, read_hex};
 use elf_load::ElfRefusal;
@@ -223,18 +223,13 @@ fn list_of(alloc: Global, copy: &[u8], input: &[u8], reversed: bool) -> Option<F
     }
 }
 
-/// The list of copy.elf and this file `in`, in this order or the other; nothing where one is refused.
-pub(crate) fn listed(alloc: Global, input: &[u8], reversed: bool) -> Option<FileList> {
+/// The list of copy.elf and a file `in`, which is another copy where no content is given, in this order or the other; nothing where one is refused.
+pub(crate) fn listed(alloc: Global, input: Option<&[u8]>, reversed: bool) -> Option<FileList> {
     match read_hex(alloc, COPY.as_bytes()) {
-        Ok(copy) => list_of(alloc, copy.as_slice(), input, reversed),
-        Err(_) => None,
-    }
-}
-
-/// The list of copy.elf and a copy of it under the name `in`.
-pub(crate) fn listed_twice(alloc: Global, reversed: bool) -> Option<FileList> {
-    match read_hex(alloc, COPY.as_bytes()) {
-        Ok(copy) => list_of(alloc, copy.as_slice(), copy.as_slice(), reversed),
+        Ok(copy) => {
+            let input = input.unwrap_or(copy.as_slice());
+            list_of(alloc, copy.as_slice(), input, reversed)
+        }
         Err(_) => None,
     }
 }
@@ -300,7 +295,7 @@ fn text_ends_over(alloc: Global, script: &[u8], files: &FileList, most: u64, wan
 }
 
 /// The same over copy.elf and a file `in`.
-fn ends(alloc: Global, script: &[u8], input: &[u8], most: u64, wanted: Ending) -> bool
+fn ends(alloc: Global, script: &[u8], input: Option<&[u8]>, most: u64, wanted: Ending) -> bool
     requires some { 1 ≤ most }
     requires few { most ≤ 2 ^ 48 }
 {
@@ -322,20 +317,10 @@ fn stops(
     ends(
         alloc,
         script,
-        input,
+        Some(input),
         100,
         Ending::Stop(command, cause, step),
     )
-}
-
-/// exit.elf with another code word at a byte offset.
-fn altered(offset: usize, word: u32) -> [u8; 132] {
-    let mut file = EXIT;
-    let bytes = word.to_le_bytes();
-    for (place, byte) in file.iter_mut().skip(offset).zip(bytes) {
-        *place = byte;
-    }
-    file
 }
 
 /// Scripts, the file `in`, and the command at which each stops, the cause and the step.
@@ -359,7 +344,7 @@ fn a_script_stops_at_its_first_failure(rt: HostRuntime) {
     let script = b"copy.elf\nout\nelse\n";
     assert!(rt; stops(rt.alloc(), script, &EXIT, 3, CommandCause::NoProgram, 0));
     let spent = Ending::Stop(1, CommandCause::Spent, 31);
-    assert!(rt; ends(rt.alloc(), b"copy.elf", b"abc", 31, spent));
+    assert!(rt; ends(rt.alloc(), b"copy.elf", Some(b"abc"), 31, spent));
 }
 
 /// A word of exit.elf, what it is changed to, and the cause and the step at which the program ends: addi x10, x0, 7 in the place of addi x10, x0, 0;
@@ -385,9 +370,6 @@ fn is_digest(alloc: Global, digest: &Digest, text: &str) -> bool {
     }
 }
 
-/// The names of the files at the end, the first two of which are listed.
-static NAMES: &[&[u8]] = &[b"copy.elf", b"in", b"out"];
-
 /// Whether a line says copy.elf's bytes under a name.
 fn is_copy(alloc: Global, line: &LeftLine, name: &[u8]) -> bool {
     line.name.as_slice() == name
@@ -395,12 +377,24 @@ fn is_copy(alloc: Global, line: &LeftLine, name: &[u8]) -> bool {
         && is_digest(alloc, &line.mark.digest, COPY_DIGEST)
 }
 
-/// Whether lines say copy.elf's bytes under the names.
-fn are_copies(alloc: Global, lines: &[LeftLine]) -> bool {
-    NAMES
-        .iter()
-        .zip(lines)
-        .all(|(name, line)| is_copy(alloc, line, name))
+/// Whether copy.elf and `in` were given, which are copy.elf's bytes.
+fn are_given(alloc: Global, lines: &[LeftLine]) -> bool {
+    match lines {
+        [first, second] => is_copy(alloc, first, b"copy.elf") && is_copy(alloc, second, b"in"),
+        _ => false,
+    }
+}
+
+/// Whether copy.elf, `in` and `out` are left, which are copy.elf's bytes.
+fn are_left(alloc: Global, lines: &[LeftLine]) -> bool {
+    match lines {
+        [first, second, third] => {
+            is_copy(alloc, first, b"copy.elf")
+                && is_copy(alloc, second, b"in")
+                && is_copy(alloc, third, b"out")
+        }
+        _ => false,
+    }
 }
 
 /// Whether a command took 32 steps and wrote nothing.
@@ -411,34 +405,27 @@ fn is_silent(alloc: Global, line: &CommandLine) -> bool {
         && is_digest(alloc, &line.stream1.digest, EMPTY_DIGEST)
 }
 
-/// Whether both commands took 32 steps and wrote nothing, and copy.elf, `in` and `out` are copy.elf's bytes.
-fn is_of_two_copies(alloc: Global, report: &ScriptReport) -> bool {
-    report.files.len() == 2
-        && report.left.len() == 3
-        && report.commands.len() == 2
-        && are_copies(alloc, report.left.as_slice())
-        && are_copies(alloc, report.files.as_slice())
-        && report
-            .commands
-            .as_slice()
-            .iter()
-            .all(|line| is_silent(alloc, line))
-        && is_digest(alloc, &report.script, SCRIPT_DIGEST)
+/// Whether there were two commands, both of which took 32 steps and wrote nothing.
+fn are_silent(alloc: Global, lines: &[CommandLine]) -> bool {
+    match lines {
+        [first, second] => is_silent(alloc, first) && is_silent(alloc, second),
+        _ => false,
+    }
 }
 
-/// Whether the script that is run twice, and one of no command, end as they have to over copy.elf and a copy of it.
-fn end_over_copies(rt: &impl Abort, alloc: Global, files: &FileList) {
-    let script = b"./copy.elf\n# made\n\"out\" x\n";
-    assert!(rt; text_ends_over(alloc, script, files, 100_000, Ending::Copies));
-    assert!(rt; text_ends_over(alloc, b"", files, 1, Ending::Nothing));
+/// Whether a report is of two copies.
+fn is_of_two_copies(alloc: Global, report: &ScriptReport) -> bool {
+    are_given(alloc, report.files.as_slice())
+        && are_left(alloc, report.left.as_slice())
+        && are_silent(alloc, report.commands.as_slice())
+        && is_digest(alloc, &report.script, SCRIPT_DIGEST)
 }
 
 #[test]
 fn a_script_runs_what_it_made(rt: HostRuntime) {
-    match listed_twice(rt.alloc(), false) {
-        Some(files) => end_over_copies(&rt, rt.alloc(), &files),
-        None => panic!(rt; "no list"),
-    }
+    let script = b"./copy.elf\n# made\n\"out\" x\n";
+    assert!(rt; ends(rt.alloc(), script, None, 100_000, Ending::Copies));
+    assert!(rt; ends(rt.alloc(), b"", None, 1, Ending::Nothing));
 }
 
 /// Whether a list takes two files, and refuses a name that it has and one of which nothing is left.

@@ -5,6 +5,7 @@ use guest_run::RunBox;
 use prompt::{MemPrompt, converse};
 use session::Session;
 use std::alloc::Global;
+use std::process::Abort;
 use std::test::Fail;
 
 /// copy.elf, 232 bytes: header, one program header, 26 instructions from 0x10078 on, and the names `in` and `out`.
@@ -207,12 +208,16 @@ fn are_answered(alloc: Global, lines: &str, limit: u32, want: &str) -> Result<bo
     Ok(prints(alloc, &mut prompt, limit, want))
 }
 
-#[test]
-fn lines_are_answered(rt: HostRuntime) -> Result<(), Fail> {
-    for &(lines, limit, want) in &ROWS {
-        assert!(rt; are_answered(rt.alloc(), lines, limit, want)?, "{lines}");
+fn check_rows(rt: &impl Abort, alloc: Global, rows: &[Row]) -> Result<(), OutOfMemory> {
+    for &(lines, limit, want) in rows {
+        assert!(rt; are_answered(alloc, lines, limit, want)?, "{lines}");
     }
     Ok(())
+}
+
+#[test]
+fn lines_are_answered(rt: HostRuntime) -> Result<(), Fail> {
+    Ok(check_rows(&rt, rt.alloc(), &ROWS)?)
 }
 
 /// x2 is the stack, and openat(-100, 0x100e0, 0, ..), the call 56, is made next.
@@ -240,7 +245,20 @@ fn pieces(alloc: Global, prompt: &mut MemPrompt) -> Option<usize> {
     }
 }
 
-/// Whether a session over lines, of which one number is to fail, puts so many pieces and leaves this.
+/// Whether a session over a prompt, of which the line of this number is to fail, puts so many pieces and leaves this.
+fn leaves_of(
+    alloc: Global,
+    prompt: &mut MemPrompt,
+    failing: u64,
+    count: usize,
+    left: &[u8],
+) -> bool {
+    prompt.fail_line(failing).is_ok()
+        && pieces(alloc, prompt) == Some(count)
+        && prompt.left() == left
+}
+
+/// The same over lines.
 fn leaves(
     alloc: Global,
     lines: &[u8],
@@ -249,8 +267,7 @@ fn leaves(
     left: &[u8],
 ) -> Result<bool, OutOfMemory> {
     let mut prompt = MemPrompt::new(alloc, lines)?;
-    prompt.fail_line(failing)?;
-    Ok(pieces(alloc, &mut prompt) == Some(count) && prompt.left() == left)
+    Ok(leaves_of(alloc, &mut prompt, failing, count, left))
 }
 
 #[test]
@@ -280,17 +297,29 @@ fn has_whole(out: &MemSink, put_fails: u64, count: usize) -> bool {
     out.pieces().len() == count && out.written().len() == whole.saturating_add(half)
 }
 
-/// Whether a session over a prompt is cut behind so many whole lines.
+/// Whether a session over a prompt into a sink is cut behind so many whole lines.
+fn is_cut_into(
+    alloc: Global,
+    prompt: &mut MemPrompt,
+    out: &mut MemSink,
+    put_fails: u64,
+    count: usize,
+) -> bool {
+    out.fail_put(put_fails).is_ok()
+        && hold(alloc, prompt, 100, out) == Some(Err(PutFail::Failed))
+        && has_whole(out, put_fails, count)
+}
+
+/// The same over a prompt of which the line of this number is to fail.
 fn is_cut_over(
     alloc: Global,
     prompt: &mut MemPrompt,
+    line_fails: u64,
     put_fails: u64,
     count: usize,
-) -> Result<bool, OutOfMemory> {
+) -> bool {
     let mut out = MemSink::new(alloc);
-    out.fail_put(put_fails)?;
-    let end = hold(alloc, prompt, 100, &mut out);
-    Ok(end == Some(Err(PutFail::Failed)) && has_whole(&out, put_fails, count))
+    prompt.fail_line(line_fails).is_ok() && is_cut_into(alloc, prompt, &mut out, put_fails, count)
 }
 
 fn is_cut(
@@ -300,8 +329,7 @@ fn is_cut(
     count: usize,
 ) -> Result<bool, OutOfMemory> {
     let mut prompt = MemPrompt::new(alloc, b"where\nwhere\n")?;
-    prompt.fail_line(line_fails)?;
-    is_cut_over(alloc, &mut prompt, put_fails, count)
+    Ok(is_cut_over(alloc, &mut prompt, line_fails, put_fails, count))
 }
 
 #[test]
