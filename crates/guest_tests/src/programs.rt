@@ -107,10 +107,8 @@ fn check_in<R: Ram>(
     setting: &RunBox<'_>,
     steps: &[Step],
 ) {
-    match Guest::<R>::start(alloc, program, setting) {
-        Ok(mut guest) => walk(rt, &mut guest, steps),
-        Err(_) => panic!(rt; "no start"),
-    }
+    let mut guest = Guest::<R>::start(alloc, program, setting).expect(rt, "a start");
+    walk(rt, &mut guest, steps);
 }
 
 /// The same with a heap of at most so many bytes alone.

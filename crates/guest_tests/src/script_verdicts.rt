@@ -6,6 +6,7 @@ use ddc_base::{Bytes, OutOfMemory};
 use kaem_script::{FileList, Script, ScriptEnd, ScriptPart, ScriptVerdict, audit, read, verify};
 use report::script;
 use std::alloc::Global;
+use std::process::Abort;
 
 /// The script that is run twice: it makes `out`, and then runs it.
 static SCRIPT: &[u8] = b"./copy.elf\n# made\n\"out\" x\n";
@@ -67,58 +68,67 @@ fn put_changed(out: &mut Bytes, first: u64, count: u64, change: &str) -> Result<
     put_lines(out, first.saturating_add(count), LINES)
 }
 
-/// What a replay says of a report's text over files; nothing where it is no report.
+/// What a replay says of a report's text over files.
 fn judged_text(
+    rt: &impl Abort,
     alloc: Global,
     script: &Script,
     files: &FileList,
     text: &[u8],
-) -> Option<ScriptVerdict> {
-    match script::read(alloc, text) {
-        Ok(report) => Some(verify(alloc, script, files, &report)),
-        Err(_) => None,
-    }
+) -> ScriptVerdict {
+    let report = script::read(alloc, text).expect(rt, "a report");
+    verify(alloc, script, files, &report)
 }
 
-/// The same of a script's text; nothing where it is refused.
-fn judged(alloc: Global, source: &[u8], files: &FileList, text: &[u8]) -> Option<ScriptVerdict> {
-    match read(alloc, source) {
-        Ok(script) => judged_text(alloc, &script, files, text),
-        Err(_) => None,
-    }
+/// The same of a script's text.
+fn judged(
+    rt: &impl Abort,
+    alloc: Global,
+    source: &[u8],
+    files: &FileList,
+    text: &[u8],
+) -> ScriptVerdict {
+    let script = read(alloc, source).expect(rt, "a script");
+    judged_text(rt, alloc, &script, files, text)
 }
 
-/// The same over copy.elf and a file `in`; nothing where one is refused.
+/// The same over copy.elf and a file `in`.
 fn judged_over(
+    rt: &impl Abort,
     alloc: Global,
     source: &[u8],
     input: Option<&[u8]>,
     reversed: bool,
     text: &[u8],
-) -> Option<ScriptVerdict> {
-    match listed(alloc, input, reversed) {
-        Some(files) => judged(alloc, source, &files, text),
-        None => None,
-    }
+) -> ScriptVerdict {
+    let files = listed(rt, alloc, input, reversed);
+    judged(rt, alloc, source, &files, text)
 }
 
 /// What a replay says of the example with such a change over copy.elf and a copy of it, in this order or the other.
 fn judged_change(
+    rt: &impl Abort,
     alloc: Global,
     reversed: bool,
     first: u64,
     count: u64,
     change: &str,
-) -> Option<ScriptVerdict> {
+) -> Result<ScriptVerdict, OutOfMemory> {
     let mut text = Bytes::new(alloc);
-    match put_changed(&mut text, first, count, change) {
-        Ok(()) => judged_over(alloc, SCRIPT, None, reversed, text.as_slice()),
-        Err(OutOfMemory) => None,
-    }
+    put_changed(&mut text, first, count, change)?;
+    Ok(judged_over(rt, alloc, SCRIPT, None, reversed, text.as_slice()))
 }
 
-fn refuted(part: ScriptPart, place: u32) -> Option<ScriptVerdict> {
-    Some(ScriptVerdict::Refuted { part, place })
+/// Asserts that in the example with such a change this part, if any, is the first that is not true.
+fn check_change(
+    rt: &impl Abort,
+    alloc: Global,
+    reversed: bool,
+    (first, count, change): (u64, u64, &str),
+    want: ScriptVerdict,
+) {
+    let verdict = judged_change(rt, alloc, reversed, first, count, change);
+    assert!(rt; verdict == Ok(want), "{change}");
 }
 
 /// Changes of the example: from this line on so many lines are replaced by a text; the first part that is then not true, and its place.
@@ -180,16 +190,21 @@ static CHANGES: &[(u64, u64, &str, ScriptPart, u32)] = &[
 
 #[test]
 fn a_true_report_is_a_yes(rt: HostRuntime) {
-    assert!(rt; judged_change(rt.alloc(), false, 1, 0, "") == Some(ScriptVerdict::Yes));
+    let alloc = rt.alloc();
+    check_change(&rt, alloc, false, (1, 0, ""), ScriptVerdict::Yes);
     // The files that are given are another list in another order.
-    assert!(rt; judged_change(rt.alloc(), true, 1, 0, "") == refuted(ScriptPart::File, 1));
+    let refuted = ScriptVerdict::Refuted {
+        part: ScriptPart::File,
+        place: 1,
+    };
+    check_change(&rt, alloc, true, (1, 0, ""), refuted);
 }
 
 #[test]
 fn the_first_part_that_fails_is_named(rt: HostRuntime) {
     for &(first, count, change, part, place) in CHANGES {
-        let verdict = judged_change(rt.alloc(), false, first, count, change);
-        assert!(rt; verdict == refuted(part, place), "{change}");
+        let refuted = ScriptVerdict::Refuted { part, place };
+        check_change(&rt, rt.alloc(), false, (first, count, change), refuted);
     }
 }
 
@@ -225,19 +240,26 @@ fn put_claim(text: &mut Bytes, digest: &str) -> Result<(), OutOfMemory> {
 }
 
 /// What a replay says over copy.elf and the file `in` of this claim of a script.
-fn judged_claim(alloc: Global, source: &[u8], digest: &str) -> Option<ScriptVerdict> {
+fn judged_claim(
+    rt: &impl Abort,
+    alloc: Global,
+    source: &[u8],
+    digest: &str,
+) -> Result<ScriptVerdict, OutOfMemory> {
     let mut text = Bytes::new(alloc);
-    match put_claim(&mut text, digest) {
-        Ok(()) => judged_over(alloc, source, Some(b"abc"), false, text.as_slice()),
-        Err(OutOfMemory) => None,
-    }
+    put_claim(&mut text, digest)?;
+    Ok(judged_over(rt, alloc, source, Some(b"abc"), false, text.as_slice()))
 }
 
 #[test]
 fn a_program_that_does_not_start_has_no_run(rt: HostRuntime) {
     for &(source, digest) in &NO_RUNS {
-        let verdict = judged_claim(rt.alloc(), source, digest);
-        assert!(rt; verdict == refuted(ScriptPart::Run, 1), "{digest}");
+        let refuted = ScriptVerdict::Refuted {
+            part: ScriptPart::Run,
+            place: 1,
+        };
+        let verdict = judged_claim(&rt, rt.alloc(), source, digest);
+        assert!(rt; verdict == Ok(refuted), "{digest}");
     }
 }
 
@@ -265,36 +287,43 @@ fn is_audited(alloc: Global, script: &Script, files: &FileList, others: &FileLis
 }
 
 /// The same of a script's text.
-fn is_verified(alloc: Global, source: &[u8], files: &FileList, others: &FileList) -> bool {
-    match read(alloc, source) {
-        Ok(script) => is_audited(alloc, &script, files, others),
-        Err(_) => false,
-    }
+fn is_verified(
+    rt: &impl Abort,
+    alloc: Global,
+    source: &[u8],
+    files: &FileList,
+    others: &FileList,
+) -> bool {
+    let script = read(alloc, source).expect(rt, "a script");
+    is_audited(alloc, &script, files, others)
 }
 
 /// The same where the others have another `in`.
-fn is_verified_beside(alloc: Global, source: &[u8], files: &FileList, reversed: bool) -> bool {
-    match listed(alloc, Some(b"other"), reversed) {
-        Some(others) => is_verified(alloc, source, files, &others),
-        None => false,
-    }
+fn is_verified_beside(
+    rt: &impl Abort,
+    alloc: Global,
+    source: &[u8],
+    files: &FileList,
+    reversed: bool,
+) -> bool {
+    let others = listed(rt, alloc, Some(b"other"), reversed);
+    is_verified(rt, alloc, source, files, &others)
 }
 
-/// The same of copy.elf and this file `in`.
-fn is_verified_over(alloc: Global, source: &[u8], input: &[u8], reversed: bool) -> bool {
-    match listed(alloc, Some(input), reversed) {
-        Some(files) => is_verified_beside(alloc, source, &files, reversed),
-        None => false,
-    }
+/// Asserts the same of copy.elf and this file `in`.
+fn check_verified(rt: &impl Abort, alloc: Global, source: &[u8], input: &[u8], reversed: bool) {
+    let files = listed(rt, alloc, Some(input), reversed);
+    check_beside(rt, alloc, source, &files, reversed);
+}
+
+fn check_beside(rt: &impl Abort, alloc: Global, source: &[u8], files: &FileList, reversed: bool) {
+    assert!(rt; is_verified_beside(rt, alloc, source, files, reversed));
 }
 
 #[test]
 fn what_is_audited_is_verified(rt: HostRuntime) {
-    for (source, input, reversed) in [
-        (b"".as_slice(), b"abc".as_slice(), true),
-        (b"copy.elf\n", b"abc", true),
-        (b"copy.elf\nout\n./in\n", &EXIT, false),
-    ] {
-        assert!(rt; is_verified_over(rt.alloc(), source, input, reversed));
-    }
+    let alloc = rt.alloc();
+    check_verified(&rt, alloc, b"", b"abc", true);
+    check_verified(&rt, alloc, b"copy.elf\n", b"abc", true);
+    check_verified(&rt, alloc, b"copy.elf\nout\n./in\n", &EXIT, false);
 }

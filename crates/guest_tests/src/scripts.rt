@@ -57,19 +57,17 @@ static REFUSED: &[(&[u8], ScriptFault, u64)] = &[
 ];
 
 #[test]
-fn scripts_are_read(rt: HostRuntime) -> Result<(), Fail> {
+fn scripts_are_read(rt: HostRuntime) {
     for (script, commands) in READ {
         assert!(rt; read_as(rt.alloc(), script) == Ok(*commands));
     }
-    Ok(())
 }
 
 #[test]
-fn the_first_fault_is_named(rt: HostRuntime) -> Result<(), Fail> {
+fn the_first_fault_is_named(rt: HostRuntime) {
     for (script, fault, offset) in REFUSED {
         assert!(rt; read_as(rt.alloc(), script) == Err(ScriptRefusal::At(*fault, *offset)));
     }
-    Ok(())
 }
 
 /// Adds so many copies of some bytes, and an end.
@@ -173,21 +171,22 @@ fn is_command_of(script: &Script, first: &[u8], second: &[u8]) -> bool {
     }
 }
 
-/// Whether a text is a script of one command of these two words.
-fn has_words(alloc: Global, script: &[u8], first: &[u8], second: &[u8]) -> bool {
-    match read(alloc, script) {
-        Ok(script) => is_command_of(&script, first, second),
-        Err(_) => false,
-    }
+fn check_command(rt: &impl Abort, script: &Script, first: &[u8], second: &[u8]) {
+    assert!(rt; is_command_of(script, first, second));
+}
+
+/// Asserts that a text is a script of one command of these two words.
+fn check_words(rt: &impl Abort, alloc: Global, script: &[u8], first: &[u8], second: &[u8]) {
+    let script = read(alloc, script).expect(rt, "a script");
+    check_command(rt, &script, first, second);
 }
 
 #[test]
-fn words_are_kept_as_written(rt: HostRuntime) -> Result<(), Fail> {
+fn words_are_kept_as_written(rt: HostRuntime) {
     let alloc = rt.alloc();
-    assert!(rt; has_words(alloc, b"./a/b c", b"./a/b", b"c"));
-    assert!(rt; has_words(alloc, b"\"./a\" \"b \t# $\\\"\n", b"./a", b"b \t# $\\"));
-    assert!(rt; has_words(alloc, b"a \"\"", b"a", b""));
-    Ok(())
+    check_words(&rt, alloc, b"./a/b c", b"./a/b", b"c");
+    check_words(&rt, alloc, b"\"./a\" \"b \t# $\\\"\n", b"./a", b"b \t# $\\");
+    check_words(&rt, alloc, b"a \"\"", b"a", b"");
 }
 
 /// Copies the file `in` to `out` in 32 steps, and exits with 0: 232 bytes.
@@ -200,38 +199,43 @@ const EMPTY_DIGEST: &str = "e3b0c44298fc1c149afbf4c8996fb92427ae41e4649b934ca495
 /// Of the script that is run twice, by sha256sum.
 const SCRIPT_DIGEST: &str = "5b544eaf879399c9d37e34356a8842f02a6cb537d69cfa52ec6a88eb0dc91427";
 
-/// Adds copy.elf and this file `in`, in this order or the other; whether none is refused.
-fn fill(files: &mut FileList, copy: &[u8], input: &[u8], reversed: bool) -> bool {
+fn push(rt: &impl Abort, files: &mut FileList, name: &[u8], content: &[u8]) {
+    assert!(rt; files.push(name, content).is_ok());
+}
+
+/// Adds copy.elf and this file `in`, in this order or the other.
+fn fill(rt: &impl Abort, files: &mut FileList, copy: &[u8], input: &[u8], reversed: bool) {
     if reversed {
-        files.push(b"./in", input).is_ok() && files.push(b"copy.elf", copy).is_ok()
+        push(rt, files, b"./in", input);
+        push(rt, files, b"copy.elf", copy);
     } else {
-        files.push(b"./copy.elf", copy).is_ok() && files.push(b"in", input).is_ok()
+        push(rt, files, b"./copy.elf", copy);
+        push(rt, files, b"in", input);
     }
 }
 
-/// The list of a program and a file `in`; nothing where one is refused.
-fn list_of(alloc: Global, copy: &[u8], input: &[u8], reversed: bool) -> Option<FileList> {
-    match FileList::new(alloc) {
-        Ok(mut files) => {
-            if fill(&mut files, copy, input, reversed) {
-                Some(files)
-            } else {
-                None
-            }
-        }
-        Err(_) => None,
-    }
+/// The list of a program and a file `in`, which is a copy of it where no content is given.
+fn list_of(
+    rt: &impl Abort,
+    alloc: Global,
+    copy: &[u8],
+    input: Option<&[u8]>,
+    reversed: bool,
+) -> FileList {
+    let mut files = FileList::new(alloc).expect(rt, "memory");
+    fill(rt, &mut files, copy, input.unwrap_or(copy), reversed);
+    files
 }
 
-/// The list of copy.elf and a file `in`, which is another copy where no content is given, in this order or the other; nothing where one is refused.
-pub(crate) fn listed(alloc: Global, input: Option<&[u8]>, reversed: bool) -> Option<FileList> {
-    match read_hex(alloc, COPY.as_bytes()) {
-        Ok(copy) => {
-            let input = input.unwrap_or(copy.as_slice());
-            list_of(alloc, copy.as_slice(), input, reversed)
-        }
-        Err(_) => None,
-    }
+/// The list of copy.elf and a file `in`, which is another copy where no content is given, in this order or the other.
+pub(crate) fn listed(
+    rt: &impl Abort,
+    alloc: Global,
+    input: Option<&[u8]>,
+    reversed: bool,
+) -> FileList {
+    let copy = read_hex(alloc, COPY.as_bytes()).expect(rt, "a program");
+    list_of(rt, alloc, copy.as_slice(), input, reversed)
 }
 
 /// How a script has to end.
@@ -284,29 +288,40 @@ fn ends_over(alloc: Global, script: &Script, files: &FileList, most: u64, wanted
 }
 
 /// The same of a script's text.
-fn text_ends_over(alloc: Global, script: &[u8], files: &FileList, most: u64, wanted: Ending) -> bool
+fn text_ends_over(
+    rt: &impl Abort,
+    alloc: Global,
+    script: &[u8],
+    files: &FileList,
+    most: u64,
+    wanted: Ending,
+) -> bool
     requires some { 1 ≤ most }
     requires few { most ≤ 2 ^ 48 }
 {
-    match read(alloc, script) {
-        Ok(script) => ends_over(alloc, &script, files, most, wanted),
-        Err(_) => false,
-    }
+    let script = read(alloc, script).expect(rt, "a script");
+    ends_over(alloc, &script, files, most, wanted)
 }
 
 /// The same over copy.elf and a file `in`.
-fn ends(alloc: Global, script: &[u8], input: Option<&[u8]>, most: u64, wanted: Ending) -> bool
+fn ends(
+    rt: &impl Abort,
+    alloc: Global,
+    script: &[u8],
+    input: Option<&[u8]>,
+    most: u64,
+    wanted: Ending,
+) -> bool
     requires some { 1 ≤ most }
     requires few { most ≤ 2 ^ 48 }
 {
-    match listed(alloc, input, false) {
-        Some(files) => text_ends_over(alloc, script, &files, most, wanted),
-        None => false,
-    }
+    let files = listed(rt, alloc, input, false);
+    text_ends_over(rt, alloc, script, &files, most, wanted)
 }
 
 /// Whether a script stops within 100 steps of each command at this command, for this cause, at this step.
 fn stops(
+    rt: &impl Abort,
     alloc: Global,
     script: &[u8],
     input: &[u8],
@@ -315,6 +330,7 @@ fn stops(
     step: u64,
 ) -> bool {
     ends(
+        rt,
         alloc,
         script,
         Some(input),
@@ -338,13 +354,23 @@ static STOPS: &[(&[u8], &[u8], u32, CommandCause, u64)] = &[
 #[test]
 fn a_script_stops_at_its_first_failure(rt: HostRuntime) {
     for (script, input, command, cause, step) in STOPS {
-        assert!(rt; stops(rt.alloc(), script, input, *command, *cause, *step));
+        assert!(rt; stops(&rt, rt.alloc(), script, input, *command, *cause, *step));
     }
     // What a command made is there for the next one, under the name that it has then.
     let script = b"copy.elf\nout\nelse\n";
-    assert!(rt; stops(rt.alloc(), script, &EXIT, 3, CommandCause::NoProgram, 0));
+    assert!(rt;
+        stops(
+            &rt,
+            rt.alloc(),
+            script,
+            &EXIT,
+            3,
+            CommandCause::NoProgram,
+            0
+        )
+    );
     let spent = Ending::Stop(1, CommandCause::Spent, 31);
-    assert!(rt; ends(rt.alloc(), b"copy.elf", Some(b"abc"), 31, spent));
+    assert!(rt; ends(&rt, rt.alloc(), b"copy.elf", Some(b"abc"), 31, spent));
 }
 
 /// A word of exit.elf, what it is changed to, and the cause and the step at which the program ends: addi x10, x0, 7 in the place of addi x10, x0, 0;
@@ -358,7 +384,17 @@ static OTHERWISE: [(usize, u32, CommandCause, u64); 3] = [
 #[test]
 fn a_script_stops_at_a_program_that_ends_otherwise(rt: HostRuntime) {
     for (offset, word, cause, step) in OTHERWISE {
-        assert!(rt; stops(rt.alloc(), b"in", &altered(offset, word), 1, cause, step));
+        assert!(rt;
+            stops(
+                &rt,
+                rt.alloc(),
+                b"in",
+                &altered(offset, word),
+                1,
+                cause,
+                step
+            )
+        );
     }
 }
 
@@ -424,8 +460,8 @@ fn is_of_two_copies(alloc: Global, report: &ScriptReport) -> bool {
 #[test]
 fn a_script_runs_what_it_made(rt: HostRuntime) {
     let script = b"./copy.elf\n# made\n\"out\" x\n";
-    assert!(rt; ends(rt.alloc(), script, None, 100_000, Ending::Copies));
-    assert!(rt; ends(rt.alloc(), b"", None, 1, Ending::Nothing));
+    assert!(rt; ends(&rt, rt.alloc(), script, None, 100_000, Ending::Copies));
+    assert!(rt; ends(&rt, rt.alloc(), b"", None, 1, Ending::Nothing));
 }
 
 /// Whether a list takes two files, and refuses a name that it has and one of which nothing is left.

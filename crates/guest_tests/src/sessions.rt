@@ -131,52 +131,50 @@ static ROWS: [Row; 24] = [
 ];
 
 /// Adds the argument and the file.
-fn give(setting: &mut RunBox<'_>) -> bool {
-    setting.push_arg(b"copy").is_ok() && setting.place(b"in", b"abc").is_ok()
+fn give(rt: &impl Abort, setting: &mut RunBox<'_>) {
+    assert!(rt; setting.push_arg(b"copy").is_ok());
+    assert!(rt; setting.place(b"in", b"abc").is_ok());
 }
 
-/// Holds a session of a program in a setting over a prompt; nothing where it does not start.
+/// Holds a session of a program in a setting over a prompt.
 fn hold_in<'a>(
+    rt: &impl Abort,
     alloc: Global,
     program: &'a [u8],
     setting: RunBox<'a>,
     limit: u32,
     prompt: &mut MemPrompt,
     out: &mut MemSink,
-) -> Option<Result<(), PutFail>> {
-    match Session::new(alloc, program, setting, u64::from(limit)) {
-        Ok(mut session) => Some(converse(&mut session, 65_536, prompt, out)),
-        Err(_) => None,
-    }
+) -> Result<(), PutFail> {
+    let started = Session::new(alloc, program, setting, u64::from(limit));
+    let mut session = started.expect(rt, "a start");
+    converse(&mut session, 65_536, prompt, out)
 }
 
 /// The same in the setting with the argument and the file.
 fn hold_with<'a>(
+    rt: &impl Abort,
     alloc: Global,
     program: &'a [u8],
     limit: u32,
     prompt: &mut MemPrompt,
     out: &mut MemSink,
-) -> Option<Result<(), PutFail>> {
+) -> Result<(), PutFail> {
     let mut setting = RunBox::new(alloc, 536_870_912);
-    if give(&mut setting) {
-        hold_in(alloc, program, setting, limit, prompt, out)
-    } else {
-        None
-    }
+    give(rt, &mut setting);
+    hold_in(rt, alloc, program, setting, limit, prompt, out)
 }
 
 /// The same of copy.elf.
 fn hold(
+    rt: &impl Abort,
     alloc: Global,
     prompt: &mut MemPrompt,
     limit: u32,
     out: &mut MemSink,
-) -> Option<Result<(), PutFail>> {
-    match read_hex(alloc, COPY.as_bytes()) {
-        Ok(copy) => hold_with(alloc, copy.as_slice(), limit, prompt, out),
-        Err(_) => None,
-    }
+) -> Result<(), PutFail> {
+    let copy = read_hex(alloc, COPY.as_bytes()).expect(rt, "a program");
+    hold_with(rt, alloc, copy.as_slice(), limit, prompt, out)
 }
 
 /// How many lines a text has.
@@ -196,21 +194,27 @@ fn has_lines(out: &MemSink, text: &[u8]) -> bool {
 }
 
 /// Whether a session over a prompt prints this.
-fn prints(alloc: Global, prompt: &mut MemPrompt, limit: u32, want: &str) -> bool {
+fn prints(rt: &impl Abort, alloc: Global, prompt: &mut MemPrompt, limit: u32, want: &str) -> bool {
     let mut out = MemSink::new(alloc);
-    let end = hold(alloc, prompt, limit, &mut out);
-    end == Some(Ok(())) && has_lines(&out, want.as_bytes())
+    let end = hold(rt, alloc, prompt, limit, &mut out);
+    end == Ok(()) && has_lines(&out, want.as_bytes())
 }
 
 /// Whether lines are answered by this in one session.
-fn are_answered(alloc: Global, lines: &str, limit: u32, want: &str) -> Result<bool, OutOfMemory> {
+fn are_answered(
+    rt: &impl Abort,
+    alloc: Global,
+    lines: &str,
+    limit: u32,
+    want: &str,
+) -> Result<bool, OutOfMemory> {
     let mut prompt = MemPrompt::new(alloc, lines.as_bytes())?;
-    Ok(prints(alloc, &mut prompt, limit, want))
+    Ok(prints(rt, alloc, &mut prompt, limit, want))
 }
 
 fn check_rows(rt: &impl Abort, alloc: Global, rows: &[Row]) -> Result<(), OutOfMemory> {
     for &(lines, limit, want) in rows {
-        assert!(rt; are_answered(alloc, lines, limit, want)?, "{lines}");
+        assert!(rt; are_answered(rt, alloc, lines, limit, want)?, "{lines}");
     }
     Ok(())
 }
@@ -230,15 +234,15 @@ const REGISTERS: &str = "at 5 000000000001008c ecall\n000000000001008c \
 
 #[test]
 fn registers_are_shown(rt: HostRuntime) -> Result<(), Fail> {
-    assert!(rt; are_answered(rt.alloc(), "step 5\nregs\n", 100, REGISTERS)?);
+    assert!(rt; are_answered(&rt, rt.alloc(), "step 5\nregs\n", 100, REGISTERS)?);
     Ok(())
 }
 
 /// How many pieces a session over a prompt puts; nothing where it is cut.
-fn pieces(alloc: Global, prompt: &mut MemPrompt) -> Option<usize> {
+fn pieces(rt: &impl Abort, alloc: Global, prompt: &mut MemPrompt) -> Option<usize> {
     let mut out = MemSink::new(alloc);
-    let end = hold(alloc, prompt, 100, &mut out);
-    if end == Some(Ok(())) {
+    let end = hold(rt, alloc, prompt, 100, &mut out);
+    if end == Ok(()) {
         Some(out.pieces().len())
     } else {
         None
@@ -247,6 +251,7 @@ fn pieces(alloc: Global, prompt: &mut MemPrompt) -> Option<usize> {
 
 /// Whether a session over a prompt, of which the line of this number is to fail, puts so many pieces and leaves this.
 fn leaves_of(
+    rt: &impl Abort,
     alloc: Global,
     prompt: &mut MemPrompt,
     failing: u64,
@@ -254,12 +259,13 @@ fn leaves_of(
     left: &[u8],
 ) -> bool {
     prompt.fail_line(failing).is_ok()
-        && pieces(alloc, prompt) == Some(count)
+        && pieces(rt, alloc, prompt) == Some(count)
         && prompt.left() == left
 }
 
 /// The same over lines.
 fn leaves(
+    rt: &impl Abort,
     alloc: Global,
     lines: &[u8],
     failing: u64,
@@ -267,20 +273,20 @@ fn leaves(
     left: &[u8],
 ) -> Result<bool, OutOfMemory> {
     let mut prompt = MemPrompt::new(alloc, lines)?;
-    Ok(leaves_of(alloc, &mut prompt, failing, count, left))
+    Ok(leaves_of(rt, alloc, &mut prompt, failing, count, left))
 }
 
 #[test]
 fn what_is_left_stays(rt: HostRuntime) -> Result<(), Fail> {
-    assert!(rt; leaves(rt.alloc(), b"where\nquit\nwhere\n", 0, 1, b"where\n")?);
+    assert!(rt; leaves(&rt, rt.alloc(), b"where\nquit\nwhere\n", 0, 1, b"where\n")?);
     Ok(())
 }
 
 /// Behind `quit` and behind the end no line is asked for, so none fails.
 #[test]
 fn no_line_behind_the_last_fails(rt: HostRuntime) -> Result<(), Fail> {
-    assert!(rt; leaves(rt.alloc(), b"where\nquit\n", 3, 1, b"")?);
-    assert!(rt; leaves(rt.alloc(), b"where\n", 3, 1, b"")?);
+    assert!(rt; leaves(&rt, rt.alloc(), b"where\nquit\n", 3, 1, b"")?);
+    assert!(rt; leaves(&rt, rt.alloc(), b"where\n", 3, 1, b"")?);
     Ok(())
 }
 
@@ -299,6 +305,7 @@ fn has_whole(out: &MemSink, put_fails: u64, count: usize) -> bool {
 
 /// Whether a session over a prompt into a sink is cut behind so many whole lines.
 fn is_cut_into(
+    rt: &impl Abort,
     alloc: Global,
     prompt: &mut MemPrompt,
     out: &mut MemSink,
@@ -306,12 +313,13 @@ fn is_cut_into(
     count: usize,
 ) -> bool {
     out.fail_put(put_fails).is_ok()
-        && hold(alloc, prompt, 100, out) == Some(Err(PutFail::Failed))
+        && hold(rt, alloc, prompt, 100, out) == Err(PutFail::Failed)
         && has_whole(out, put_fails, count)
 }
 
 /// The same over a prompt of which the line of this number is to fail.
 fn is_cut_over(
+    rt: &impl Abort,
     alloc: Global,
     prompt: &mut MemPrompt,
     line_fails: u64,
@@ -319,23 +327,25 @@ fn is_cut_over(
     count: usize,
 ) -> bool {
     let mut out = MemSink::new(alloc);
-    prompt.fail_line(line_fails).is_ok() && is_cut_into(alloc, prompt, &mut out, put_fails, count)
+    prompt.fail_line(line_fails).is_ok()
+        && is_cut_into(rt, alloc, prompt, &mut out, put_fails, count)
 }
 
 fn is_cut(
+    rt: &impl Abort,
     alloc: Global,
     line_fails: u64,
     put_fails: u64,
     count: usize,
 ) -> Result<bool, OutOfMemory> {
     let mut prompt = MemPrompt::new(alloc, b"where\nwhere\n")?;
-    Ok(is_cut_over(alloc, &mut prompt, line_fails, put_fails, count))
+    Ok(is_cut_over(rt, alloc, &mut prompt, line_fails, put_fails, count))
 }
 
 #[test]
 fn faults_cut_a_session(rt: HostRuntime) -> Result<(), Fail> {
     for &(line_fails, put_fails, count) in &FAULTS {
-        assert!(rt; is_cut(rt.alloc(), line_fails, put_fails, count)?);
+        assert!(rt; is_cut(&rt, rt.alloc(), line_fails, put_fails, count)?);
     }
     Ok(())
 }
@@ -352,6 +362,6 @@ fn empty_lines(alloc: Global, count: u32) -> Result<Bytes, OutOfMemory> {
 #[test]
 fn lines_are_counted(rt: HostRuntime) -> Result<(), Fail> {
     let lines = empty_lines(rt.alloc(), 65_538)?;
-    assert!(rt; leaves(rt.alloc(), lines.as_slice(), 0, 65_536, b"\n\n")?);
+    assert!(rt; leaves(&rt, rt.alloc(), lines.as_slice(), 0, 65_536, b"\n\n")?);
     Ok(())
 }
