@@ -98,14 +98,13 @@ impl Guest {
         call(alloc, &regs, &mut self.ram, &mut self.files, &mut self.heap)
     }
 
-    fn run(&mut self, rt: &impl Abort, alloc: Global, rows: &[Row]) {
-        for &(number, arguments, want) in rows {
+    /// Makes the calls of rows, and asks for each one's answer.
+    fn run(&mut self, rt: &impl Abort, alloc: Global, rows: &[Row]) -> bool {
+        for (index, &(number, arguments, want)) in rows.iter().enumerate() {
             let end = self.ask(alloc, number, arguments);
-            assert!(rt;
-                end == CallEnd::Back(want.cast_unsigned()),
-                "call {number} with {arguments:?}"
-            );
+            assert!(rt; end == CallEnd::Back(want.cast_unsigned()), "call {index}");
         }
+        true
     }
 }
 
@@ -149,15 +148,13 @@ enum Step {
     NameAll,
 }
 
-fn take(rt: &impl Abort, alloc: Global, guest: &mut Guest, step: Step) {
+/// Whether a step is as it has to be.
+fn is_right(rt: &impl Abort, alloc: Global, guest: &mut Guest, step: Step) -> bool {
     match step {
         Step::Rows(rows) => guest.run(rt, alloc, rows),
-        Step::Ends(number, argument, want) => {
-            let end = guest.ask(alloc, number, [argument, 0, 0]);
-            assert!(rt; end == want, "call {number}");
-        }
-        Step::Put(at, bytes) => assert!(rt; guest.put(at, bytes)),
-        Step::Byte(at, want) => assert!(rt; guest.byte(at) == want, "{at}"),
+        Step::Ends(number, argument, want) => guest.ask(alloc, number, [argument, 0, 0]) == want,
+        Step::Put(at, bytes) => guest.put(at, bytes),
+        Step::Byte(at, want) => guest.byte(at) == want,
         Step::OpenAll => open_all(rt, alloc, guest),
         Step::NameAll => name_all(rt, alloc, guest),
     }
@@ -165,8 +162,8 @@ fn take(rt: &impl Abort, alloc: Global, guest: &mut Guest, step: Step) {
 
 fn walk(rt: &impl Abort, alloc: Global, guest: &mut Guest, steps: &[Step]) {
     put_texts(guest);
-    for step in steps {
-        take(rt, alloc, guest, *step);
+    for (index, step) in steps.iter().enumerate() {
+        assert!(rt; is_right(rt, alloc, guest, *step), "step {index}");
     }
 }
 
@@ -386,10 +383,11 @@ fn paths_at_the_edge(rt: HostRuntime) {
     check(&rt, rt.alloc(), &AT_THE_EDGE);
 }
 
-fn open_all(rt: &impl Abort, alloc: Global, guest: &mut Guest) {
+fn open_all(rt: &impl Abort, alloc: Global, guest: &mut Guest) -> bool {
     for fd in 3..1024i64 {
         guest.run(rt, alloc, &[(SYS_OPENAT, [CWD, F, 64], fd)]);
     }
+    true
 }
 
 #[test]
@@ -415,10 +413,11 @@ fn make_names(rt: &impl Abort, alloc: Global, guest: &mut Guest, first: u8)
     }
 }
 
-fn name_all(rt: &impl Abort, alloc: Global, guest: &mut Guest) {
+fn name_all(rt: &impl Abort, alloc: Global, guest: &mut Guest) -> bool {
     for first in 0..16 {
         make_names(rt, alloc, guest, first);
     }
+    true
 }
 
 /// With 4,096 names no other file is made; those that are there open as ever.

@@ -40,14 +40,14 @@ fn answer(files: &mut Files, call: Call<'_>) -> i64 {
         Call::Place(name, content) => place(files, name, content),
         Call::PlaceAll => place_all(files),
         Call::OpenAll(name) => open_all(files, name),
-        Call::Close(fd) => done(files.close(fd)),
+        Call::Close(fd) => close(files, fd),
         Call::Seek(fd, offset, whence) => seek(files, fd, offset, whence),
         Call::Read(fd, count, want) => read(files, fd, count, want),
         Call::Write(fd, bytes) => write_if_fits(files, fd, bytes),
-        Call::Fits(fd, count) => done(files.fits(fd, count)),
-        Call::Out(want) => zero_if(files.stream(1) == want),
-        Call::Errors(want) => zero_if(files.stream(2) == want),
-        Call::NameAfter(name, want) => zero_if(files.name_after(name) == want),
+        Call::Fits(fd, count) => fits(files, fd, count),
+        Call::Out(want) => out(files, want),
+        Call::Errors(want) => errors(files, want),
+        Call::NameAfter(name, want) => name_after(files, name, want),
         Call::Open(name, flags) => open(files, name, flags),
         Call::Remove(name) => remove(files, name),
         Call::Exists(name) => exists(files, name),
@@ -101,6 +101,26 @@ fn exists(files: &Files, name: &[u8]) -> i64 {
 
 fn content(files: &Files, name: &[u8], want: Option<&[u8]>) -> i64 {
     zero_if(is_stripped_name(name) && files.content(name) == want)
+}
+
+fn out(files: &Files, want: &[u8]) -> i64 {
+    zero_if(files.stream(1) == want)
+}
+
+fn errors(files: &Files, want: &[u8]) -> i64 {
+    zero_if(files.stream(2) == want)
+}
+
+fn name_after(files: &Files, name: Option<&[u8]>, want: Option<&[u8]>) -> i64 {
+    zero_if(files.name_after(name) == want)
+}
+
+fn close(files: &mut Files, fd: u32) -> i64 {
+    done(files.close(fd))
+}
+
+fn fits(files: &Files, fd: u32, count: u64) -> i64 {
+    done(files.fits(fd, count))
 }
 
 fn zero_if(is: bool) -> i64 {

@@ -15,7 +15,6 @@ use report::script::{CommandLine, ScriptReport};
 use rv64_machine::Cause;
 use std::alloc::Global;
 use std::process::Abort;
-use std::test::Fail;
 
 /// How many commands a script has, or its first fault.
 fn read_as(alloc: Global, script: &[u8]) -> Result<usize, ScriptRefusal> {
@@ -153,11 +152,11 @@ static LIMITS: &[Limit] = &[
 ];
 
 #[test]
-fn scripts_keep_their_limits(rt: HostRuntime) -> Result<(), Fail> {
+fn scripts_keep_their_limits(rt: HostRuntime) {
     for (piece, count, end, answer) in LIMITS {
-        assert!(rt; read_many_as(rt.alloc(), piece, *count, end)? == *answer);
+        let read = read_many_as(rt.alloc(), piece, *count, end);
+        assert!(rt; read == Ok(*answer));
     }
-    Ok(())
 }
 
 /// Whether a script has one command of these two words.
@@ -319,24 +318,16 @@ fn ends(
     text_ends_over(rt, alloc, script, &files, most, wanted)
 }
 
-/// Whether a script stops within 100 steps of each command at this command, for this cause, at this step.
-fn stops(
+/// Asserts that a script stops within 100 steps of each command at this command, for this cause, at this step.
+fn check_stop(
     rt: &impl Abort,
     alloc: Global,
     script: &[u8],
     input: &[u8],
-    command: u32,
-    cause: CommandCause,
-    step: u64,
-) -> bool {
-    ends(
-        rt,
-        alloc,
-        script,
-        Some(input),
-        100,
-        Ending::Stop(command, cause, step),
-    )
+    (command, cause, step): (u32, CommandCause, u64),
+) {
+    let wanted = Ending::Stop(command, cause, step);
+    assert!(rt; ends(rt, alloc, script, Some(input), 100, wanted));
 }
 
 /// Scripts, the file `in`, and the command at which each stops, the cause and the step.
@@ -353,24 +344,23 @@ static STOPS: &[(&[u8], &[u8], u32, CommandCause, u64)] = &[
 
 #[test]
 fn a_script_stops_at_its_first_failure(rt: HostRuntime) {
-    for (script, input, command, cause, step) in STOPS {
-        assert!(rt; stops(&rt, rt.alloc(), script, input, *command, *cause, *step));
+    for &(script, input, command, cause, step) in STOPS {
+        check_stop(&rt, rt.alloc(), script, input, (command, cause, step));
     }
-    // What a command made is there for the next one, under the name that it has then.
+}
+
+/// What a command made is there for the next one, under the name that it has then.
+#[test]
+fn a_script_stops_where_a_program_is_not_made(rt: HostRuntime) {
     let script = b"copy.elf\nout\nelse\n";
-    assert!(rt;
-        stops(
-            &rt,
-            rt.alloc(),
-            script,
-            &EXIT,
-            3,
-            CommandCause::NoProgram,
-            0
-        )
-    );
-    let spent = Ending::Stop(1, CommandCause::Spent, 31);
-    assert!(rt; ends(&rt, rt.alloc(), b"copy.elf", Some(b"abc"), 31, spent));
+    let stop = (3, CommandCause::NoProgram, 0);
+    check_stop(&rt, rt.alloc(), script, &EXIT, stop);
+}
+
+#[test]
+fn a_script_stops_where_its_steps_are_spent(rt: HostRuntime) {
+    let wanted = Ending::Stop(1, CommandCause::Spent, 31);
+    assert!(rt; ends(&rt, rt.alloc(), b"copy.elf", Some(b"abc"), 31, wanted));
 }
 
 /// A word of exit.elf, what it is changed to, and the cause and the step at which the program ends: addi x10, x0, 7 in the place of addi x10, x0, 0;
@@ -383,18 +373,9 @@ static OTHERWISE: [(usize, u32, CommandCause, u64); 3] = [
 
 #[test]
 fn a_script_stops_at_a_program_that_ends_otherwise(rt: HostRuntime) {
-    for (offset, word, cause, step) in OTHERWISE {
-        assert!(rt;
-            stops(
-                &rt,
-                rt.alloc(),
-                b"in",
-                &altered(offset, word),
-                1,
-                cause,
-                step
-            )
-        );
+    for &(offset, word, cause, step) in &OTHERWISE {
+        let program = altered(offset, word);
+        check_stop(&rt, rt.alloc(), b"in", &program, (1, cause, step));
     }
 }
 
@@ -484,9 +465,12 @@ fn has_both(files: &FileList) -> bool {
     }
 }
 
+fn check_list(rt: &impl Abort, files: &mut FileList) {
+    assert!(rt; takes_two_of_four(files) && has_both(files));
+}
+
 #[test]
-fn a_list_refuses_as_placing_does(rt: HostRuntime) -> Result<(), Fail> {
-    let mut files = FileList::new(rt.alloc())?;
-    assert!(rt; takes_two_of_four(&mut files) && has_both(&files));
-    Ok(())
+fn a_list_refuses_as_placing_does(rt: HostRuntime) {
+    let mut files = FileList::new(rt.alloc()).expect(&rt, "memory");
+    check_list(&rt, &mut files);
 }

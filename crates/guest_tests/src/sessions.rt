@@ -6,7 +6,6 @@ use prompt::{MemPrompt, converse};
 use session::Session;
 use std::alloc::Global;
 use std::process::Abort;
-use std::test::Fail;
 
 /// copy.elf, 232 bytes: header, one program header, 26 instructions from 0x10078 on, and the names `in` and `out`.
 const COPY: &str =
@@ -201,27 +200,20 @@ fn prints(rt: &impl Abort, alloc: Global, prompt: &mut MemPrompt, limit: u32, wa
 }
 
 /// Whether lines are answered by this in one session.
-fn are_answered(
-    rt: &impl Abort,
-    alloc: Global,
-    lines: &str,
-    limit: u32,
-    want: &str,
-) -> Result<bool, OutOfMemory> {
-    let mut prompt = MemPrompt::new(alloc, lines.as_bytes())?;
-    Ok(prints(rt, alloc, &mut prompt, limit, want))
+fn are_answered(rt: &impl Abort, alloc: Global, lines: &str, limit: u32, want: &str) -> bool {
+    let mut prompt = MemPrompt::new(alloc, lines.as_bytes()).expect(rt, "memory");
+    prints(rt, alloc, &mut prompt, limit, want)
 }
 
-fn check_rows(rt: &impl Abort, alloc: Global, rows: &[Row]) -> Result<(), OutOfMemory> {
+fn check_rows(rt: &impl Abort, alloc: Global, rows: &[Row]) {
     for &(lines, limit, want) in rows {
-        assert!(rt; are_answered(rt, alloc, lines, limit, want)?, "{lines}");
+        assert!(rt; are_answered(rt, alloc, lines, limit, want), "{lines}");
     }
-    Ok(())
 }
 
 #[test]
-fn lines_are_answered(rt: HostRuntime) -> Result<(), Fail> {
-    Ok(check_rows(&rt, rt.alloc(), &ROWS)?)
+fn lines_are_answered(rt: HostRuntime) {
+    check_rows(&rt, rt.alloc(), &ROWS);
 }
 
 /// x2 is the stack, and openat(-100, 0x100e0, 0, ..), the call 56, is made next.
@@ -233,9 +225,8 @@ const REGISTERS: &str = "at 5 000000000001008c ecall\n000000000001008c \
     0000000000000000 0000000000000000 0000000000000000\n";
 
 #[test]
-fn registers_are_shown(rt: HostRuntime) -> Result<(), Fail> {
-    assert!(rt; are_answered(&rt, rt.alloc(), "step 5\nregs\n", 100, REGISTERS)?);
-    Ok(())
+fn registers_are_shown(rt: HostRuntime) {
+    assert!(rt; are_answered(&rt, rt.alloc(), "step 5\nregs\n", 100, REGISTERS));
 }
 
 /// How many pieces a session over a prompt puts; nothing where it is cut.
@@ -271,23 +262,21 @@ fn leaves(
     failing: u64,
     count: usize,
     left: &[u8],
-) -> Result<bool, OutOfMemory> {
-    let mut prompt = MemPrompt::new(alloc, lines)?;
-    Ok(leaves_of(rt, alloc, &mut prompt, failing, count, left))
+) -> bool {
+    let mut prompt = MemPrompt::new(alloc, lines).expect(rt, "memory");
+    leaves_of(rt, alloc, &mut prompt, failing, count, left)
 }
 
 #[test]
-fn what_is_left_stays(rt: HostRuntime) -> Result<(), Fail> {
-    assert!(rt; leaves(&rt, rt.alloc(), b"where\nquit\nwhere\n", 0, 1, b"where\n")?);
-    Ok(())
+fn what_is_left_stays(rt: HostRuntime) {
+    assert!(rt; leaves(&rt, rt.alloc(), b"where\nquit\nwhere\n", 0, 1, b"where\n"));
 }
 
 /// Behind `quit` and behind the end no line is asked for, so none fails.
 #[test]
-fn no_line_behind_the_last_fails(rt: HostRuntime) -> Result<(), Fail> {
-    assert!(rt; leaves(&rt, rt.alloc(), b"where\nquit\n", 3, 1, b"")?);
-    assert!(rt; leaves(&rt, rt.alloc(), b"where\n", 3, 1, b"")?);
-    Ok(())
+fn no_line_behind_the_last_fails(rt: HostRuntime) {
+    assert!(rt; leaves(&rt, rt.alloc(), b"where\nquit\n", 3, 1, b""));
+    assert!(rt; leaves(&rt, rt.alloc(), b"where\n", 3, 1, b""));
 }
 
 /// The number of the line that fails, of the put that fails, and what is put whole.
@@ -331,23 +320,16 @@ fn is_cut_over(
         && is_cut_into(rt, alloc, prompt, &mut out, put_fails, count)
 }
 
-fn is_cut(
-    rt: &impl Abort,
-    alloc: Global,
-    line_fails: u64,
-    put_fails: u64,
-    count: usize,
-) -> Result<bool, OutOfMemory> {
-    let mut prompt = MemPrompt::new(alloc, b"where\nwhere\n")?;
-    Ok(is_cut_over(rt, alloc, &mut prompt, line_fails, put_fails, count))
+fn is_cut(rt: &impl Abort, alloc: Global, line_fails: u64, put_fails: u64, count: usize) -> bool {
+    let mut prompt = MemPrompt::new(alloc, b"where\nwhere\n").expect(rt, "memory");
+    is_cut_over(rt, alloc, &mut prompt, line_fails, put_fails, count)
 }
 
 #[test]
-fn faults_cut_a_session(rt: HostRuntime) -> Result<(), Fail> {
+fn faults_cut_a_session(rt: HostRuntime) {
     for &(line_fails, put_fails, count) in &FAULTS {
-        assert!(rt; is_cut(&rt, rt.alloc(), line_fails, put_fails, count)?);
+        assert!(rt; is_cut(&rt, rt.alloc(), line_fails, put_fails, count));
     }
-    Ok(())
 }
 
 /// So many empty lines.
@@ -359,9 +341,12 @@ fn empty_lines(alloc: Global, count: u32) -> Result<Bytes, OutOfMemory> {
     Ok(lines)
 }
 
+fn check_counted(rt: &impl Abort, alloc: Global, lines: &[u8]) {
+    assert!(rt; leaves(rt, alloc, lines, 0, 65_536, b"\n\n"));
+}
+
 #[test]
-fn lines_are_counted(rt: HostRuntime) -> Result<(), Fail> {
-    let lines = empty_lines(rt.alloc(), 65_538)?;
-    assert!(rt; leaves(&rt, rt.alloc(), lines.as_slice(), 0, 65_536, b"\n\n")?);
-    Ok(())
+fn lines_are_counted(rt: HostRuntime) {
+    let lines = empty_lines(rt.alloc(), 65_538).expect(&rt, "memory");
+    check_counted(&rt, rt.alloc(), lines.as_slice());
 }
