@@ -2,17 +2,19 @@
 
 ghost use Rattle.std.specs.Prelude.{◌≡◌, ◌<◌, ◌^◌, ◌++◌, All, None, OnErr, OnOk, length, map};
 ghost use Rattle.std.specs.Io.{StartsWith};
+ghost use Rattle.std.specs.Int.{w32};
 ghost use Rattle.std.specs.Option.{option_copied};
 ghost use Rattle.std.specs.Ordering.{is_lt};
-ghost use Rattle.save_text.specs.ByteFields.Reader.{Finds, GivesField, counted, several};
+ghost use Rattle.save_text.specs.ByteFields.Reader.{Finds, GivesField, blob, counted, several};
 ghost use Rattle.save_text.specs.ByteFields.Spelling.{list_text};
 ghost use Rattle.save_text.specs.SaveText.{after_left, digest_at, is_behind, saved_left_at, saved_stage_at, mark_at, saved_name_at};
 ghost use Rattle.save_text.specs.Seen.{stage_view};
+ghost use Rattle.save_text.specs.Inside.Fronts.{ReadsFront, left_and_made_at};
 ghost use Rattle.save_text.specs.Inside.Passing.{GoesPast};
 ghost use Rattle.save_text.specs.Spelled.{digest_text, left_text, mark_text};
 
 use crate::byte_fields::{Cursor, Item, Stop, WrongField, put_blob16, put_u32};
-use crate::parts::{InputPart, StagePart};
+use crate::parts::{InputPart, StageFront, StagePart};
 use ddc_base::digests::Digest;
 use ddc_base::{Bytes, OutOfMemory};
 use report::{LeftLine, LeftLines, Mark};
@@ -167,23 +169,46 @@ impl<'a> Item<'a> for InputPart {
     }
 }
 
-/// A stage that is done.
-#[tactic(auto, unfolding(crate::specs::SaveText::saved_stage_at))]
-pub(crate) fn stage_of(alloc: Global, cursor: &mut Cursor<'_>) -> Result<StagePart, Stop>
-    ensures { GivesField stage_view result cursor.new (saved_stage_at 0 cursor.old) }
+/// The first fields of a stage that is done.
+#[tactic(auto, unfolding(crate::specs::SaveText::saved_stage_at, crate::specs::Inside::Fronts::left_and_made_at))]
+pub(crate) fn front_of(cursor: &mut Cursor<'_>) -> Result<StageFront, WrongField>
+    ensures { ReadsFront left_and_made_at result cursor.new (saved_stage_at 0 cursor.old) }
 {
     let steps = cursor.u64()?;
     let stream1 = mark_of(cursor)?;
     let stream2 = mark_of(cursor)?;
     let count = cursor.u32()?;
-    let left = left_of(alloc, cursor, count)?;
-    let made = cursor.blob32()?;
-    Ok(StagePart {
+    Ok(StageFront {
         steps,
         stream1,
         stream2,
+        count,
+    })
+}
+
+/// A copy of a length of 4 bytes, and that many bytes.
+fn copy_of(alloc: Global, cursor: &mut Cursor<'_>) -> Result<Bytes, Stop>
+    ensures { GivesField (λ x. x) result cursor.new (blob w32 cursor.old) }
+{
+    let made = cursor.blob32()?;
+    let copy = Bytes::from_slice(alloc, made)?;
+    Ok(copy)
+}
+
+/// A stage that is done.
+#[tactic(auto, unfolding(crate::specs::Inside::Fronts::left_and_made_at))]
+pub(crate) fn stage_of(alloc: Global, cursor: &mut Cursor<'_>) -> Result<StagePart, Stop>
+    ensures { GivesField stage_view result cursor.new (saved_stage_at 0 cursor.old) }
+{
+    let front = front_of(cursor)?;
+    let left = left_of(alloc, cursor, front.count)?;
+    let made = copy_of(alloc, cursor)?;
+    Ok(StagePart {
+        steps: front.steps,
+        stream1: front.stream1,
+        stream2: front.stream2,
         left,
-        made: Bytes::from_slice(alloc, made)?,
+        made,
     })
 }
 
@@ -224,15 +249,12 @@ fn pass_left(cursor: &mut Cursor<'_>, count: u32) -> Result<(), WrongField>
 }
 
 /// Goes past a stage that is done.
-#[tactic(auto, unfolding(crate::specs::SaveText::saved_stage_at))]
+#[tactic(auto, unfolding(crate::specs::Inside::Fronts::left_and_made_at))]
 pub(crate) fn pass_stage(cursor: &mut Cursor<'_>) -> Result<(), WrongField>
     ensures { GoesPast result cursor.new (saved_stage_at 0 cursor.old) }
 {
-    let _steps = cursor.u64()?;
-    let _stream1 = mark_of(cursor)?;
-    let _stream2 = mark_of(cursor)?;
-    let count = cursor.u32()?;
-    pass_left(cursor, count)?;
+    let front = front_of(cursor)?;
+    pass_left(cursor, front.count)?;
     let _made = cursor.blob32()?;
     Ok(())
 }

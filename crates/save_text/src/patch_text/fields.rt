@@ -3,16 +3,17 @@ ghost use Rattle.std.specs.Prelude.{◌≡◌, ◌==◌, ◌%◌, ◌≤◌, ◌
 ghost use Rattle.std.specs.Option.{option_copied};
 ghost use Rattle.save_text.specs.ByteFields.Reader.{Finds, byte, bytes, that, u32, u64};
 ghost use Rattle.save_text.specs.StateText.StateText.{is_page};
-ghost use Rattle.save_text.specs.StateText.Seen.{file_view, page_view};
+ghost use Rattle.save_text.specs.StateText.Seen.{file_view, page_view, state_view};
+ghost use Rattle.save_text.specs.Inside.Fronts.{ReadsFront, lists_beside_at};
 ghost use Rattle.save_text.specs.PatchText.Inside.Walking.{Rises, SameFrom};
-ghost use Rattle.save_text.specs.PatchText.PatchText.{change_at, changed_bytes_at, content_beside_at, content_in, is_mark, is_new, marked_at, marked_content_at, marked_registers_at, new_content_at, page_bytes_at, page_in, patched_file_at, register_at};
+ghost use Rattle.save_text.specs.PatchText.PatchText.{change_at, changed_bytes_at, content_beside_at, content_in, is_mark, is_new, marked_at, marked_content_at, marked_registers_at, new_content_at, page_bytes_at, page_in, patch_body_at, patched_file_at, register_at};
 ghost use Rattle.save_text.specs.PatchText.Seen.{change_view};
 
-use crate::byte_fields::{Cursor, WrongField};
+use crate::byte_fields::{Cursor, TextForm, WrongField};
 use crate::patch_text::change::Change;
 use crate::patch_text::merging::{are_same, bytes_of};
 use crate::patch_text::numbered::{from_number, taken};
-use crate::state_text::{File, Page, is_zero, name_of};
+use crate::state_text::{File, Numbers, Page, Parts, heap_of, is_zero, name_of, reservation_of};
 
 /// A register: another value than the base's where it is marked, else the base's.
 #[tactic(auto, unfolding(crate::specs::PatchText::PatchText::register_at))]
@@ -61,15 +62,32 @@ fn marked_of(cursor: &mut Cursor<'_>, marks: u32, base: &[u64; 31]) -> Result<[u
     Ok(registers)
 }
 
+/// The registers: other values than the base's where they are marked.
 #[tactic(auto, unfolding(crate::specs::PatchText::PatchText::marked_registers_at))]
-pub(crate) fn registers_of(
-    cursor: &mut Cursor<'_>,
-    base: &[u64; 31],
-) -> Result<[u64; 31], WrongField>
+fn registers_of(cursor: &mut Cursor<'_>, base: &[u64; 31]) -> Result<[u64; 31], WrongField>
     ensures { Finds (λ x. x) result cursor.new (marked_registers_at base.now cursor.old) }
 {
     let marks = marks_of(cursor)?;
     marked_of(cursor, marks / 2, base)
+}
+
+/// The numbers behind the magic.
+#[tactic(auto, unfolding(crate::specs::PatchText::PatchText::patch_body_at, crate::specs::Inside::Fronts::lists_beside_at))]
+pub(crate) fn numbers_of(cursor: &mut Cursor<'_>, base: &Parts<'_>) -> Result<Numbers, WrongField>
+    ensures { ReadsFront (lists_beside_at (state_view base.now)) result cursor.new (patch_body_at (state_view base.now) cursor.old) }
+{
+    let steps = cursor.u64()?;
+    let pc = cursor.u64()?;
+    let registers = registers_of(cursor, &base.registers)?;
+    let reservation = reservation_of(cursor, TextForm::Second)?;
+    let heap = heap_of(cursor)?;
+    Ok(Numbers {
+        steps,
+        pc,
+        registers,
+        reservation,
+        heap,
+    })
 }
 
 /// The byte before what is there: 1, or 0 where the base has something.

@@ -8,11 +8,12 @@ ghost use Rattle.save_text.specs.StateText.Seen.{file_view, page_view, state_vie
 ghost use Rattle.save_text.specs.PatchText.Inside.Walking.{Rises};
 ghost use Rattle.save_text.specs.PatchText.PatchText.{after_change, change_at, changed_pages_at, parsed_patch, patch_at, patch_body_at, patched_file_at};
 ghost use Rattle.save_text.specs.Inside.Passing.{GoesPast, JudgesForm};
+ghost use Rattle.save_text.specs.Inside.Fronts.{lists_beside_at};
 
-use crate::byte_fields::{Cursor, TextForm, WrongField, pass_counted};
-use crate::patch_text::fields::{change_of, content, file_of, registers_of};
+use crate::byte_fields::{Cursor, WrongField, pass_counted};
+use crate::patch_text::fields::{change_of, content, file_of, numbers_of};
 use crate::patch_text::reading::MAGIC;
-use crate::state_text::{Descriptor, File, Page, Parts, Run, TextRefusal, heap_of, reservation_of};
+use crate::state_text::{Descriptor, File, Page, Parts, Run, TextRefusal};
 
 /// Goes past so many changes.
 fn pass_changes(cursor: &mut Cursor<'_>, base: &[Page<'_>], count: u32) -> Result<(), WrongField>
@@ -64,16 +65,12 @@ fn pass_counted_files<'a>(cursor: &mut Cursor<'a>, base: &[File<'a>]) -> Result<
 }
 
 /// Goes past what stands behind the magic.
-#[tactic(auto, unfolding(crate::specs::PatchText::PatchText::patch_body_at))]
+#[tactic(auto, unfolding(crate::specs::Inside::Fronts::lists_beside_at))]
 fn pass_body<'a>(cursor: &mut Cursor<'a>, base: &Parts<'a>) -> Result<(), WrongField>
     requires { IsStateText (state_view base.now) }
     ensures { GoesPast result cursor.new (patch_body_at (state_view base.now) cursor.old) }
 {
-    let _steps = cursor.u64()?;
-    let _pc = cursor.u64()?;
-    let _registers = registers_of(cursor, &base.registers)?;
-    let _reservation = reservation_of(cursor, TextForm::Second)?;
-    let _heap = heap_of(cursor)?;
+    let _numbers = numbers_of(cursor, base)?;
     pass_counted::<Run>(cursor)?;
     pass_pages(cursor, base.pages.as_slice())?;
     pass_counted_files(cursor, base.files.as_slice())?;

@@ -9,7 +9,7 @@ ghost use Rattle.save_text.specs.declared.state_text.parts.Run.{Run as RunText};
 
 use crate::byte_fields::{Cursor, Item, TextForm, WrongField};
 use crate::state_text::parts::Run;
-use crate::state_text::reading::{MAGIC, OLD_MAGIC, begin, heap_of, registers_of, reservation_of};
+use crate::state_text::reading::{MAGIC, OLD_MAGIC, begin, numbers_of};
 
 /// How many pages a guest can have: 67,584 beside its heap, and 262,144 of its heap.
 pub const MOST_PAGES: u64 = 329_728;
@@ -53,15 +53,11 @@ pub(crate) fn runs_mappable(cursor: &mut Cursor<'_>) -> Result<bool, WrongField>
 }
 
 /// Whether the runs behind the magic of a form can be mapped.
-#[tactic(auto, unfolding(crate::specs::StateText::StateText::body_at))]
+#[tactic(auto, unfolding(crate::specs::Inside::Fronts::lists_at))]
 fn body_mappable(cursor: &mut Cursor<'_>, form: TextForm) -> Result<bool, WrongField>
     ensures { TellsRuns (λ s. s.runs) result (body_at form cursor.old) }
 {
-    let _steps = cursor.u64()?;
-    let _pc = cursor.u64()?;
-    let _registers = registers_of(cursor)?;
-    let _reservation = reservation_of(cursor, form)?;
-    let _heap = heap_of(cursor)?;
+    let _numbers = numbers_of(cursor, form)?;
     runs_mappable(cursor)
 }
 

@@ -1,7 +1,7 @@
 use Rattle.std.proofs.Common.{map, refl}
 use Rattle.std.specs.Prelude.{option_map}
 use Rattle.save_text.specs.StateText.Seen.{file_view, reserved_view}
-use Rattle.save_text.specs.PatchText.PatchText.{patch_body_at}
+use Rattle.save_text.specs.Inside.Fronts.{lists_beside_at}
 use Rattle.save_text.proofs.PatchTextLemmas.Listing.{files_rise}
 use Rattle.save_text.proofs.patch_text.passing.pass_body.Goals as goal
 
@@ -12,14 +12,14 @@ pub pass_counted_files-requires : goal.pass_counted_files-requires
 pass_counted_files-requires c = rw c.as_slice-2.ensures.value (files_rise (map file_view c.args.base.now.files.items) c.requires.files.1)
 
 pub returns : goal.returns
-unfolding patch_body_at
+unfolding lists_beside_at
 returns c = (
   record {
-    steps = c.in_ok-_steps._steps;
-    pc = c.in_ok-_pc._pc;
-    registers = c.in_ok-_registers._registers;
-    reservation = option_map reserved_view c.in_ok-_reservation._reservation;
-    heap = c.in_ok-_heap._heap;
+    steps = c.in_ok-_numbers._numbers.steps;
+    pc = c.in_ok-_numbers._numbers.pc;
+    registers = c.in_ok-_numbers._numbers.registers;
+    reservation = option_map reserved_view c.in_ok-_numbers._numbers.reservation;
+    heap = c.in_ok-_numbers._numbers.heap;
     runs = c.in_ok-pass_counted.ensures.0;
     pages = c.in_ok-pass_pages.ensures.0;
     files = c.in_ok-pass_counted_files.ensures.0;
@@ -28,11 +28,7 @@ returns c = (
     stream2 = c.in_ok-_stream2._stream2.now;
   },
   rw (
-    c.in_ok-_steps.ensures,
-    c.in_ok-_pc.ensures,
-    c.in_ok-_registers.ensures,
-    c.in_ok-_reservation.ensures,
-    c.in_ok-_heap.ensures,
+    c.in_ok-_numbers.ensures,
     c.in_ok-pass_counted.ensures.1,
     rw c.as_slice.ensures.value at c.in_ok-pass_pages.ensures.1,
     rw c.as_slice-2.ensures.value at c.in_ok-pass_counted_files.ensures.1,
