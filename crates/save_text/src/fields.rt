@@ -65,20 +65,6 @@ fn is_behind(last: Option<&[u8]>, name: &[u8]) -> bool
     }
 }
 
-/// A name that is behind the one before it.
-#[tactic(auto, unfolding(crate::specs::SaveText::saved_name_at))]
-fn name_of<'a>(cursor: &mut Cursor<'a>, last: Option<&[u8]>) -> Result<&'a [u8], WrongField>
-    ensures { Finds (λ x. x.now) result cursor.new (saved_name_at (option_copied last.entry) cursor.old) }
-{
-    let count = cursor.u16()?;
-    let at = cursor.len();
-    let name = cursor.bytes(usize::from(count))?;
-    if !is_behind(last, name) {
-        return Err(WrongField { left: at });
-    }
-    Ok(name)
-}
-
 /// The files that a stage left.
 fn left_of(alloc: Global, cursor: &mut Cursor<'_>, count: u32) -> Result<LeftLines, Stop>
     ensures { GivesField (λ x. x) result cursor.new (several saved_left_at after_left None count cursor.old) }
@@ -97,14 +83,19 @@ fn left_of(alloc: Global, cursor: &mut Cursor<'_>, count: u32) -> Result<LeftLin
 }
 
 /// A file that a stage left: its name, lent, and its mark.
-#[tactic(auto, unfolding(crate::specs::SaveText::saved_left_at))]
+#[tactic(auto, unfolding(crate::specs::SaveText::saved_left_at, crate::specs::SaveText::saved_name_at))]
 pub(crate) fn line_of<'a>(
     cursor: &mut Cursor<'a>,
     last: Option<&[u8]>,
 ) -> Result<(&'a [u8], Mark), WrongField>
     ensures { Finds (λ x. record { name = x.0.now; mark = x.1 }) result cursor.new (saved_left_at (option_copied last.entry) cursor.old) }
 {
-    let name = name_of(cursor, last)?;
+    let count = cursor.u16()?;
+    let at = cursor.len();
+    let name = cursor.bytes(usize::from(count))?;
+    if !is_behind(last, name) {
+        return Err(WrongField { left: at });
+    }
     let mark = mark_of(cursor)?;
     Ok((name, mark))
 }
@@ -212,28 +203,17 @@ pub(crate) fn stage_of(alloc: Global, cursor: &mut Cursor<'_>) -> Result<StagePa
     })
 }
 
-/// So many stages that are done.
-fn several_stages(
-    alloc: Global,
-    cursor: &mut Cursor<'_>,
-    count: u32,
-) -> Result<Vec<StagePart>, Stop>
-    ensures { GivesField (λ v. map stage_view v.items) result cursor.new (several saved_stage_at (λ stage. 0) 0 count cursor.old) }
+/// A count of 4 bytes, and that many stages that are done.
+pub(crate) fn stages_of(alloc: Global, cursor: &mut Cursor<'_>) -> Result<Vec<StagePart>, Stop>
+    ensures { GivesField (λ v. map stage_view v.items) result cursor.new (counted saved_stage_at (λ stage. 0) 0 cursor.old) }
 {
+    let count = cursor.u32()?;
     let mut stages = Vec::new(alloc);
     for _ in 0..count {
         let stage = stage_of(alloc, cursor)?;
         stages.push(stage)?;
     }
     Ok(stages)
-}
-
-/// A count of 4 bytes, and that many stages that are done.
-pub(crate) fn stages_of(alloc: Global, cursor: &mut Cursor<'_>) -> Result<Vec<StagePart>, Stop>
-    ensures { GivesField (λ v. map stage_view v.items) result cursor.new (counted saved_stage_at (λ stage. 0) 0 cursor.old) }
-{
-    let count = cursor.u32()?;
-    several_stages(alloc, cursor, count)
 }
 
 /// Goes past the files that a stage left.
@@ -259,20 +239,13 @@ pub(crate) fn pass_stage(cursor: &mut Cursor<'_>) -> Result<(), WrongField>
     Ok(())
 }
 
-/// Goes past so many stages that are done.
-fn pass_several_stages(cursor: &mut Cursor<'_>, count: u32) -> Result<(), WrongField>
-    ensures { GoesPast result cursor.new (several saved_stage_at (λ stage. 0) 0 count cursor.old) }
-{
-    for _ in 0..count {
-        pass_stage(cursor)?;
-    }
-    Ok(())
-}
-
 /// Goes past a count of 4 bytes, and that many stages that are done.
 pub(crate) fn pass_stages(cursor: &mut Cursor<'_>) -> Result<(), WrongField>
     ensures { GoesPast result cursor.new (counted saved_stage_at (λ stage. 0) 0 cursor.old) }
 {
     let count = cursor.u32()?;
-    pass_several_stages(cursor, count)
+    for _ in 0..count {
+        pass_stage(cursor)?;
+    }
+    Ok(())
 }

@@ -23,30 +23,12 @@ fn register_of(cursor: &mut Cursor<'_>, known: u64, marked: bool) -> Result<u64,
     if !marked {
         return Ok(known);
     }
-    other_than(cursor, known)
-}
-
-fn other_than(cursor: &mut Cursor<'_>, known: u64) -> Result<u64, WrongField>
-    ensures { Finds (λ x. x) result cursor.new (that (λ value. not (known == value)) u64 cursor.old) }
-{
     let at = cursor.len();
     let value = cursor.u64()?;
     if known == value {
         return Err(WrongField { left: at });
     }
     Ok(value)
-}
-
-/// Which registers are marked: never x0.
-fn marks_of(cursor: &mut Cursor<'_>) -> Result<u32, WrongField>
-    ensures { Finds (λ x. x) result cursor.new (that (λ marks. marks % 2 == 0) u32 cursor.old) }
-{
-    let at = cursor.len();
-    let marks = cursor.u32()?;
-    if marks % 2 != 0 {
-        return Err(WrongField { left: at });
-    }
-    Ok(marks)
 }
 
 /// The registers with these marks.
@@ -67,7 +49,11 @@ fn marked_of(cursor: &mut Cursor<'_>, marks: u32, base: &[u64; 31]) -> Result<[u
 fn registers_of(cursor: &mut Cursor<'_>, base: &[u64; 31]) -> Result<[u64; 31], WrongField>
     ensures { Finds (λ x. x) result cursor.new (marked_registers_at base.now cursor.old) }
 {
-    let marks = marks_of(cursor)?;
+    let at = cursor.len();
+    let marks = cursor.u32()?;
+    if marks % 2 != 0 {
+        return Err(WrongField { left: at });
+    }
     marked_of(cursor, marks / 2, base)
 }
 
@@ -136,33 +122,21 @@ fn new_page<'a>(cursor: &mut Cursor<'a>, known: Option<&[u8]>) -> Result<&'a [u8
     Ok(found)
 }
 
-#[tactic(auto, unfolding(crate::specs::PatchText::PatchText::page_bytes_at))]
-fn page_bytes_of<'a>(
-    cursor: &mut Cursor<'a>,
-    known: Option<&[u8]>,
-    mark: u8,
-) -> Result<Option<&'a [u8]>, WrongField>
-    ensures { Finds option_copied result cursor.new (page_bytes_at (option_copied known.entry) mark cursor.old) }
-{
-    match mark {
-        0 => Ok(None),
-        _ => {
-            let found = new_page(cursor, known)?;
-            Ok(Some(found))
-        }
-    }
-}
-
 /// What stands behind the number of a page.
-#[tactic(auto, unfolding(crate::specs::PatchText::PatchText::changed_bytes_at))]
+#[tactic(auto, unfolding(crate::specs::PatchText::PatchText::changed_bytes_at, crate::specs::PatchText::PatchText::page_bytes_at))]
 fn changed_of<'a>(
     cursor: &mut Cursor<'a>,
     known: Option<&[u8]>,
 ) -> Result<Option<&'a [u8]>, WrongField>
     ensures { Finds option_copied result cursor.new (changed_bytes_at (option_copied known.entry) cursor.old) }
 {
-    let mark = mark_of(cursor, known)?;
-    page_bytes_of(cursor, known, mark)
+    match mark_of(cursor, known)? {
+        0 => Ok(None),
+        _ => {
+            let found = new_page(cursor, known)?;
+            Ok(Some(found))
+        }
+    }
 }
 
 /// What a base has of a page, and where its pages behind it begin.
@@ -229,13 +203,12 @@ pub(crate) fn change_of<'a>(
 
 // ---- contents
 
-fn new_bytes<'a>(
-    cursor: &mut Cursor<'a>,
-    known: Option<&[u8]>,
-    count: u32,
-) -> Result<&'a [u8], WrongField>
-    ensures { Finds (λ x. x.now) result cursor.new (that (is_new (option_copied known.entry)) (bytes count) cursor.old) }
+/// Other bytes than the base's, with their length before them.
+#[tactic(auto, unfolding(crate::specs::PatchText::PatchText::new_content_at))]
+fn new_content<'a>(cursor: &mut Cursor<'a>, known: Option<&[u8]>) -> Result<&'a [u8], WrongField>
+    ensures { Finds (λ x. x.now) result cursor.new (new_content_at (option_copied known.entry) cursor.old) }
 {
+    let count = cursor.u32()?;
     let at = cursor.len();
     let found = cursor.bytes(count as usize)?;
     if !is_new(known, found) {
@@ -244,39 +217,18 @@ fn new_bytes<'a>(
     Ok(found)
 }
 
-/// Other bytes than the base's, with their length before them.
-#[tactic(auto, unfolding(crate::specs::PatchText::PatchText::new_content_at))]
-fn new_content<'a>(cursor: &mut Cursor<'a>, known: Option<&[u8]>) -> Result<&'a [u8], WrongField>
-    ensures { Finds (λ x. x.now) result cursor.new (new_content_at (option_copied known.entry) cursor.old) }
-{
-    let count = cursor.u32()?;
-    new_bytes(cursor, known, count)
-}
-
-#[tactic(auto, unfolding(crate::specs::PatchText::PatchText::marked_content_at))]
-fn marked_content<'a>(
-    cursor: &mut Cursor<'a>,
-    known: Option<&'a [u8]>,
-    mark: u8,
-) -> Result<&'a [u8], WrongField>
-    ensures { Finds (λ x. x.now) result cursor.new (marked_content_at (option_copied known.entry) mark cursor.old) }
-{
-    match mark {
-        0 => Ok(known.unwrap_or(&[])),
-        _ => new_content(cursor, known),
-    }
-}
-
 /// What the base has, or other bytes.
-#[tactic(auto, unfolding(crate::specs::PatchText::PatchText::content_beside_at))]
+#[tactic(auto, unfolding(crate::specs::PatchText::PatchText::content_beside_at, crate::specs::PatchText::PatchText::marked_content_at))]
 pub(crate) fn content<'a>(
     cursor: &mut Cursor<'a>,
     known: Option<&'a [u8]>,
 ) -> Result<&'a [u8], WrongField>
     ensures { Finds (λ x. x.now) result cursor.new (content_beside_at (option_copied known.entry) cursor.old) }
 {
-    let mark = mark_of(cursor, known)?;
-    marked_content(cursor, known, mark)
+    match mark_of(cursor, known)? {
+        0 => Ok(known.unwrap_or(&[])),
+        _ => new_content(cursor, known),
+    }
 }
 
 // ---- files

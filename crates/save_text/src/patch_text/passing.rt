@@ -40,11 +40,12 @@ fn pass_pages(cursor: &mut Cursor<'_>, base: &[Page<'_>]) -> Result<(), WrongFie
     pass_changes(cursor, base, count)
 }
 
-/// Goes past so many files.
-fn pass_files<'a>(cursor: &mut Cursor<'a>, base: &[File<'a>], count: u32) -> Result<(), WrongField>
+/// Goes past a count of 4 bytes, and that many files.
+fn pass_files<'a>(cursor: &mut Cursor<'a>, base: &[File<'a>]) -> Result<(), WrongField>
     requires { Rises (λ file. file.number) 0 (map file_view base.now) }
-    ensures { GoesPast result cursor.new (several (patched_file_at (map file_view base.now)) after_file 0 count cursor.old) }
+    ensures { GoesPast result cursor.new (counted (patched_file_at (map file_view base.now)) after_file 0 cursor.old) }
 {
+    let count = cursor.u32()?;
     let mut least = 0;
     let mut at = 0;
     for _ in 0..count {
@@ -53,15 +54,6 @@ fn pass_files<'a>(cursor: &mut Cursor<'a>, base: &[File<'a>], count: u32) -> Res
         at = later;
     }
     Ok(())
-}
-
-/// Goes past a count of 4 bytes, and that many files.
-fn pass_counted_files<'a>(cursor: &mut Cursor<'a>, base: &[File<'a>]) -> Result<(), WrongField>
-    requires { Rises (λ file. file.number) 0 (map file_view base.now) }
-    ensures { GoesPast result cursor.new (counted (patched_file_at (map file_view base.now)) after_file 0 cursor.old) }
-{
-    let count = cursor.u32()?;
-    pass_files(cursor, base, count)
 }
 
 /// Goes past what stands behind the magic.
@@ -73,7 +65,7 @@ fn pass_body<'a>(cursor: &mut Cursor<'a>, base: &Parts<'a>) -> Result<(), WrongF
     let _numbers = numbers_of(cursor, base)?;
     pass_counted::<Run>(cursor)?;
     pass_pages(cursor, base.pages.as_slice())?;
-    pass_counted_files(cursor, base.files.as_slice())?;
+    pass_files(cursor, base.files.as_slice())?;
     pass_counted::<Descriptor>(cursor)?;
     let _stream1 = content(cursor, Some(base.stream1))?;
     let _stream2 = content(cursor, Some(base.stream2))?;

@@ -44,28 +44,6 @@ fn several_changes<'a>(
     Ok(changes)
 }
 
-/// So many files.
-fn several_files<'a>(
-    alloc: Global,
-    cursor: &mut Cursor<'a>,
-    base: &[File<'a>],
-    count: u32,
-) -> Result<Vec<File<'a>>, Stop>
-    requires { Rises (λ file. file.number) 0 (map file_view base.now) }
-    ensures { GivesField (λ v. map file_view v.items) result cursor.new (several (patched_file_at (map file_view base.now)) after_file 0 count cursor.old) }
-{
-    let mut files = Vec::new(alloc);
-    let mut least = 0;
-    let mut at = 0;
-    for _ in 0..count {
-        let (file, later) = file_of(cursor, base, at, least)?;
-        least = u64::from(file.number) + 1;
-        at = later;
-        files.push(file)?;
-    }
-    Ok(files)
-}
-
 /// The pages that changes make of a base's.
 #[tactic(auto, unfolding(crate::specs::PatchText::PatchText::changed_pages_at))]
 fn pages_beside<'a>(
@@ -92,7 +70,16 @@ fn files_beside<'a>(
     ensures { GivesField (λ v. map file_view v.items) result cursor.new (counted (patched_file_at (map file_view base.now)) after_file 0 cursor.old) }
 {
     let count = cursor.u32()?;
-    several_files(alloc, cursor, base, count)
+    let mut files = Vec::new(alloc);
+    let mut least = 0;
+    let mut at = 0;
+    for _ in 0..count {
+        let (file, later) = file_of(cursor, base, at, least)?;
+        least = u64::from(file.number) + 1;
+        at = later;
+        files.push(file)?;
+    }
+    Ok(files)
 }
 
 /// What stands behind the magic.

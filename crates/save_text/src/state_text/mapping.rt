@@ -1,7 +1,7 @@
 //! Whether the runs of a text can be mapped, which is told without memory.
 
 ghost use Rattle.std.specs.Prelude.{◌≡◌, ◌++◌, ◌∷◌, [], ◌↔◌, IsTrue, List, Ok};
-ghost use Rattle.save_text.specs.ByteFields.Reader.{counted, several};
+ghost use Rattle.save_text.specs.ByteFields.Reader.{counted};
 ghost use Rattle.save_text.specs.Inside.Mapping.{IsLeftBehind, PassesRuns, TellsRuns};
 ghost use Rattle.save_text.specs.StateText.Mappable.{AreMappable};
 ghost use Rattle.save_text.specs.StateText.StateText.{StateText, after_run, body_at, parsed_state, run_at, state_at, state_in};
@@ -30,10 +30,11 @@ fn left_behind(left: Option<u64>, run: &Run) -> Option<u64>
     }
 }
 
-/// Goes past so many runs, and says whether they can be mapped.
-fn several_mappable(cursor: &mut Cursor<'_>, count: u32) -> Result<bool, WrongField>
-    ensures { PassesRuns result cursor.new (several run_at after_run 0 count cursor.old) }
+/// Goes past a count of 4 bytes, and that many runs, and says whether they can be mapped.
+pub(crate) fn runs_mappable(cursor: &mut Cursor<'_>) -> Result<bool, WrongField>
+    ensures { PassesRuns result cursor.new (counted run_at after_run 0 cursor.old) }
 {
+    let count = cursor.u32()?;
     let mut least = 0;
     let mut left = Some(MOST_PAGES);
     for _ in 0..count {
@@ -42,14 +43,6 @@ fn several_mappable(cursor: &mut Cursor<'_>, count: u32) -> Result<bool, WrongFi
         left = left_behind(left, &run);
     }
     Ok(left.is_some())
-}
-
-/// Goes past a count of 4 bytes, and that many runs, and says whether they can be mapped.
-pub(crate) fn runs_mappable(cursor: &mut Cursor<'_>) -> Result<bool, WrongField>
-    ensures { PassesRuns result cursor.new (counted run_at after_run 0 cursor.old) }
-{
-    let count = cursor.u32()?;
-    several_mappable(cursor, count)
 }
 
 /// Whether the runs behind the magic of a form can be mapped.

@@ -8,8 +8,8 @@ use Rattle.save_text.proofs.patch_text.passing.pass_body.Goals as goal
 pub pass_pages-requires : goal.pass_pages-requires
 pass_pages-requires c = rw c.as_slice.ensures.value c.requires.pages.1
 
-pub pass_counted_files-requires : goal.pass_counted_files-requires
-pass_counted_files-requires c = rw c.as_slice-2.ensures.value (files_rise (map file_view c.args.base.now.files.items) c.requires.files.1)
+pub pass_files-requires : goal.pass_files-requires
+pass_files-requires c = rw c.as_slice-2.ensures.value (files_rise (map file_view c.args.base.now.files.items) c.requires.files.1)
 
 pub returns : goal.returns
 unfolding lists_beside_at
@@ -22,7 +22,7 @@ returns c = (
     heap = c.in_ok-_numbers._numbers.heap;
     runs = c.in_ok-pass_counted.ensures.0;
     pages = c.in_ok-pass_pages.ensures.0;
-    files = c.in_ok-pass_counted_files.ensures.0;
+    files = c.in_ok-pass_files.ensures.0;
     descriptors = c.in_ok-pass_counted-2.ensures.0;
     stream1 = c.in_ok-_stream1._stream1.now;
     stream2 = c.in_ok-_stream2._stream2.now;
@@ -31,7 +31,7 @@ returns c = (
     c.in_ok-_numbers.ensures,
     c.in_ok-pass_counted.ensures.1,
     rw c.as_slice.ensures.value at c.in_ok-pass_pages.ensures.1,
-    rw c.as_slice-2.ensures.value at c.in_ok-pass_counted_files.ensures.1,
+    rw c.as_slice-2.ensures.value at c.in_ok-pass_files.ensures.1,
     c.in_ok-pass_counted-2.ensures.1,
     c.in_ok-_stream1.ensures,
     c.in_ok-_stream2.ensures,
