@@ -162,7 +162,7 @@ impl<'a> Item<'a> for InputPart {
 
 /// The first fields of a stage that is done.
 #[tactic(auto, unfolding(crate::specs::SaveText::saved_stage_at, crate::specs::Inside::Fronts::left_and_made_at))]
-pub(crate) fn front_of(cursor: &mut Cursor<'_>) -> Result<StageFront, WrongField>
+pub(crate) fn stage_front(cursor: &mut Cursor<'_>) -> Result<StageFront, WrongField>
     ensures { ReadsFront left_and_made_at result cursor.new (saved_stage_at 0 cursor.old) }
 {
     let steps = cursor.u64()?;
@@ -191,7 +191,7 @@ fn copy_of(alloc: Global, cursor: &mut Cursor<'_>) -> Result<Bytes, Stop>
 pub(crate) fn stage_of(alloc: Global, cursor: &mut Cursor<'_>) -> Result<StagePart, Stop>
     ensures { GivesField stage_view result cursor.new (saved_stage_at 0 cursor.old) }
 {
-    let front = front_of(cursor)?;
+    let front = stage_front(cursor)?;
     let left = left_of(alloc, cursor, front.count)?;
     let made = copy_of(alloc, cursor)?;
     Ok(StagePart {
@@ -233,7 +233,7 @@ fn pass_left(cursor: &mut Cursor<'_>, count: u32) -> Result<(), WrongField>
 pub(crate) fn pass_stage(cursor: &mut Cursor<'_>) -> Result<(), WrongField>
     ensures { GoesPast result cursor.new (saved_stage_at 0 cursor.old) }
 {
-    let front = front_of(cursor)?;
+    let front = stage_front(cursor)?;
     pass_left(cursor, front.count)?;
     let _made = cursor.blob32()?;
     Ok(())

@@ -2,7 +2,7 @@
 
 ghost use Rattle.std.specs.Prelude.{◌≡◌, ◌==◌, ◌&&◌, None, bytes_eq, drop, length, map, nat_le, option_map};
 ghost use Rattle.std.specs.Option.{option_copied};
-ghost use Rattle.save_text.specs.ByteFields.Reader.{Finds, several};
+ghost use Rattle.save_text.specs.ByteFields.Reader.{Finds, counted, several};
 ghost use Rattle.save_text.specs.DeltaText.DeltaText.{delta_at, delta_front_at, parsed_delta};
 ghost use Rattle.save_text.specs.DeltaText.Front.{is_of_other_base};
 ghost use Rattle.save_text.specs.DeltaText.Inside.Beside.{IsLeftNext, PassesBeside};
@@ -16,7 +16,7 @@ ghost use Rattle.save_text.specs.Spelled.{IsSaveText};
 use crate::byte_fields::{Cursor, WrongField};
 use crate::delta_text::reading::MAGIC;
 use crate::delta_text::stages::{is_same_left, is_same_mark, kept_of, known_at};
-use crate::fields::{digest_of, front_of as stage_front, line_of, pass_stage};
+use crate::fields::{digest_of, line_of, pass_stage, stage_front};
 use crate::parts::{Parts, StageFront, StagePart};
 use crate::patch_text::pass_patch;
 use crate::state_text::TextRefusal;
@@ -127,14 +127,11 @@ fn pass_further(cursor: &mut Cursor<'_>, known: Option<&StagePart>) -> Result<()
     }
 }
 
-/// Goes past so many further stages.
-fn pass_several(
-    cursor: &mut Cursor<'_>,
-    known: Option<&StagePart>,
-    count: u32,
-) -> Result<(), WrongField>
-    ensures { GoesPast result cursor.new (several further_at after_further (option_map stage_view (option_copied known.entry)) count cursor.old) }
+/// Goes past a count of 4 bytes, and that many further stages.
+fn pass_several(cursor: &mut Cursor<'_>, known: Option<&StagePart>) -> Result<(), WrongField>
+    ensures { GoesPast result cursor.new (counted further_at after_further (option_map stage_view (option_copied known.entry)) cursor.old) }
 {
+    let count = cursor.u32()?;
     let mut beside = known;
     for _ in 0..count {
         pass_further(cursor, beside)?;
@@ -149,8 +146,7 @@ fn pass_stages_beside(cursor: &mut Cursor<'_>, base: &[StagePart]) -> Result<(),
     ensures { GoesPast result cursor.new (stages_beside_at (map stage_view base.now) cursor.old) }
 {
     let kept = kept_of(cursor, base)?;
-    let count = cursor.u32()?;
-    pass_several(cursor, known_at(base, kept), count)
+    pass_several(cursor, known_at(base, kept))
 }
 
 /// Goes past a delta.

@@ -2,7 +2,7 @@
 
 ghost use Rattle.std.specs.Prelude.{◌≡◌, ◌++◌, IfOk, Ok, map, option_map, take};
 ghost use Rattle.std.specs.Option.{option_copied};
-ghost use Rattle.save_text.specs.ByteFields.Reader.{GivesField, several};
+ghost use Rattle.save_text.specs.ByteFields.Reader.{GivesField, counted};
 ghost use Rattle.save_text.specs.DeltaText.DeltaText.{DeltaText, IsDelta, delta_at, parsed_delta, text_of_delta};
 ghost use Rattle.save_text.specs.DeltaText.Seen.{ReadsDeltaText, delta_view};
 ghost use Rattle.save_text.specs.DeltaText.Stages.{after_further, further_at, stages_beside_at};
@@ -41,15 +41,15 @@ fn further_of(
     Ok(stage)
 }
 
-/// So many further stages.
+/// A count of 4 bytes, and that many further stages.
 fn several_further(
     alloc: Global,
     cursor: &mut Cursor<'_>,
     known: Option<&StagePart>,
-    count: u32,
 ) -> Result<Vec<StagePart>, Stop>
-    ensures { GivesField (λ v. map stage_view v.items) result cursor.new (several further_at after_further (option_map stage_view (option_copied known.entry)) count cursor.old) }
+    ensures { GivesField (λ v. map stage_view v.items) result cursor.new (counted further_at after_further (option_map stage_view (option_copied known.entry)) cursor.old) }
 {
+    let count = cursor.u32()?;
     let mut stages = Vec::new(alloc);
     let mut beside = known;
     for _ in 0..count {
@@ -85,8 +85,7 @@ fn stages_of(
     ensures { GivesField (λ v. map stage_view v.items) result cursor.new (stages_beside_at (map stage_view base.items) cursor.old) }
 {
     let kept = kept_of(cursor, base.as_slice())?;
-    let count = cursor.u32()?;
-    let further = several_further(alloc, cursor, known_at(base.as_slice(), kept), count)?;
+    let further = several_further(alloc, cursor, known_at(base.as_slice(), kept))?;
     let stages = joined(base, kept as usize, further)?;
     Ok(stages)
 }

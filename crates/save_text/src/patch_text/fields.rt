@@ -6,13 +6,14 @@ ghost use Rattle.save_text.specs.StateText.StateText.{is_page};
 ghost use Rattle.save_text.specs.StateText.Seen.{file_view, page_view, state_view};
 ghost use Rattle.save_text.specs.Inside.Fronts.{ReadsFront, lists_beside_at};
 ghost use Rattle.save_text.specs.PatchText.Inside.Walking.{Rises, SameFrom};
-ghost use Rattle.save_text.specs.PatchText.PatchText.{change_at, changed_bytes_at, content_beside_at, content_in, is_mark, is_new, marked_at, marked_content_at, marked_registers_at, new_content_at, page_bytes_at, page_in, patch_body_at, patched_file_at, register_at};
+ghost use Rattle.save_text.specs.PatchText.PatchText.{change_at, changed_bytes_at, content_beside_at, content_in, is_mark, is_new, marked_at, marked_content_at, marked_registers_at, new_content_at, page_bytes_at, page_in, patch_at, patched_file_at, register_at};
 ghost use Rattle.save_text.specs.PatchText.Seen.{change_view};
 
 use crate::byte_fields::{Cursor, TextForm, WrongField};
 use crate::patch_text::change::Change;
 use crate::patch_text::merging::{are_same, bytes_of};
 use crate::patch_text::numbered::{from_number, taken};
+use crate::patch_text::reading::MAGIC;
 use crate::state_text::{File, Numbers, Page, Parts, heap_of, is_zero, name_of, reservation_of};
 
 /// A register: another value than the base's where it is marked, else the base's.
@@ -57,11 +58,12 @@ fn registers_of(cursor: &mut Cursor<'_>, base: &[u64; 31]) -> Result<[u64; 31], 
     marked_of(cursor, marks / 2, base)
 }
 
-/// The numbers behind the magic.
-#[tactic(auto, unfolding(crate::specs::PatchText::PatchText::patch_body_at, crate::specs::Inside::Fronts::lists_beside_at))]
+/// The magic of a patch, and the numbers behind it.
+#[tactic(auto, unfolding(crate::specs::PatchText::PatchText::patch_at, crate::specs::PatchText::PatchText::patch_body_at, crate::specs::Inside::Fronts::lists_beside_at))]
 pub(crate) fn numbers_of(cursor: &mut Cursor<'_>, base: &Parts<'_>) -> Result<Numbers, WrongField>
-    ensures { ReadsFront (lists_beside_at (state_view base.now)) result cursor.new (patch_body_at (state_view base.now) cursor.old) }
+    ensures { ReadsFront (lists_beside_at (state_view base.now)) result cursor.new (patch_at (state_view base.now) cursor.old) }
 {
+    cursor.begins_with(&MAGIC)?;
     let steps = cursor.u64()?;
     let pc = cursor.u64()?;
     let registers = registers_of(cursor, &base.registers)?;
@@ -110,18 +112,6 @@ fn is_new_page(known: Option<&[u8]>, found: &[u8]) -> bool
     !is_zero(found) && is_new(known, found)
 }
 
-/// The bytes of a page, other than the base's.
-fn new_page<'a>(cursor: &mut Cursor<'a>, known: Option<&[u8]>) -> Result<&'a [u8], WrongField>
-    ensures { Finds (λ x. x.now) result cursor.new (that (λ found. is_page found && is_new (option_copied known.entry) found) (bytes 4096) cursor.old) }
-{
-    let at = cursor.len();
-    let found = cursor.bytes(4096)?;
-    if !is_new_page(known, found) {
-        return Err(WrongField { left: at });
-    }
-    Ok(found)
-}
-
 /// What stands behind the number of a page.
 #[tactic(auto, unfolding(crate::specs::PatchText::PatchText::changed_bytes_at, crate::specs::PatchText::PatchText::page_bytes_at))]
 fn changed_of<'a>(
@@ -133,7 +123,11 @@ fn changed_of<'a>(
     match mark_of(cursor, known)? {
         0 => Ok(None),
         _ => {
-            let found = new_page(cursor, known)?;
+            let at = cursor.len();
+            let found = cursor.bytes(4096)?;
+            if !is_new_page(known, found) {
+                return Err(WrongField { left: at });
+            }
             Ok(Some(found))
         }
     }
@@ -203,22 +197,8 @@ pub(crate) fn change_of<'a>(
 
 // ---- contents
 
-/// Other bytes than the base's, with their length before them.
-#[tactic(auto, unfolding(crate::specs::PatchText::PatchText::new_content_at))]
-fn new_content<'a>(cursor: &mut Cursor<'a>, known: Option<&[u8]>) -> Result<&'a [u8], WrongField>
-    ensures { Finds (λ x. x.now) result cursor.new (new_content_at (option_copied known.entry) cursor.old) }
-{
-    let count = cursor.u32()?;
-    let at = cursor.len();
-    let found = cursor.bytes(count as usize)?;
-    if !is_new(known, found) {
-        return Err(WrongField { left: at });
-    }
-    Ok(found)
-}
-
-/// What the base has, or other bytes.
-#[tactic(auto, unfolding(crate::specs::PatchText::PatchText::content_beside_at, crate::specs::PatchText::PatchText::marked_content_at))]
+/// What the base has, or other bytes with their length before them.
+#[tactic(auto, unfolding(crate::specs::PatchText::PatchText::content_beside_at, crate::specs::PatchText::PatchText::marked_content_at, crate::specs::PatchText::PatchText::new_content_at))]
 pub(crate) fn content<'a>(
     cursor: &mut Cursor<'a>,
     known: Option<&'a [u8]>,
@@ -227,7 +207,15 @@ pub(crate) fn content<'a>(
 {
     match mark_of(cursor, known)? {
         0 => Ok(known.unwrap_or(&[])),
-        _ => new_content(cursor, known),
+        _ => {
+            let count = cursor.u32()?;
+            let at = cursor.len();
+            let found = cursor.bytes(count as usize)?;
+            if !is_new(known, found) {
+                return Err(WrongField { left: at });
+            }
+            Ok(found)
+        }
     }
 }
 

@@ -7,7 +7,7 @@ ghost use Rattle.save_text.specs.StateText.Spelled.{IsPage, IsStateText};
 ghost use Rattle.save_text.specs.StateText.Seen.{ReadsStateText, file_view, page_view, state_view};
 ghost use Rattle.save_text.specs.Inside.Fronts.{lists_beside_at};
 ghost use Rattle.save_text.specs.PatchText.Inside.Walking.{Rises};
-ghost use Rattle.save_text.specs.PatchText.PatchText.{after_change, change_at, changed_pages_at, parsed_patch, patch_at, patch_body_at, patched_file_at};
+ghost use Rattle.save_text.specs.PatchText.PatchText.{after_change, change_at, changed_pages_at, parsed_patch, patch_at, patched_file_at};
 ghost use Rattle.save_text.specs.PatchText.Spelled.{IsPatched, text_of_patch};
 ghost use Rattle.save_text.specs.PatchText.Seen.{change_view};
 
@@ -82,11 +82,15 @@ fn files_beside<'a>(
     Ok(files)
 }
 
-/// What stands behind the magic.
+/// A patch's text at the front of what is left: the state that it says beside its base.
 #[tactic(auto, unfolding(crate::specs::Inside::Fronts::lists_beside_at))]
-fn body_of<'a>(alloc: Global, cursor: &mut Cursor<'a>, base: &Parts<'a>) -> Result<Parts<'a>, Stop>
+pub(crate) fn patch_of<'a>(
+    alloc: Global,
+    cursor: &mut Cursor<'a>,
+    base: &Parts<'a>,
+) -> Result<Parts<'a>, Stop>
     requires { IsStateText (state_view base.now) }
-    ensures { GivesField state_view result cursor.new (patch_body_at (state_view base.now) cursor.old) }
+    ensures { GivesField state_view result cursor.new (patch_at (state_view base.now) cursor.old) }
 {
     let numbers = numbers_of(cursor, base)?;
     let registers = numbers.registers;
@@ -109,20 +113,6 @@ fn body_of<'a>(alloc: Global, cursor: &mut Cursor<'a>, base: &Parts<'a>) -> Resu
         stream1,
         stream2,
     })
-}
-
-/// A patch's text at the front of what is left: the state that it says beside its base.
-#[tactic(auto, unfolding(crate::specs::PatchText::PatchText::patch_at))]
-pub(crate) fn patch_of<'a>(
-    alloc: Global,
-    cursor: &mut Cursor<'a>,
-    base: &Parts<'a>,
-) -> Result<Parts<'a>, Stop>
-    requires { IsStateText (state_view base.now) }
-    ensures { GivesField state_view result cursor.new (patch_at (state_view base.now) cursor.old) }
-{
-    cursor.begins_with(&MAGIC)?;
-    body_of(alloc, cursor, base)
 }
 
 /// The state that a patch says beside its base. Contents are lent: what stays the base's is the base's. Each field is judged given those

@@ -8,5 +8,5 @@ use Rattle.save_text.proofs.delta_text.passing.pass_stages_beside.Goals as goal
 pub returns : goal.returns
 unfolding stages_beside_at
 returns c =
-    rw (c.in_ok-kept.ensures, c.in_ok-count.ensures)
+    rw c.in_ok-kept.ensures
     (past_on (λ (further : List StageText). take c.in_ok-kept.kept (map stage_view c.args.base.now) ++ further) c.pass_several.result c.pass_several.new.cursor _ (rw c.known_at.ensures at c.pass_several.ensures))

@@ -3,7 +3,7 @@ use Rattle.std.specs.Prelude.{option_map}
 use Rattle.save_text.specs.StateText.Seen.{file_view, reserved_view}
 use Rattle.save_text.specs.Inside.Fronts.{lists_beside_at}
 use Rattle.save_text.proofs.PatchTextLemmas.Listing.{files_rise}
-use Rattle.save_text.proofs.patch_text.passing.pass_body.Goals as goal
+use Rattle.save_text.proofs.patch_text.passing.pass_patch.Goals as goal
 
 pub pass_pages-requires : goal.pass_pages-requires
 pass_pages-requires c = rw c.as_slice.ensures.value c.requires.pages.1
