@@ -2,7 +2,7 @@ use Rattle.std.proofs.Common.{◌++◌, List, map, take}
 use Rattle.save_text.specs.DeltaText.Stages.{stages_beside_at}
 use Rattle.save_text.specs.SaveText.{StageText}
 use Rattle.save_text.specs.Seen.{stage_view}
-use Rattle.save_text.proofs.DeltaTextLemmas.Beside.{past_on}
+use Rattle.save_text.proofs.ByteFieldsLemmas.Loop.{past_on}
 use Rattle.save_text.proofs.delta_text.passing.pass_stages_beside.Goals as goal
 
 pub returns : goal.returns

@@ -1,10 +1,9 @@
 use Rattle.std.proofs.Common.{Ok, ◌≤◌, ◌+◌, drop, map, refl, sym, ap, ◌∙◌, arith}
 use Rattle.std.proofs.lemmas.Result.{err_from_is_err_and}
-use Rattle.save_text.proofs.ByteFieldsLemmas.Loop.{sets_out, went_on, went_past, went_wrong}
+use Rattle.save_text.proofs.ByteFieldsLemmas.Loop.{past_on, sets_out, went_on, went_past, went_wrong}
 use Rattle.save_text.specs.StateText.Seen.{page_view}
 use Rattle.save_text.specs.PatchText.PatchText.{after_change, change_at, changed_pages, changed_pages_at}
 use Rattle.save_text.specs.PatchText.Seen.{change_view}
-use Rattle.save_text.proofs.DeltaTextLemmas.Beside.{past_on}
 use Rattle.save_text.proofs.PatchTextLemmas.Listing.{change_alike, change_from_least}
 use Rattle.save_text.proofs.PatchTextLemmas.Pages.{page_number, pages_rise}
 use Rattle.save_text.proofs.PatchTextLemmas.Rising.{rises_lower}
