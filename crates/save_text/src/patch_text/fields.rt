@@ -133,20 +133,6 @@ fn changed_of<'a>(
     }
 }
 
-/// What a base has of a page, and where its pages behind it begin.
-fn known_page<'a>(base: &[Page<'a>], at: usize, number: u32) -> (Option<&'a [u8]>, usize)
-    requires within { at ≤ length base.now }
-    requires rises { Rises (λ page. page.number) 0 (map page_view (drop at base.now)) }
-    ensures here { option_copied result.0 ≡ page_in (map page_view (drop at base.now)) number }
-    ensures within { result.1 ≤ length base.now }
-    ensures rises { Rises (λ page. page.number) (number + 1) (map page_view (drop result.1 base.now)) }
-    ensures same { SameFrom (λ page. page.number) (number + 1) (map page_view (drop at base.now)) (map page_view (drop result.1 base.now)) }
-{
-    let from = from_number(base, at, number);
-    let (page, later) = taken(base, from, number);
-    (bytes_of(page), later)
-}
-
 /// What a base has of a file's content, and where its files behind it begin.
 pub(crate) fn known_content<'a>(
     base: &[File<'a>],
@@ -190,8 +176,9 @@ pub(crate) fn change_of<'a>(
     ensures same { IfOk result (λ x. SameFrom (λ page. page.number) (x.0.number + 1) (map page_view (drop at base.now)) (map page_view (drop x.1 base.now))) }
 {
     let number = cursor.u32_from(least)?;
-    let (known, later) = known_page(base, at, number);
-    let bytes = changed_of(cursor, known)?;
+    let from = from_number(base, at, number);
+    let (page, later) = taken(base, from, number);
+    let bytes = changed_of(cursor, bytes_of(page))?;
     Ok((Change { number, bytes }, later))
 }
 

@@ -220,22 +220,17 @@ fn access_of(cursor: &mut Cursor<'_>) -> Result<Access, WrongField>
     let at = cursor.len();
     let flags = cursor.byte()?;
     if flags < 8 && flags % 4 != 0 {
+        let mode = match flags % 4 {
+            1 => Mode::Read,
+            2 => Mode::Write,
+            _ => Mode::ReadWrite,
+        };
         Ok(Access {
-            mode: mode_of(flags % 4),
+            mode,
             appends: flags >= 4,
         })
     } else {
         Err(WrongField { left: at })
-    }
-}
-
-fn mode_of(bits: u8) -> Mode
-    ensures { result ≡ mode_of_code bits }
-{
-    match bits {
-        1 => Mode::Read,
-        2 => Mode::Write,
-        _ => Mode::ReadWrite,
     }
 }
 
