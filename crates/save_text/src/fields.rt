@@ -2,17 +2,19 @@
 
 ghost use Rattle.std.specs.Prelude.{◌≡◌, ◌<◌, ◌^◌, ◌++◌, All, None, OnErr, OnOk, length, map};
 ghost use Rattle.std.specs.Io.{StartsWith};
+ghost use Rattle.std.specs.Int.{w32};
 ghost use Rattle.std.specs.Option.{option_copied};
 ghost use Rattle.std.specs.Ordering.{is_lt};
-ghost use Rattle.save_text.specs.ByteFields.Reader.{Finds, GivesField, counted, several};
+ghost use Rattle.save_text.specs.ByteFields.Reader.{Finds, GivesField, blob, counted, several};
 ghost use Rattle.save_text.specs.ByteFields.Spelling.{list_text};
 ghost use Rattle.save_text.specs.SaveText.{after_left, digest_at, is_behind, saved_left_at, saved_stage_at, mark_at, saved_name_at};
 ghost use Rattle.save_text.specs.Seen.{stage_view};
+ghost use Rattle.save_text.specs.Inside.Fronts.{ReadsFront, left_and_made_at};
 ghost use Rattle.save_text.specs.Inside.Passing.{GoesPast};
 ghost use Rattle.save_text.specs.Spelled.{digest_text, left_text, mark_text};
 
 use crate::byte_fields::{Cursor, Item, Stop, WrongField, put_blob16, put_u32};
-use crate::parts::{InputPart, StagePart};
+use crate::parts::{InputPart, StageFront, StagePart};
 use ddc_base::digests::Digest;
 use ddc_base::{Bytes, OutOfMemory};
 use report::{LeftLine, LeftLines, Mark};
@@ -63,20 +65,6 @@ fn is_behind(last: Option<&[u8]>, name: &[u8]) -> bool
     }
 }
 
-/// A name that is behind the one before it.
-#[tactic(auto, unfolding(crate::specs::SaveText::saved_name_at))]
-fn name_of<'a>(cursor: &mut Cursor<'a>, last: Option<&[u8]>) -> Result<&'a [u8], WrongField>
-    ensures { Finds (λ x. x.now) result cursor.new (saved_name_at (option_copied last.entry) cursor.old) }
-{
-    let count = cursor.u16()?;
-    let at = cursor.len();
-    let name = cursor.bytes(usize::from(count))?;
-    if !is_behind(last, name) {
-        return Err(WrongField { left: at });
-    }
-    Ok(name)
-}
-
 /// The files that a stage left.
 fn left_of(alloc: Global, cursor: &mut Cursor<'_>, count: u32) -> Result<LeftLines, Stop>
     ensures { GivesField (λ x. x) result cursor.new (several saved_left_at after_left None count cursor.old) }
@@ -95,14 +83,19 @@ fn left_of(alloc: Global, cursor: &mut Cursor<'_>, count: u32) -> Result<LeftLin
 }
 
 /// A file that a stage left: its name, lent, and its mark.
-#[tactic(auto, unfolding(crate::specs::SaveText::saved_left_at))]
+#[tactic(auto, unfolding(crate::specs::SaveText::saved_left_at, crate::specs::SaveText::saved_name_at))]
 pub(crate) fn line_of<'a>(
     cursor: &mut Cursor<'a>,
     last: Option<&[u8]>,
 ) -> Result<(&'a [u8], Mark), WrongField>
     ensures { Finds (λ x. record { name = x.0.now; mark = x.1 }) result cursor.new (saved_left_at (option_copied last.entry) cursor.old) }
 {
-    let name = name_of(cursor, last)?;
+    let count = cursor.u16()?;
+    let at = cursor.len();
+    let name = cursor.bytes(usize::from(count))?;
+    if !is_behind(last, name) {
+        return Err(WrongField { left: at });
+    }
     let mark = mark_of(cursor)?;
     Ok((name, mark))
 }
@@ -167,40 +160,47 @@ impl<'a> Item<'a> for InputPart {
     }
 }
 
-/// A stage that is done.
-#[tactic(auto, unfolding(crate::specs::SaveText::saved_stage_at))]
-pub(crate) fn stage_of(alloc: Global, cursor: &mut Cursor<'_>) -> Result<StagePart, Stop>
-    ensures { GivesField stage_view result cursor.new (saved_stage_at 0 cursor.old) }
+/// The first fields of a stage that is done.
+#[tactic(auto, unfolding(crate::specs::SaveText::saved_stage_at, crate::specs::Inside::Fronts::left_and_made_at))]
+pub(crate) fn stage_front(cursor: &mut Cursor<'_>) -> Result<StageFront, WrongField>
+    ensures { ReadsFront left_and_made_at result cursor.new (saved_stage_at 0 cursor.old) }
 {
     let steps = cursor.u64()?;
     let stream1 = mark_of(cursor)?;
     let stream2 = mark_of(cursor)?;
     let count = cursor.u32()?;
-    let left = left_of(alloc, cursor, count)?;
-    let made = cursor.blob32()?;
-    Ok(StagePart {
+    Ok(StageFront {
         steps,
         stream1,
         stream2,
-        left,
-        made: Bytes::from_slice(alloc, made)?,
+        count,
     })
 }
 
-/// So many stages that are done.
-fn several_stages(
-    alloc: Global,
-    cursor: &mut Cursor<'_>,
-    count: u32,
-) -> Result<Vec<StagePart>, Stop>
-    ensures { GivesField (λ v. map stage_view v.items) result cursor.new (several saved_stage_at (λ stage. 0) 0 count cursor.old) }
+/// A copy of a length of 4 bytes, and that many bytes.
+fn copy_of(alloc: Global, cursor: &mut Cursor<'_>) -> Result<Bytes, Stop>
+    ensures { GivesField (λ x. x) result cursor.new (blob w32 cursor.old) }
 {
-    let mut stages = Vec::new(alloc);
-    for _ in 0..count {
-        let stage = stage_of(alloc, cursor)?;
-        stages.push(stage)?;
-    }
-    Ok(stages)
+    let made = cursor.blob32()?;
+    let copy = Bytes::from_slice(alloc, made)?;
+    Ok(copy)
+}
+
+/// A stage that is done.
+#[tactic(auto, unfolding(crate::specs::Inside::Fronts::left_and_made_at))]
+pub(crate) fn stage_of(alloc: Global, cursor: &mut Cursor<'_>) -> Result<StagePart, Stop>
+    ensures { GivesField stage_view result cursor.new (saved_stage_at 0 cursor.old) }
+{
+    let front = stage_front(cursor)?;
+    let left = left_of(alloc, cursor, front.count)?;
+    let made = copy_of(alloc, cursor)?;
+    Ok(StagePart {
+        steps: front.steps,
+        stream1: front.stream1,
+        stream2: front.stream2,
+        left,
+        made,
+    })
 }
 
 /// A count of 4 bytes, and that many stages that are done.
@@ -208,7 +208,12 @@ pub(crate) fn stages_of(alloc: Global, cursor: &mut Cursor<'_>) -> Result<Vec<St
     ensures { GivesField (λ v. map stage_view v.items) result cursor.new (counted saved_stage_at (λ stage. 0) 0 cursor.old) }
 {
     let count = cursor.u32()?;
-    several_stages(alloc, cursor, count)
+    let mut stages = Vec::new(alloc);
+    for _ in 0..count {
+        let stage = stage_of(alloc, cursor)?;
+        stages.push(stage)?;
+    }
+    Ok(stages)
 }
 
 /// Goes past the files that a stage left.
@@ -224,26 +229,13 @@ fn pass_left(cursor: &mut Cursor<'_>, count: u32) -> Result<(), WrongField>
 }
 
 /// Goes past a stage that is done.
-#[tactic(auto, unfolding(crate::specs::SaveText::saved_stage_at))]
+#[tactic(auto, unfolding(crate::specs::Inside::Fronts::left_and_made_at))]
 pub(crate) fn pass_stage(cursor: &mut Cursor<'_>) -> Result<(), WrongField>
     ensures { GoesPast result cursor.new (saved_stage_at 0 cursor.old) }
 {
-    let _steps = cursor.u64()?;
-    let _stream1 = mark_of(cursor)?;
-    let _stream2 = mark_of(cursor)?;
-    let count = cursor.u32()?;
-    pass_left(cursor, count)?;
+    let front = stage_front(cursor)?;
+    pass_left(cursor, front.count)?;
     let _made = cursor.blob32()?;
-    Ok(())
-}
-
-/// Goes past so many stages that are done.
-fn pass_several_stages(cursor: &mut Cursor<'_>, count: u32) -> Result<(), WrongField>
-    ensures { GoesPast result cursor.new (several saved_stage_at (λ stage. 0) 0 count cursor.old) }
-{
-    for _ in 0..count {
-        pass_stage(cursor)?;
-    }
     Ok(())
 }
 
@@ -252,5 +244,8 @@ pub(crate) fn pass_stages(cursor: &mut Cursor<'_>) -> Result<(), WrongField>
     ensures { GoesPast result cursor.new (counted saved_stage_at (λ stage. 0) 0 cursor.old) }
 {
     let count = cursor.u32()?;
-    pass_several_stages(cursor, count)
+    for _ in 0..count {
+        pass_stage(cursor)?;
+    }
+    Ok(())
 }

@@ -3,34 +3,26 @@
 ghost use Rattle.std.specs.Prelude.{◌≡◌, ◌↔◌, IsTrue, Ok};
 ghost use Rattle.save_text.specs.ByteFields.Reader.{Finds};
 ghost use Rattle.save_text.specs.Inside.Mapping.{TellsRuns};
-ghost use Rattle.save_text.specs.SaveText.{SaveText, fields_at, origin_at, parsed_save, save_at};
+ghost use Rattle.save_text.specs.SaveText.{SaveText, origin_at, parsed_save, save_at};
 ghost use Rattle.save_text.specs.StateText.Mappable.{AreMappable};
 
-use crate::byte_fields::{Cursor, TextForm, WrongField, pass_counted};
+use crate::byte_fields::{Cursor, WrongField, pass_counted};
 use crate::fields::{digest_of, pass_stages};
 use crate::parts::InputPart;
 use crate::reading::{MAGIC, OLD_MAGIC};
 use crate::state_text::state_mappable;
 use ddc_base::digests::Digest;
 
-/// Whether the runs of the state behind the magic of a form can be mapped.
-#[tactic(auto, unfolding(crate::specs::SaveText::fields_at))]
-fn fields_mappable(cursor: &mut Cursor<'_>, form: TextForm) -> Result<bool, WrongField>
-    ensures { TellsRuns (λ save. save.state.runs) result (fields_at form cursor.old) }
-{
-    let _recipe = digest_of(cursor)?;
-    pass_counted::<InputPart>(cursor)?;
-    pass_stages(cursor)?;
-    state_mappable(cursor, form)
-}
-
 /// Whether the runs of the state in a save's text at the front of what is left can be mapped.
-#[tactic(auto, unfolding(crate::specs::SaveText::save_at))]
+#[tactic(auto, unfolding(crate::specs::SaveText::save_at, crate::specs::SaveText::fields_at))]
 fn save_mappable(cursor: &mut Cursor<'_>) -> Result<bool, WrongField>
     ensures { TellsRuns (λ save. save.state.runs) result (save_at cursor.old) }
 {
     let form = cursor.begins_with_either(&OLD_MAGIC, &MAGIC)?;
-    fields_mappable(cursor, form)
+    let _recipe = digest_of(cursor)?;
+    pass_counted::<InputPart>(cursor)?;
+    pass_stages(cursor)?;
+    state_mappable(cursor, form)
 }
 
 /// Whether the runs of the state that a save says can be mapped. Of a text without the form nothing is said.

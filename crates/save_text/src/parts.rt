@@ -23,6 +23,16 @@ pub struct StagePart {
     pub made: Bytes,
 }
 
+/// The first fields of a stage that is done.
+#[derive(Clone, Copy)]
+pub(crate) struct StageFront {
+    pub steps: u64,
+    pub stream1: Mark,
+    pub stream2: Mark,
+    /// How many files its program left.
+    pub count: u32,
+}
+
 /// What the text of a save says. The contents of its state are lent.
 #[derive(Debug, Drop)]
 pub struct Parts<'a> {

@@ -1,11 +1,11 @@
 ghost use Rattle.std.specs.Prelude.{IfOk, Ok};
 ghost use Rattle.save_text.specs.ByteFields.Reader.{GivesField};
-ghost use Rattle.save_text.specs.SaveText.{SaveText, fields_at, parsed_save, save_at};
+ghost use Rattle.save_text.specs.SaveText.{SaveText, parsed_save, save_at};
 ghost use Rattle.save_text.specs.Spelled.{IsSaveText, IsTextOfSave};
 ghost use Rattle.save_text.specs.Seen.{ReadsSaveText, save_view};
 ghost use Rattle.save_text.specs.Inside.Passing.{GoesPast, JudgesForm};
 
-use crate::byte_fields::{Cursor, Stop, TextForm, WrongField, counted, pass_counted};
+use crate::byte_fields::{Cursor, Stop, WrongField, counted, pass_counted};
 use crate::fields::{digest_of, pass_stages, stages_of};
 use crate::parts::{InputPart, Parts};
 use crate::state_text::{TextRefusal, parts_in, pass_state_in};
@@ -18,19 +18,11 @@ pub const MAGIC: [u8; 8] = *b"ddcsave2";
 pub(crate) const OLD_MAGIC: [u8; 8] = *b"ddcsave1";
 
 /// A save's text of either form at the front of what is left.
-#[tactic(auto, unfolding(crate::specs::SaveText::save_at))]
+#[tactic(auto, unfolding(crate::specs::SaveText::save_at, crate::specs::SaveText::fields_at))]
 fn save_of<'a>(alloc: Global, cursor: &mut Cursor<'a>) -> Result<Parts<'a>, Stop>
     ensures { GivesField save_view result cursor.new (save_at cursor.old) }
 {
     let form = cursor.begins_with_either(&OLD_MAGIC, &MAGIC)?;
-    fields_of(alloc, cursor, form)
-}
-
-/// What stands behind the magic of a form.
-#[tactic(auto, unfolding(crate::specs::SaveText::fields_at))]
-fn fields_of<'a>(alloc: Global, cursor: &mut Cursor<'a>, form: TextForm) -> Result<Parts<'a>, Stop>
-    ensures { GivesField save_view result cursor.new (fields_at form cursor.old) }
-{
     let recipe = digest_of(cursor)?;
     let inputs = counted(alloc, cursor)?;
     let done = stages_of(alloc, cursor)?;
@@ -44,19 +36,11 @@ fn fields_of<'a>(alloc: Global, cursor: &mut Cursor<'a>, form: TextForm) -> Resu
 }
 
 /// Goes past a save's text of either form at the front of what is left.
-#[tactic(auto, unfolding(crate::specs::SaveText::save_at))]
+#[tactic(auto, unfolding(crate::specs::SaveText::save_at, crate::specs::SaveText::fields_at))]
 fn pass_save(cursor: &mut Cursor<'_>) -> Result<(), WrongField>
     ensures { GoesPast result cursor.new (save_at cursor.old) }
 {
     let form = cursor.begins_with_either(&OLD_MAGIC, &MAGIC)?;
-    pass_fields(cursor, form)
-}
-
-/// Goes past what stands behind the magic of a form.
-#[tactic(auto, unfolding(crate::specs::SaveText::fields_at))]
-fn pass_fields(cursor: &mut Cursor<'_>, form: TextForm) -> Result<(), WrongField>
-    ensures { GoesPast result cursor.new (fields_at form cursor.old) }
-{
     let _recipe = digest_of(cursor)?;
     pass_counted::<InputPart>(cursor)?;
     pass_stages(cursor)?;

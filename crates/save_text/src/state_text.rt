@@ -15,6 +15,7 @@ pub(crate) use items::{is_zero, name_of};
 pub use listing::{descriptors_of, files_of};
 pub use mapping::{MOST_PAGES, is_mappable};
 pub(crate) use mapping::{runs_mappable, state_mappable};
+pub(crate) use parts::Numbers;
 pub use parts::{Descriptor, File, Page, Parts, Reserved, Run};
 pub(crate) use reading::{heap_of, parts_in, pass_state_in, reservation_of};
 pub use reading::{TextRefusal, read};

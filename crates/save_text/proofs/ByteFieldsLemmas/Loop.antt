@@ -1,9 +1,11 @@
 -- Reading items one after the other, as a loop does.
-use Rattle.std.proofs.Common.{◌≡◌, ℕ, suc, ◌-◌, ◌+◌, ◌≤◌, ◌<◌, List, [], ◌∷◌, ◌++◌, Ok, Err, refl, sym, ap, ◌∙◌, append_assoc, arith}
+use Rattle.std.proofs.Common.{◌≡◌, ℕ, suc, ◌-◌, ◌+◌, ◌≤◌, ◌<◌, List, [], ◌∷◌, ◌++◌, Result, Ok, Err, refl, sym, ap, ◌∙◌, append_assoc, arith}
 use Rattle.std.proofs.lemmas.List.{append-nil}
+use Rattle.save_text.specs.declared.byte_fields.cursor.WrongField.{WrongField}
 use Rattle.save_text.specs.declared.byte_fields.cursor.Stop.{Stop}
 use Rattle.save_text.specs.declared.byte_fields.cursor.Stop.TheVariants as stop
 use Rattle.save_text.specs.ByteFields.Reader.{Read, Reader, read_onward, done, several, FailsField}
+use Rattle.save_text.specs.Inside.Passing.{GoesPast}
 
 -- what was read before, and what is still read
 abbrev pub with_front : {A : Type 0} → List A → Read (List A) → Read (List A)
@@ -69,3 +71,8 @@ went_wrong item next s at count i left total lt h went = stops item next s at we
 pub went_past : {A S : Type 0} (item : S → Reader A) (next : A → S) (s : S) (count i : ℕ) (left : List ℕ) (total : Read (List A)) → count ≤ i → Went item next s (count - i) left total
     → (xs : List A) × (total ≡ Ok (xs, left))
 went_past item next s count i left total le went = (went.0, is_done item next s went.0 count i left total le went.1)
+
+-- past a field, and what is made of it
+pub past_on : {A B : Type 0} (f : A → B) (result : Result (Unit {0}) WrongField) (left : List ℕ) (read : Read A) → GoesPast result left read → GoesPast result left (read_onward read (λ x. done (f x)))
+past_on f (Ok past) left read goes = (f goes.0, rw goes.1 refl)
+past_on f (Err field) left read goes = rw goes refl

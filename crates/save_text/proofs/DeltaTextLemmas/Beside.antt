@@ -3,10 +3,7 @@ use Rattle.std.proofs.Common.{◌≡◌, ℕ, suc, ◌+◌, ◌-◌, ◌<◌, �
 use Rattle.std.proofs.lemmas.List.{append-nil, drop-drop, length-map, map-append, take-map}
 use Rattle.std.proofs.lemmas.Bool.{cases_lt, lt-leb}
 use Rattle.report.specs.declared.types.LeftLine.{LeftLine}
-use Rattle.std.proofs.Common.{Result}
-use Rattle.save_text.specs.declared.byte_fields.cursor.WrongField.{WrongField}
-use Rattle.save_text.specs.Inside.Passing.{GoesPast}
-use Rattle.save_text.specs.ByteFields.Reader.{Read, done, read_onward, several}
+use Rattle.save_text.specs.ByteFields.Reader.{Read, several}
 use Rattle.save_text.specs.Seen.{stage_view}
 use Rattle.save_text.specs.SaveText.{StageText}
 use Rattle.save_text.specs.declared.parts.StagePart.{StagePart}
@@ -90,8 +87,3 @@ is_past known index count same last left total le ge b = (
   is_done saved_left_at after_left last b.front count index left total le b.read,
   ap (λ c. same && c) (sym (all_reached known count)) ∙ ap (λ (n : ℕ). same && equal_lefts (drop n known) []) (omega (arith, le, ge)) ∙ sym (b.sames []) ∙ ap (equal_lefts known) (append-nil b.front),
 )
-
--- past a field, and what is made of it
-pub past_on : {A B : Type 0} (f : A → B) (result : Result (Unit {0}) WrongField) (left : List ℕ) (read : Read A) → GoesPast result left read → GoesPast result left (read_onward read (λ x. done (f x)))
-past_on f (Ok past) left read goes = (f goes.0, rw goes.1 refl)
-past_on f (Err field) left read goes = rw goes refl

@@ -1,6 +1,6 @@
 -- Items that are read in the light of what a base has: what it has from the item's number on is enough.
 use Rattle.std.proofs.Common.{◌≡◌, ℕ, zero, suc, ◌+◌, ◌≤◌, Bool, true, false, cond, nat_le, List, [], ◌∷◌, length, option_map, Ok, Err, refl, ap, subst, arith, leb-true}
-use Rattle.save_text.specs.ByteFields.Reader.{Read, Reader, blob, counted, done, read_onward, several, tested, u32, u32_from, ◌>>=◌}
+use Rattle.save_text.specs.ByteFields.Reader.{Read, Reader, blob, done, read_onward, several, tested, u32, u32_from, ◌>>=◌}
 use Rattle.std.specs.Int.{w16}
 use Rattle.save_text.proofs.ByteFieldsLemmas.Spells.{same_value}
 use Rattle.mem_files.specs.Lists.{ListedFile}
@@ -66,11 +66,6 @@ changes_rise base (suc count) least left cs rest e =
     let b = read_on (several (change_at base) after_change (after_change a.0) count a.1) (λ xs. done (a.0 ∷ xs)) cs rest a.3 in
     subst (Rises (λ change. change.number) least) (same_value (a.0 ∷ b.0) cs b.1 rest b.3)
     (change_from_least base least left a.0 a.1 a.2, changes_rise base count (after_change a.0) a.1 b.0 b.1 b.2)
-
-pub counted_rise : (base : List PageText) (left : List ℕ) (cs : List PageChange) (rest : List ℕ) → counted (change_at base) after_change 0 left ≡ Ok (cs, rest) → Rises (λ change. change.number) 0 cs
-counted_rise base left cs rest e =
-    let a = read_on (u32 left) (λ count. several (change_at base) after_change 0 count) cs rest e in
-    changes_rise base a.0 0 a.1 cs rest a.3
 
 -- ---- files
 

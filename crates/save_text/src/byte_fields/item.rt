@@ -71,24 +71,17 @@ pub fn items<'a, T: Item<'a>>(
     Ok(items)
 }
 
-/// Goes past so many items.
-fn pass_items<'a, T: Item<'a>>(cursor: &mut Cursor<'a>, count: u32) -> Result<(), WrongField>
-    ensures { GoesPast result cursor.new (several T.read_from T.next_least 0 count cursor.old) }
+/// Goes past a count of 4 bytes, and that many items.
+pub(crate) fn pass_counted<'a, T: Item<'a>>(cursor: &mut Cursor<'a>) -> Result<(), WrongField>
+    ensures { GoesPast result cursor.new (counted T.read_from T.next_least 0 cursor.old) }
 {
+    let count = cursor.u32()?;
     let mut least = 0;
     for _ in 0..count {
         let item = T::take(cursor, least)?;
         least = item.least_after();
     }
     Ok(())
-}
-
-/// Goes past a count of 4 bytes, and that many items.
-pub(crate) fn pass_counted<'a, T: Item<'a>>(cursor: &mut Cursor<'a>) -> Result<(), WrongField>
-    ensures { GoesPast result cursor.new (counted T.read_from T.next_least 0 cursor.old) }
-{
-    let count = cursor.u32()?;
-    pass_items::<T>(cursor, count)
 }
 
 /// A count of 4 bytes, and that many items.

@@ -2,21 +2,22 @@
 
 ghost use Rattle.std.specs.Prelude.{◌≡◌, ◌==◌, ◌&&◌, None, bytes_eq, drop, length, map, nat_le, option_map};
 ghost use Rattle.std.specs.Option.{option_copied};
-ghost use Rattle.save_text.specs.ByteFields.Reader.{Finds, several};
+ghost use Rattle.save_text.specs.ByteFields.Reader.{Finds, counted, several};
 ghost use Rattle.save_text.specs.DeltaText.DeltaText.{delta_at, delta_front_at, parsed_delta};
 ghost use Rattle.save_text.specs.DeltaText.Front.{is_of_other_base};
 ghost use Rattle.save_text.specs.DeltaText.Inside.Beside.{IsLeftNext, PassesBeside};
 ghost use Rattle.save_text.specs.DeltaText.Stages.{after_further, equal_lefts, equal_marks, equal_stages, further_at, stages_beside_at};
+ghost use Rattle.save_text.specs.Inside.Fronts.{ReadsFront, stages_and_state_at};
 ghost use Rattle.save_text.specs.Inside.Passing.{GoesPast, JudgesForm};
-ghost use Rattle.save_text.specs.SaveText.{after_left, saved_left_at, saved_stage_at};
+ghost use Rattle.save_text.specs.SaveText.{SaveText, after_left, saved_left_at, saved_stage_at};
 ghost use Rattle.save_text.specs.Seen.{save_view, stage_view};
 ghost use Rattle.save_text.specs.Spelled.{IsSaveText};
 
 use crate::byte_fields::{Cursor, WrongField};
 use crate::delta_text::reading::MAGIC;
 use crate::delta_text::stages::{is_same_left, is_same_mark, kept_of, known_at};
-use crate::fields::{digest_of, line_of, mark_of, pass_stage};
-use crate::parts::{Parts, StagePart};
+use crate::fields::{digest_of, line_of, pass_stage, stage_front};
+use crate::parts::{Parts, StageFront, StagePart};
 use crate::patch_text::pass_patch;
 use crate::state_text::TextRefusal;
 use ddc_base::digests::Digest;
@@ -34,9 +35,10 @@ pub fn names_other_base(base: &Digest, text: &[u8]) -> bool
 }
 
 /// Of which base a text is, by the digest behind its magic.
-#[tactic(auto, unfolding(crate::specs::DeltaText::DeltaText::delta_front_at))]
-fn front_of(cursor: &mut Cursor<'_>) -> Result<Digest, WrongField>
-    ensures { Finds (λ x. x) result cursor.new (delta_front_at cursor.old) }
+#[tactic(auto, unfolding(crate::specs::DeltaText::DeltaText::delta_front_at, crate::specs::DeltaText::DeltaText::delta_at, crate::specs::Inside::Fronts::stages_and_state_at))]
+pub(crate) fn front_of(cursor: &mut Cursor<'_>) -> Result<Digest, WrongField>
+    ensures alone { Finds (λ x. x) result cursor.new (delta_front_at cursor.old) }
+    ensures first { (base : SaveText) → ReadsFront (stages_and_state_at base) result cursor.new (delta_at base cursor.old) }
 {
     cursor.begins_with(&MAGIC)?;
     digest_of(cursor)
@@ -81,34 +83,31 @@ fn pass_lefts(cursor: &mut Cursor<'_>, count: u32, known: &[LeftLine]) -> Result
 }
 
 /// Whether a stage of the base has these steps and marks, and this artefact, where it is known whether the files that were left are the same.
-fn are_same(known: &StagePart, ended: (u64, Mark, Mark), same_left: bool, made: &[u8]) -> bool
-    ensures { result ≡ (known.now.steps == ended.0 && (equal_marks known.now.stream1 ended.1
-        && (equal_marks known.now.stream2 ended.2 && (same_left && bytes_eq known.now.made made.now)))) }
+fn are_same(known: &StagePart, front: StageFront, same_left: bool, made: &[u8]) -> bool
+    ensures { result ≡ (known.now.steps == front.steps && (equal_marks known.now.stream1 front.stream1
+        && (equal_marks known.now.stream2 front.stream2 && (same_left && bytes_eq known.now.made made.now)))) }
 {
-    if known.steps != ended.0 {
+    if known.steps != front.steps {
         return false;
     }
-    if !is_same_mark(known.stream1, ended.1) {
+    if !is_same_mark(known.stream1, front.stream1) {
         return false;
     }
-    if !is_same_mark(known.stream2, ended.2) {
+    if !is_same_mark(known.stream2, front.stream2) {
         return false;
     }
     are_both(same_left, known.made.as_slice() == made)
 }
 
 /// Goes past a stage that is done, and says whether it is that of the base.
-#[tactic(auto, unfolding(crate::specs::SaveText::saved_stage_at))]
+#[tactic(auto, unfolding(crate::specs::Inside::Fronts::left_and_made_at))]
 fn pass_beside(cursor: &mut Cursor<'_>, known: &StagePart) -> Result<bool, WrongField>
     ensures { PassesBeside (equal_stages (stage_view known.now)) result cursor.new (saved_stage_at 0 cursor.old) }
 {
-    let steps = cursor.u64()?;
-    let stream1 = mark_of(cursor)?;
-    let stream2 = mark_of(cursor)?;
-    let count = cursor.u32()?;
-    let same_left = pass_lefts(cursor, count, known.left.as_slice())?;
+    let front = stage_front(cursor)?;
+    let same_left = pass_lefts(cursor, front.count, known.left.as_slice())?;
     let made = cursor.blob32()?;
-    Ok(are_same(known, (steps, stream1, stream2), same_left, made))
+    Ok(are_same(known, front, same_left, made))
 }
 
 /// Goes past a further stage, which is wrong where it could have been kept.
@@ -128,14 +127,11 @@ fn pass_further(cursor: &mut Cursor<'_>, known: Option<&StagePart>) -> Result<()
     }
 }
 
-/// Goes past so many further stages.
-fn pass_several(
-    cursor: &mut Cursor<'_>,
-    known: Option<&StagePart>,
-    count: u32,
-) -> Result<(), WrongField>
-    ensures { GoesPast result cursor.new (several further_at after_further (option_map stage_view (option_copied known.entry)) count cursor.old) }
+/// Goes past a count of 4 bytes, and that many further stages.
+fn pass_several(cursor: &mut Cursor<'_>, known: Option<&StagePart>) -> Result<(), WrongField>
+    ensures { GoesPast result cursor.new (counted further_at after_further (option_map stage_view (option_copied known.entry)) cursor.old) }
 {
+    let count = cursor.u32()?;
     let mut beside = known;
     for _ in 0..count {
         pass_further(cursor, beside)?;
@@ -150,18 +146,16 @@ fn pass_stages_beside(cursor: &mut Cursor<'_>, base: &[StagePart]) -> Result<(),
     ensures { GoesPast result cursor.new (stages_beside_at (map stage_view base.now) cursor.old) }
 {
     let kept = kept_of(cursor, base)?;
-    let count = cursor.u32()?;
-    pass_several(cursor, known_at(base, kept), count)
+    pass_several(cursor, known_at(base, kept))
 }
 
 /// Goes past a delta.
-#[tactic(auto, unfolding(crate::specs::DeltaText::DeltaText::delta_at))]
+#[tactic(auto, unfolding(crate::specs::Inside::Fronts::stages_and_state_at))]
 fn pass_delta<'a>(cursor: &mut Cursor<'a>, base: &Parts<'a>) -> Result<(), WrongField>
     requires { IsSaveText (save_view base.now) }
     ensures { GoesPast result cursor.new (delta_at (save_view base.now) cursor.old) }
 {
-    cursor.begins_with(&MAGIC)?;
-    let _digest = digest_of(cursor)?;
+    let _digest = front_of(cursor)?;
     pass_stages_beside(cursor, base.done.as_slice())?;
     pass_patch(cursor, &base.state)
 }

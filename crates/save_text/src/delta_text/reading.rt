@@ -2,21 +2,23 @@
 
 ghost use Rattle.std.specs.Prelude.{◌≡◌, ◌++◌, IfOk, Ok, map, option_map, take};
 ghost use Rattle.std.specs.Option.{option_copied};
-ghost use Rattle.save_text.specs.ByteFields.Reader.{GivesField, several};
+ghost use Rattle.save_text.specs.ByteFields.Reader.{GivesField, counted};
 ghost use Rattle.save_text.specs.DeltaText.DeltaText.{DeltaText, IsDelta, delta_at, parsed_delta, text_of_delta};
 ghost use Rattle.save_text.specs.DeltaText.Seen.{ReadsDeltaText, delta_view};
 ghost use Rattle.save_text.specs.DeltaText.Stages.{after_further, further_at, stages_beside_at};
+ghost use Rattle.save_text.specs.Inside.Fronts.{stages_and_state_at};
 ghost use Rattle.save_text.specs.Seen.{save_view, stage_view};
 ghost use Rattle.save_text.specs.Spelled.{IsSaveText};
 
 use crate::byte_fields::{Cursor, Stop};
 use crate::delta_text::parts::DeltaParts;
-use crate::delta_text::passing::judge;
+use crate::delta_text::passing::{front_of, judge};
 use crate::delta_text::stages::{is_other, kept_of, known_at};
-use crate::fields::{digest_of, stage_of};
+use crate::fields::stage_of;
 use crate::parts::{Parts, StagePart};
 use crate::patch_text::patch_of;
 use crate::state_text::TextRefusal;
+use ddc_base::digests::Digest;
 use std::alloc::{AllocError, Global};
 
 /// The eight bytes that begin the text of a delta.
@@ -39,15 +41,15 @@ fn further_of(
     Ok(stage)
 }
 
-/// So many further stages.
+/// A count of 4 bytes, and that many further stages.
 fn several_further(
     alloc: Global,
     cursor: &mut Cursor<'_>,
     known: Option<&StagePart>,
-    count: u32,
 ) -> Result<Vec<StagePart>, Stop>
-    ensures { GivesField (λ v. map stage_view v.items) result cursor.new (several further_at after_further (option_map stage_view (option_copied known.entry)) count cursor.old) }
+    ensures { GivesField (λ v. map stage_view v.items) result cursor.new (counted further_at after_further (option_map stage_view (option_copied known.entry)) cursor.old) }
 {
+    let count = cursor.u32()?;
     let mut stages = Vec::new(alloc);
     let mut beside = known;
     for _ in 0..count {
@@ -83,14 +85,38 @@ fn stages_of(
     ensures { GivesField (λ v. map stage_view v.items) result cursor.new (stages_beside_at (map stage_view base.items) cursor.old) }
 {
     let kept = kept_of(cursor, base.as_slice())?;
-    let count = cursor.u32()?;
-    let further = several_further(alloc, cursor, known_at(base.as_slice(), kept), count)?;
+    let further = several_further(alloc, cursor, known_at(base.as_slice(), kept))?;
     let stages = joined(base, kept as usize, further)?;
     Ok(stages)
 }
 
+/// What stands behind the digest of a delta's base.
+#[tactic(auto, unfolding(crate::specs::Inside::Fronts::stages_and_state_at))]
+fn behind_digest<'a>(
+    alloc: Global,
+    cursor: &mut Cursor<'a>,
+    digest: Digest,
+    base: Parts<'a>,
+) -> Result<DeltaParts<'a>, Stop>
+    requires { IsSaveText (save_view base) }
+    ensures { GivesField delta_view result cursor.new (stages_and_state_at (save_view base.entry) digest cursor.old) }
+{
+    let Parts {
+        done,
+        state,
+        recipe: _,
+        inputs: _,
+    } = base;
+    let stages = stages_of(alloc, cursor, done)?;
+    let state = patch_of(alloc, cursor, &state)?;
+    Ok(DeltaParts {
+        base: digest,
+        done: stages,
+        state,
+    })
+}
+
 /// A delta's text at the front of what is left.
-#[tactic(auto, unfolding(crate::specs::DeltaText::DeltaText::delta_at))]
 fn delta_of<'a>(
     alloc: Global,
     cursor: &mut Cursor<'a>,
@@ -99,21 +125,8 @@ fn delta_of<'a>(
     requires { IsSaveText (save_view base) }
     ensures { GivesField delta_view result cursor.new (delta_at (save_view base.entry) cursor.old) }
 {
-    let Parts {
-        done,
-        state,
-        recipe: _,
-        inputs: _,
-    } = base;
-    cursor.begins_with(&MAGIC)?;
-    let digest = digest_of(cursor)?;
-    let stages = stages_of(alloc, cursor, done)?;
-    let state = patch_of(alloc, cursor, &state)?;
-    Ok(DeltaParts {
-        base: digest,
-        done: stages,
-        state,
-    })
+    let digest = front_of(cursor)?;
+    behind_digest(alloc, cursor, digest, base)
 }
 
 /// What a delta says beside its base. Each field is judged given those before it and the base, so an offset is that of the first wrong one; a

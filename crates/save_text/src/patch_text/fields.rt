@@ -3,16 +3,18 @@ ghost use Rattle.std.specs.Prelude.{◌≡◌, ◌==◌, ◌%◌, ◌≤◌, ◌
 ghost use Rattle.std.specs.Option.{option_copied};
 ghost use Rattle.save_text.specs.ByteFields.Reader.{Finds, byte, bytes, that, u32, u64};
 ghost use Rattle.save_text.specs.StateText.StateText.{is_page};
-ghost use Rattle.save_text.specs.StateText.Seen.{file_view, page_view};
+ghost use Rattle.save_text.specs.StateText.Seen.{file_view, page_view, state_view};
+ghost use Rattle.save_text.specs.Inside.Fronts.{ReadsFront, lists_beside_at};
 ghost use Rattle.save_text.specs.PatchText.Inside.Walking.{Rises, SameFrom};
-ghost use Rattle.save_text.specs.PatchText.PatchText.{change_at, changed_bytes_at, content_beside_at, content_in, is_mark, is_new, marked_at, marked_content_at, marked_registers_at, new_content_at, page_bytes_at, page_in, patched_file_at, register_at};
+ghost use Rattle.save_text.specs.PatchText.PatchText.{change_at, changed_bytes_at, content_beside_at, content_in, is_mark, is_new, marked_at, marked_content_at, marked_registers_at, new_content_at, page_bytes_at, page_in, patch_at, patched_file_at, register_at};
 ghost use Rattle.save_text.specs.PatchText.Seen.{change_view};
 
-use crate::byte_fields::{Cursor, WrongField};
+use crate::byte_fields::{Cursor, TextForm, WrongField};
 use crate::patch_text::change::Change;
 use crate::patch_text::merging::{are_same, bytes_of};
 use crate::patch_text::numbered::{from_number, taken};
-use crate::state_text::{File, Page, is_zero, name_of};
+use crate::patch_text::reading::MAGIC;
+use crate::state_text::{File, Numbers, Page, Parts, heap_of, is_zero, name_of, reservation_of};
 
 /// A register: another value than the base's where it is marked, else the base's.
 #[tactic(auto, unfolding(crate::specs::PatchText::PatchText::register_at))]
@@ -22,30 +24,12 @@ fn register_of(cursor: &mut Cursor<'_>, known: u64, marked: bool) -> Result<u64,
     if !marked {
         return Ok(known);
     }
-    other_than(cursor, known)
-}
-
-fn other_than(cursor: &mut Cursor<'_>, known: u64) -> Result<u64, WrongField>
-    ensures { Finds (λ x. x) result cursor.new (that (λ value. not (known == value)) u64 cursor.old) }
-{
     let at = cursor.len();
     let value = cursor.u64()?;
     if known == value {
         return Err(WrongField { left: at });
     }
     Ok(value)
-}
-
-/// Which registers are marked: never x0.
-fn marks_of(cursor: &mut Cursor<'_>) -> Result<u32, WrongField>
-    ensures { Finds (λ x. x) result cursor.new (that (λ marks. marks % 2 == 0) u32 cursor.old) }
-{
-    let at = cursor.len();
-    let marks = cursor.u32()?;
-    if marks % 2 != 0 {
-        return Err(WrongField { left: at });
-    }
-    Ok(marks)
 }
 
 /// The registers with these marks.
@@ -61,15 +45,37 @@ fn marked_of(cursor: &mut Cursor<'_>, marks: u32, base: &[u64; 31]) -> Result<[u
     Ok(registers)
 }
 
+/// The registers: other values than the base's where they are marked.
 #[tactic(auto, unfolding(crate::specs::PatchText::PatchText::marked_registers_at))]
-pub(crate) fn registers_of(
-    cursor: &mut Cursor<'_>,
-    base: &[u64; 31],
-) -> Result<[u64; 31], WrongField>
+fn registers_of(cursor: &mut Cursor<'_>, base: &[u64; 31]) -> Result<[u64; 31], WrongField>
     ensures { Finds (λ x. x) result cursor.new (marked_registers_at base.now cursor.old) }
 {
-    let marks = marks_of(cursor)?;
+    let at = cursor.len();
+    let marks = cursor.u32()?;
+    if marks % 2 != 0 {
+        return Err(WrongField { left: at });
+    }
     marked_of(cursor, marks / 2, base)
+}
+
+/// The magic of a patch, and the numbers behind it.
+#[tactic(auto, unfolding(crate::specs::PatchText::PatchText::patch_at, crate::specs::PatchText::PatchText::patch_body_at, crate::specs::Inside::Fronts::lists_beside_at))]
+pub(crate) fn numbers_of(cursor: &mut Cursor<'_>, base: &Parts<'_>) -> Result<Numbers, WrongField>
+    ensures { ReadsFront (lists_beside_at (state_view base.now)) result cursor.new (patch_at (state_view base.now) cursor.old) }
+{
+    cursor.begins_with(&MAGIC)?;
+    let steps = cursor.u64()?;
+    let pc = cursor.u64()?;
+    let registers = registers_of(cursor, &base.registers)?;
+    let reservation = reservation_of(cursor, TextForm::Second)?;
+    let heap = heap_of(cursor)?;
+    Ok(Numbers {
+        steps,
+        pc,
+        registers,
+        reservation,
+        heap,
+    })
 }
 
 /// The byte before what is there: 1, or 0 where the base has something.
@@ -106,59 +112,25 @@ fn is_new_page(known: Option<&[u8]>, found: &[u8]) -> bool
     !is_zero(found) && is_new(known, found)
 }
 
-/// The bytes of a page, other than the base's.
-fn new_page<'a>(cursor: &mut Cursor<'a>, known: Option<&[u8]>) -> Result<&'a [u8], WrongField>
-    ensures { Finds (λ x. x.now) result cursor.new (that (λ found. is_page found && is_new (option_copied known.entry) found) (bytes 4096) cursor.old) }
-{
-    let at = cursor.len();
-    let found = cursor.bytes(4096)?;
-    if !is_new_page(known, found) {
-        return Err(WrongField { left: at });
-    }
-    Ok(found)
-}
-
-#[tactic(auto, unfolding(crate::specs::PatchText::PatchText::page_bytes_at))]
-fn page_bytes_of<'a>(
-    cursor: &mut Cursor<'a>,
-    known: Option<&[u8]>,
-    mark: u8,
-) -> Result<Option<&'a [u8]>, WrongField>
-    ensures { Finds option_copied result cursor.new (page_bytes_at (option_copied known.entry) mark cursor.old) }
-{
-    match mark {
-        0 => Ok(None),
-        _ => {
-            let found = new_page(cursor, known)?;
-            Ok(Some(found))
-        }
-    }
-}
-
 /// What stands behind the number of a page.
-#[tactic(auto, unfolding(crate::specs::PatchText::PatchText::changed_bytes_at))]
+#[tactic(auto, unfolding(crate::specs::PatchText::PatchText::changed_bytes_at, crate::specs::PatchText::PatchText::page_bytes_at))]
 fn changed_of<'a>(
     cursor: &mut Cursor<'a>,
     known: Option<&[u8]>,
 ) -> Result<Option<&'a [u8]>, WrongField>
     ensures { Finds option_copied result cursor.new (changed_bytes_at (option_copied known.entry) cursor.old) }
 {
-    let mark = mark_of(cursor, known)?;
-    page_bytes_of(cursor, known, mark)
-}
-
-/// What a base has of a page, and where its pages behind it begin.
-fn known_page<'a>(base: &[Page<'a>], at: usize, number: u32) -> (Option<&'a [u8]>, usize)
-    requires within { at ≤ length base.now }
-    requires rises { Rises (λ page. page.number) 0 (map page_view (drop at base.now)) }
-    ensures here { option_copied result.0 ≡ page_in (map page_view (drop at base.now)) number }
-    ensures within { result.1 ≤ length base.now }
-    ensures rises { Rises (λ page. page.number) (number + 1) (map page_view (drop result.1 base.now)) }
-    ensures same { SameFrom (λ page. page.number) (number + 1) (map page_view (drop at base.now)) (map page_view (drop result.1 base.now)) }
-{
-    let from = from_number(base, at, number);
-    let (page, later) = taken(base, from, number);
-    (bytes_of(page), later)
+    match mark_of(cursor, known)? {
+        0 => Ok(None),
+        _ => {
+            let at = cursor.len();
+            let found = cursor.bytes(4096)?;
+            if !is_new_page(known, found) {
+                return Err(WrongField { left: at });
+            }
+            Ok(Some(found))
+        }
+    }
 }
 
 /// What a base has of a file's content, and where its files behind it begin.
@@ -204,61 +176,34 @@ pub(crate) fn change_of<'a>(
     ensures same { IfOk result (λ x. SameFrom (λ page. page.number) (x.0.number + 1) (map page_view (drop at base.now)) (map page_view (drop x.1 base.now))) }
 {
     let number = cursor.u32_from(least)?;
-    let (known, later) = known_page(base, at, number);
-    let bytes = changed_of(cursor, known)?;
+    let from = from_number(base, at, number);
+    let (page, later) = taken(base, from, number);
+    let bytes = changed_of(cursor, bytes_of(page))?;
     Ok((Change { number, bytes }, later))
 }
 
 // ---- contents
 
-fn new_bytes<'a>(
-    cursor: &mut Cursor<'a>,
-    known: Option<&[u8]>,
-    count: u32,
-) -> Result<&'a [u8], WrongField>
-    ensures { Finds (λ x. x.now) result cursor.new (that (is_new (option_copied known.entry)) (bytes count) cursor.old) }
-{
-    let at = cursor.len();
-    let found = cursor.bytes(count as usize)?;
-    if !is_new(known, found) {
-        return Err(WrongField { left: at });
-    }
-    Ok(found)
-}
-
-/// Other bytes than the base's, with their length before them.
-#[tactic(auto, unfolding(crate::specs::PatchText::PatchText::new_content_at))]
-fn new_content<'a>(cursor: &mut Cursor<'a>, known: Option<&[u8]>) -> Result<&'a [u8], WrongField>
-    ensures { Finds (λ x. x.now) result cursor.new (new_content_at (option_copied known.entry) cursor.old) }
-{
-    let count = cursor.u32()?;
-    new_bytes(cursor, known, count)
-}
-
-#[tactic(auto, unfolding(crate::specs::PatchText::PatchText::marked_content_at))]
-fn marked_content<'a>(
-    cursor: &mut Cursor<'a>,
-    known: Option<&'a [u8]>,
-    mark: u8,
-) -> Result<&'a [u8], WrongField>
-    ensures { Finds (λ x. x.now) result cursor.new (marked_content_at (option_copied known.entry) mark cursor.old) }
-{
-    match mark {
-        0 => Ok(known.unwrap_or(&[])),
-        _ => new_content(cursor, known),
-    }
-}
-
-/// What the base has, or other bytes.
-#[tactic(auto, unfolding(crate::specs::PatchText::PatchText::content_beside_at))]
+/// What the base has, or other bytes with their length before them.
+#[tactic(auto, unfolding(crate::specs::PatchText::PatchText::content_beside_at, crate::specs::PatchText::PatchText::marked_content_at, crate::specs::PatchText::PatchText::new_content_at))]
 pub(crate) fn content<'a>(
     cursor: &mut Cursor<'a>,
     known: Option<&'a [u8]>,
 ) -> Result<&'a [u8], WrongField>
     ensures { Finds (λ x. x.now) result cursor.new (content_beside_at (option_copied known.entry) cursor.old) }
 {
-    let mark = mark_of(cursor, known)?;
-    marked_content(cursor, known, mark)
+    match mark_of(cursor, known)? {
+        0 => Ok(known.unwrap_or(&[])),
+        _ => {
+            let count = cursor.u32()?;
+            let at = cursor.len();
+            let found = cursor.bytes(count as usize)?;
+            if !is_new(known, found) {
+                return Err(WrongField { left: at });
+            }
+            Ok(found)
+        }
+    }
 }
 
 // ---- files

@@ -2,36 +2,22 @@
 
 ghost use Rattle.std.specs.Prelude.{◌≡◌, ◌↔◌, IsTrue, Ok};
 ghost use Rattle.save_text.specs.Inside.Mapping.{TellsRuns};
-ghost use Rattle.save_text.specs.PatchText.PatchText.{parsed_patch, patch_at, patch_body_at};
+ghost use Rattle.save_text.specs.PatchText.PatchText.{parsed_patch, patch_at};
 ghost use Rattle.save_text.specs.StateText.Mappable.{AreMappable};
 ghost use Rattle.save_text.specs.StateText.Seen.{state_view};
 ghost use Rattle.save_text.specs.StateText.StateText.{StateText};
 
-use crate::byte_fields::{Cursor, TextForm, WrongField};
-use crate::patch_text::fields::registers_of;
-use crate::patch_text::reading::MAGIC;
-use crate::state_text::{Parts, heap_of, reservation_of, runs_mappable};
-
-/// Whether the runs behind the magic can be mapped.
-#[tactic(auto, unfolding(crate::specs::PatchText::PatchText::patch_body_at))]
-fn body_mappable(cursor: &mut Cursor<'_>, base: &Parts<'_>) -> Result<bool, WrongField>
-    ensures { TellsRuns (λ s. s.runs) result (patch_body_at (state_view base.now) cursor.old) }
-{
-    let _steps = cursor.u64()?;
-    let _pc = cursor.u64()?;
-    let _registers = registers_of(cursor, &base.registers)?;
-    let _reservation = reservation_of(cursor, TextForm::Second)?;
-    let _heap = heap_of(cursor)?;
-    runs_mappable(cursor)
-}
+use crate::byte_fields::{Cursor, WrongField};
+use crate::patch_text::fields::numbers_of;
+use crate::state_text::{Parts, runs_mappable};
 
 /// Whether the runs of a patch's text at the front of what is left can be mapped.
-#[tactic(auto, unfolding(crate::specs::PatchText::PatchText::patch_at))]
+#[tactic(auto, unfolding(crate::specs::Inside::Fronts::lists_beside_at))]
 fn patch_mappable(cursor: &mut Cursor<'_>, base: &Parts<'_>) -> Result<bool, WrongField>
     ensures { TellsRuns (λ s. s.runs) result (patch_at (state_view base.now) cursor.old) }
 {
-    cursor.begins_with(&MAGIC)?;
-    body_mappable(cursor, base)
+    let _numbers = numbers_of(cursor, base)?;
+    runs_mappable(cursor)
 }
 
 /// Whether the runs of the state that a patch says beside its base can be mapped. Of a text without the form nothing is said.

@@ -1,24 +1,26 @@
 //! Going past the fields of a patch without keeping them: its form is judged so, with no memory.
 ghost use Rattle.std.specs.Prelude.{map};
-ghost use Rattle.save_text.specs.ByteFields.Reader.{counted, several};
+ghost use Rattle.save_text.specs.ByteFields.Reader.{counted};
 ghost use Rattle.save_text.specs.ByteFields.Spelling.{InTurn};
 ghost use Rattle.save_text.specs.StateText.StateText.{after_file, after_page};
 ghost use Rattle.save_text.specs.StateText.Spelled.{IsPage, IsStateText};
 ghost use Rattle.save_text.specs.StateText.Seen.{file_view, page_view, state_view};
 ghost use Rattle.save_text.specs.PatchText.Inside.Walking.{Rises};
-ghost use Rattle.save_text.specs.PatchText.PatchText.{after_change, change_at, changed_pages_at, parsed_patch, patch_at, patch_body_at, patched_file_at};
+ghost use Rattle.save_text.specs.PatchText.PatchText.{after_change, change_at, changed_pages_at, parsed_patch, patch_at, patched_file_at};
 ghost use Rattle.save_text.specs.Inside.Passing.{GoesPast, JudgesForm};
+ghost use Rattle.save_text.specs.Inside.Fronts.{lists_beside_at};
 
-use crate::byte_fields::{Cursor, TextForm, WrongField, pass_counted};
-use crate::patch_text::fields::{change_of, content, file_of, registers_of};
-use crate::patch_text::reading::MAGIC;
-use crate::state_text::{Descriptor, File, Page, Parts, Run, TextRefusal, heap_of, reservation_of};
+use crate::byte_fields::{Cursor, WrongField, pass_counted};
+use crate::patch_text::fields::{change_of, content, file_of, numbers_of};
+use crate::state_text::{Descriptor, File, Page, Parts, Run, TextRefusal};
 
-/// Goes past so many changes.
-fn pass_changes(cursor: &mut Cursor<'_>, base: &[Page<'_>], count: u32) -> Result<(), WrongField>
-    requires { Rises (λ page. page.number) 0 (map page_view base.now) }
-    ensures { GoesPast result cursor.new (several (change_at (map page_view base.now)) after_change 0 count cursor.old) }
+/// Goes past the changes of pages.
+#[tactic(auto, unfolding(crate::specs::PatchText::PatchText::changed_pages_at))]
+fn pass_pages(cursor: &mut Cursor<'_>, base: &[Page<'_>]) -> Result<(), WrongField>
+    requires { InTurn IsPage after_page 0 (map page_view base.now) }
+    ensures { GoesPast result cursor.new (changed_pages_at (map page_view base.now) cursor.old) }
 {
+    let count = cursor.u32()?;
     let mut least = 0;
     let mut at = 0;
     for _ in 0..count {
@@ -29,21 +31,12 @@ fn pass_changes(cursor: &mut Cursor<'_>, base: &[Page<'_>], count: u32) -> Resul
     Ok(())
 }
 
-/// Goes past the changes of pages.
-#[tactic(auto, unfolding(crate::specs::PatchText::PatchText::changed_pages_at))]
-fn pass_pages(cursor: &mut Cursor<'_>, base: &[Page<'_>]) -> Result<(), WrongField>
-    requires { InTurn IsPage after_page 0 (map page_view base.now) }
-    ensures { GoesPast result cursor.new (changed_pages_at (map page_view base.now) cursor.old) }
+/// Goes past a count of 4 bytes, and that many files.
+fn pass_files<'a>(cursor: &mut Cursor<'a>, base: &[File<'a>]) -> Result<(), WrongField>
+    requires { Rises (λ file. file.number) 0 (map file_view base.now) }
+    ensures { GoesPast result cursor.new (counted (patched_file_at (map file_view base.now)) after_file 0 cursor.old) }
 {
     let count = cursor.u32()?;
-    pass_changes(cursor, base, count)
-}
-
-/// Goes past so many files.
-fn pass_files<'a>(cursor: &mut Cursor<'a>, base: &[File<'a>], count: u32) -> Result<(), WrongField>
-    requires { Rises (λ file. file.number) 0 (map file_view base.now) }
-    ensures { GoesPast result cursor.new (several (patched_file_at (map file_view base.now)) after_file 0 count cursor.old) }
-{
     let mut least = 0;
     let mut at = 0;
     for _ in 0..count {
@@ -54,43 +47,20 @@ fn pass_files<'a>(cursor: &mut Cursor<'a>, base: &[File<'a>], count: u32) -> Res
     Ok(())
 }
 
-/// Goes past a count of 4 bytes, and that many files.
-fn pass_counted_files<'a>(cursor: &mut Cursor<'a>, base: &[File<'a>]) -> Result<(), WrongField>
-    requires { Rises (λ file. file.number) 0 (map file_view base.now) }
-    ensures { GoesPast result cursor.new (counted (patched_file_at (map file_view base.now)) after_file 0 cursor.old) }
-{
-    let count = cursor.u32()?;
-    pass_files(cursor, base, count)
-}
-
-/// Goes past what stands behind the magic.
-#[tactic(auto, unfolding(crate::specs::PatchText::PatchText::patch_body_at))]
-fn pass_body<'a>(cursor: &mut Cursor<'a>, base: &Parts<'a>) -> Result<(), WrongField>
-    requires { IsStateText (state_view base.now) }
-    ensures { GoesPast result cursor.new (patch_body_at (state_view base.now) cursor.old) }
-{
-    let _steps = cursor.u64()?;
-    let _pc = cursor.u64()?;
-    let _registers = registers_of(cursor, &base.registers)?;
-    let _reservation = reservation_of(cursor, TextForm::Second)?;
-    let _heap = heap_of(cursor)?;
-    pass_counted::<Run>(cursor)?;
-    pass_pages(cursor, base.pages.as_slice())?;
-    pass_counted_files(cursor, base.files.as_slice())?;
-    pass_counted::<Descriptor>(cursor)?;
-    let _stream1 = content(cursor, Some(base.stream1))?;
-    let _stream2 = content(cursor, Some(base.stream2))?;
-    Ok(())
-}
-
 /// Goes past a patch's text at the front of what is left.
-#[tactic(auto, unfolding(crate::specs::PatchText::PatchText::patch_at))]
+#[tactic(auto, unfolding(crate::specs::Inside::Fronts::lists_beside_at))]
 pub(crate) fn pass_patch<'a>(cursor: &mut Cursor<'a>, base: &Parts<'a>) -> Result<(), WrongField>
     requires { IsStateText (state_view base.now) }
     ensures { GoesPast result cursor.new (patch_at (state_view base.now) cursor.old) }
 {
-    cursor.begins_with(&MAGIC)?;
-    pass_body(cursor, base)
+    let _numbers = numbers_of(cursor, base)?;
+    pass_counted::<Run>(cursor)?;
+    pass_pages(cursor, base.pages.as_slice())?;
+    pass_files(cursor, base.files.as_slice())?;
+    pass_counted::<Descriptor>(cursor)?;
+    let _stream1 = content(cursor, Some(base.stream1))?;
+    let _stream2 = content(cursor, Some(base.stream2))?;
+    Ok(())
 }
 
 /// Whether a text has the form of a patch, all of it.

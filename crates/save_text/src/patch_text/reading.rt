@@ -5,17 +5,18 @@ ghost use Rattle.save_text.specs.ByteFields.Spelling.{InTurn};
 ghost use Rattle.save_text.specs.StateText.StateText.{StateText, after_file, after_page};
 ghost use Rattle.save_text.specs.StateText.Spelled.{IsPage, IsStateText};
 ghost use Rattle.save_text.specs.StateText.Seen.{ReadsStateText, file_view, page_view, state_view};
+ghost use Rattle.save_text.specs.Inside.Fronts.{lists_beside_at};
 ghost use Rattle.save_text.specs.PatchText.Inside.Walking.{Rises};
-ghost use Rattle.save_text.specs.PatchText.PatchText.{after_change, change_at, changed_pages_at, parsed_patch, patch_at, patch_body_at, patched_file_at};
+ghost use Rattle.save_text.specs.PatchText.PatchText.{after_change, change_at, changed_pages_at, parsed_patch, patch_at, patched_file_at};
 ghost use Rattle.save_text.specs.PatchText.Spelled.{IsPatched, text_of_patch};
 ghost use Rattle.save_text.specs.PatchText.Seen.{change_view};
 
-use crate::byte_fields::{Cursor, Stop, TextForm, counted};
+use crate::byte_fields::{Cursor, Stop, counted};
 use crate::patch_text::change::Change;
-use crate::patch_text::fields::{change_of, content, file_of, registers_of};
+use crate::patch_text::fields::{change_of, content, file_of, numbers_of};
 use crate::patch_text::merging::changed;
 use crate::patch_text::passing::judge;
-use crate::state_text::{File, Page, Parts, TextRefusal, heap_of, reservation_of};
+use crate::state_text::{File, Numbers, Page, Parts, TextRefusal};
 use std::alloc::Global;
 
 /// The eight bytes that begin the text of a patch.
@@ -43,22 +44,9 @@ fn several_changes<'a>(
     Ok(changes)
 }
 
-/// A count of 4 bytes, and that many changes.
-fn changes_of<'a>(
-    alloc: Global,
-    cursor: &mut Cursor<'a>,
-    base: &[Page<'_>],
-) -> Result<Vec<Change<'a>>, Stop>
-    requires { Rises (λ page. page.number) 0 (map page_view base.now) }
-    ensures { GivesField (λ v. map change_view v.items) result cursor.new (counted (change_at (map page_view base.now)) after_change 0 cursor.old) }
-{
-    let count = cursor.u32()?;
-    several_changes(alloc, cursor, base, count)
-}
-
-/// The pages that changes make of the base's.
+/// The pages that changes make of a base's.
 #[tactic(auto, unfolding(crate::specs::PatchText::PatchText::changed_pages_at))]
-fn pages_of<'a>(
+fn pages_beside<'a>(
     alloc: Global,
     cursor: &mut Cursor<'a>,
     base: &[Page<'a>],
@@ -66,21 +54,22 @@ fn pages_of<'a>(
     requires { InTurn IsPage after_page 0 (map page_view base.now) }
     ensures { GivesField (λ v. map page_view v.items) result cursor.new (changed_pages_at (map page_view base.now) cursor.old) }
 {
-    let changes = changes_of(alloc, cursor, base)?;
+    let count = cursor.u32()?;
+    let changes = several_changes(alloc, cursor, base, count)?;
     let pages = changed(alloc, base, changes.as_slice())?;
     Ok(pages)
 }
 
-/// So many files.
-fn several_files<'a>(
+/// A count of 4 bytes, and that many files beside those of a base.
+fn files_beside<'a>(
     alloc: Global,
     cursor: &mut Cursor<'a>,
     base: &[File<'a>],
-    count: u32,
 ) -> Result<Vec<File<'a>>, Stop>
     requires { Rises (λ file. file.number) 0 (map file_view base.now) }
-    ensures { GivesField (λ v. map file_view v.items) result cursor.new (several (patched_file_at (map file_view base.now)) after_file 0 count cursor.old) }
+    ensures { GivesField (λ v. map file_view v.items) result cursor.new (counted (patched_file_at (map file_view base.now)) after_file 0 cursor.old) }
 {
+    let count = cursor.u32()?;
     let mut files = Vec::new(alloc);
     let mut least = 0;
     let mut at = 0;
@@ -93,77 +82,8 @@ fn several_files<'a>(
     Ok(files)
 }
 
-/// A count of 4 bytes, and that many files.
-fn files_of<'a>(
-    alloc: Global,
-    cursor: &mut Cursor<'a>,
-    base: &[File<'a>],
-) -> Result<Vec<File<'a>>, Stop>
-    requires { Rises (λ file. file.number) 0 (map file_view base.now) }
-    ensures { GivesField (λ v. map file_view v.items) result cursor.new (counted (patched_file_at (map file_view base.now)) after_file 0 cursor.old) }
-{
-    let count = cursor.u32()?;
-    several_files(alloc, cursor, base, count)
-}
-
-/// The pages beside those of a base.
-fn pages_beside<'a>(
-    alloc: Global,
-    cursor: &mut Cursor<'a>,
-    base: &Parts<'a>,
-) -> Result<Vec<Page<'a>>, Stop>
-    requires { IsStateText (state_view base.now) }
-    ensures { GivesField (λ v. map page_view v.items) result cursor.new (changed_pages_at (map page_view base.now.pages.items) cursor.old) }
-{
-    pages_of(alloc, cursor, base.pages.as_slice())
-}
-
-/// The files beside those of a base.
-fn files_beside<'a>(
-    alloc: Global,
-    cursor: &mut Cursor<'a>,
-    base: &Parts<'a>,
-) -> Result<Vec<File<'a>>, Stop>
-    requires { IsStateText (state_view base.now) }
-    ensures { GivesField (λ v. map file_view v.items) result cursor.new (counted (patched_file_at (map file_view base.now.files.items)) after_file 0 cursor.old) }
-{
-    files_of(alloc, cursor, base.files.as_slice())
-}
-
-/// What stands behind the magic.
-#[tactic(auto, unfolding(crate::specs::PatchText::PatchText::patch_body_at))]
-fn body_of<'a>(alloc: Global, cursor: &mut Cursor<'a>, base: &Parts<'a>) -> Result<Parts<'a>, Stop>
-    requires { IsStateText (state_view base.now) }
-    ensures { GivesField state_view result cursor.new (patch_body_at (state_view base.now) cursor.old) }
-{
-    let steps = cursor.u64()?;
-    let pc = cursor.u64()?;
-    let registers = registers_of(cursor, &base.registers)?;
-    let reservation = reservation_of(cursor, TextForm::Second)?;
-    let heap = heap_of(cursor)?;
-    let runs = counted(alloc, cursor)?;
-    let pages = pages_beside(alloc, cursor, base)?;
-    let files = files_beside(alloc, cursor, base)?;
-    let descriptors = counted(alloc, cursor)?;
-    let stream1 = content(cursor, Some(base.stream1))?;
-    let stream2 = content(cursor, Some(base.stream2))?;
-    Ok(Parts {
-        steps,
-        pc,
-        registers,
-        reservation,
-        heap,
-        runs,
-        pages,
-        files,
-        descriptors,
-        stream1,
-        stream2,
-    })
-}
-
 /// A patch's text at the front of what is left: the state that it says beside its base.
-#[tactic(auto, unfolding(crate::specs::PatchText::PatchText::patch_at))]
+#[tactic(auto, unfolding(crate::specs::Inside::Fronts::lists_beside_at))]
 pub(crate) fn patch_of<'a>(
     alloc: Global,
     cursor: &mut Cursor<'a>,
@@ -172,8 +92,27 @@ pub(crate) fn patch_of<'a>(
     requires { IsStateText (state_view base.now) }
     ensures { GivesField state_view result cursor.new (patch_at (state_view base.now) cursor.old) }
 {
-    cursor.begins_with(&MAGIC)?;
-    body_of(alloc, cursor, base)
+    let numbers = numbers_of(cursor, base)?;
+    let registers = numbers.registers;
+    let runs = counted(alloc, cursor)?;
+    let pages = pages_beside(alloc, cursor, base.pages.as_slice())?;
+    let files = files_beside(alloc, cursor, base.files.as_slice())?;
+    let descriptors = counted(alloc, cursor)?;
+    let stream1 = content(cursor, Some(base.stream1))?;
+    let stream2 = content(cursor, Some(base.stream2))?;
+    Ok(Parts {
+        steps: numbers.steps,
+        pc: numbers.pc,
+        registers,
+        reservation: numbers.reservation,
+        heap: numbers.heap,
+        runs,
+        pages,
+        files,
+        descriptors,
+        stream1,
+        stream2,
+    })
 }
 
 /// The state that a patch says beside its base. Contents are lent: what stays the base's is the base's. Each field is judged given those

@@ -67,7 +67,11 @@ impl<'a> Item<'a> for Page<'a> {
     #[tactic(auto, unfolding(crate::specs::StateText::StateText::page_at))]
     fn take(cursor: &mut Cursor<'a>, least: u64) -> Result<Page<'a>, WrongField> {
         let number = cursor.u32_from(least)?;
-        let bytes = page_bytes(cursor)?;
+        let at = cursor.len();
+        let bytes = cursor.bytes(4096)?;
+        if is_zero(bytes) {
+            return Err(WrongField { left: at });
+        }
         Ok(Page { number, bytes })
     }
 
@@ -87,18 +91,6 @@ pub(crate) fn is_zero(bytes: &[u8]) -> bool
     ensures { result ≡ list_all (λ b. b == 0) bytes.now }
 {
     bytes.iter().all(|byte| *byte == 0)
-}
-
-/// The bytes of a page.
-fn page_bytes<'a>(cursor: &mut Cursor<'a>) -> Result<&'a [u8], WrongField>
-    ensures { Finds (λ x. x.now) result cursor.new (that is_page (bytes 4096) cursor.old) }
-{
-    let at = cursor.len();
-    let bytes = cursor.bytes(4096)?;
-    if is_zero(bytes) {
-        return Err(WrongField { left: at });
-    }
-    Ok(bytes)
 }
 
 impl<'a> Item<'a> for File<'a> {
@@ -178,7 +170,11 @@ impl<'a> Item<'a> for Descriptor {
     #[tactic(auto, unfolding(crate::specs::StateText::StateText::descriptor_at))]
     fn take(cursor: &mut Cursor<'a>, least: u64) -> Result<Descriptor, WrongField> {
         let fd = cursor.u32_from(least)?;
-        let kind = kind_of(cursor)?;
+        let at = cursor.len();
+        let kind = cursor.byte()?;
+        if kind > 3 {
+            return Err(WrongField { left: at });
+        }
         let slot = slot_of(cursor, kind)?;
         Ok(Descriptor { fd, slot })
     }
@@ -192,17 +188,6 @@ impl<'a> Item<'a> for Descriptor {
         put_u32(out, self.fd)?;
         put_slot(out, self.slot)
     }
-}
-
-fn kind_of(cursor: &mut Cursor<'_>) -> Result<u8, WrongField>
-    ensures { Finds (λ x. x) result cursor.new (that (λ kind. nat_le kind 3) byte cursor.old) }
-{
-    let at = cursor.len();
-    let kind = cursor.byte()?;
-    if kind > 3 {
-        return Err(WrongField { left: at });
-    }
-    Ok(kind)
 }
 
 /// What a descriptor of this kind stands for.
@@ -227,38 +212,25 @@ fn slot_of(cursor: &mut Cursor<'_>, kind: u8) -> Result<Slot, WrongField>
     }
 }
 
-fn flags_at(cursor: &mut Cursor<'_>) -> Result<u8, WrongField>
-    ensures { Finds (λ x. x) result cursor.new (that are_flags byte cursor.old) }
-{
-    let at = cursor.len();
-    let flags = cursor.byte()?;
-    if flags < 8 && flags % 4 != 0 {
-        Ok(flags)
-    } else {
-        Err(WrongField { left: at })
-    }
-}
-
 /// How a file may be used.
 #[tactic(auto, unfolding(crate::specs::StateText::StateText::access_at))]
 fn access_of(cursor: &mut Cursor<'_>) -> Result<Access, WrongField>
     ensures { Finds (λ x. x) result cursor.new (access_at cursor.old) }
 {
-    let flags = flags_at(cursor)?;
-    let mode = mode_of(flags % 4);
-    Ok(Access {
-        mode,
-        appends: flags >= 4,
-    })
-}
-
-fn mode_of(bits: u8) -> Mode
-    ensures { result ≡ mode_of_code bits }
-{
-    match bits {
-        1 => Mode::Read,
-        2 => Mode::Write,
-        _ => Mode::ReadWrite,
+    let at = cursor.len();
+    let flags = cursor.byte()?;
+    if flags < 8 && flags % 4 != 0 {
+        let mode = match flags % 4 {
+            1 => Mode::Read,
+            2 => Mode::Write,
+            _ => Mode::ReadWrite,
+        };
+        Ok(Access {
+            mode,
+            appends: flags >= 4,
+        })
+    } else {
+        Err(WrongField { left: at })
     }
 }
 

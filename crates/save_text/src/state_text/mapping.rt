@@ -1,7 +1,7 @@
 //! Whether the runs of a text can be mapped, which is told without memory.
 
 ghost use Rattle.std.specs.Prelude.{◌≡◌, ◌++◌, ◌∷◌, [], ◌↔◌, IsTrue, List, Ok};
-ghost use Rattle.save_text.specs.ByteFields.Reader.{counted, several};
+ghost use Rattle.save_text.specs.ByteFields.Reader.{counted};
 ghost use Rattle.save_text.specs.Inside.Mapping.{IsLeftBehind, PassesRuns, TellsRuns};
 ghost use Rattle.save_text.specs.StateText.Mappable.{AreMappable};
 ghost use Rattle.save_text.specs.StateText.StateText.{StateText, after_run, body_at, parsed_state, run_at, state_at, state_in};
@@ -9,7 +9,7 @@ ghost use Rattle.save_text.specs.declared.state_text.parts.Run.{Run as RunText};
 
 use crate::byte_fields::{Cursor, Item, TextForm, WrongField};
 use crate::state_text::parts::Run;
-use crate::state_text::reading::{MAGIC, OLD_MAGIC, begin, heap_of, registers_of, reservation_of};
+use crate::state_text::reading::{MAGIC, OLD_MAGIC, begin, numbers_of};
 
 /// How many pages a guest can have: 67,584 beside its heap, and 262,144 of its heap.
 pub const MOST_PAGES: u64 = 329_728;
@@ -30,10 +30,11 @@ fn left_behind(left: Option<u64>, run: &Run) -> Option<u64>
     }
 }
 
-/// Goes past so many runs, and says whether they can be mapped.
-fn several_mappable(cursor: &mut Cursor<'_>, count: u32) -> Result<bool, WrongField>
-    ensures { PassesRuns result cursor.new (several run_at after_run 0 count cursor.old) }
+/// Goes past a count of 4 bytes, and that many runs, and says whether they can be mapped.
+pub(crate) fn runs_mappable(cursor: &mut Cursor<'_>) -> Result<bool, WrongField>
+    ensures { PassesRuns result cursor.new (counted run_at after_run 0 cursor.old) }
 {
+    let count = cursor.u32()?;
     let mut least = 0;
     let mut left = Some(MOST_PAGES);
     for _ in 0..count {
@@ -44,24 +45,12 @@ fn several_mappable(cursor: &mut Cursor<'_>, count: u32) -> Result<bool, WrongFi
     Ok(left.is_some())
 }
 
-/// Goes past a count of 4 bytes, and that many runs, and says whether they can be mapped.
-pub(crate) fn runs_mappable(cursor: &mut Cursor<'_>) -> Result<bool, WrongField>
-    ensures { PassesRuns result cursor.new (counted run_at after_run 0 cursor.old) }
-{
-    let count = cursor.u32()?;
-    several_mappable(cursor, count)
-}
-
 /// Whether the runs behind the magic of a form can be mapped.
-#[tactic(auto, unfolding(crate::specs::StateText::StateText::body_at))]
+#[tactic(auto, unfolding(crate::specs::Inside::Fronts::lists_at))]
 fn body_mappable(cursor: &mut Cursor<'_>, form: TextForm) -> Result<bool, WrongField>
     ensures { TellsRuns (λ s. s.runs) result (body_at form cursor.old) }
 {
-    let _steps = cursor.u64()?;
-    let _pc = cursor.u64()?;
-    let _registers = registers_of(cursor)?;
-    let _reservation = reservation_of(cursor, form)?;
-    let _heap = heap_of(cursor)?;
+    let _numbers = numbers_of(cursor, form)?;
     runs_mappable(cursor)
 }
 

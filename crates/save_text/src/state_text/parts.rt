@@ -45,6 +45,16 @@ pub struct Descriptor {
     pub slot: Slot,
 }
 
+/// The numbers that stand in front of the lists of a state's text.
+#[derive(Clone, Copy)]
+pub(crate) struct Numbers {
+    pub steps: u64,
+    pub pc: u64,
+    pub registers: [u64; 31],
+    pub reservation: Option<Reserved>,
+    pub heap: Heap,
+}
+
 /// What the text of a state says. Contents are lent.
 #[derive(Debug, Drop)]
 pub struct Parts<'a> {

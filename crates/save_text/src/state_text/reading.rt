@@ -4,9 +4,10 @@ ghost use Rattle.save_text.specs.StateText.StateText.{StateText, body_at, parsed
 ghost use Rattle.save_text.specs.StateText.Spelled.{IsStateText, IsTextOfState};
 ghost use Rattle.save_text.specs.StateText.Seen.{ReadsStateText, reserved_view, state_view};
 ghost use Rattle.save_text.specs.Inside.Passing.{GoesPast, JudgesForm};
+ghost use Rattle.save_text.specs.Inside.Fronts.{ReadsFront, lists_at};
 
 use crate::byte_fields::{Cursor, Stop, TextForm, WrongField, counted, pass_counted};
-use crate::state_text::parts::{Descriptor, File, Page, Parts, Reserved, Run};
+use crate::state_text::parts::{Descriptor, File, Numbers, Page, Parts, Reserved, Run};
 use linux_calls::Heap;
 use paged_mem::Width;
 use std::alloc::Global;
@@ -67,16 +68,32 @@ pub(crate) fn heap_of(cursor: &mut Cursor<'_>) -> Result<Heap, WrongField>
     Ok(Heap { first, now, limit })
 }
 
-/// What stands behind the magic of a form.
-#[tactic(auto, unfolding(crate::specs::StateText::StateText::body_at))]
-fn body_of<'a>(alloc: Global, cursor: &mut Cursor<'a>, form: TextForm) -> Result<Parts<'a>, Stop>
-    ensures { GivesField state_view result cursor.new (body_at form cursor.old) }
+/// The numbers behind the magic of a form.
+#[tactic(auto, unfolding(crate::specs::StateText::StateText::body_at, crate::specs::Inside::Fronts::lists_at))]
+pub(crate) fn numbers_of(cursor: &mut Cursor<'_>, form: TextForm) -> Result<Numbers, WrongField>
+    ensures { ReadsFront lists_at result cursor.new (body_at form cursor.old) }
 {
     let steps = cursor.u64()?;
     let pc = cursor.u64()?;
     let registers = registers_of(cursor)?;
     let reservation = reservation_of(cursor, form)?;
     let heap = heap_of(cursor)?;
+    Ok(Numbers {
+        steps,
+        pc,
+        registers,
+        reservation,
+        heap,
+    })
+}
+
+/// What stands behind the magic of a form.
+#[tactic(auto, unfolding(crate::specs::Inside::Fronts::lists_at))]
+fn body_of<'a>(alloc: Global, cursor: &mut Cursor<'a>, form: TextForm) -> Result<Parts<'a>, Stop>
+    ensures { GivesField state_view result cursor.new (body_at form cursor.old) }
+{
+    let numbers = numbers_of(cursor, form)?;
+    let registers = numbers.registers;
     let runs = counted(alloc, cursor)?;
     let pages = counted(alloc, cursor)?;
     let files = counted(alloc, cursor)?;
@@ -84,11 +101,11 @@ fn body_of<'a>(alloc: Global, cursor: &mut Cursor<'a>, form: TextForm) -> Result
     let stream1 = cursor.blob32()?;
     let stream2 = cursor.blob32()?;
     Ok(Parts {
-        steps,
-        pc,
+        steps: numbers.steps,
+        pc: numbers.pc,
         registers,
-        reservation,
-        heap,
+        reservation: numbers.reservation,
+        heap: numbers.heap,
         runs,
         pages,
         files,
@@ -131,15 +148,11 @@ fn parts_at<'a>(alloc: Global, cursor: &mut Cursor<'a>) -> Result<Parts<'a>, Sto
 }
 
 /// Goes past what stands behind the magic of a form.
-#[tactic(auto, unfolding(crate::specs::StateText::StateText::body_at))]
+#[tactic(auto, unfolding(crate::specs::Inside::Fronts::lists_at))]
 fn pass_body(cursor: &mut Cursor<'_>, form: TextForm) -> Result<(), WrongField>
     ensures { GoesPast result cursor.new (body_at form cursor.old) }
 {
-    let _steps = cursor.u64()?;
-    let _pc = cursor.u64()?;
-    let _registers = registers_of(cursor)?;
-    let _reservation = reservation_of(cursor, form)?;
-    let _heap = heap_of(cursor)?;
+    let _numbers = numbers_of(cursor, form)?;
     pass_counted::<Run>(cursor)?;
     pass_counted::<Page<'_>>(cursor)?;
     pass_counted::<File<'_>>(cursor)?;

@@ -8,15 +8,15 @@ use Rattle.save_text.proofs.ByteFieldsLemmas.Loop.{sets_out, went_on, went_past,
 use Rattle.save_text.proofs.delta_text.passing.pass_several.Goals as goal
 
 pub loop-init : goal.loop-init
-loop-init c = sets_out further_at after_further (option_map stage_view (option_copied c.args.known)) c.args.count _
+loop-init c = rw c.in_ok-count.ensures (sets_out further_at after_further (option_map stage_view (option_copied c.args.known)) c.in_ok-count.count _)
 
 pub returns-in_err-pass_further : goal.returns-in_err-pass_further
 returns-in_err-pass_further c =
-    let p = err_from_is_err_and c.from_residual.result c.from_residual.ensures.1 in
-    rw (p.1, p.2) (went_wrong further_at after_further (option_map stage_view (option_copied c.loop.beside)) c.in_err-pass_further.field-0.0.left c.args.count c.loop.counter c.loop.cursor _ c.loop-test.true c.in_err-pass_further.ensures c.loop.invariant)
+    let p = err_from_is_err_and c.from_residual-in_err-pass_further.result c.from_residual-in_err-pass_further.ensures.1 in
+    rw (p.1, p.2) (went_wrong further_at after_further (option_map stage_view (option_copied c.loop.beside)) c.in_err-pass_further.field-0.0.left c.in_ok-count.count c.loop.counter c.loop.cursor _ c.loop-test.true c.in_err-pass_further.ensures c.loop.invariant)
 
 pub loop-preserved : goal.loop-preserved
-loop-preserved c = went_on further_at after_further (option_map stage_view (option_copied c.loop.beside)) None c.args.count c.loop.counter c.loop.cursor c.in_ok-pass_further.ensures.0 c.pass_further.new.cursor _ c.loop-test.true c.in_ok-pass_further.ensures.1 refl c.loop.invariant
+loop-preserved c = went_on further_at after_further (option_map stage_view (option_copied c.loop.beside)) None c.in_ok-count.count c.loop.counter c.loop.cursor c.in_ok-pass_further.ensures.0 c.pass_further.new.cursor _ c.loop-test.true c.in_ok-pass_further.ensures.1 refl c.loop.invariant
 
 pub returns : goal.returns
-returns c = went_past further_at after_further (option_map stage_view (option_copied c.loop.beside)) c.args.count c.loop.counter c.loop.cursor _ c.loop-test.false c.loop.invariant
+returns c = went_past further_at after_further (option_map stage_view (option_copied c.loop.beside)) c.in_ok-count.count c.loop.counter c.loop.cursor _ c.loop-test.false c.loop.invariant

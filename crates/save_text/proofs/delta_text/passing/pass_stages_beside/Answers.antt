@@ -2,11 +2,11 @@ use Rattle.std.proofs.Common.{◌++◌, List, map, take}
 use Rattle.save_text.specs.DeltaText.Stages.{stages_beside_at}
 use Rattle.save_text.specs.SaveText.{StageText}
 use Rattle.save_text.specs.Seen.{stage_view}
-use Rattle.save_text.proofs.DeltaTextLemmas.Beside.{past_on}
+use Rattle.save_text.proofs.ByteFieldsLemmas.Loop.{past_on}
 use Rattle.save_text.proofs.delta_text.passing.pass_stages_beside.Goals as goal
 
 pub returns : goal.returns
 unfolding stages_beside_at
 returns c =
-    rw (c.in_ok-kept.ensures, c.in_ok-count.ensures)
+    rw c.in_ok-kept.ensures
     (past_on (λ (further : List StageText). take c.in_ok-kept.kept (map stage_view c.args.base.now) ++ further) c.pass_several.result c.pass_several.new.cursor _ (rw c.known_at.ensures at c.pass_several.ensures))

@@ -1,11 +1,11 @@
 use Rattle.std.proofs.Common.{◌≡◌, ◌-◌, map}
 use Rattle.std.specs.Option.{option_copied}
 use Rattle.std.specs.Prelude.{option_map}
-use Rattle.save_text.specs.ByteFields.Reader.{several}
+use Rattle.save_text.specs.ByteFields.Reader.{counted, several}
 use Rattle.save_text.specs.DeltaText.Stages.{after_further, further_at}
 use Rattle.save_text.specs.Seen.{stage_view}
 use Rattle.save_text.proofs.ByteFieldsLemmas.Loop.{with_front}
 use Rattle.save_text.proofs.delta_text.reading.several_further.Given as goal
 
 abbrev pub invariant-loop : goal.invariant-loop
-invariant-loop l = with_front (map stage_view l.stages.items) (several further_at after_further (option_map stage_view (option_copied l.beside)) (l.count - l.counter) l.cursor) ≡ several further_at after_further (option_map stage_view (option_copied l.fn.known)) l.count l.fn.cursor
+invariant-loop l = with_front (map stage_view l.stages.items) (several further_at after_further (option_map stage_view (option_copied l.beside)) (l.count - l.counter) l.cursor) ≡ counted further_at after_further (option_map stage_view (option_copied l.fn.known)) l.fn.cursor

@@ -8,7 +8,6 @@ unfolding stages_beside_at
 returns c =
     rw (
       rw c.as_slice.ensures.value at c.in_ok-kept.ensures,
-      c.in_ok-count.ensures,
       rw (c.known_at.ensures, c.as_slice-2.ensures.value) at c.in_ok-further.ensures,
       joined_seen c.in_ok-kept.kept c.args.base.items c.in_ok-further.further.items c.in_ok-stages.stages.items c.in_ok-stages.ensures,
     ) refl

@@ -13,7 +13,7 @@ loop-init c = record {
   at = omega arith;
   rises = c.requires;
   same = λ k le. refl;
-  went = sets_out (patched_file_at (map file_view c.args.base.now)) after_file 0 c.args.count _;
+  went = rw c.in_ok-count.ensures (sets_out (patched_file_at (map file_view c.args.base.now)) after_file 0 c.in_ok-count.count _);
 }
 
 pub file_of-requires-clause-rises : goal.file_of-requires-clause-rises
@@ -21,8 +21,8 @@ file_of-requires-clause-rises c = rises_lower file_number c.loop.least 0 _ (omeg
 
 pub returns-in_err-file : goal.returns-in_err-file
 returns-in_err-file c =
-    let p = err_from_is_err_and c.from_residual.result c.from_residual.ensures.1 in
-    rw (p.1, p.2) (went_wrong (patched_file_at (map file_view c.args.base.now)) after_file c.loop.least c.in_err-file.field-0.0.left c.args.count c.loop.counter c.loop.cursor _ c.loop-test.true
+    let p = err_from_is_err_and c.from_residual-in_err-file.result c.from_residual-in_err-file.ensures.1 in
+    rw (p.1, p.2) (went_wrong (patched_file_at (map file_view c.args.base.now)) after_file c.loop.least c.in_err-file.field-0.0.left c.in_ok-count.count c.loop.counter c.loop.cursor _ c.loop-test.true
     (sym (file_alike (map file_view c.args.base.now) (map file_view (drop c.loop.at c.args.base.now)) c.loop.least c.loop.cursor c.loop.invariant.same) ∙ c.in_err-file.ensures.read) c.loop.invariant.went)
 
 pub loop-preserved : goal.loop-preserved
@@ -33,8 +33,8 @@ loop-preserved c =
       at = c.in_ok-file.ensures.within;
       rises = rw c.from-least.ensures c.in_ok-file.ensures.rises;
       same = λ k le. c.in_ok-file.ensures.same k (omega (arith, le, c.from-least.ensures)) ∙ c.loop.invariant.same k (omega (arith, le, low, c.from-least.ensures));
-      went = went_on (patched_file_at (map file_view c.args.base.now)) after_file c.loop.least _ c.args.count c.loop.counter c.loop.cursor (file_view c.in_ok-file.file) c.file_of.new.cursor _ c.loop-test.true read (ap (λ n. n + 1) (sym c.from-least.ensures)) c.loop.invariant.went;
+      went = went_on (patched_file_at (map file_view c.args.base.now)) after_file c.loop.least _ c.in_ok-count.count c.loop.counter c.loop.cursor (file_view c.in_ok-file.file) c.file_of.new.cursor _ c.loop-test.true read (ap (λ n. n + 1) (sym c.from-least.ensures)) c.loop.invariant.went;
     }
 
 pub returns : goal.returns
-returns c = went_past (patched_file_at (map file_view c.args.base.now)) after_file c.loop.least c.args.count c.loop.counter c.loop.cursor _ c.loop-test.false c.loop.invariant.went
+returns c = went_past (patched_file_at (map file_view c.args.base.now)) after_file c.loop.least c.in_ok-count.count c.loop.counter c.loop.cursor _ c.loop-test.false c.loop.invariant.went

@@ -1,5 +1,5 @@
 use Rattle.std.proofs.Common.{◌≤◌, ◌-◌, drop, length, map}
-use Rattle.save_text.specs.ByteFields.Reader.{several}
+use Rattle.save_text.specs.ByteFields.Reader.{counted}
 use Rattle.save_text.proofs.ByteFieldsLemmas.Loop.{Went}
 use Rattle.save_text.specs.StateText.Seen.{file_view}
 use Rattle.save_text.specs.PatchText.Inside.Walking.{Rises, SameFrom}
@@ -13,5 +13,5 @@ invariant-loop l = record {
   at : l.at ≤ length l.base;
   rises : Rises file_number l.least (map file_view (drop l.at l.base));
   same : SameFrom file_number l.least (map file_view l.base) (map file_view (drop l.at l.base));
-  went : Went (patched_file_at (map file_view l.base)) after_file l.least (l.count - l.counter) l.cursor (several (patched_file_at (map file_view l.base)) after_file 0 l.count l.fn.cursor);
+  went : Went (patched_file_at (map file_view l.base)) after_file l.least (l.count - l.counter) l.cursor (counted (patched_file_at (map file_view l.base)) after_file 0 l.fn.cursor);
 }

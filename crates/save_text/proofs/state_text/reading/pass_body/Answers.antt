@@ -1,18 +1,18 @@
 use Rattle.std.proofs.Common.{refl}
 use Rattle.std.specs.Prelude.{option_map}
 use Rattle.save_text.specs.StateText.Seen.{reserved_view}
-use Rattle.save_text.specs.StateText.StateText.{body_at}
+use Rattle.save_text.specs.Inside.Fronts.{lists_at}
 use Rattle.save_text.proofs.state_text.reading.pass_body.Goals as goal
 
 pub returns : goal.returns
-unfolding body_at
+unfolding lists_at
 returns c = (
   record {
-    steps = c.in_ok-_steps._steps;
-    pc = c.in_ok-_pc._pc;
-    registers = c.in_ok-_registers._registers;
-    reservation = option_map reserved_view c.in_ok-_reservation._reservation;
-    heap = c.in_ok-_heap._heap;
+    steps = c.in_ok-_numbers._numbers.steps;
+    pc = c.in_ok-_numbers._numbers.pc;
+    registers = c.in_ok-_numbers._numbers.registers;
+    reservation = option_map reserved_view c.in_ok-_numbers._numbers.reservation;
+    heap = c.in_ok-_numbers._numbers.heap;
     runs = c.in_ok-pass_counted.ensures.0;
     pages = c.in_ok-pass_counted-2.ensures.0;
     files = c.in_ok-pass_counted-3.ensures.0;
@@ -21,11 +21,7 @@ returns c = (
     stream2 = c.in_ok-_stream2._stream2.now;
   },
   rw (
-    c.in_ok-_steps.ensures,
-    c.in_ok-_pc.ensures,
-    c.in_ok-_registers.ensures,
-    c.in_ok-_reservation.ensures,
-    c.in_ok-_heap.ensures,
+    c.in_ok-_numbers.ensures,
     c.in_ok-pass_counted.ensures.1,
     c.in_ok-pass_counted-2.ensures.1,
     c.in_ok-pass_counted-3.ensures.1,
