@@ -5,12 +5,13 @@ use prompt::{Asked, Failed, MemPrompt, Prompt, ReaderPrompt};
 use std::alloc::Global;
 use std::io;
 use std::io::Read;
+use std::process::Abort;
 use std::test::Fail;
 
 /// A front part of so many bytes `x`, the bytes behind it, and the lines that are given: how many bytes each has, 999 for one that is too long.
 type Row = (usize, &'static str, &'static [usize]);
 
-const ROWS: [Row; 16] = [
+static ROWS: [Row; 16] = [
     (0, "", &[]),
     (0, "\n", &[0]),
     (0, "\n\n", &[0, 0]),
@@ -31,29 +32,42 @@ const ROWS: [Row; 16] = [
     (131_073, "", &[999, 999, 1]),
 ];
 
-/// The bytes of a row.
-fn bytes_of(alloc: Global, row: &Row) -> Result<Bytes, OutOfMemory> {
-    let mut bytes = Bytes::new(alloc);
+/// Adds the bytes of a row.
+fn put_row(bytes: &mut Bytes, row: &Row) -> Result<(), OutOfMemory> {
     for _ in 0..row.0 {
         bytes.push(b'x')?;
     }
-    bytes.extend(row.1.as_bytes())?;
+    bytes.extend(row.1.as_bytes())
+}
+
+/// The bytes of a row.
+fn bytes_of(alloc: Global, row: &Row) -> Result<Bytes, OutOfMemory> {
+    let mut bytes = Bytes::new(alloc);
+    put_row(&mut bytes, row)?;
     Ok(bytes)
+}
+
+/// Whether a prompt gives a line of this size next.
+fn gives_line<P: Prompt>(prompt: &mut P, size: usize) -> bool {
+    match prompt.line() {
+        Ok(Asked::Line(line)) => line.as_slice().len() == size,
+        Ok(Asked::TooLong) => size == 999,
+        Ok(Asked::End) | Err(Failed) => false,
+    }
+}
+
+fn gives_end<P: Prompt>(prompt: &mut P) -> bool {
+    matches!(prompt.line(), Ok(Asked::End))
 }
 
 /// Whether a prompt gives exactly these lines, and then twice that nothing is left.
 fn gives<P: Prompt>(prompt: &mut P, lines: &[usize]) -> bool {
     for size in lines {
-        let given = match prompt.line() {
-            Ok(Asked::Line(line)) => line.as_slice().len() == *size,
-            Ok(Asked::TooLong) => *size == 999,
-            Ok(Asked::End) | Err(Failed) => false,
-        };
-        if !given {
+        if !gives_line(prompt, *size) {
             return false;
         }
     }
-    matches!(prompt.line(), Ok(Asked::End)) && matches!(prompt.line(), Ok(Asked::End))
+    gives_end(prompt) && gives_end(prompt)
 }
 
 /// A reader of these bytes, which fails once at a read.
@@ -77,41 +91,70 @@ impl<'a> Read for Source<'a> {
     }
 }
 
-#[test]
-fn lines_are_given(rt: HostRuntime) -> Result<(), Fail> {
-    let alloc = rt.alloc();
-    for row in &ROWS {
-        let bytes = bytes_of(alloc, row)?;
-        let mut held = MemPrompt::new(alloc, bytes.as_slice())?;
-        assert!(rt; gives(&mut held, row.2));
-        let mut read = ReaderPrompt::new(Source {
-            bytes: bytes.as_slice(),
-            reads: 0,
-            fails_at: 0,
-        });
-        assert!(rt; gives(&mut read, row.2));
+fn is_given_held(alloc: Global, bytes: &[u8], lines: &[usize]) -> Result<bool, OutOfMemory> {
+    let mut held = MemPrompt::new(alloc, bytes)?;
+    Ok(gives(&mut held, lines))
+}
+
+fn is_given_read(bytes: &[u8], lines: &[usize]) -> bool {
+    let mut read = ReaderPrompt::new(Source {
+        bytes,
+        reads: 0,
+        fails_at: 0,
+    });
+    gives(&mut read, lines)
+}
+
+fn are_given(alloc: Global, bytes: &[u8], lines: &[usize]) -> Result<bool, OutOfMemory> {
+    Ok(is_given_held(alloc, bytes, lines)? && is_given_read(bytes, lines))
+}
+
+fn is_given(alloc: Global, row: &Row) -> Result<bool, OutOfMemory> {
+    let bytes = bytes_of(alloc, row)?;
+    are_given(alloc, bytes.as_slice(), row.2)
+}
+
+fn check(rt: &impl Abort, alloc: Global, rows: &[Row]) -> Result<(), OutOfMemory> {
+    for row in rows {
+        assert!(rt; is_given(alloc, row)?, "{row:?}");
     }
     Ok(())
 }
 
 #[test]
-fn lines_fail(rt: HostRuntime) -> Result<(), Fail> {
-    let alloc = rt.alloc();
-    let mut held = MemPrompt::new(alloc, b"ab\ncdefg\nh")?;
+fn lines_are_given(rt: HostRuntime) -> Result<(), Fail> {
+    Ok(check(&rt, rt.alloc(), &ROWS)?)
+}
+
+/// Whether a prompt gives a line, and then fails.
+fn fails_second<P: Prompt>(prompt: &mut P) -> bool {
+    matches!(prompt.line(), Ok(Asked::Line(_))) && matches!(prompt.line(), Err(Failed))
+}
+
+/// The second call would take six bytes, and takes three.
+fn fails_held(held: &mut MemPrompt) -> Result<bool, OutOfMemory> {
     held.fail_line(2)?;
-    assert!(rt; matches!(held.line(), Ok(Asked::Line(_))));
-    // The second call would take six bytes, and takes three.
-    assert!(rt; matches!(held.line(), Err(Failed)));
-    assert!(rt; held.left() == "fg\nh".as_bytes());
-    assert!(rt; gives(&mut held, &[2, 1]));
-    // What a failed call has read is gone, and the next call goes on behind it.
+    Ok(fails_second(held) && held.left() == b"fg\nh".as_slice() && gives(held, &[2, 1]))
+}
+
+fn held_fails(alloc: Global) -> Result<bool, OutOfMemory> {
+    let mut held = MemPrompt::new(alloc, b"ab\ncdefg\nh")?;
+    fails_held(&mut held)
+}
+
+/// What a failed call has read is gone, and the next call goes on behind it.
+fn read_fails() -> bool {
     let mut read = ReaderPrompt::new(Source {
         bytes: b"ab\ncd\n",
         reads: 0,
         fails_at: 5,
     });
-    assert!(rt; matches!(read.line(), Ok(Asked::Line(_))));
-    assert!(rt; matches!(read.line(), Err(Failed)));
-    assert!(rt; gives(&mut read, &[1]));
+    fails_second(&mut read) && gives(&mut read, &[1])
+}
+
+#[test]
+fn lines_fail(rt: HostRuntime) -> Result<(), Fail> {
+    assert!(rt; held_fails(rt.alloc())?);
+    assert!(rt; read_fails());
     Ok(())
 }

@@ -1,5 +1,6 @@
 use crate::hosts::{Breaks, BrokenHost};
-use ddc_base::{DirShelf, SaveFail, Shelf};
+use crate::outside::{is_content, is_removed, is_written};
+use ddc_base::{DirShelf, OutOfMemory, SaveFail, Shelf};
 use std::fs;
 use std::io::ErrorKind;
 use std::os::unix::fs::PermissionsExt;
@@ -11,87 +12,199 @@ fn is_there<R: Files>(rt: &R, name: &str) -> bool {
     fs::symlink_metadata(rt, name).is_ok()
 }
 
-#[test]
-fn failed_saves_keep_the_file(rt: HostRuntime) -> Result<(), Fail> {
-    fs::write(&rt, "kept", b"the old content")?;
-    for breaks in [
-        Breaks::Creation(ErrorKind::StorageFull),
-        Breaks::Writing,
-        Breaks::Syncing,
-        Breaks::Renaming(ErrorKind::StorageFull),
-    ] {
-        let host = BrokenHost { host: &rt, breaks };
-        let mut shelf = DirShelf::new(host);
-        assert_eq!(rt; shelf.save("kept", b"another"), Err(SaveFail::Failed));
-        assert_eq!(rt;
-            fs::read(&rt, "kept")?.as_slice(),
-            b"the old content".as_slice()
-        );
-        assert_eq!(rt; shelf.save("unborn", b"another"), Err(SaveFail::Failed));
-        for name in ["unborn", "unborn.ddc-0", "kept.ddc-0"] {
-            assert!(rt; !is_there(&rt, name));
+/// Whether neither save writes anything.
+fn fails<R: Files + AllocGlobal, S: Shelf>(rt: &R, shelf: &mut S) -> bool {
+    shelf.save("kept", b"another") == Err(SaveFail::Failed)
+        && is_content(rt, "kept", b"the old content")
+        && shelf.save("unborn", b"another") == Err(SaveFail::Failed)
+        && !is_there(rt, "unborn")
+        && !is_there(rt, "unborn.ddc-0")
+        && !is_there(rt, "kept.ddc-0")
+}
+
+/// Whether a save writes a file in place.
+fn places<R: Files + AllocGlobal, S: Shelf>(rt: &R, shelf: &mut S) -> bool {
+    is_written(rt, "placed", b"the old content")
+        && shelf.save("placed", b"new").is_ok()
+        && is_content(rt, "placed", b"new")
+        && !is_there(rt, "placed.ddc-0")
+}
+
+/// What a save does where a call of the host breaks.
+#[derive(Clone, Copy)]
+enum Outcome {
+    Fails,
+    Places,
+}
+
+fn does<R: Files + AllocGlobal, S: Shelf>(rt: &R, shelf: &mut S, outcome: Outcome) -> bool {
+    match outcome {
+        Outcome::Fails => fails(rt, shelf),
+        Outcome::Places => places(rt, shelf),
+    }
+}
+
+fn does_where<R: Files + AllocGlobal>(rt: &R, breaks: Breaks, outcome: Outcome) -> bool {
+    let mut shelf = DirShelf::new(BrokenHost { host: rt, breaks });
+    does(rt, &mut shelf, outcome)
+}
+
+/// Whether a save does this at each of these breaks.
+fn all_do<R: Files + AllocGlobal>(rt: &R, breaks: &[Breaks], outcome: Outcome) -> bool {
+    for at in breaks {
+        if !does_where(rt, *at, outcome) {
+            return false;
         }
     }
-    fs::remove_file(&rt, "kept")?;
-    Ok(())
+    true
+}
+
+static FAILING: [Breaks; 4] = [
+    Breaks::Creation(ErrorKind::StorageFull),
+    Breaks::Writing,
+    Breaks::Syncing,
+    Breaks::Renaming(ErrorKind::StorageFull),
+];
+
+fn keeps_written<R: Files + AllocGlobal>(rt: &R) -> bool {
+    is_written(rt, "kept", b"the old content")
+        && all_do(rt, &FAILING, Outcome::Fails)
+        && is_removed(rt, "kept")
 }
 
 #[test]
-fn saves_in_place_where_nothing_can_stand_beside(rt: HostRuntime) -> Result<(), Fail> {
-    fs::write(&rt, "placed", b"the old content")?;
-    for breaks in [
-        Breaks::Creation(ErrorKind::PermissionDenied),
-        Breaks::Creation(ErrorKind::ReadOnlyFilesystem),
-        Breaks::Renaming(ErrorKind::ResourceBusy),
-        Breaks::Renaming(ErrorKind::PermissionDenied),
-    ] {
-        fs::write(&rt, "placed", b"the old content")?;
-        let mut shelf = DirShelf::new(BrokenHost { host: &rt, breaks });
-        assert_eq!(rt; shelf.save("placed", b"new"), Ok(()));
-        assert_eq!(rt; fs::read(&rt, "placed")?.as_slice(), b"new".as_slice());
-        assert!(rt; !is_there(&rt, "placed.ddc-0"));
+fn failed_saves_keep_the_file(rt: HostRuntime) {
+    assert!(rt; keeps_written(&rt));
+}
+
+static PLACING: [Breaks; 4] = [
+    Breaks::Creation(ErrorKind::PermissionDenied),
+    Breaks::Creation(ErrorKind::ReadOnlyFilesystem),
+    Breaks::Renaming(ErrorKind::ResourceBusy),
+    Breaks::Renaming(ErrorKind::PermissionDenied),
+];
+
+fn places_all<R: Files + AllocGlobal>(rt: &R) -> bool {
+    all_do(rt, &PLACING, Outcome::Places) && is_removed(rt, "placed")
+}
+
+#[test]
+fn saves_in_place_where_nothing_can_stand_beside(rt: HostRuntime) {
+    assert!(rt; places_all(&rt));
+}
+
+static ENDINGS: [&str; 10] = ["0", "1", "2", "3", "4", "5", "6", "7", "8", "9"];
+
+fn saves_with<R: Files + AllocGlobal, S: Shelf>(
+    rt: &R,
+    shelf: &mut S,
+    taken: &str,
+    ending: &str,
+) -> bool {
+    is_written(rt, taken, b"of the user")
+        && shelf.save("mine", ending.as_bytes()).is_ok()
+        && is_content(rt, "mine", ending.as_bytes())
+}
+
+/// Whether a save is one where the user has taken a name beside it.
+fn saves_beside<R: Files + AllocGlobal, S: Shelf>(
+    rt: &R,
+    shelf: &mut S,
+    ending: &str,
+) -> Result<bool, OutOfMemory> {
+    let taken = format!(in rt.alloc(); "mine.ddc-{ending}")?;
+    Ok(saves_with(rt, shelf, taken.as_str(), ending))
+}
+
+fn all_save_beside<R: Files + AllocGlobal, S: Shelf>(
+    rt: &R,
+    shelf: &mut S,
+    endings: &[&str],
+) -> Result<bool, OutOfMemory> {
+    for ending in endings {
+        if !saves_beside(rt, shelf, ending)? {
+            return Ok(false);
+        }
     }
-    fs::remove_file(&rt, "placed")?;
-    Ok(())
+    Ok(true)
+}
+
+/// Whether a file of the user is as it was, and is removed.
+fn is_left<R: Files + AllocGlobal>(rt: &R, ending: &str) -> Result<bool, OutOfMemory> {
+    let taken = format!(in rt.alloc(); "mine.ddc-{ending}")?;
+    Ok(is_content(rt, taken.as_str(), b"of the user") && is_removed(rt, taken.as_str()))
+}
+
+fn all_are_left<R: Files + AllocGlobal>(rt: &R, endings: &[&str]) -> Result<bool, OutOfMemory> {
+    for ending in endings {
+        if !is_left(rt, ending)? {
+            return Ok(false);
+        }
+    }
+    Ok(true)
+}
+
+fn shelf_saves_beside<R: Files + AllocGlobal>(rt: &R) -> Result<bool, OutOfMemory> {
+    let mut shelf = DirShelf::new(rt);
+    all_save_beside(rt, &mut shelf, &ENDINGS)
+}
+
+fn leaves_the_users_own<R: Files + AllocGlobal>(rt: &R) -> Result<bool, OutOfMemory> {
+    Ok(
+        is_written(rt, "mine", b"the old content")
+            && shelf_saves_beside(rt)?
+            && all_are_left(rt, &ENDINGS)?
+            && is_removed(rt, "mine"),
+    )
 }
 
 #[test]
 fn saves_beside_the_users_own_names(rt: HostRuntime) -> Result<(), Fail> {
-    let endings = ["0", "1", "2", "3", "4", "5", "6", "7", "8", "9"];
-    let mut shelf = DirShelf::new(&rt);
-    fs::write(&rt, "mine", b"the old content")?;
-    for ending in endings {
-        let taken = format!(in rt.alloc(); "mine.ddc-{ending}")?;
-        fs::write(&rt, taken.as_str(), b"of the user")?;
-        assert_eq!(rt; shelf.save("mine", ending.as_bytes()), Ok(()));
-        assert_eq!(rt; fs::read(&rt, "mine")?.as_slice(), ending.as_bytes());
-    }
-    for ending in endings {
-        let taken = format!(in rt.alloc(); "mine.ddc-{ending}")?;
-        assert_eq!(rt;
-            fs::read(&rt, taken.as_str())?.as_slice(),
-            b"of the user".as_slice()
-        );
-        fs::remove_file(&rt, taken.as_str())?;
-    }
-    fs::remove_file(&rt, "mine")?;
+    assert!(rt; leaves_the_users_own(&rt)?);
     Ok(())
 }
 
-#[test]
-fn saves_keep_the_mode_and_follow_links(rt: HostRuntime) -> Result<(), Fail> {
-    let mut shelf = DirShelf::new(&rt);
-    fs::write(&rt, "moded", b"the old content")?;
-    fs::set_permissions(&rt, "moded", fs::Permissions::from_mode(0o751))?;
-    assert_eq!(rt; shelf.save("moded", b"new"), Ok(()));
-    let mode = fs::metadata(&rt, "moded")?.permissions().mode();
-    assert_eq!(rt; mode & 0o7777, 0o751);
-    rt.symlink("moded", "link")?;
-    assert_eq!(rt; shelf.save("link", b"newer"), Ok(()));
-    assert!(rt; fs::symlink_metadata(&rt, "link")?.is_symlink());
-    assert_eq!(rt; fs::read(&rt, "moded")?.as_slice(), b"newer".as_slice());
-    for name in ["link", "moded"] {
-        fs::remove_file(&rt, name)?;
+/// The mode of a file.
+fn mode<R: Files>(rt: &R, name: &str) -> Option<u32> {
+    match fs::metadata(rt, name) {
+        Ok(metadata) => Some(metadata.permissions().mode() & 0o7777),
+        Err(_) => None,
     }
-    Ok(())
+}
+
+fn is_symlink<R: Files>(rt: &R, name: &str) -> bool {
+    match fs::symlink_metadata(rt, name) {
+        Ok(metadata) => metadata.is_symlink(),
+        Err(_) => false,
+    }
+}
+
+fn keeps_mode<R: Files, S: Shelf>(rt: &R, shelf: &mut S) -> bool {
+    fs::set_permissions(rt, "moded", fs::Permissions::from_mode(0o751)).is_ok()
+        && shelf.save("moded", b"new").is_ok()
+        && mode(rt, "moded") == Some(0o751)
+}
+
+fn follows_link<R: Files + AllocGlobal, S: Shelf>(rt: &R, shelf: &mut S) -> bool {
+    rt.symlink("moded", "link").is_ok()
+        && shelf.save("link", b"newer").is_ok()
+        && is_symlink(rt, "link")
+        && is_content(rt, "moded", b"newer")
+}
+
+fn keeps_and_follows<R: Files + AllocGlobal>(rt: &R) -> bool {
+    let mut shelf = DirShelf::new(rt);
+    keeps_mode(rt, &mut shelf) && follows_link(rt, &mut shelf)
+}
+
+fn keeps_and_follows_written<R: Files + AllocGlobal>(rt: &R) -> bool {
+    is_written(rt, "moded", b"the old content")
+        && keeps_and_follows(rt)
+        && is_removed(rt, "link")
+        && is_removed(rt, "moded")
+}
+
+#[test]
+fn saves_keep_the_mode_and_follow_links(rt: HostRuntime) {
+    assert!(rt; keeps_and_follows_written(&rt));
 }

@@ -2,9 +2,10 @@ ghost use Rattle.std.specs.Prelude.{Some};
 
 use crate::byte_at;
 use ddc_base::{Deliver, Loaded, PutFail, Sink, WriterSink, read_within, write_whole};
+use std::alloc::Global;
 use std::io;
 use std::io::{ErrorKind, Read, Write};
-use std::test::Fail;
+use std::process::Abort;
 
 /// A reader of so many bytes, which gives a few at a time, is interrupted at first, and may fail after some of them.
 #[derive(Drop)]
@@ -47,42 +48,76 @@ impl Read for Stream {
     }
 }
 
-#[test]
-fn reads_within_a_limit(rt: HostRuntime) -> Result<(), Fail> {
-    let alloc = rt.alloc();
-    for (len, step, expected, limit) in [
-        (0, 1, 0, 0),
-        (1, 1, 0, 0),
-        (9_000, 7, 0, 9_000),
-        (9_000, 4_096, 9_000, 8_999),
-        (9_000, 8_192, 3, 9_001),
-        (20_000, 20_000, 20_000, 20_000),
-        (20_001, 20_001, 20_001, 20_000),
-        (20_001, 20_001, 18_446_744_073_709_551_615, 20_000),
-        (5_000, 64, 0, 18_446_744_073_709_551_615),
-    ] {
-        let mut stream = Stream::new(len, step, usize::MAX);
-        match read_within(alloc, &mut stream, expected, limit)? {
-            Loaded::Bytes(content) => {
-                assert!(rt; content.len() == len && len as u64 <= limit);
-                for (at, byte) in content.as_slice().iter().enumerate() {
-                    assert_eq!(rt; *byte, byte_at(at));
-                }
-            }
-            Loaded::TooLong => assert!(rt; len as u64 > limit),
-            Loaded::Absent => assert!(rt; false),
+/// How many bytes a reader has and how many it gives at a time, how many are expected, and the limit.
+type Row = (usize, usize, u64, u64);
+
+static ROWS: [Row; 9] = [
+    (0, 1, 0, 0),
+    (1, 1, 0, 0),
+    (9_000, 7, 0, 9_000),
+    (9_000, 4_096, 9_000, 8_999),
+    (9_000, 8_192, 3, 9_001),
+    (20_000, 20_000, 20_000, 20_000),
+    (20_001, 20_001, 20_001, 20_000),
+    (20_001, 20_001, 18_446_744_073_709_551_615, 20_000),
+    (5_000, 64, 0, 18_446_744_073_709_551_615),
+];
+
+fn are_streamed(content: &[u8]) -> bool {
+    content
+        .iter()
+        .enumerate()
+        .all(|(at, byte)| *byte == byte_at(at))
+}
+
+/// Whether this is what a read of so many bytes gives.
+fn is_given(given: &Loaded, len: usize, limit: u64) -> bool {
+    match given {
+        Loaded::Bytes(content) => {
+            content.len() == len && len as u64 <= limit && are_streamed(content.as_slice())
         }
-        assert!(rt; stream.given as u64 <= limit.saturating_add(1));
+        Loaded::TooLong => len as u64 > limit,
+        Loaded::Absent => false,
     }
+}
+
+fn gives(alloc: Global, stream: &mut Stream, row: &Row) -> bool {
+    match read_within(alloc, stream, row.2, row.3) {
+        Ok(given) => is_given(&given, row.0, row.3),
+        Err(_) => false,
+    }
+}
+
+fn reads(alloc: Global, row: &Row) -> bool {
+    let mut stream = Stream::new(row.0, row.1, usize::MAX);
+    gives(alloc, &mut stream, row) && stream.given as u64 <= row.3.saturating_add(1)
+}
+
+fn fails(alloc: Global, mut stream: Stream, expected: u64, limit: u64) -> bool {
+    read_within(alloc, &mut stream, expected, limit).is_err()
+}
+
+fn check_reads(rt: &impl Abort, alloc: Global, rows: &[Row]) {
+    for row in rows {
+        assert!(rt; reads(alloc, row), "{row:?}");
+    }
+}
+
+/// An error in mid-stream is no shorter content.
+fn check_breaks(rt: &impl Abort, alloc: Global, places: &[usize]) {
+    for fails_after in places {
+        let broken = Stream::new(9_000, 512, *fails_after);
+        assert!(rt; fails(alloc, broken, 9_000, 9_000));
+    }
+}
+
+#[test]
+fn reads_within_a_limit(rt: HostRuntime) {
+    check_reads(&rt, rt.alloc(), &ROWS);
     // Fewer bytes than are expected, where these are over the limit, are an error.
-    let mut stream = Stream::new(20_000, 4_096, usize::MAX);
-    assert!(rt; read_within(alloc, &mut stream, 20_001, 20_000).is_err());
-    // An error in mid-stream is no shorter content.
-    for fails_after in [0, 1, 4_096, 9_000] {
-        let mut stream = Stream::new(9_000, 512, fails_after);
-        assert!(rt; read_within(alloc, &mut stream, 9_000, 9_000).is_err());
-    }
-    Ok(())
+    let short = Stream::new(20_000, 4_096, usize::MAX);
+    assert!(rt; fails(rt.alloc(), short, 20_001, 20_000));
+    check_breaks(&rt, rt.alloc(), &[0, 1, 4_096, 9_000]);
 }
 
 /// A writer that takes a few bytes at a time, and nothing once it is full. It tells what it holds, and what of it has arrived.
@@ -119,21 +154,34 @@ impl Deliver for Slow {
     }
 }
 
+fn writes(slow: &mut Slow) -> bool {
+    write_whole(slow, b"0123456789").is_ok()
+        && slow.held.as_slice() == b"0123456789".as_slice()
+        && slow.arrived.as_slice() == b"0123456789".as_slice()
+}
+
+fn puts<S: Sink>(sink: &mut S) -> bool {
+    sink.put(b"") == Ok(())
+        && sink.put(b"abcdefgh") == Ok(())
+        && sink.put(b"ijk") == Err(PutFail::Failed)
+}
+
+fn puts_over(slow: &mut Slow) -> bool {
+    let mut sink = WriterSink::new(slow);
+    puts(&mut sink)
+}
+
+fn writes_and_puts(slow: &mut Slow) -> bool {
+    writes(slow) && puts_over(slow) && slow.held.as_slice() == b"0123456789abcdefghij".as_slice()
+}
+
 #[test]
-fn writes_whole_pieces(rt: HostRuntime) -> Result<(), Fail> {
+fn writes_whole_pieces(rt: HostRuntime) {
     let mut slow = Slow {
         held: Vec::new(rt.alloc()),
         arrived: Vec::new(rt.alloc()),
         step: 3,
         room: 20,
     };
-    write_whole(&mut slow, b"0123456789")?;
-    assert_eq!(rt; slow.held.as_slice(), b"0123456789".as_slice());
-    assert_eq!(rt; slow.arrived.as_slice(), b"0123456789".as_slice());
-    let mut sink = WriterSink::new(&mut slow);
-    assert_eq!(rt; sink.put(b""), Ok(()));
-    assert_eq!(rt; sink.put(b"abcdefgh"), Ok(()));
-    assert_eq!(rt; sink.put(b"ijk"), Err(PutFail::Failed));
-    assert_eq!(rt; slow.held.as_slice(), b"0123456789abcdefghij".as_slice());
-    Ok(())
+    assert!(rt; writes_and_puts(&mut slow));
 }

@@ -1,10 +1,10 @@
 //! The example of docs/reference/recipe.md and that page's changes of it.
 
-use crate::texts::{EXAMPLE, answer, with};
+use crate::texts::{Change, EXAMPLE, answers, answers_twice};
+use ddc_base::OutOfMemory;
+use std::alloc::Global;
+use std::process::Abort;
 use std::test::Fail;
-
-/// What is changed, and into what.
-type Change = (&'static str, &'static str);
 
 /// An input that implements the source.
 const IMPLEMENTS: Change = (
@@ -22,7 +22,10 @@ const NO_SOURCE: Change = (
 const NOTHING: Change = ("", "");
 
 /// Two changes of the example, and the answer.
-static CHANGES: [(Change, Change, &str); 36] = [
+type Row = (Change, Change, &'static str);
+
+/// Changes of the top.
+static TOP: [Row; 9] = [
     (("format = 1\n", "format\nformat = 1\n"), NOTHING, "1"),
     (("format = 1", ""), NOTHING, "2 top 0 format"),
     (("format = 1", "format = \"1\""), NOTHING, "2 top 0 format"),
@@ -48,6 +51,10 @@ static CHANGES: [(Change, Change, &str); 36] = [
         NOTHING,
         "3 top 0",
     ),
+];
+
+/// Changes of inputs and sources.
+static INPUTS_AND_SOURCES: [Row; 8] = [
     (
         ("name = \"prog\"", "name = \"Prog\""),
         NOTHING,
@@ -88,6 +95,10 @@ static CHANGES: [(Change, Change, &str); 36] = [
         NOTHING,
         "6 source 1 files",
     ),
+];
+
+/// Changes of a stage's values.
+static STAGES: [Row; 8] = [
     (
         ("args = [\"copy\"]", "args = []"),
         NOTHING,
@@ -123,6 +134,10 @@ static CHANGES: [(Change, Change, &str); 36] = [
         "7 stage 1 output",
     ),
     (("steps = 100000", "steps = 0"), NOTHING, "8 stage 1 steps"),
+];
+
+/// Names that stand for nothing that is there by then.
+static NAMES: [Row; 5] = [
     (
         ("program = \"prog\"", "program = \"two\""),
         NOTHING,
@@ -148,6 +163,10 @@ static CHANGES: [(Change, Change, &str); 36] = [
         NOTHING,
         "6 compare 0 stage",
     ),
+];
+
+/// Programs and their sources.
+static PROGRAMS: [Row; 6] = [
     (
         ("check = \"copy_src\"", ""),
         NOTHING,
@@ -172,17 +191,36 @@ static CHANGES: [(Change, Change, &str); 36] = [
     ),
 ];
 
+fn compare(rt: &impl Abort, alloc: Global, rows: &[Row]) -> Result<(), OutOfMemory> {
+    for row in rows {
+        assert!(rt;
+            answers_twice(alloc, EXAMPLE, row.0, row.1, row.2)?,
+            "{row:?}"
+        );
+    }
+    Ok(())
+}
+
+fn compare_all(rt: &impl Abort, alloc: Global, tables: &[&[Row]]) -> Result<(), OutOfMemory> {
+    for rows in tables {
+        compare(rt, alloc, rows)?;
+    }
+    Ok(())
+}
+
+fn compare_changes(rt: &impl Abort, alloc: Global) -> Result<(), OutOfMemory> {
+    let tables: [&[Row]; 5] = [&TOP, &INPUTS_AND_SOURCES, &STAGES, &NAMES, &PROGRAMS];
+    compare_all(rt, alloc, &tables)
+}
+
+/// Texts that are no changes of it.
+fn answers_others(alloc: Global) -> Result<bool, OutOfMemory> {
+    Ok(answers(alloc, b"format = 1 # \xff", "1")? && answers(alloc, b"", "2 top 0 format")?)
+}
+
 #[test]
 fn changes_of_the_example(rt: HostRuntime) -> Result<(), Fail> {
-    for (first, second, wanted) in &CHANGES {
-        let once = with(rt.alloc(), EXAMPLE, first.0, first.1)?;
-        let twice = with(rt.alloc(), once.as_str(), second.0, second.1)?;
-        let answer = answer(rt.alloc(), twice.as_bytes())?;
-        assert_eq!(rt; answer.as_str(), *wanted);
-    }
-    let cut = answer(rt.alloc(), b"format = 1 # \xff")?;
-    assert_eq!(rt; cut.as_str(), "1");
-    let empty = answer(rt.alloc(), b"")?;
-    assert_eq!(rt; empty.as_str(), "2 top 0 format");
+    compare_changes(&rt, rt.alloc())?;
+    assert!(rt; answers_others(rt.alloc())?);
     Ok(())
 }

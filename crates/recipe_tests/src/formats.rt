@@ -1,7 +1,7 @@
 //! Recipes of format 2: the example of docs/reference/recipe.md with two compared stages, and changes of it.
 
 use crate::repeated;
-use crate::texts::{EXAMPLE, answer, with};
+use crate::texts::{EXAMPLE, answers, answers_once, answers_twice, with};
 use ddc_base::OutOfMemory;
 use recipe::{Recipe, read};
 use std::alloc::Global;
@@ -84,85 +84,136 @@ fn example(alloc: Global) -> Result<String, OutOfMemory> {
     with(alloc, text.as_str(), "stage = \"two\"", STAGES)
 }
 
-#[test]
-fn of_the_format(rt: HostRuntime) -> Result<(), Fail> {
-    let example = example(rt.alloc())?;
-    for (old, new, wanted) in &FORMATS {
-        let text = with(rt.alloc(), example.as_str(), old, new)?;
-        let answer = answer(rt.alloc(), text.as_bytes())?;
-        assert_eq!(rt; answer.as_str(), *wanted);
+/// Whether the reader answers this to the example with one change.
+fn example_answers(alloc: Global, change: (&str, &str), wanted: &str) -> Result<bool, OutOfMemory> {
+    let example = example(alloc)?;
+    answers_once(alloc, example.as_str(), change, wanted)
+}
+
+/// Whether the reader answers this to the example with others in place of the compared stages and of the binary.
+fn example_answers_twice(
+    alloc: Global,
+    (stages, binary, wanted): (&str, &str, &str),
+) -> Result<bool, OutOfMemory> {
+    let example = example(alloc)?;
+    answers_twice(
+        alloc,
+        example.as_str(),
+        (STAGES, stages),
+        ("binary = \"bin\"", binary),
+        wanted,
+    )
+}
+
+fn check_formats(rt: &impl Abort, alloc: Global, rows: &[Row]) -> Result<(), OutOfMemory> {
+    for row in rows {
+        assert!(rt; example_answers(alloc, (row.0, row.1), row.2)?, "{row:?}");
     }
     Ok(())
+}
+
+fn check_compared(
+    rt: &impl Abort,
+    alloc: Global,
+    rows: &[(&str, &str)],
+) -> Result<(), OutOfMemory> {
+    for row in rows {
+        assert!(rt; example_answers(alloc, (STAGES, row.0), row.1)?, "{row:?}");
+    }
+    Ok(())
+}
+
+fn check_orders(rt: &impl Abort, alloc: Global, rows: &[Row]) -> Result<(), OutOfMemory> {
+    for row in rows {
+        assert!(rt; example_answers_twice(alloc, *row)?, "{row:?}");
+    }
+    Ok(())
+}
+
+#[test]
+fn of_the_format(rt: HostRuntime) -> Result<(), Fail> {
+    Ok(check_formats(&rt, rt.alloc(), &FORMATS)?)
 }
 
 #[test]
 fn of_the_compared_stages(rt: HostRuntime) -> Result<(), Fail> {
-    let example = example(rt.alloc())?;
-    for (new, wanted) in &COMPARED {
-        let text = with(rt.alloc(), example.as_str(), STAGES, new)?;
-        let answer = answer(rt.alloc(), text.as_bytes())?;
-        assert_eq!(rt; answer.as_str(), *wanted);
-    }
-    Ok(())
+    Ok(check_compared(&rt, rt.alloc(), &COMPARED)?)
 }
 
 #[test]
 fn of_stages_and_binary(rt: HostRuntime) -> Result<(), Fail> {
-    let example = example(rt.alloc())?;
-    for (stages, binary, wanted) in &ORDERS {
-        let once = with(rt.alloc(), example.as_str(), STAGES, stages)?;
-        let twice = with(rt.alloc(), once.as_str(), "binary = \"bin\"", binary)?;
-        let answer = answer(rt.alloc(), twice.as_bytes())?;
-        assert_eq!(rt; answer.as_str(), *wanted);
+    Ok(check_orders(&rt, rt.alloc(), &ORDERS)?)
+}
+
+/// Adds a stage's table.
+fn put_table(alloc: Global, tables: &mut String, number: u32) -> Result<(), OutOfMemory> {
+    let table = format!(in alloc;
+        "[[stage]]\nname = \"t{number}\"\nprogram = \"one\"\nargs = [\"copy\"]\noutput = \"out\"\nsteps = 1\n"
+    )?;
+    Ok(tables.push_str(table.as_str())?)
+}
+
+/// Adds a stage's name to those that are compared.
+fn put_name(alloc: Global, names: &mut String, number: u32) -> Result<(), OutOfMemory> {
+    let name = format!(in alloc; ", \"t{number}\"")?;
+    Ok(names.push_str(name.as_str())?)
+}
+
+/// Adds so many stages' tables and the head of the last table.
+fn put_tables(alloc: Global, tables: &mut String, more: u32) -> Result<(), OutOfMemory> {
+    for number in 0..more {
+        put_table(alloc, tables, number)?;
     }
-    Ok(())
+    Ok(tables.push_str("[compare]\n")?)
+}
+
+/// Adds the names of so many stages more and the end of their list.
+fn put_names(alloc: Global, names: &mut String, more: u32) -> Result<(), OutOfMemory> {
+    for number in 0..more {
+        put_name(alloc, names, number)?;
+    }
+    Ok(names.push_str("]")?)
+}
+
+fn with_tables(alloc: Global, more: u32) -> Result<String, OutOfMemory> {
+    let example = example(alloc)?;
+    let mut tables = String::new(alloc);
+    put_tables(alloc, &mut tables, more)?;
+    with(alloc, example.as_str(), "[compare]\n", tables.as_str())
 }
 
 /// The example with so many stages more, all of which are compared.
 fn with_stages(alloc: Global, more: u32) -> Result<String, OutOfMemory> {
-    let mut tables = String::new(alloc);
+    let text = with_tables(alloc, more)?;
     let mut names = String::from_str(alloc, "stages = [\"two\", \"one\"")?;
-    for number in 0..more {
-        tables.push_str(format!(in alloc;
-            "[[stage]]\nname = \"t{number}\"\nprogram = \"one\"\nargs = [\"copy\"]\noutput = \"out\"\nsteps = 1\n"
-        )?.as_str())?;
-        names.push_str(format!(in alloc; ", \"t{number}\"")?.as_str())?;
-    }
-    tables.push_str("[compare]\n")?;
-    names.push_str("]")?;
-    let text = with(
-        alloc,
-        example(alloc)?.as_str(),
-        "[compare]\n",
-        tables.as_str(),
-    )?;
+    put_names(alloc, &mut names, more)?;
     with(alloc, text.as_str(), STAGES, names.as_str())
+}
+
+fn stages_answer(alloc: Global, more: u32, wanted: &str) -> Result<bool, OutOfMemory> {
+    let text = with_stages(alloc, more)?;
+    answers(alloc, text.as_bytes(), wanted)
 }
 
 #[test]
 fn sixteen_stages_are_compared(rt: HostRuntime) -> Result<(), Fail> {
-    for (more, wanted) in [
-        (0, "accepted"),
-        (14, "accepted"),
-        (15, "9 compare 0 stages"),
-    ] {
-        let text = with_stages(rt.alloc(), more)?;
-        let answer = answer(rt.alloc(), text.as_bytes())?;
-        assert_eq!(rt; answer.as_str(), wanted);
-    }
+    assert!(rt; stages_answer(rt.alloc(), 0, "accepted")?);
+    assert!(rt; stages_answer(rt.alloc(), 14, "accepted")?);
+    assert!(rt; stages_answer(rt.alloc(), 15, "9 compare 0 stages")?);
     Ok(())
+}
+
+/// Whether the reader answers this to the example that compares so many numbers.
+fn numbers_answer(alloc: Global, count: usize, wanted: &str) -> Result<bool, OutOfMemory> {
+    let new = repeated(alloc, "stages = [", "1, ", count, "]")?;
+    example_answers(alloc, (STAGES, new.as_str()), wanted)
 }
 
 /// More elements than may be are refused before any of them is looked at.
 #[test]
 fn their_number_is_tried_first(rt: HostRuntime) -> Result<(), Fail> {
-    let example = example(rt.alloc())?;
-    for (count, wanted) in [(16, "2 compare 0 stages"), (17, "9 compare 0 stages")] {
-        let new = repeated(rt.alloc(), "stages = [", "1, ", count, "]")?;
-        let text = with(rt.alloc(), example.as_str(), STAGES, new.as_str())?;
-        let answer = answer(rt.alloc(), text.as_bytes())?;
-        assert_eq!(rt; answer.as_str(), wanted);
-    }
+    assert!(rt; numbers_answer(rt.alloc(), 16, "2 compare 0 stages")?);
+    assert!(rt; numbers_answer(rt.alloc(), 17, "9 compare 0 stages")?);
     Ok(())
 }
 
@@ -180,26 +231,30 @@ fn compares(recipe: &Recipe, stages: &[&str]) -> bool {
     recipe.format() == 2
 }
 
-/// Reads the example with these compared stages.
-fn said(rt: &impl Abort, alloc: Global, new: &str, stages: &[&str]) -> Result<(), OutOfMemory> {
-    let example = example(alloc)?;
-    let text = with(alloc, example.as_str(), STAGES, new)?;
-    match read(alloc, text.as_bytes()) {
-        Ok(recipe) => assert!(rt; compares(&recipe, stages)),
-        Err(refusal) => assert_eq!(rt; refusal.number(), 0),
+/// Whether a text is a recipe that compares these stages.
+fn says(alloc: Global, text: &[u8], stages: &[&str]) -> bool {
+    match read(alloc, text) {
+        Ok(recipe) => compares(&recipe, stages),
+        Err(_) => false,
     }
-    Ok(())
+}
+
+/// The example with these compared stages.
+fn with_compared(alloc: Global, new: &str) -> Result<String, OutOfMemory> {
+    let example = example(alloc)?;
+    with(alloc, example.as_str(), STAGES, new)
+}
+
+/// Whether the example with these compared stages compares them.
+fn example_says(alloc: Global, new: &str, stages: &[&str]) -> Result<bool, OutOfMemory> {
+    let text = with_compared(alloc, new)?;
+    Ok(says(alloc, text.as_bytes(), stages))
 }
 
 #[test]
 fn the_stages_keep_their_order(rt: HostRuntime) -> Result<(), Fail> {
-    said(&rt, rt.alloc(), STAGES, &["two", "one"])?;
-    said(
-        &rt,
-        rt.alloc(),
-        "stages = [\"one\", \"two\"]",
-        &["one", "two"],
-    )?;
-    said(&rt, rt.alloc(), "stages = [\"one\"]", &["one"])?;
+    assert!(rt; example_says(rt.alloc(), STAGES, &["two", "one"])?);
+    assert!(rt; example_says(rt.alloc(), "stages = [\"one\", \"two\"]", &["one", "two"])?);
+    assert!(rt; example_says(rt.alloc(), "stages = [\"one\"]", &["one"])?);
     Ok(())
 }

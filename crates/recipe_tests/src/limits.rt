@@ -1,7 +1,10 @@
 //! Lengths at each limit and one past it: a piece is repeated so often between two others.
 
 use crate::repeated;
-use crate::texts::{GOOD, answer, with};
+use crate::texts::{GOOD, answers, answers_once};
+use ddc_base::OutOfMemory;
+use std::alloc::Global;
+use std::process::Abort;
 use std::test::Fail;
 
 /// What is changed; the piece in front, the one that is repeated, the one behind; how often, and the answer.
@@ -152,23 +155,40 @@ static TABLES: [Row; 6] = [
     ),
 ];
 
-#[test]
-fn of_values(rt: HostRuntime) -> Result<(), Fail> {
-    for (old, pieces, count, wanted) in &LENGTHS {
-        let new = repeated(rt.alloc(), pieces[0], pieces[1], *count, pieces[2])?;
-        let text = with(rt.alloc(), GOOD, old, new.as_str())?;
-        let answer = answer(rt.alloc(), text.as_bytes())?;
-        assert_eq!(rt; answer.as_str(), *wanted);
+/// Whether the reader answers to the good recipe with the pieces of a row in place of one.
+fn answers_value(alloc: Global, row: &Row) -> Result<bool, OutOfMemory> {
+    let (old, [front, piece, back], count, wanted) = *row;
+    let new = repeated(alloc, front, piece, count, back)?;
+    answers_once(alloc, GOOD, (old, new.as_str()), wanted)
+}
+
+/// Whether the reader answers to the pieces of a row.
+fn answers_table(alloc: Global, row: &Row) -> Result<bool, OutOfMemory> {
+    let (_, [front, piece, back], count, wanted) = *row;
+    let text = repeated(alloc, front, piece, count, back)?;
+    answers(alloc, text.as_bytes(), wanted)
+}
+
+fn check_values(rt: &impl Abort, alloc: Global, rows: &[Row]) -> Result<(), OutOfMemory> {
+    for row in rows {
+        assert!(rt; answers_value(alloc, row)?, "{row:?}");
+    }
+    Ok(())
+}
+
+fn check_tables(rt: &impl Abort, alloc: Global, rows: &[Row]) -> Result<(), OutOfMemory> {
+    for row in rows {
+        assert!(rt; answers_table(alloc, row)?, "{row:?}");
     }
     Ok(())
 }
 
 #[test]
+fn of_values(rt: HostRuntime) -> Result<(), Fail> {
+    Ok(check_values(&rt, rt.alloc(), &LENGTHS)?)
+}
+
+#[test]
 fn of_tables(rt: HostRuntime) -> Result<(), Fail> {
-    for (_, pieces, count, wanted) in &TABLES {
-        let text = repeated(rt.alloc(), pieces[0], pieces[1], *count, pieces[2])?;
-        let answer = answer(rt.alloc(), text.as_bytes())?;
-        assert_eq!(rt; answer.as_str(), *wanted);
-    }
-    Ok(())
+    Ok(check_tables(&rt, rt.alloc(), &TABLES)?)
 }

@@ -1,13 +1,10 @@
 //! Two faults at once, or more: which one is answered.
 
-use crate::texts::{GOOD, answer, with};
+use crate::texts::{Change, GOOD, answers_twice};
 use ddc_base::OutOfMemory;
 use std::alloc::Global;
 use std::process::Abort;
 use std::test::Fail;
-
-/// What is changed, and into what.
-type Change = (&'static str, &'static str);
 
 /// What is set against what, two changes, and the answer.
 type Row = (&'static str, Change, Change, &'static str);
@@ -202,11 +199,8 @@ static SECOND_WALK: [Row; 13] = [
 ];
 
 fn compare(rt: &impl Abort, alloc: Global, rows: &[Row]) -> Result<(), OutOfMemory> {
-    for (_, first, second, wanted) in rows {
-        let once = with(alloc, GOOD, first.0, first.1)?;
-        let twice = with(alloc, once.as_str(), second.0, second.1)?;
-        let answer = answer(alloc, twice.as_bytes())?;
-        assert_eq!(rt; answer.as_str(), *wanted);
+    for row in rows {
+        assert!(rt; answers_twice(alloc, GOOD, row.1, row.2, row.3)?, "{row:?}");
     }
     Ok(())
 }

@@ -98,12 +98,25 @@ pub(crate) fn with(alloc: Global, text: &str, old: &str, new: &str) -> Result<St
     }
 }
 
-/// What the reader answers: `accepted`, or the refusal's number, table, item and key.
-pub(crate) fn answer(alloc: Global, text: &[u8]) -> Result<String, OutOfMemory> {
-    match read(alloc, text) {
-        Ok(_) => Ok(String::from_str(alloc, "accepted")?),
-        Err(refusal) => shown(alloc, refusal),
+/// What is changed, and into what.
+pub(crate) type Change = (&'static str, &'static str);
+
+/// Why a text is refused, if it is.
+fn refusal(alloc: Global, text: &[u8]) -> Option<RecipeRefusal> {
+    read(alloc, text).err()
+}
+
+/// Whether the reader answers this: `accepted`, or the refusal's number, table, item and key.
+pub(crate) fn answers(alloc: Global, text: &[u8], wanted: &str) -> Result<bool, OutOfMemory> {
+    match refusal(alloc, text) {
+        None => Ok(wanted == "accepted"),
+        Some(refusal) => is_shown(alloc, refusal, wanted),
     }
+}
+
+fn is_shown(alloc: Global, refusal: RecipeRefusal, wanted: &str) -> Result<bool, OutOfMemory> {
+    let shown = shown(alloc, refusal)?;
+    Ok(shown.as_str() == wanted)
 }
 
 fn shown(alloc: Global, refusal: RecipeRefusal) -> Result<String, OutOfMemory> {
@@ -116,4 +129,27 @@ fn shown(alloc: Global, refusal: RecipeRefusal) -> Result<String, OutOfMemory> {
         (Some(place), None) => Ok(format!(in alloc; "{number} {} {}", place.table, place.number)?),
         _ => Ok(format!(in alloc; "{number}")?),
     }
+}
+
+/// Whether the reader answers this to a text with one change.
+pub(crate) fn answers_once(
+    alloc: Global,
+    text: &str,
+    (old, new): (&str, &str),
+    wanted: &str,
+) -> Result<bool, OutOfMemory> {
+    let once = with(alloc, text, old, new)?;
+    answers(alloc, once.as_bytes(), wanted)
+}
+
+/// Whether the reader answers this to a text with two changes, one after the other.
+pub(crate) fn answers_twice(
+    alloc: Global,
+    text: &str,
+    (old, new): (&str, &str),
+    second: (&str, &str),
+    wanted: &str,
+) -> Result<bool, OutOfMemory> {
+    let once = with(alloc, text, old, new)?;
+    answers_once(alloc, once.as_str(), second, wanted)
 }

@@ -5,7 +5,6 @@ use hex_langs::items::{HexRefusal, Item, Kind, items1, items2};
 use hex_langs::link::{HexLanguage, laws, link, value};
 use std::alloc::Global;
 use std::process::Abort;
-use std::test::Fail;
 
 /// What a row's source comes to: its bytes at base 0, or its refusal.
 type Answer = Result<&'static [u8], HexRefusal>;
@@ -81,83 +80,96 @@ static HEX1: [(&str, Answer); 11] = [
     ("$a 6f000000 :a", Ok(b"\x6f\x00\x40\x00")),
 ];
 
-fn compare(
-    rt: &impl Abort,
+/// Whether a source comes to this.
+fn has_answer(
     alloc: Global,
     language: HexLanguage,
-    rows: &[(&str, Answer)],
-) -> Result<(), Fail> {
-    for (source, answer) in rows {
-        match (value(alloc, language, 0, source.as_bytes()), answer) {
-            (Ok(bytes), Ok(wanted)) => assert_eq!(rt; bytes.as_slice(), *wanted),
-            (Err(refusal), Err(wanted)) => assert_eq!(rt; refusal, *wanted),
-            _ => assert_eq!(rt; *source, "answered so"),
-        }
+    source: &str,
+    answer: Result<&[u8], HexRefusal>,
+) -> bool {
+    match value(alloc, language, 0, source.as_bytes()) {
+        Ok(bytes) => answer == Ok(bytes.as_slice()),
+        Err(refusal) => answer == Err(refusal),
     }
-    Ok(())
+}
+
+fn compare(rt: &impl Abort, alloc: Global, language: HexLanguage, rows: &[(&str, Answer)]) {
+    for (source, answer) in rows {
+        assert!(rt; has_answer(alloc, language, source, *answer), "{source}");
+    }
 }
 
 #[test]
-fn hex2_sources(rt: HostRuntime) -> Result<(), Fail> {
-    compare(&rt, rt.alloc(), HexLanguage::Hex2, &HEX2)?;
-    compare(&rt, rt.alloc(), HexLanguage::Hex2, &LINKS)
+fn hex2_sources(rt: HostRuntime) {
+    compare(&rt, rt.alloc(), HexLanguage::Hex2, &HEX2);
+    compare(&rt, rt.alloc(), HexLanguage::Hex2, &LINKS);
 }
 
 #[test]
-fn hex1_sources(rt: HostRuntime) -> Result<(), Fail> {
-    compare(&rt, rt.alloc(), HexLanguage::Hex1, &HEX1)?;
+fn hex1_sources(rt: HostRuntime) {
+    compare(&rt, rt.alloc(), HexLanguage::Hex1, &HEX1);
     let table: [(&str, Answer); 2] = [("# a\n7F 4\n5;x", Ok(b"\x7f\x45")), ("ABC", Ok(b"\xab"))];
-    compare(&rt, rt.alloc(), HexLanguage::Hex0, &table)
+    compare(&rt, rt.alloc(), HexLanguage::Hex0, &table);
+}
+
+/// What an item is, in a few words.
+fn shown(item: Option<Item<'_>>) -> &'static str {
+    match item {
+        Some(Item::Word(0x297, Kind::U, _)) => "upper word",
+        Some(Item::Word(_, _, _)) => "another word",
+        Some(Item::Gap(_, _)) => "gap",
+        Some(Item::Pad) => "pad",
+        Some(_) => "another item",
+        None => "none",
+    }
 }
 
 /// What items2 answers of a source, in a few words.
-fn shown(alloc: Global, source: &[u8], index: usize) -> &'static str {
+fn shown_of(alloc: Global, source: &[u8], index: usize) -> &'static str {
     match items2(alloc, source) {
-        Ok(items) => match items.get(index) {
-            Some(Item::Word(0x297, Kind::U, _)) => "upper word",
-            Some(Item::Word(_, _, _)) => "another word",
-            Some(Item::Gap(_, _)) => "gap",
-            Some(Item::Pad) => "pad",
-            Some(_) => "another item",
-            None => "none",
-        },
+        Ok(items) => shown(items.get(index)),
         Err(_) => "refused",
     }
 }
 
 #[test]
-fn items_of_a_source(rt: HostRuntime) -> Result<(), Fail> {
+fn items_of_a_source(rt: HostRuntime) {
     let source = b"~x 97020000 %a>b <";
     let table = ["upper word", "gap", "pad", "none"];
     for (index, wanted) in table.iter().enumerate() {
-        assert_eq!(rt; shown(rt.alloc(), source, index), *wanted);
+        assert_eq!(rt; shown_of(rt.alloc(), source, index), *wanted);
     }
     laws::same_at_every_base();
     laws::bytes_end_behind_the_last();
     laws::names_do_not_matter();
     laws::plain_sources();
     hex_langs::items::laws::plain_sources();
-    Ok(())
 }
 
 /// The bytes of a hex1 source at the greatest base.
 fn at_the_greatest_base(alloc: Global, source: &[u8]) -> Result<Bytes, HexRefusal> {
-    let items = match items1(alloc, source) {
-        Ok(items) => items,
-        Err(refusal) => return Err(refusal),
-    };
-    link(alloc, &items, 137_438_953_472)
+    match items1(alloc, source) {
+        Ok(items) => link(alloc, &items, 137_438_953_472),
+        Err(refusal) => Err(refusal),
+    }
+}
+
+fn is_zeros(alloc: Global, source: &[u8]) -> bool {
+    match at_the_greatest_base(alloc, source) {
+        Ok(bytes) => bytes.as_slice() == [0_u8, 0, 0, 0].as_slice(),
+        Err(_) => false,
+    }
+}
+
+fn is_refused(alloc: Global, source: &[u8], wanted: HexRefusal) -> bool {
+    match at_the_greatest_base(alloc, source) {
+        Ok(_) => false,
+        Err(refusal) => refusal == wanted,
+    }
 }
 
 #[test]
-fn the_greatest_base(rt: HostRuntime) -> Result<(), Fail> {
-    match at_the_greatest_base(rt.alloc(), b"%x:x") {
-        Ok(bytes) => assert_eq!(rt; bytes.as_slice(), [0_u8, 0, 0, 0].as_slice()),
-        Err(refusal) => assert_eq!(rt; refusal.number(), 0),
-    }
-    match at_the_greatest_base(rt.alloc(), b":x&x") {
-        Ok(bytes) => assert_eq!(rt; bytes.len(), 0),
-        Err(refusal) => assert_eq!(rt; refusal, HexRefusal::OutOfReach(1)),
-    }
-    Ok(())
+fn the_greatest_base(rt: HostRuntime) {
+    assert!(rt; is_zeros(rt.alloc(), b"%x:x"));
+    assert!(rt; is_refused(rt.alloc(), b":x&x", HexRefusal::OutOfReach(1)));
 }

@@ -1,15 +1,18 @@
 //! M1 sources with what the reference page says of them: the text of their items, or the refusal.
 
 use crate::languages::m1::blanks;
-use ddc_base::Bytes;
+use ddc_base::{Bytes, OutOfMemory};
 use m1_lang::{M1Refusal, expand, laws, write_items};
 use std::alloc::Global;
 use std::process::Abort;
 use std::test::Fail;
 
+/// A source, and its items' text or its refusal.
+type Row = (&'static str, Result<&'static str, M1Refusal>);
+
+/// The worked example, and the first refusals.
 #[rattlefmt::skip]
-static SOURCES: [(&str, Result<&str, M1Refusal>); 118] = [
-    // The worked example, and the first refusals.
+static WORKED: [Row; 7] = [
     ("DEFINE addi 13000000\nDEFINE rd_a0 .00050000\n:s rd_a0 !5 addi \"hi\"", Ok(":s\n13\n05\n50\n00\n68\n69\n00\n00\n")),
     ("!2048", Err(M1Refusal::NumberRange(0))),
     ("foo", Err(M1Refusal::UnknownWord(0))),
@@ -17,7 +20,11 @@ static SOURCES: [(&str, Result<&str, M1Refusal>); 118] = [
     ("DEFINE x", Err(M1Refusal::BadDefine(0))),
     ("", Ok("")),
     (" \t\r\n# and no more", Ok("")),
-    // Words, quotes and comments.
+];
+
+/// Words, quotes and comments.
+#[rattlefmt::skip]
+static WORDS: [Row; 10] = [
     ("'00'11", Ok("00\n11\n")),
     ("\"a\"#c", Ok("61\n00\n00\n00\n")),
     ("11\"a\"", Err(M1Refusal::UnknownWord(0))),
@@ -28,7 +35,11 @@ static SOURCES: [(&str, Result<&str, M1Refusal>); 118] = [
     ("00 \"a # b\n'", Err(M1Refusal::OpenString(3))),
     ("'0\"'", Err(M1Refusal::UnknownWord(0))),
     ("00\t11\r22\n33", Ok("00\n11\n22\n33\n")),
-    // Texts and digits.
+];
+
+/// Texts and digits.
+#[rattlefmt::skip]
+static TEXTS: [Row; 11] = [
     ("\"\"", Ok("00\n00\n00\n00\n")),
     ("\"abc\"", Ok("61\n62\n63\n00\n")),
     ("\"abcd\"", Ok("61\n62\n63\n64\n00\n00\n00\n00\n")),
@@ -40,7 +51,11 @@ static SOURCES: [(&str, Result<&str, M1Refusal>); 118] = [
     ("aFbC", Ok("AF\nBC\n")),
     ("000", Err(M1Refusal::UnknownWord(0))),
     ("0g", Err(M1Refusal::UnknownWord(0))),
-    // Definitions: any word is a name, a value is digits or a field, and a definition holds everywhere.
+];
+
+/// Definitions: any word is a name, a value is digits or a field, and a definition holds everywhere.
+#[rattlefmt::skip]
+static DEFINITIONS: [Row; 19] = [
     ("x DEFINE x 00 x", Ok("00\n00\n")),
     ("DEFINE \"a b\" 11 \"a b\"", Ok("11\n")),
     ("DEFINE !5 22 !5", Ok("22\n")),
@@ -60,14 +75,22 @@ static SOURCES: [(&str, Result<&str, M1Refusal>); 118] = [
     ("DEFINE a 00 DEFINE a 00 DEFINE b", Err(M1Refusal::DoubleDefine(12))),
     ("define a 00", Err(M1Refusal::UnknownWord(0))),
     ("DEFINE a 00 DEFINE A 11 A a", Ok("11\n00\n")),
-    // The order of refusals: quotes, definitions, then the other words.
+];
+
+/// The order of refusals: quotes, definitions, then the other words.
+#[rattlefmt::skip]
+static ORDERS: [Row; 6] = [
     ("foo DEFINE a 0 \"", Err(M1Refusal::OpenString(15))),
     ("DEFINE a 00 DEFINE a 11 'q", Err(M1Refusal::OpenString(24))),
     ("foo DEFINE a 0", Err(M1Refusal::BadDefine(4))),
     ("DEFINE a 00 !9999 DEFINE a 11", Err(M1Refusal::DoubleDefine(18))),
     ("!2048 foo", Err(M1Refusal::NumberRange(0))),
     ("foo !2048", Err(M1Refusal::UnknownWord(0))),
-    // Numbers: every base and sign, and both ends of each range.
+];
+
+/// Numbers: every base and sign, and both ends of each range.
+#[rattlefmt::skip]
+static NUMBERS: [Row; 20] = [
     ("!2047 00000000", Ok("00\n00\nF0\n7F\n")),
     ("!-2049", Err(M1Refusal::NumberRange(0))),
     ("!-2048 00000000", Ok("00\n00\n00\n80\n")),
@@ -88,7 +111,11 @@ static SOURCES: [(&str, Result<&str, M1Refusal>); 118] = [
     ("!-9999999999999999999999999999999999999999999999999999999999999999999999", Err(M1Refusal::NumberRange(0))),
     ("%00000000000000000000000000000000000000000000000000000000000000000000005", Ok("05\n00\n00\n00\n")),
     ("%0x00000000000000000000000000000000000000000000000000000000000000000000007f", Ok("7F\n00\n00\n00\n")),
-    // What is no number is a name.
+];
+
+/// What is no number is a name.
+#[rattlefmt::skip]
+static NAMES: [Row; 10] = [
     ("!0x 13000000", Ok("!0x 13000000\n")),
     ("@0X5 63000000", Ok("@0X5 63000000\n")),
     ("~- 37000000", Ok("~- 37000000\n")),
@@ -99,7 +126,11 @@ static SOURCES: [(&str, Result<&str, M1Refusal>); 118] = [
     ("!--1 13000000", Ok("!--1 13000000\n")),
     ("%5 %5x", Ok("05\n00\n00\n00\n%5x\n")),
     ("%0xg", Ok("%0xg\n")),
-    // The forms of hex2, the name being the rest of the word.
+];
+
+/// The forms of hex2, the name being the rest of the word.
+#[rattlefmt::skip]
+static FORMS: [Row; 16] = [
     ("~x 97020000 !x 93820200 %x %x>y &x :x <", Ok("~x 97020000\n!x 93820200\n%x\n%x>y\n&x\n:x\n<\n")),
     (":a>b", Err(M1Refusal::UnknownWord(0))),
     ("%a>", Err(M1Refusal::UnknownWord(0))),
@@ -116,7 +147,11 @@ static SOURCES: [(&str, Result<&str, M1Refusal>); 118] = [
     (".0005000", Err(M1Refusal::UnknownWord(0))),
     (".000500000", Err(M1Refusal::UnknownWord(0))),
     ("?", Err(M1Refusal::UnknownWord(0))),
-    // Words of four bytes: what follows a field goes into the word, whatever it comes from.
+];
+
+/// Words of four bytes: what follows a field goes into the word, whatever it comes from.
+#[rattlefmt::skip]
+static FOURS: [Row; 19] = [
     (".00050000 130000001122", Ok("13\n05\n00\n00\n11\n22\n")),
     ("!5 \"abc\"", Ok("61\n62\n33\n00\n")),
     ("!0 \"abcd\"", Ok("61\n62\n63\n64\n00\n00\n00\n00\n")),
@@ -146,38 +181,63 @@ fn expanded(alloc: Global, source: &str) -> Result<Bytes, M1Refusal> {
     }
 }
 
-fn compare(
-    rt: &impl Abort,
-    alloc: Global,
-    source: &str,
-    answer: &Result<&str, M1Refusal>,
-) -> Result<(), Fail> {
-    match (expanded(alloc, source), answer) {
-        (Ok(text), Ok(wanted)) => assert_eq!(rt; text.as_slice(), wanted.as_bytes()),
-        (Err(refusal), Err(wanted)) => assert_eq!(rt; refusal, *wanted),
-        _ => assert_eq!(rt; source, "answered so"),
+fn is_text(answer: Result<&str, M1Refusal>, text: &[u8]) -> bool {
+    match answer {
+        Ok(wanted) => text == wanted.as_bytes(),
+        Err(_) => false,
     }
-    Ok(())
+}
+
+/// Whether a source's items have this text, or it is refused so.
+fn has_answer(alloc: Global, source: &str, answer: Result<&str, M1Refusal>) -> bool {
+    match expanded(alloc, source) {
+        Ok(text) => is_text(answer, text.as_slice()),
+        Err(refusal) => answer == Err(refusal),
+    }
+}
+
+fn check(rt: &impl Abort, alloc: Global, rows: &[Row]) {
+    for (source, answer) in rows {
+        assert!(rt; has_answer(alloc, source, *answer), "{source}");
+    }
+}
+
+fn check_all(rt: &impl Abort, alloc: Global) {
+    check(rt, alloc, &WORKED);
+    check(rt, alloc, &WORDS);
+    check(rt, alloc, &TEXTS);
+    check(rt, alloc, &DEFINITIONS);
+    check(rt, alloc, &ORDERS);
+    check(rt, alloc, &NUMBERS);
+    check(rt, alloc, &NAMES);
+    check(rt, alloc, &FORMS);
+    check(rt, alloc, &FOURS);
 }
 
 #[test]
-fn sources_of_the_reference_page(rt: HostRuntime) -> Result<(), Fail> {
-    for (source, answer) in &SOURCES {
-        compare(&rt, rt.alloc(), source, answer)?;
-    }
+fn sources_of_the_reference_page(rt: HostRuntime) {
+    check_all(&rt, rt.alloc());
     laws::expansions_are_read_again();
     laws::words_are_those_laid_out();
     laws::layout_does_not_matter();
     laws::definitions_may_move();
     hex_langs::writer::laws::written_is_read_again();
-    Ok(())
+}
+
+/// Whether a source of so many blanks has this answer.
+fn blanks_have(
+    alloc: Global,
+    count: usize,
+    answer: Result<&str, M1Refusal>,
+) -> Result<bool, OutOfMemory> {
+    let source = blanks(alloc, count)?;
+    Ok(has_answer(alloc, source.as_str(), answer))
 }
 
 /// The longest source, and one of a byte more.
 #[test]
 fn sources_at_the_limit(rt: HostRuntime) -> Result<(), Fail> {
-    let longest = blanks(rt.alloc(), 67_108_864)?;
-    compare(&rt, rt.alloc(), longest.as_str(), &Ok(""))?;
-    let longer = blanks(rt.alloc(), 67_108_865)?;
-    compare(&rt, rt.alloc(), longer.as_str(), &Err(M1Refusal::TooLong))
+    assert!(rt; blanks_have(rt.alloc(), 67_108_864, Ok(""))?);
+    assert!(rt; blanks_have(rt.alloc(), 67_108_865, Err(M1Refusal::TooLong))?);
+    Ok(())
 }
