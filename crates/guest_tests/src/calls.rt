@@ -98,15 +98,13 @@ impl Guest {
         call(alloc, &regs, &mut self.ram, &mut self.files, &mut self.heap)
     }
 
-    fn run(&mut self, rt: &impl Abort, alloc: Global, rows: &[Row]) {
-        for &(number, arguments, want) in rows {
+    /// Makes the calls of rows, and asks for each one's answer.
+    fn run(&mut self, rt: &impl Abort, alloc: Global, rows: &[Row]) -> bool {
+        for (index, &(number, arguments, want)) in rows.iter().enumerate() {
             let end = self.ask(alloc, number, arguments);
-            assert_eq!(rt;
-                end,
-                CallEnd::Back(want.cast_unsigned()),
-                "call {number} with {arguments:?}"
-            );
+            assert!(rt; end == CallEnd::Back(want.cast_unsigned()), "call {index}");
         }
+        true
     }
 }
 
@@ -124,16 +122,55 @@ static PLACED: [(i64, &[u8]); 10] = [
     (LAST, b"x"),
 ];
 
-/// A guest with its texts in place.
-fn with_texts(alloc: Global) -> Result<Guest, OutOfMemory> {
-    let mut guest = Guest::new(alloc)?;
+fn put_texts(guest: &mut Guest) {
     for &(at, text) in &PLACED {
         guest.put(at.cast_unsigned(), text);
     }
     for place in 0..128u64 {
         guest.put(DOTS_ALONE as u64 + 2 * place, b"./");
     }
-    Ok(guest)
+}
+
+/// What is asked of a guest, one after the other.
+#[derive(Clone, Copy)]
+enum Step {
+    /// The answers to calls.
+    Rows(&'static [Row]),
+    /// How a call with one argument ends.
+    Ends(u64, i64, CallEnd),
+    /// Writes bytes, all of which are mapped.
+    Put(u64, &'static [u8]),
+    /// The byte at an address; none where it is unmapped.
+    Byte(u64, Option<u64>),
+    /// Opens as many files as there are descriptors.
+    OpenAll,
+    /// Makes as many files as there are names.
+    NameAll,
+}
+
+/// Whether a step is as it has to be.
+fn is_right(rt: &impl Abort, alloc: Global, guest: &mut Guest, step: Step) -> bool {
+    match step {
+        Step::Rows(rows) => guest.run(rt, alloc, rows),
+        Step::Ends(number, argument, want) => guest.ask(alloc, number, [argument, 0, 0]) == want,
+        Step::Put(at, bytes) => guest.put(at, bytes),
+        Step::Byte(at, want) => guest.byte(at) == want,
+        Step::OpenAll => open_all(rt, alloc, guest),
+        Step::NameAll => name_all(rt, alloc, guest),
+    }
+}
+
+fn walk(rt: &impl Abort, alloc: Global, guest: &mut Guest, steps: &[Step]) {
+    put_texts(guest);
+    for (index, step) in steps.iter().enumerate() {
+        assert!(rt; is_right(rt, alloc, guest, *step), "step {index}");
+    }
+}
+
+/// Takes steps with a new guest, whose texts are in place.
+fn check(rt: &impl Abort, alloc: Global, steps: &[Step]) {
+    let mut guest = Guest::new(alloc).expect(rt, "memory");
+    walk(rt, alloc, &mut guest, steps);
 }
 
 static REMOVED_WHILE_OPEN: [Row; 9] = [
@@ -309,57 +346,53 @@ static NO_MORE_NAMES: [Row; 5] = [
 /// The same rows as tests/calls/expected.txt.
 #[test]
 fn as_linux(rt: HostRuntime) {
-    let scripts = [
-        REMOVED_WHILE_OPEN.as_slice(),
-        LOWEST_DESCRIPTOR.as_slice(),
-        FLAGS.as_slice(),
-        GAPS_AND_CURSORS.as_slice(),
-        BAD_ARGUMENTS.as_slice(),
-    ];
-    for rows in scripts {
-        let mut guest = with_texts(rt.alloc()).expect(&rt, "memory");
-        guest.run(&rt, rt.alloc(), rows);
-    }
+    let alloc = rt.alloc();
+    check(&rt, alloc, &[Step::Rows(&REMOVED_WHILE_OPEN)]);
+    check(&rt, alloc, &[Step::Rows(&LOWEST_DESCRIPTOR)]);
+    check(&rt, alloc, &[Step::Rows(&FLAGS)]);
+    check(&rt, alloc, &[Step::Rows(&GAPS_AND_CURSORS)]);
+    check(&rt, alloc, &[Step::Rows(&BAD_ARGUMENTS)]);
 }
 
 #[test]
 fn as_this_project(rt: HostRuntime) {
-    for rows in [PATHS.as_slice(), ORDERS.as_slice(), LIMITS.as_slice()] {
-        let mut guest = with_texts(rt.alloc()).expect(&rt, "memory");
-        guest.run(&rt, rt.alloc(), rows);
-    }
+    let alloc = rt.alloc();
+    check(&rt, alloc, &[Step::Rows(&PATHS)]);
+    check(&rt, alloc, &[Step::Rows(&ORDERS)]);
+    check(&rt, alloc, &[Step::Rows(&LIMITS)]);
 }
 
 /// One file of the most bytes, and writes that end at the limit of all files and streams, and one byte past it. A file that
 /// is too large is refused before too many bytes in all.
 #[test]
 fn the_last_byte(rt: HostRuntime) {
-    let mut guest = with_texts(rt.alloc()).expect(&rt, "memory");
-    guest.run(&rt, rt.alloc(), &FULL);
+    check(&rt, rt.alloc(), &[Step::Rows(&FULL)]);
 }
+
+static AT_THE_EDGE: [Step; 2] = [
+    Step::Put(0x1_1f00, &[b'n'; 256]),
+    Step::Rows(&[
+        (SYS_FACCESSAT, [CWD, 0x1_1f00, 0], -36),
+        (SYS_FACCESSAT, [CWD, 0x1_1f01, 0], -14),
+    ]),
+];
 
 /// A path of 256 bytes that ends with the last mapped byte is too long, and one of 255 bytes runs into the unmapped page.
 #[test]
 fn paths_at_the_edge(rt: HostRuntime) {
-    let mut guest = with_texts(rt.alloc()).expect(&rt, "memory");
-    assert!(rt; guest.put(0x1_1f00, &[b'n'; 256]));
-    guest.run(
-        &rt,
-        rt.alloc(),
-        &[
-            (SYS_FACCESSAT, [CWD, 0x1_1f00, 0], -36),
-            (SYS_FACCESSAT, [CWD, 0x1_1f01, 0], -14),
-        ],
-    );
+    check(&rt, rt.alloc(), &AT_THE_EDGE);
+}
+
+fn open_all(rt: &impl Abort, alloc: Global, guest: &mut Guest) -> bool {
+    for fd in 3..1024i64 {
+        guest.run(rt, alloc, &[(SYS_OPENAT, [CWD, F, 64], fd)]);
+    }
+    true
 }
 
 #[test]
 fn the_last_descriptor(rt: HostRuntime) {
-    let mut guest = with_texts(rt.alloc()).expect(&rt, "memory");
-    for fd in 3..1024i64 {
-        guest.run(&rt, rt.alloc(), &[(SYS_OPENAT, [CWD, F, 64], fd)]);
-    }
-    guest.run(&rt, rt.alloc(), &TOO_MANY);
+    check(&rt, rt.alloc(), &[Step::OpenAll, Step::Rows(&TOO_MANY)]);
 }
 
 static MADE_AND_CLOSED: [Row; 2] = [
@@ -380,31 +413,33 @@ fn make_names(rt: &impl Abort, alloc: Global, guest: &mut Guest, first: u8)
     }
 }
 
+fn name_all(rt: &impl Abort, alloc: Global, guest: &mut Guest) -> bool {
+    for first in 0..16 {
+        make_names(rt, alloc, guest, first);
+    }
+    true
+}
+
 /// With 4,096 names no other file is made; those that are there open as ever.
 #[test]
 fn the_last_name(rt: HostRuntime) {
-    let mut guest = with_texts(rt.alloc()).expect(&rt, "memory");
-    for first in 0..16 {
-        make_names(&rt, rt.alloc(), &mut guest, first);
-    }
-    guest.run(&rt, rt.alloc(), &NO_MORE_NAMES);
+    check(
+        &rt,
+        rt.alloc(),
+        &[Step::NameAll, Step::Rows(&NO_MORE_NAMES)],
+    );
 }
 
-/// A call's number, its argument, and how it ends.
-static ENDS: [(u64, i64, CallEnd); 4] = [
-    (SYS_EXIT, 0, CallEnd::Exit(0)),
-    (SYS_EXIT_GROUP, 0x1ff, CallEnd::Exit(255)),
-    (0x1_0000_005d, 0, CallEnd::Unknown(0x1_0000_005d)),
-    (92, 0, CallEnd::Unknown(92)),
+static ENDS: [Step; 4] = [
+    Step::Ends(SYS_EXIT, 0, CallEnd::Exit(0)),
+    Step::Ends(SYS_EXIT_GROUP, 0x1ff, CallEnd::Exit(255)),
+    Step::Ends(0x1_0000_005d, 0, CallEnd::Unknown(0x1_0000_005d)),
+    Step::Ends(92, 0, CallEnd::Unknown(92)),
 ];
 
 #[test]
 fn ends(rt: HostRuntime) {
-    let mut guest = with_texts(rt.alloc()).expect(&rt, "memory");
-    for &(number, status, want) in &ENDS {
-        let end = guest.ask(rt.alloc(), number, [status, 0, 0]);
-        assert_eq!(rt; end, want, "call {number}");
-    }
+    check(&rt, rt.alloc(), &ENDS);
 }
 
 const FIRST: i64 = 0x2_0000;
@@ -412,34 +447,31 @@ const FIRST: i64 = 0x2_0000;
 const END: i64 = 0x3_0000;
 
 /// Two pages of heap, and then breaks that take one away, give one, and lie outside or at the ends.
-static BROKEN: [Row; 2] = [
-    (SYS_BRK, [0, 0, 0], FIRST),
-    (SYS_BRK, [FIRST + 8192, 0, 0], FIRST + 8192),
-];
-
-static SHRUNK: [Row; 1] = [(SYS_BRK, [FIRST + 1, 0, 0], FIRST + 1)];
-
-static GROWN: [Row; 1] = [(SYS_BRK, [FIRST + 4097, 0, 0], FIRST + 4097)];
-
-static NO_BREAKS: [Row; 4] = [
-    (SYS_BRK, [FIRST - 1, 0, 0], FIRST + 4097),
-    (SYS_BRK, [END + 1, 0, 0], FIRST + 4097),
-    (SYS_BRK, [END, 0, 0], END),
-    (SYS_BRK, [FIRST, 0, 0], FIRST),
+static BREAKS: [Step; 9] = [
+    Step::Rows(&[
+        (SYS_BRK, [0, 0, 0], FIRST),
+        (SYS_BRK, [FIRST + 8192, 0, 0], FIRST + 8192),
+    ]),
+    Step::Put(HEAP + 4095, &[1, 2]),
+    Step::Rows(&[(SYS_BRK, [FIRST + 1, 0, 0], FIRST + 1)]),
+    // The page of the break, and a page that fell away.
+    Step::Byte(HEAP + 4095, Some(1)),
+    Step::Byte(HEAP + 4096, None),
+    Step::Rows(&[(SYS_BRK, [FIRST + 4097, 0, 0], FIRST + 4097)]),
+    // A page that came again.
+    Step::Byte(HEAP + 4096, Some(0)),
+    Step::Rows(&[
+        (SYS_BRK, [FIRST - 1, 0, 0], FIRST + 4097),
+        (SYS_BRK, [END + 1, 0, 0], FIRST + 4097),
+        (SYS_BRK, [END, 0, 0], END),
+        (SYS_BRK, [FIRST, 0, 0], FIRST),
+    ]),
+    // An empty heap.
+    Step::Byte(HEAP, None),
 ];
 
 /// A heap that shrank and grew reads 0, and the page that holds the break keeps its bytes.
 #[test]
 fn the_break(rt: HostRuntime) {
-    let alloc = rt.alloc();
-    let mut guest = with_texts(alloc).expect(&rt, "memory");
-    guest.run(&rt, alloc, &BROKEN);
-    assert!(rt; guest.put(HEAP + 4095, &[1, 2]));
-    guest.run(&rt, alloc, &SHRUNK);
-    assert_eq!(rt; guest.byte(HEAP + 4095), Some(1), "the page of the break");
-    assert_eq!(rt; guest.byte(HEAP + 4096), None, "a page that fell away");
-    guest.run(&rt, alloc, &GROWN);
-    assert_eq!(rt; guest.byte(HEAP + 4096), Some(0), "a page that came again");
-    guest.run(&rt, alloc, &NO_BREAKS);
-    assert_eq!(rt; guest.byte(HEAP), None, "an empty heap");
+    check(&rt, rt.alloc(), &BREAKS);
 }

@@ -12,3 +12,13 @@ pub static EXIT: [u8; 132] = [
     0x00, 0x10, 0x00, 0x00, 0x00, 0x00, 0x00, 0x00, 0x13, 0x05, 0x00, 0x00, 0x93, 0x08, 0xd0, 0x05,
     0x73, 0x00, 0x00, 0x00,
 ];
+
+/// exit.elf with another code word at a byte offset.
+pub fn altered(offset: usize, word: u32) -> [u8; 132] {
+    let mut file = EXIT;
+    let bytes = word.to_le_bytes();
+    for (place, byte) in file.iter_mut().skip(offset).zip(bytes) {
+        *place = byte;
+    }
+    file
+}

@@ -7,13 +7,14 @@ use ddc_base::OutOfMemory;
 use mem_files::*;
 use std::alloc::Global;
 use std::process::Abort;
-use std::test::Fail;
 
-/// One call of a script. `Read`, `Stream`, `Content` and `NameAfter` hold what is wanted last, and answer 0 where it comes.
-#[derive(Clone, Copy, Debug)]
+/// One call of a script, or as many as there are names or descriptors. `Read`, `Stream`, `Content` and `NameAfter` hold what is wanted last, and answer 0 where it comes.
+#[derive(Clone, Copy)]
 enum Call<'a> {
     Place(&'a [u8], &'a [u8]),
     Open(&'a [u8], u32),
+    PlaceAll,
+    OpenAll(&'a [u8]),
     Close(u32),
     Seek(u32, i64, u32),
     Read(u32, u64, &'a [u8]),
@@ -36,37 +37,90 @@ const WRONG: i64 = -1000;
 /// A call's answer as a program sees it: a value, or an error's number negated.
 fn answer(files: &mut Files, call: Call<'_>) -> i64 {
     match call {
-        Call::Place(name, content) => match files.place(name, content) {
-            Ok(()) => 0,
-            Err(PlaceRefusal::BadName) => 1,
-            Err(PlaceRefusal::Twice) => 2,
-            Err(PlaceRefusal::Full) => 3,
-            Err(PlaceRefusal::OutOfMemory) => WRONG,
-        },
-        Call::Open(name, flags) if is_stripped_name(name) => match files.open_name(name, flags) {
-            Ok(fd) => i64::from(fd),
-            Err(FileRefusal::Errno(errno)) => -i64::from(errno),
-            Err(FileRefusal::OutOfMemory) => WRONG,
-        },
-        Call::Close(fd) => done(files.close(fd)),
-        Call::Seek(fd, offset, whence) => match files.seek(fd, offset, whence) {
-            Ok(cursor) => i64::try_from(cursor).unwrap_or(WRONG),
-            Err(errno) => -i64::from(errno),
-        },
+        Call::Place(name, content) => place(files, name, content),
+        Call::PlaceAll => place_all(files),
+        Call::OpenAll(name) => open_all(files, name),
+        Call::Close(fd) => close(files, fd),
+        Call::Seek(fd, offset, whence) => seek(files, fd, offset, whence),
         Call::Read(fd, count, want) => read(files, fd, count, want),
-        Call::Write(fd, bytes) => match files.fits(fd, bytes.len() as u64) {
-            Ok(()) => write(files, fd, bytes),
-            Err(errno) => -i64::from(errno),
-        },
-        Call::Fits(fd, count) => done(files.fits(fd, count)),
-        Call::Remove(name) if is_stripped_name(name) => done(files.remove(name)),
-        Call::Exists(name) if is_stripped_name(name) => i64::from(files.exists(name)),
-        Call::Content(name, want) if is_stripped_name(name) => zero_if(files.content(name) == want),
-        Call::Out(want) => zero_if(files.stream(1) == want),
-        Call::Errors(want) => zero_if(files.stream(2) == want),
-        Call::NameAfter(name, want) => zero_if(files.name_after(name) == want),
-        _ => WRONG,
+        Call::Write(fd, bytes) => write_if_fits(files, fd, bytes),
+        Call::Fits(fd, count) => fits(files, fd, count),
+        Call::Out(want) => out(files, want),
+        Call::Errors(want) => errors(files, want),
+        Call::NameAfter(name, want) => name_after(files, name, want),
+        Call::Open(name, flags) => open(files, name, flags),
+        Call::Remove(name) => remove(files, name),
+        Call::Exists(name) => exists(files, name),
+        Call::Content(name, want) => content(files, name, want),
     }
+}
+
+fn place(files: &mut Files, name: &[u8], content: &[u8]) -> i64 {
+    match files.place(name, content) {
+        Ok(()) => 0,
+        Err(PlaceRefusal::BadName) => 1,
+        Err(PlaceRefusal::Twice) => 2,
+        Err(PlaceRefusal::Full) => 3,
+        Err(PlaceRefusal::OutOfMemory) => WRONG,
+    }
+}
+
+fn open(files: &mut Files, name: &[u8], flags: u32) -> i64 {
+    if !is_stripped_name(name) {
+        return WRONG;
+    }
+    match files.open_name(name, flags) {
+        Ok(fd) => i64::from(fd),
+        Err(FileRefusal::Errno(errno)) => -i64::from(errno),
+        Err(FileRefusal::OutOfMemory) => WRONG,
+    }
+}
+
+fn seek(files: &mut Files, fd: u32, offset: i64, whence: u32) -> i64 {
+    match files.seek(fd, offset, whence) {
+        Ok(cursor) => i64::try_from(cursor).unwrap_or(WRONG),
+        Err(errno) => -i64::from(errno),
+    }
+}
+
+fn remove(files: &mut Files, name: &[u8]) -> i64 {
+    if is_stripped_name(name) {
+        done(files.remove(name))
+    } else {
+        WRONG
+    }
+}
+
+fn exists(files: &Files, name: &[u8]) -> i64 {
+    if is_stripped_name(name) {
+        i64::from(files.exists(name))
+    } else {
+        WRONG
+    }
+}
+
+fn content(files: &Files, name: &[u8], want: Option<&[u8]>) -> i64 {
+    zero_if(is_stripped_name(name) && files.content(name) == want)
+}
+
+fn out(files: &Files, want: &[u8]) -> i64 {
+    zero_if(files.stream(1) == want)
+}
+
+fn errors(files: &Files, want: &[u8]) -> i64 {
+    zero_if(files.stream(2) == want)
+}
+
+fn name_after(files: &Files, name: Option<&[u8]>, want: Option<&[u8]>) -> i64 {
+    zero_if(files.name_after(name) == want)
+}
+
+fn close(files: &mut Files, fd: u32) -> i64 {
+    done(files.close(fd))
+}
+
+fn fits(files: &Files, fd: u32, count: u64) -> i64 {
+    done(files.fits(fd, count))
 }
 
 fn zero_if(is: bool) -> i64 {
@@ -76,6 +130,13 @@ fn zero_if(is: bool) -> i64 {
 fn done(outcome: Result<(), u16>) -> i64 {
     match outcome {
         Ok(()) => 0,
+        Err(errno) => -i64::from(errno),
+    }
+}
+
+fn write_if_fits(files: &mut Files, fd: u32, bytes: &[u8]) -> i64 {
+    match files.fits(fd, bytes.len() as u64) {
+        Ok(()) => write(files, fd, bytes),
         Err(errno) => -i64::from(errno),
     }
 }
@@ -101,17 +162,17 @@ fn read(files: &mut Files, fd: u32, count: u64, want: &[u8]) -> i64 {
     0
 }
 
-/// Runs a script on new files, and asks for each call's answer.
-fn run(rt: &impl Abort, alloc: Global, script: &[Row]) -> Result<Files, Fail> {
-    let mut files = Files::new(alloc)?;
-    go_on(rt, &mut files, script);
-    Ok(files)
+/// Runs a script, and asks for each call's answer.
+fn run(rt: &impl Abort, files: &mut Files, script: &[Row]) {
+    for (index, (call, want)) in script.iter().enumerate() {
+        assert!(rt; answer(files, *call) == *want, "call {index}");
+    }
 }
 
-fn go_on(rt: &impl Abort, files: &mut Files, script: &[Row]) {
-    for (index, (call, want)) in script.iter().enumerate() {
-        assert_eq!(rt; answer(files, *call), *want, "call {index}");
-    }
+/// Runs a script on new files.
+fn run_anew(rt: &impl Abort, alloc: Global, script: &[Row]) {
+    let mut files = Files::new(alloc).expect(rt, "memory");
+    run(rt, &mut files, script);
 }
 
 /// Names that are guest file names, those that are held already, and what is no name.
@@ -143,7 +204,9 @@ static ORDERED: [Row; 10] = [
 ];
 
 /// The flags are looked at before the descriptors, and these before the name.
-static NO_MORE_DESCRIPTORS: [Row; 8] = [
+static NO_MORE_DESCRIPTORS: [Row; 10] = [
+    (Call::Place(b"f", b"x"), 0),
+    (Call::OpenAll(b"f"), 0),
     (Call::Open(b"f", O_RDONLY), -24),
     (Call::Open(b"g", O_RDONLY), -24),
     (Call::Open(b"f", O_CREAT | O_EXCL), -24),
@@ -155,7 +218,8 @@ static NO_MORE_DESCRIPTORS: [Row; 8] = [
 ];
 
 /// What goes on with 4,096 names, and what does not.
-static NO_MORE_NAMES: [Row; 9] = [
+static NO_MORE_NAMES: [Row; 10] = [
+    (Call::PlaceAll, 0),
     (Call::Place(b"f", b""), 3),
     (Call::Place(b"@@", b""), 2),
     (Call::Place(b"", b""), 1),
@@ -281,56 +345,60 @@ static OPENS: [(u32, i64, i64); 8] = [
     (O_WRONLY | O_TRUNC, -2, 3),
 ];
 
-static HELD: [Row; 1] = [(Call::Place(b"f", b"x"), 0)];
-
 /// Scripts that begin with no files.
 #[test]
-fn runs_scripts(rt: HostRuntime) -> Result<(), Fail> {
-    let scripts = [
-        NAMES.as_slice(),
-        ORDERED.as_slice(),
-        NO_MORE_BYTES.as_slice(),
-        SEEKS.as_slice(),
-        WRITES_AND_READS.as_slice(),
-        CLOSES_AND_FITS.as_slice(),
-    ];
-    for script in scripts {
-        run(&rt, rt.alloc(), script)?;
-    }
-    Ok(())
+fn runs_scripts(rt: HostRuntime) {
+    let alloc = rt.alloc();
+    run_anew(&rt, alloc, &NAMES);
+    run_anew(&rt, alloc, &ORDERED);
+    run_anew(&rt, alloc, &NO_MORE_BYTES);
+    run_anew(&rt, alloc, &SEEKS);
+    run_anew(&rt, alloc, &WRITES_AND_READS);
+    run_anew(&rt, alloc, &CLOSES_AND_FITS);
+}
+
+/// Opens `f` where it is absent, and where it is present.
+fn check_flags(rt: &impl Abort, alloc: Global, flags: u32, absent: i64, present: i64) {
+    let open = Call::Open(b"f", flags);
+    run_anew(rt, alloc, &[(open, absent)]);
+    run_anew(rt, alloc, &[(Call::Place(b"f", b"x"), 0), (open, present)]);
 }
 
 #[test]
-fn opens_by_flags(rt: HostRuntime) -> Result<(), Fail> {
+fn opens_by_flags(rt: HostRuntime) {
     for &(flags, absent, present) in &OPENS {
-        let mut files = run(&rt, rt.alloc(), &[])?;
-        assert_eq!(rt; answer(&mut files, Call::Open(b"f", flags)), absent);
-        let mut files = run(&rt, rt.alloc(), &HELD)?;
-        assert_eq!(rt; answer(&mut files, Call::Open(b"f", flags)), present);
+        check_flags(&rt, rt.alloc(), flags, absent, present);
     }
-    Ok(())
 }
 
-/// The 1,024th descriptor is the last.
-#[test]
-fn runs_out_of_descriptors(rt: HostRuntime) -> Result<(), Fail> {
-    let mut files = run(&rt, rt.alloc(), &HELD)?;
+/// Opens a file as often as there are descriptors: the 1,024th is the last.
+fn open_all(files: &mut Files, name: &[u8]) -> i64 {
     for fd in 3..1024 {
-        assert_eq!(rt; answer(&mut files, Call::Open(b"f", O_RDONLY)), fd);
-    }
-    go_on(&rt, &mut files, &NO_MORE_DESCRIPTORS);
-    Ok(())
-}
-
-/// The 4,096th name is the last.
-#[test]
-fn runs_out_of_names(rt: HostRuntime) -> Result<(), Fail> {
-    let mut files = run(&rt, rt.alloc(), &[])?;
-    for first in 64..128 {
-        for second in 64..128 {
-            assert_eq!(rt; answer(&mut files, Call::Place(&[first, second], b"")), 0);
+        if open(files, name, O_RDONLY) != fd {
+            return WRONG;
         }
     }
-    go_on(&rt, &mut files, &NO_MORE_NAMES);
-    Ok(())
+    0
+}
+
+#[test]
+fn runs_out_of_descriptors(rt: HostRuntime) {
+    run_anew(&rt, rt.alloc(), &NO_MORE_DESCRIPTORS);
+}
+
+/// Places files of two letters as often as there are names: the 4,096th is the last.
+fn place_all(files: &mut Files) -> i64 {
+    for first in 64..128 {
+        for second in 64..128 {
+            if place(files, &[first, second], b"") != 0 {
+                return WRONG;
+            }
+        }
+    }
+    0
+}
+
+#[test]
+fn runs_out_of_names(rt: HostRuntime) {
+    run_anew(&rt, rt.alloc(), &NO_MORE_NAMES);
 }

@@ -5,19 +5,29 @@ use elf_load::*;
 use std::alloc::{AllocError, Global};
 use std::test::Fail;
 
+const SEGMENT: Segment = Segment {
+    at: 0x10000,
+    offset: 0,
+    in_file: 132,
+    in_memory: 132,
+};
+
+fn is_exit(image: &Image) -> bool {
+    image.entry == 0x10078
+        && image.first_break == 0x11000
+        && image.segments.as_slice() == [SEGMENT].as_slice()
+}
+
+fn reads_as_exit(file: &[u8]) -> bool {
+    match read_image(file) {
+        Ok(image) => is_exit(&image),
+        Err(_) => false,
+    }
+}
+
 #[test]
-fn reads_exit(rt: HostRuntime) -> Result<(), Fail> {
-    let image = read_image(&EXIT).map_err(|refusal| refusal.number())?;
-    assert_eq!(rt; image.entry, 0x10078);
-    assert_eq!(rt; image.first_break, 0x11000);
-    let segment = Segment {
-        at: 0x10000,
-        offset: 0,
-        in_file: 132,
-        in_memory: 132,
-    };
-    assert_eq!(rt; image.segments.as_slice(), [segment].as_slice());
-    Ok(())
+fn reads_exit(rt: HostRuntime) {
+    assert!(rt; reads_as_exit(&EXIT));
 }
 
 /// A byte of exit.elf, what it is changed to, and what the program is refused for.
@@ -34,17 +44,16 @@ static ALTERED: [(usize, u8, ElfRefusal); 9] = [
 ];
 
 #[test]
-fn refuses_altered_programs(rt: HostRuntime) -> Result<(), Fail> {
+fn refuses_altered_programs(rt: HostRuntime) {
     assert!(rt; refusal_of(&EXIT[..63]) == Some(ElfRefusal::Short));
     for &(index, byte, refusal) in &ALTERED {
         assert!(rt; refusal_of(&altered(index, byte)) == Some(refusal));
     }
-    Ok(())
 }
 
 /// exit.elf has a header of 64 bytes, one program header of 56 behind it, and a segment of all its 132 bytes.
 #[test]
-fn refuses_programs_that_are_cut(rt: HostRuntime) -> Result<(), Fail> {
+fn refuses_programs_that_are_cut(rt: HostRuntime) {
     for size in 0..EXIT.len() {
         let refusal = match size {
             0..64 => ElfRefusal::Short,
@@ -53,42 +62,39 @@ fn refuses_programs_that_are_cut(rt: HostRuntime) -> Result<(), Fail> {
         };
         assert!(&rt; refusal_of(&EXIT[..size]) == Some(refusal));
     }
-    Ok(())
 }
 
-/// exit.elf with its program header so many times, and the number of headers in its header.
-fn repeated(alloc: Global, count: u8) -> Result<Vec<u8>, AllocError> {
-    let mut file = Vec::new(alloc);
-    for byte in &EXIT[..120] {
-        file.push(*byte)?;
-    }
-    if let Some(place) = file.get_mut(56) {
-        *place = count;
-    }
+/// Adds exit.elf with its program header so many times, and the number of headers in its header.
+fn put_repeated(file: &mut Vec<u8>, count: u8) -> Result<(), AllocError> {
+    file.extend_from_slice(&EXIT[..56])?;
+    file.push(count)?;
+    file.extend_from_slice(&EXIT[57..120])?;
     for _ in 1..count {
-        for byte in &EXIT[64..120] {
-            file.push(*byte)?;
-        }
+        file.extend_from_slice(&EXIT[64..120])?;
     }
-    for byte in &EXIT[120..] {
-        file.push(*byte)?;
-    }
-    Ok(file)
+    file.extend_from_slice(&EXIT[120..])
 }
+
+/// What exit.elf with its program header so many times is refused for.
+fn refusal_of_repeated(alloc: Global, count: u8) -> Result<Option<ElfRefusal>, AllocError> {
+    let mut file = Vec::new(alloc);
+    put_repeated(&mut file, count)?;
+    Ok(refusal_of(&file))
+}
+
+/// How often the program header stands, and what the program is refused for.
+static REPEATED: [(u8, Option<ElfRefusal>); 4] = [
+    (1, None),
+    (2, Some(ElfRefusal::Overlap)),
+    (16, Some(ElfRefusal::Overlap)),
+    (17, Some(ElfRefusal::TooMany)),
+];
 
 /// At most 16 segments are loaded, and no two of them lie on one page; that they are too many comes first.
 #[test]
 fn refuses_repeated_headers(rt: HostRuntime) -> Result<(), Fail> {
-    let alloc = rt.alloc();
-    let table = [
-        (1, None),
-        (2, Some(ElfRefusal::Overlap)),
-        (16, Some(ElfRefusal::Overlap)),
-        (17, Some(ElfRefusal::TooMany)),
-    ];
-    for (count, refusal) in table {
-        let file = repeated(alloc, count)?;
-        assert!(&rt; refusal_of(file.as_slice()) == refusal);
+    for &(count, refusal) in &REPEATED {
+        assert!(rt; refusal_of_repeated(rt.alloc(), count)? == refusal);
     }
     Ok(())
 }

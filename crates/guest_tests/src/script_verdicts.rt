@@ -1,12 +1,12 @@
 //! Verdicts on reports of scripts: a true one, and one fault or two at each part.
 
 use crate::exit_program::EXIT;
-use crate::scripts::{copier, listed};
+use crate::scripts::listed;
 use ddc_base::{Bytes, OutOfMemory};
-use kaem_script::{FileList, ScriptEnd, ScriptPart, ScriptVerdict, audit, read, verify};
+use kaem_script::{FileList, Script, ScriptEnd, ScriptPart, ScriptVerdict, audit, read, verify};
 use report::script;
 use std::alloc::Global;
-use std::test::Fail;
+use std::process::Abort;
 
 /// The script that is run twice: it makes `out`, and then runs it.
 static SCRIPT: &[u8] = b"./copy.elf\n# made\n\"out\" x\n";
@@ -68,40 +68,67 @@ fn put_changed(out: &mut Bytes, first: u64, count: u64, change: &str) -> Result<
     put_lines(out, first.saturating_add(count), LINES)
 }
 
-/// What a replay says of a report text of a script over files.
+/// What a replay says of a report's text over files.
+fn judged_text(
+    rt: &impl Abort,
+    alloc: Global,
+    script: &Script,
+    files: &FileList,
+    text: &[u8],
+) -> ScriptVerdict {
+    let report = script::read(alloc, text).expect(rt, "a report");
+    verify(alloc, script, files, &report)
+}
+
+/// The same of a script's text.
 fn judged(
+    rt: &impl Abort,
     alloc: Global,
     source: &[u8],
     files: &FileList,
     text: &[u8],
-) -> Result<ScriptVerdict, Fail> {
-    let Ok(script) = read(alloc, source) else {
-        return Err("the script is refused".into());
-    };
-    let Ok(report) = script::read(alloc, text) else {
-        return Err("no report".into());
-    };
-    Ok(verify(alloc, &script, files, &report))
+) -> ScriptVerdict {
+    let script = read(alloc, source).expect(rt, "a script");
+    judged_text(rt, alloc, &script, files, text)
 }
 
-/// What a replay says over files of the example with such a change.
-fn judged_change(
+/// The same over copy.elf and a file `in`.
+fn judged_over(
+    rt: &impl Abort,
     alloc: Global,
-    files: &FileList,
+    source: &[u8],
+    input: Option<&[u8]>,
+    reversed: bool,
+    text: &[u8],
+) -> ScriptVerdict {
+    let files = listed(rt, alloc, input, reversed);
+    judged(rt, alloc, source, &files, text)
+}
+
+/// What a replay says of the example with such a change over copy.elf and a copy of it, in this order or the other.
+fn judged_change(
+    rt: &impl Abort,
+    alloc: Global,
+    reversed: bool,
     first: u64,
     count: u64,
     change: &str,
-) -> Result<ScriptVerdict, Fail> {
+) -> Result<ScriptVerdict, OutOfMemory> {
     let mut text = Bytes::new(alloc);
     put_changed(&mut text, first, count, change)?;
-    judged(alloc, SCRIPT, files, text.as_slice())
+    Ok(judged_over(rt, alloc, SCRIPT, None, reversed, text.as_slice()))
 }
 
-/// What a replay says of the example over copy.elf and a copy of it, in this order or the other.
-fn judged_example(alloc: Global, reversed: bool) -> Result<ScriptVerdict, Fail> {
-    let copy = copier(alloc)?;
-    let files = listed(alloc, copy.as_slice(), reversed)?;
-    judged_change(alloc, &files, 1, 0, "")
+/// Asserts that in the example with such a change this part, if any, is the first that is not true.
+fn check_change(
+    rt: &impl Abort,
+    alloc: Global,
+    reversed: bool,
+    (first, count, change): (u64, u64, &str),
+    want: ScriptVerdict,
+) {
+    let verdict = judged_change(rt, alloc, reversed, first, count, change);
+    assert!(rt; verdict == Ok(want), "{change}");
 }
 
 /// Changes of the example: from this line on so many lines are replaced by a text; the first part that is then not true, and its place.
@@ -162,30 +189,23 @@ static CHANGES: &[(u64, u64, &str, ScriptPart, u32)] = &[
 ];
 
 #[test]
-fn a_true_report_is_a_yes(rt: HostRuntime) -> Result<(), Fail> {
-    assert!(rt; judged_example(rt.alloc(), false)? == ScriptVerdict::Yes);
+fn a_true_report_is_a_yes(rt: HostRuntime) {
+    let alloc = rt.alloc();
+    check_change(&rt, alloc, false, (1, 0, ""), ScriptVerdict::Yes);
     // The files that are given are another list in another order.
     let refuted = ScriptVerdict::Refuted {
         part: ScriptPart::File,
         place: 1,
     };
-    assert!(rt; judged_example(rt.alloc(), true)? == refuted);
-    Ok(())
+    check_change(&rt, alloc, true, (1, 0, ""), refuted);
 }
 
 #[test]
-fn the_first_part_that_fails_is_named(rt: HostRuntime) -> Result<(), Fail> {
-    let alloc = rt.alloc();
-    let copy = copier(alloc)?;
-    let files = listed(alloc, copy.as_slice(), false)?;
-    for (first, count, change, part, place) in CHANGES {
-        let refuted = ScriptVerdict::Refuted {
-            part: *part,
-            place: *place,
-        };
-        assert!(rt; judged_change(alloc, &files, *first, *count, change)? == refuted);
+fn the_first_part_that_fails_is_named(rt: HostRuntime) {
+    for &(first, count, change, part, place) in CHANGES {
+        let refuted = ScriptVerdict::Refuted { part, place };
+        check_change(&rt, rt.alloc(), false, (first, count, change), refuted);
     }
-    Ok(())
 }
 
 /// Scripts of one command over copy.elf and a file `in` of the bytes `abc`, with their digests by sha256sum: the program is not there, or is none.
@@ -212,74 +232,98 @@ left 696e 3 ba7816bf8f01cfea414140de5dae2223b00361a396177a9cb410ff61f20015ad\n\
 end\n\
 ";
 
-/// What a replay says over files of this claim of a script.
+/// Adds this claim of a script.
+fn put_claim(text: &mut Bytes, digest: &str) -> Result<(), OutOfMemory> {
+    text.extend(b"kaem-report 1\nscript ")?;
+    text.extend(digest.as_bytes())?;
+    put_text(text, CLAIM.as_bytes())
+}
+
+/// What a replay says over copy.elf and the file `in` of this claim of a script.
 fn judged_claim(
+    rt: &impl Abort,
     alloc: Global,
     source: &[u8],
     digest: &str,
-    files: &FileList,
-) -> Result<ScriptVerdict, Fail> {
+) -> Result<ScriptVerdict, OutOfMemory> {
     let mut text = Bytes::new(alloc);
-    text.extend(b"kaem-report 1\nscript ")?;
-    text.extend(digest.as_bytes())?;
-    put_text(&mut text, CLAIM.as_bytes())?;
-    judged(alloc, source, files, text.as_slice())
+    put_claim(&mut text, digest)?;
+    Ok(judged_over(rt, alloc, source, Some(b"abc"), false, text.as_slice()))
 }
 
 #[test]
-fn a_program_that_does_not_start_has_no_run(rt: HostRuntime) -> Result<(), Fail> {
-    let alloc = rt.alloc();
-    let files = listed(alloc, b"abc", false)?;
-    for (source, digest) in NO_RUNS {
+fn a_program_that_does_not_start_has_no_run(rt: HostRuntime) {
+    for &(source, digest) in &NO_RUNS {
         let refuted = ScriptVerdict::Refuted {
             part: ScriptPart::Run,
             place: 1,
         };
-        assert!(rt; judged_claim(alloc, source, digest, &files)? == refuted);
+        let verdict = judged_claim(&rt, rt.alloc(), source, digest);
+        assert!(rt; verdict == Ok(refuted), "{digest}");
     }
-    Ok(())
 }
 
-/// Whether what an audit of a script over files reports is verified over them, and not over others.
+/// Whether what an audit of a script reports is verified over files, and not over others.
+fn is_verified_end(
+    alloc: Global,
+    script: &Script,
+    end: &ScriptEnd,
+    files: &FileList,
+    others: &FileList,
+) -> bool {
+    match end {
+        ScriptEnd::Done(report) => {
+            verify(alloc, script, files, report) == ScriptVerdict::Yes
+                && verify(alloc, script, others, report) != ScriptVerdict::Yes
+        }
+        _ => false,
+    }
+}
+
+/// The same of an audit of it over the files.
+fn is_audited(alloc: Global, script: &Script, files: &FileList, others: &FileList) -> bool {
+    let end = audit(alloc, script, files, 100);
+    is_verified_end(alloc, script, &end, files, others)
+}
+
+/// The same of a script's text.
 fn is_verified(
+    rt: &impl Abort,
     alloc: Global,
     source: &[u8],
     files: &FileList,
     others: &FileList,
-) -> Result<bool, Fail> {
-    let Ok(script) = read(alloc, source) else {
-        return Err("the script is refused".into());
-    };
-    let ScriptEnd::Done(report) = audit(alloc, &script, files, 100) else {
-        return Err("not done".into());
-    };
-    Ok(
-        verify(alloc, &script, files, &report) == ScriptVerdict::Yes
-            && verify(alloc, &script, others, &report) != ScriptVerdict::Yes,
-    )
+) -> bool {
+    let script = read(alloc, source).expect(rt, "a script");
+    is_audited(alloc, &script, files, others)
 }
 
-/// The same of copy.elf and this file `in`, where the others have another `in`.
-fn is_verified_over(
+/// The same where the others have another `in`.
+fn is_verified_beside(
+    rt: &impl Abort,
     alloc: Global,
     source: &[u8],
-    input: &[u8],
+    files: &FileList,
     reversed: bool,
-) -> Result<bool, Fail> {
-    let files = listed(alloc, input, reversed)?;
-    let others = listed(alloc, b"other", reversed)?;
-    is_verified(alloc, source, &files, &others)
+) -> bool {
+    let others = listed(rt, alloc, Some(b"other"), reversed);
+    is_verified(rt, alloc, source, files, &others)
+}
+
+/// Asserts the same of copy.elf and this file `in`.
+fn check_verified(rt: &impl Abort, alloc: Global, source: &[u8], input: &[u8], reversed: bool) {
+    let files = listed(rt, alloc, Some(input), reversed);
+    check_beside(rt, alloc, source, &files, reversed);
+}
+
+fn check_beside(rt: &impl Abort, alloc: Global, source: &[u8], files: &FileList, reversed: bool) {
+    assert!(rt; is_verified_beside(rt, alloc, source, files, reversed));
 }
 
 #[test]
-fn what_is_audited_is_verified(rt: HostRuntime) -> Result<(), Fail> {
+fn what_is_audited_is_verified(rt: HostRuntime) {
     let alloc = rt.alloc();
-    for (source, input, reversed) in [
-        (b"".as_slice(), b"abc".as_slice(), true),
-        (b"copy.elf\n", b"abc", true),
-        (b"copy.elf\nout\n./in\n", &EXIT, false),
-    ] {
-        assert!(rt; is_verified_over(alloc, source, input, reversed)?);
-    }
-    Ok(())
+    check_verified(&rt, alloc, b"", b"abc", true);
+    check_verified(&rt, alloc, b"copy.elf\n", b"abc", true);
+    check_verified(&rt, alloc, b"copy.elf\nout\n./in\n", &EXIT, false);
 }

@@ -1,11 +1,11 @@
 //! Sessions over a program of 26 instructions that copies the file `in` to `out`: each line of a session, and each way to be wrong.
 
-use ddc_base::{Bytes, MemSink, PutFail, read_hex};
+use ddc_base::{Bytes, MemSink, OutOfMemory, PutFail, read_hex};
 use guest_run::RunBox;
 use prompt::{MemPrompt, converse};
 use session::Session;
 use std::alloc::Global;
-use std::test::Fail;
+use std::process::Abort;
 
 /// copy.elf, 232 bytes: header, one program header, 26 instructions from 0x10078 on, and the names `in` and `out`.
 const COPY: &str =
@@ -15,7 +15,7 @@ const COPY: &str =
 type Row = (&'static str, u32, &'static str);
 
 /// The lines of one row each; a row with several has them in one session.
-const ROWS: [Row; 24] = [
+static ROWS: [Row; 24] = [
     ("where", 100, "at 0 0000000000010078 addi x10, x0, -100\n"),
     ("step 1", 100, "at 1 000000000001007c lui x11, 00010\n"),
     (
@@ -129,116 +129,224 @@ const ROWS: [Row; 24] = [
     ),
 ];
 
-/// Holds a session over a prompt.
+/// Adds the argument and the file.
+fn give(rt: &impl Abort, setting: &mut RunBox<'_>) {
+    assert!(rt; setting.push_arg(b"copy").is_ok());
+    assert!(rt; setting.place(b"in", b"abc").is_ok());
+}
+
+/// Holds a session of a program in a setting over a prompt.
+fn hold_in<'a>(
+    rt: &impl Abort,
+    alloc: Global,
+    program: &'a [u8],
+    setting: RunBox<'a>,
+    limit: u32,
+    prompt: &mut MemPrompt,
+    out: &mut MemSink,
+) -> Result<(), PutFail> {
+    let started = Session::new(alloc, program, setting, u64::from(limit));
+    let mut session = started.expect(rt, "a start");
+    converse(&mut session, 65_536, prompt, out)
+}
+
+/// The same in the setting with the argument and the file.
+fn hold_with<'a>(
+    rt: &impl Abort,
+    alloc: Global,
+    program: &'a [u8],
+    limit: u32,
+    prompt: &mut MemPrompt,
+    out: &mut MemSink,
+) -> Result<(), PutFail> {
+    let mut setting = RunBox::new(alloc, 536_870_912);
+    give(rt, &mut setting);
+    hold_in(rt, alloc, program, setting, limit, prompt, out)
+}
+
+/// The same of copy.elf.
 fn hold(
+    rt: &impl Abort,
     alloc: Global,
     prompt: &mut MemPrompt,
     limit: u32,
     out: &mut MemSink,
-) -> Result<Result<(), PutFail>, Fail> {
-    let Ok(copy) = read_hex(alloc, COPY.as_bytes()) else {
-        return Err("no program".into());
-    };
-    let mut setting = RunBox::new(alloc, 536_870_912);
-    setting.push_arg(b"copy")?;
-    if setting.place(b"in", b"abc").is_err() {
-        return Err("no file".into());
-    }
-    let Ok(mut session) = Session::new(alloc, copy.as_slice(), setting, u64::from(limit)) else {
-        return Err("no start".into());
-    };
-    Ok(converse(&mut session, 65_536, prompt, out))
+) -> Result<(), PutFail> {
+    let copy = read_hex(alloc, COPY.as_bytes()).expect(rt, "a program");
+    hold_with(rt, alloc, copy.as_slice(), limit, prompt, out)
 }
 
-#[test]
-fn lines_are_answered(rt: HostRuntime) -> Result<(), Fail> {
-    let alloc = rt.alloc();
-    for (lines, limit, want) in ROWS {
-        let mut prompt = MemPrompt::new(alloc, lines.as_bytes())?;
-        let mut out = MemSink::new(alloc);
-        assert!(rt; hold(alloc, &mut prompt, limit, &mut out)?.is_ok());
-        assert!(rt; out.written() == want.as_bytes());
-        // One piece a line.
-        let mut count: usize = 0;
-        for byte in want.as_bytes() {
-            if *byte == b'\n' {
-                count = count.saturating_add(1);
-            }
+/// How many lines a text has.
+fn lines_of(text: &[u8]) -> usize {
+    let mut count: usize = 0;
+    for byte in text {
+        if *byte == b'\n' {
+            count = count.saturating_add(1);
         }
-        assert_eq!(rt; out.pieces().len(), count);
     }
-    Ok(())
+    count
 }
 
-#[test]
-fn registers_are_shown(rt: HostRuntime) -> Result<(), Fail> {
-    let alloc = rt.alloc();
-    let mut prompt = MemPrompt::new(alloc, b"step 5\nregs\n")?;
+/// Whether a sink has a text, and one piece for each of its lines.
+fn has_lines(out: &MemSink, text: &[u8]) -> bool {
+    out.written() == text && out.pieces().len() == lines_of(text)
+}
+
+/// Whether a session over a prompt prints this.
+fn prints(rt: &impl Abort, alloc: Global, prompt: &mut MemPrompt, limit: u32, want: &str) -> bool {
     let mut out = MemSink::new(alloc);
-    assert!(rt; hold(alloc, &mut prompt, 100, &mut out)?.is_ok());
-    // x2 is the stack, and openat(-100, 0x100e0, 0, ..), the call 56, is made next.
-    let want = "at 5 000000000001008c ecall\n000000000001008c \
-        0000000000000000 0000003fffffffc0 0000000000000000 0000000000000000 0000000000000000 0000000000000000 0000000000000000 \
-        0000000000000000 0000000000000000 ffffffffffffff9c 00000000000100e0 0000000000000000 0000000000000000 0000000000000000 \
-        0000000000000000 0000000000000000 0000000000000038 0000000000000000 0000000000000000 0000000000000000 0000000000000000 \
-        0000000000000000 0000000000000000 0000000000000000 0000000000000000 0000000000000000 0000000000000000 0000000000000000 \
-        0000000000000000 0000000000000000 0000000000000000\n";
-    assert!(rt; out.written() == want.as_bytes());
-    Ok(())
+    let end = hold(rt, alloc, prompt, limit, &mut out);
+    end == Ok(()) && has_lines(&out, want.as_bytes())
+}
+
+/// Whether lines are answered by this in one session.
+fn are_answered(rt: &impl Abort, alloc: Global, lines: &str, limit: u32, want: &str) -> bool {
+    let mut prompt = MemPrompt::new(alloc, lines.as_bytes()).expect(rt, "memory");
+    prints(rt, alloc, &mut prompt, limit, want)
+}
+
+fn check_rows(rt: &impl Abort, alloc: Global, rows: &[Row]) {
+    for &(lines, limit, want) in rows {
+        assert!(rt; are_answered(rt, alloc, lines, limit, want), "{lines}");
+    }
 }
 
 #[test]
-fn what_is_left_stays(rt: HostRuntime) -> Result<(), Fail> {
-    let alloc = rt.alloc();
-    let mut prompt = MemPrompt::new(alloc, b"where\nquit\nwhere\n")?;
+fn lines_are_answered(rt: HostRuntime) {
+    check_rows(&rt, rt.alloc(), &ROWS);
+}
+
+/// x2 is the stack, and openat(-100, 0x100e0, 0, ..), the call 56, is made next.
+const REGISTERS: &str = "at 5 000000000001008c ecall\n000000000001008c \
+    0000000000000000 0000003fffffffc0 0000000000000000 0000000000000000 0000000000000000 0000000000000000 0000000000000000 \
+    0000000000000000 0000000000000000 ffffffffffffff9c 00000000000100e0 0000000000000000 0000000000000000 0000000000000000 \
+    0000000000000000 0000000000000000 0000000000000038 0000000000000000 0000000000000000 0000000000000000 0000000000000000 \
+    0000000000000000 0000000000000000 0000000000000000 0000000000000000 0000000000000000 0000000000000000 0000000000000000 \
+    0000000000000000 0000000000000000 0000000000000000\n";
+
+#[test]
+fn registers_are_shown(rt: HostRuntime) {
+    assert!(rt; are_answered(&rt, rt.alloc(), "step 5\nregs\n", 100, REGISTERS));
+}
+
+/// How many pieces a session over a prompt puts; nothing where it is cut.
+fn pieces(rt: &impl Abort, alloc: Global, prompt: &mut MemPrompt) -> Option<usize> {
     let mut out = MemSink::new(alloc);
-    assert!(rt; hold(alloc, &mut prompt, 100, &mut out)?.is_ok());
-    assert!(rt; prompt.left() == "where\n".as_bytes());
-    Ok(())
+    let end = hold(rt, alloc, prompt, 100, &mut out);
+    if end == Ok(()) {
+        Some(out.pieces().len())
+    } else {
+        None
+    }
+}
+
+/// Whether a session over a prompt, of which the line of this number is to fail, puts so many pieces and leaves this.
+fn leaves_of(
+    rt: &impl Abort,
+    alloc: Global,
+    prompt: &mut MemPrompt,
+    failing: u64,
+    count: usize,
+    left: &[u8],
+) -> bool {
+    prompt.fail_line(failing).is_ok()
+        && pieces(rt, alloc, prompt) == Some(count)
+        && prompt.left() == left
+}
+
+/// The same over lines.
+fn leaves(
+    rt: &impl Abort,
+    alloc: Global,
+    lines: &[u8],
+    failing: u64,
+    count: usize,
+    left: &[u8],
+) -> bool {
+    let mut prompt = MemPrompt::new(alloc, lines).expect(rt, "memory");
+    leaves_of(rt, alloc, &mut prompt, failing, count, left)
 }
 
 #[test]
-fn faults_cut_a_session(rt: HostRuntime) -> Result<(), Fail> {
-    let alloc = rt.alloc();
-    let line = "at 0 0000000000010078 addi x10, x0, -100\n";
-    // The number of the line that fails, of the put that fails, and what is put whole.
-    for (line_fails, put_fails, pieces) in [(1, 0, 0), (2, 0, 1), (3, 0, 2), (0, 1, 0), (0, 2, 1)] {
-        let mut prompt = MemPrompt::new(alloc, b"where\nwhere\n")?;
-        let mut out = MemSink::new(alloc);
-        prompt.fail_line(line_fails)?;
-        out.fail_put(put_fails)?;
-        assert!(rt;
-            matches!(
-                hold(alloc, &mut prompt, 100, &mut out)?,
-                Err(PutFail::Failed)
-            )
-        );
-        assert_eq!(rt; out.pieces().len(), pieces);
-        let half = if put_fails == 0 { 0 } else { line.len() / 2 };
-        let whole = line.len().saturating_mul(pieces);
-        assert_eq!(rt; out.written().len(), whole.saturating_add(half));
-    }
-    // Behind `quit` and behind the end no line is asked for, so none fails.
-    for lines in [&b"where\nquit\n"[..], &b"where\n"[..]] {
-        let mut prompt = MemPrompt::new(alloc, lines)?;
-        let mut out = MemSink::new(alloc);
-        prompt.fail_line(3)?;
-        assert!(rt; hold(alloc, &mut prompt, 100, &mut out)?.is_ok());
-    }
-    Ok(())
+fn what_is_left_stays(rt: HostRuntime) {
+    assert!(rt; leaves(&rt, rt.alloc(), b"where\nquit\nwhere\n", 0, 1, b"where\n"));
+}
+
+/// Behind `quit` and behind the end no line is asked for, so none fails.
+#[test]
+fn no_line_behind_the_last_fails(rt: HostRuntime) {
+    assert!(rt; leaves(&rt, rt.alloc(), b"where\nquit\n", 3, 1, b""));
+    assert!(rt; leaves(&rt, rt.alloc(), b"where\n", 3, 1, b""));
+}
+
+/// The number of the line that fails, of the put that fails, and what is put whole.
+static FAULTS: [(u64, u64, usize); 5] = [(1, 0, 0), (2, 0, 1), (3, 0, 2), (0, 1, 0), (0, 2, 1)];
+
+/// The line that each `where` is answered by.
+const LINE: &str = "at 0 0000000000010078 addi x10, x0, -100\n";
+
+/// Whether a sink has so many lines whole, and half of one where a put failed.
+fn has_whole(out: &MemSink, put_fails: u64, count: usize) -> bool {
+    let half = if put_fails == 0 { 0 } else { LINE.len() / 2 };
+    let whole = LINE.len().saturating_mul(count);
+    out.pieces().len() == count && out.written().len() == whole.saturating_add(half)
+}
+
+/// Whether a session over a prompt into a sink is cut behind so many whole lines.
+fn is_cut_into(
+    rt: &impl Abort,
+    alloc: Global,
+    prompt: &mut MemPrompt,
+    out: &mut MemSink,
+    put_fails: u64,
+    count: usize,
+) -> bool {
+    out.fail_put(put_fails).is_ok()
+        && hold(rt, alloc, prompt, 100, out) == Err(PutFail::Failed)
+        && has_whole(out, put_fails, count)
+}
+
+/// The same over a prompt of which the line of this number is to fail.
+fn is_cut_over(
+    rt: &impl Abort,
+    alloc: Global,
+    prompt: &mut MemPrompt,
+    line_fails: u64,
+    put_fails: u64,
+    count: usize,
+) -> bool {
+    let mut out = MemSink::new(alloc);
+    prompt.fail_line(line_fails).is_ok()
+        && is_cut_into(rt, alloc, prompt, &mut out, put_fails, count)
+}
+
+fn is_cut(rt: &impl Abort, alloc: Global, line_fails: u64, put_fails: u64, count: usize) -> bool {
+    let mut prompt = MemPrompt::new(alloc, b"where\nwhere\n").expect(rt, "memory");
+    is_cut_over(rt, alloc, &mut prompt, line_fails, put_fails, count)
 }
 
 #[test]
-fn lines_are_counted(rt: HostRuntime) -> Result<(), Fail> {
-    let alloc = rt.alloc();
+fn faults_cut_a_session(rt: HostRuntime) {
+    for &(line_fails, put_fails, count) in &FAULTS {
+        assert!(rt; is_cut(&rt, rt.alloc(), line_fails, put_fails, count));
+    }
+}
+
+/// So many empty lines.
+fn empty_lines(alloc: Global, count: u32) -> Result<Bytes, OutOfMemory> {
     let mut lines = Bytes::new(alloc);
-    for _ in 0..65_538 {
+    for _ in 0..count {
         lines.push(b'\n')?;
     }
-    let mut prompt = MemPrompt::new(alloc, lines.as_slice())?;
-    let mut out = MemSink::new(alloc);
-    assert!(rt; hold(alloc, &mut prompt, 100, &mut out)?.is_ok());
-    assert_eq!(rt; out.pieces().len(), 65_536);
-    assert_eq!(rt; prompt.left().len(), 2);
-    Ok(())
+    Ok(lines)
+}
+
+fn check_counted(rt: &impl Abort, alloc: Global, lines: &[u8]) {
+    assert!(rt; leaves(rt, alloc, lines, 0, 65_536, b"\n\n"));
+}
+
+#[test]
+fn lines_are_counted(rt: HostRuntime) {
+    let lines = empty_lines(rt.alloc(), 65_538).expect(&rt, "memory");
+    check_counted(&rt, rt.alloc(), lines.as_slice());
 }

@@ -3,29 +3,13 @@ mod cases;
 
 ghost use Rattle.std.specs.Prelude.{◌<◌};
 
+use crate::machine::fresh;
+use crate::steps::{AT, CODE, HELD, Step, check, gives, holds};
 use cases::{AMOS, PAIRS};
 use paged_mem::{FlatRam, PagedRam, Ram, Width};
 use rv64_machine::{Cause, Hart, Reservation, StepEnd};
+use std::alloc::Global;
 use std::process::Abort;
-
-const CODE: u64 = 0x1_0000;
-
-const AT: u64 = 0x1_2000;
-
-fn hart_of<R: Ram>(rt: &impl AllocGlobal, abort: &impl Abort) -> Hart<R> {
-    let mut ram = R::empty(rt.alloc());
-    assert!(abort; ram.map_zero(CODE, 3).is_ok());
-    Hart::new(ram, CODE)
-}
-
-/// One step of this word, with an address in x11 and a value in x12.
-fn step<R: Ram>(rt: &impl Abort, hart: &mut Hart<R>, word: u32, at: u64, b: u64) -> StepEnd {
-    let pc = hart.pc();
-    assert!(rt; hart.ram_mut().store(pc, Width::W4, u64::from(word)).is_ok());
-    hart.set_reg(11, at);
-    hart.set_reg(12, b);
-    hart.step()
-}
 
 /// rd, bits 11..7 of a word.
 fn register_of(word: u32) -> u8
@@ -34,65 +18,73 @@ fn register_of(word: u32) -> u8
     (word / 0x80 % 0x20) as u8
 }
 
-fn check_amos<R: Ram>(rt: &impl AllocGlobal, abort: &impl Abort) {
-    let mut hart: Hart<R> = hart_of(rt, abort);
-    for &(word, old, b, rd, after) in &AMOS {
-        assert!(abort; hart.ram_mut().store(AT, Width::W8, old).is_ok());
-        assert_eq!(abort; step(abort, &mut hart, word, AT, b), StepEnd::Done);
-        assert_eq!(abort;
-            hart.reg(register_of(word)),
-            rd,
-            "word {word} on {old} and {b}"
-        );
-        assert_eq!(abort;
-            hart.ram().load(AT, Width::W8),
-            Some(after),
-            "word {word} on {old} and {b}"
-        );
-        assert_eq!(abort; hart.reservation(), None);
+fn is_amo<R: Ram>(
+    rt: &impl Abort,
+    hart: &mut Hart<R>,
+    &(word, old, b, rd, after): &(u32, u64, u64, u64, u64),
+) -> bool {
+    hart.ram_mut().store(AT, Width::W8, old).is_ok()
+        && gives(rt, hart, (word, AT, b), (register_of(word), rd))
+        && holds(hart, AT, after)
+        && hart.reservation() == None
+}
+
+fn check_amos<R: Ram>(rt: &impl Abort, hart: &mut Hart<R>) {
+    for (index, row) in AMOS.iter().enumerate() {
+        assert!(rt; is_amo(rt, hart, row), "row {index}");
     }
+}
+
+fn check_amos_on<R: Ram>(rt: &impl Abort, alloc: Global) {
+    let mut hart: Hart<R> = fresh(rt, alloc);
+    check_amos(rt, &mut hart);
 }
 
 #[test]
 fn amo_rows_as_an_independent_machine_has_them(rt: HostRuntime) {
-    check_amos::<PagedRam>(&rt, &rt);
-    check_amos::<FlatRam>(&rt, &rt);
+    check_amos_on::<PagedRam>(&rt, rt.alloc());
+    check_amos_on::<FlatRam>(&rt, rt.alloc());
 }
 
-fn check_pairs<R: Ram>(rt: &impl AllocGlobal, abort: &impl Abort) {
-    let mut hart: Hart<R> = hart_of(rt, abort);
-    for &(load, store, distance, old, b, loaded, first, second, after, behind) in &PAIRS {
-        hart.set_reservation(None);
-        assert!(abort; hart.ram_mut().store(AT, Width::W8, old).is_ok());
-        assert!(abort; hart.ram_mut().store(AT + 8, Width::W8, !old).is_ok());
-        let other = AT.wrapping_add(distance);
-        assert_eq!(abort; step(abort, &mut hart, load, AT, b), StepEnd::Done);
-        assert_eq!(abort; hart.reg(13), loaded, "word {load} on {old}");
-        assert_eq!(abort; step(abort, &mut hart, store, other, b), StepEnd::Done);
-        assert_eq!(abort;
-            (hart.reg(10), hart.reservation()),
-            (first, None),
-            "word {store} on {old} and {b}"
-        );
-        assert_eq!(abort; step(abort, &mut hart, store, other, b), StepEnd::Done);
-        assert_eq!(abort; hart.reg(10), second, "word {store} on {old} and {b}");
-        assert_eq!(abort;
-            hart.ram().load(AT, Width::W8),
-            Some(after),
-            "word {store} on {old} and {b}"
-        );
-        assert_eq!(abort;
-            hart.ram().load(AT + 8, Width::W8),
-            Some(behind),
-            "word {store} on {old} and {b}"
-        );
+/// Stores a number and what it is not behind it, and takes the reservation away.
+fn place<R: Ram>(hart: &mut Hart<R>, old: u64) -> bool {
+    hart.set_reservation(None);
+    hart.ram_mut().store(AT, Width::W8, old).is_ok()
+        && hart.ram_mut().store(AT + 8, Width::W8, !old).is_ok()
+}
+
+type Pair = (u32, u32, u64, u64, u64, u64, u64, u64, u64, u64);
+
+fn is_pair<R: Ram>(
+    rt: &impl Abort,
+    hart: &mut Hart<R>,
+    &(load, store, distance, old, b, loaded, first, second, after, behind): &Pair,
+) -> bool {
+    let other = AT.wrapping_add(distance);
+    place(hart, old)
+        && gives(rt, hart, (load, AT, b), (13, loaded))
+        && gives(rt, hart, (store, other, b), (10, first))
+        && hart.reservation() == None
+        && gives(rt, hart, (store, other, b), (10, second))
+        && holds(hart, AT, after)
+        && holds(hart, AT + 8, behind)
+}
+
+fn check_pairs<R: Ram>(rt: &impl Abort, hart: &mut Hart<R>) {
+    for (index, row) in PAIRS.iter().enumerate() {
+        assert!(rt; is_pair(rt, hart, row), "row {index}");
     }
+}
+
+fn check_pairs_on<R: Ram>(rt: &impl Abort, alloc: Global) {
+    let mut hart: Hart<R> = fresh(rt, alloc);
+    check_pairs(rt, &mut hart);
 }
 
 #[test]
 fn load_reserved_and_store_conditional_as_an_independent_machine_has_them(rt: HostRuntime) {
-    check_pairs::<PagedRam>(&rt, &rt);
-    check_pairs::<FlatRam>(&rt, &rt);
+    check_pairs_on::<PagedRam>(&rt, rt.alloc());
+    check_pairs_on::<FlatRam>(&rt, rt.alloc());
 }
 
 /// lr.w x10; lr.d x10; sc.w x10, x12; sc.d x10, x12; amoadd.w x10, x12; amoadd.w x10, x11; amomax.w x10, x12; all at (x11).
@@ -110,75 +102,53 @@ const AMOADDW_OF_ADDRESS: u32 = 0x00B5_A52F;
 
 const AMOMAXW: u32 = 0xA0C5_A52F;
 
-/// What a step puts into x10, and the 4 bytes at the address.
-fn done<R: Ram>(
-    rt: &impl Abort,
-    hart: &mut Hart<R>,
-    word: u32,
-    at: u64,
-    b: u64,
-) -> (u64, Option<u64>) {
-    assert_eq!(rt; step(rt, hart, word, at, b), StepEnd::Done);
-    (hart.reg(10), hart.ram().load(at, Width::W4))
-}
+static EDGES: [Step; 4] = [
+    Step::Put(AT, 0x7FFF_FFFF),
+    Step::Done(AMOADDW, AT, 1, 0x7FFF_FFFF, 0x8000_0000),
+    Step::Done(AMOMAXW, AT, 1, 0xFFFF_FFFF_8000_0000, 1),
+    Step::Done(AMOADDW_OF_ADDRESS, AT, 0, 1, 0x1_2001),
+];
 
 #[test]
 fn a_sum_and_a_greatest_number_at_the_edge(rt: HostRuntime) {
-    let mut hart: Hart<PagedRam> = hart_of(&rt, &rt);
-    assert!(&rt; hart.ram_mut().store(AT, Width::W4, 0x7FFF_FFFF).is_ok());
-    assert_eq!(&rt;
-        done(&rt, &mut hart, AMOADDW, AT, 1),
-        (0x7FFF_FFFF, Some(0x8000_0000))
-    );
-    assert_eq!(&rt;
-        done(&rt, &mut hart, AMOMAXW, AT, 1),
-        (0xFFFF_FFFF_8000_0000, Some(1))
-    );
-    assert_eq!(&rt;
-        done(&rt, &mut hart, AMOADDW_OF_ADDRESS, AT, 0),
-        (1, Some(0x1_2001))
-    );
+    check(&rt, rt.alloc(), &EDGES);
 }
+
+static ONE_STORE: [Step; 7] = [
+    Step::Put(AT, 0x8000_0000),
+    Step::Done(SCW, AT, 5, 1, 0x8000_0000),
+    Step::Done(LRW, AT, 0, 0xFFFF_FFFF_8000_0000, 0x8000_0000),
+    Step::Reserved(Some(HELD)),
+    Step::Done(SCW, AT, 5, 0, 5),
+    Step::Reserved(None),
+    Step::Done(SCW, AT, 9, 1, 5),
+];
 
 #[test]
 fn a_reservation_holds_for_one_store_conditional(rt: HostRuntime) {
-    let mut hart: Hart<PagedRam> = hart_of(&rt, &rt);
-    assert!(&rt; hart.ram_mut().store(AT, Width::W4, 0x8000_0000).is_ok());
-    assert_eq!(&rt; done(&rt, &mut hart, SCW, AT, 5), (1, Some(0x8000_0000)));
-    assert_eq!(&rt;
-        done(&rt, &mut hart, LRW, AT, 0),
-        (0xFFFF_FFFF_8000_0000, Some(0x8000_0000))
-    );
-    assert_eq!(&rt;
-        hart.reservation(),
-        Some(Reservation {
-            wide: Width::W4,
-            at: AT
-        })
-    );
-    assert_eq!(&rt; done(&rt, &mut hart, SCW, AT, 5), (0, Some(5)));
-    assert_eq!(&rt; hart.reservation(), None);
-    assert_eq!(&rt; done(&rt, &mut hart, SCW, AT, 9), (1, Some(5)));
+    check(&rt, rt.alloc(), &ONE_STORE);
 }
+
+const HELD_BEHIND: Reservation = Reservation {
+    wide: Width::W8,
+    at: AT + 8,
+};
+
+static WIDTHS: [Step; 9] = [
+    Step::Done(LRD, AT, 0, 0, 0),
+    Step::Done(SCW, AT, 9, 1, 0),
+    Step::Reserved(None),
+    Step::Done(LRW, AT, 0, 0, 0),
+    Step::Done(SCD, AT, 9, 1, 0),
+    Step::Done(LRW, AT, 0, 0, 0),
+    Step::Done(LRD, AT + 8, 0, 0, 0),
+    Step::Reserved(Some(HELD_BEHIND)),
+    Step::Done(SCW, AT, 9, 1, 0),
+];
 
 #[test]
 fn a_reservation_is_of_a_width_and_the_last_one(rt: HostRuntime) {
-    let mut hart: Hart<PagedRam> = hart_of(&rt, &rt);
-    assert_eq!(&rt; done(&rt, &mut hart, LRD, AT, 0), (0, Some(0)));
-    assert_eq!(&rt; done(&rt, &mut hart, SCW, AT, 9), (1, Some(0)));
-    assert_eq!(&rt; hart.reservation(), None);
-    assert_eq!(&rt; done(&rt, &mut hart, LRW, AT, 0), (0, Some(0)));
-    assert_eq!(&rt; done(&rt, &mut hart, SCD, AT, 9), (1, Some(0)));
-    assert_eq!(&rt; done(&rt, &mut hart, LRW, AT, 0), (0, Some(0)));
-    assert_eq!(&rt; done(&rt, &mut hart, LRD, AT + 8, 0), (0, Some(0)));
-    assert_eq!(&rt;
-        hart.reservation(),
-        Some(Reservation {
-            wide: Width::W8,
-            at: AT + 8
-        })
-    );
-    assert_eq!(&rt; done(&rt, &mut hart, SCW, AT, 9), (1, Some(0)));
+    check(&rt, rt.alloc(), &WIDTHS);
 }
 
 /// sw x12, 0(x11) and addi x0, x0, 0.
@@ -186,62 +156,58 @@ const SW: u32 = 0x00C5_A023;
 
 const NOP: u32 = 0x0000_0013;
 
+static OTHER_ROWS: [Step; 17] = [
+    Step::On(LRW, AT, 0, StepEnd::Done),
+    Step::On(SW, AT, 7, StepEnd::Done),
+    Step::Reserved(Some(HELD)),
+    Step::On(AMOADDW, AT, 7, StepEnd::Done),
+    Step::Reserved(Some(HELD)),
+    Step::On(NOP, AT, 7, StepEnd::Done),
+    Step::Reserved(Some(HELD)),
+    Step::On(LRD, AT + 4, 7, StepEnd::Trap(Cause::LoadUnmapped(AT + 4))),
+    Step::Reserved(Some(HELD)),
+    Step::On(SCW, AT + 2, 7, StepEnd::Trap(Cause::StoreUnmapped(AT + 2))),
+    Step::Reserved(Some(HELD)),
+    Step::On(0x0000_0073, AT, 7, StepEnd::Call),
+    Step::Reserved(Some(HELD)),
+    Step::Answer(7),
+    Step::Reserved(None),
+    Step::Reserve,
+    Step::Done(SCW, AT, 3, 0, 3),
+];
+
 #[test]
 fn other_rows_leave_a_reservation_and_an_answer_ends_it(rt: HostRuntime) {
-    let mut hart: Hart<PagedRam> = hart_of(&rt, &rt);
-    let held = Some(Reservation {
-        wide: Width::W4,
-        at: AT,
-    });
-    assert_eq!(&rt; step(&rt, &mut hart, LRW, AT, 0), StepEnd::Done);
-    for (word, at, end) in [
-        (SW, AT, StepEnd::Done),
-        (AMOADDW, AT, StepEnd::Done),
-        (NOP, AT, StepEnd::Done),
-        (LRD, AT + 4, StepEnd::Trap(Cause::LoadUnmapped(AT + 4))),
-        (SCW, AT + 2, StepEnd::Trap(Cause::StoreUnmapped(AT + 2))),
-        (0x0000_0073, AT, StepEnd::Call),
-    ] {
-        assert_eq!(&rt; step(&rt, &mut hart, word, at, 7), end);
-        assert_eq!(&rt; hart.reservation(), held);
-    }
-    hart.answer(7);
-    assert_eq!(&rt; hart.reservation(), None);
-    hart.set_reservation(held);
-    assert_eq!(&rt; done(&rt, &mut hart, SCW, AT, 3), (0, Some(3)));
+    check(&rt, rt.alloc(), &OTHER_ROWS);
 }
+
+const LAST: u64 = 0xFFFF_FFFF_FFFF_FFFF;
+
+static TRAPS: [Step; 21] = [
+    Step::LoadTraps(LRW, AT + 1),
+    Step::StoreTraps(SCW, AT + 1),
+    Step::StoreTraps(AMOADDW, AT + 1),
+    Step::LoadTraps(LRW, AT + 2),
+    Step::StoreTraps(SCW, AT + 2),
+    Step::StoreTraps(AMOADDW, AT + 2),
+    Step::LoadTraps(LRW, AT + 3),
+    Step::StoreTraps(SCW, AT + 3),
+    Step::StoreTraps(AMOADDW, AT + 3),
+    Step::LoadTraps(LRW, AT + 0x1000),
+    Step::StoreTraps(SCW, AT + 0x1000),
+    Step::StoreTraps(AMOADDW, AT + 0x1000),
+    Step::LoadTraps(LRW, 0x40),
+    Step::StoreTraps(SCW, 0x40),
+    Step::StoreTraps(AMOADDW, 0x40),
+    Step::LoadTraps(LRW, LAST),
+    Step::StoreTraps(SCW, LAST),
+    Step::StoreTraps(AMOADDW, LAST),
+    Step::StoreTraps(SCD, AT + 4),
+    Step::LoadTraps(LRD, AT + 4),
+    Step::Pc(CODE),
+];
 
 #[test]
 fn atomic_rows_trap_at_addresses_that_are_no_multiple_and_unmapped(rt: HostRuntime) {
-    let mut hart: Hart<PagedRam> = hart_of(&rt, &rt);
-    for at in [
-        AT + 1,
-        AT + 2,
-        AT + 3,
-        AT + 0x1000,
-        0x40,
-        0xFFFF_FFFF_FFFF_FFFF,
-    ] {
-        assert_eq!(&rt;
-            step(&rt, &mut hart, LRW, at, 0),
-            StepEnd::Trap(Cause::LoadUnmapped(at))
-        );
-        assert_eq!(&rt;
-            step(&rt, &mut hart, SCW, at, 0),
-            StepEnd::Trap(Cause::StoreUnmapped(at))
-        );
-        assert_eq!(&rt;
-            step(&rt, &mut hart, AMOADDW, at, 0),
-            StepEnd::Trap(Cause::StoreUnmapped(at))
-        );
-    }
-    assert_eq!(&rt;
-        step(&rt, &mut hart, SCD, AT + 4, 0),
-        StepEnd::Trap(Cause::StoreUnmapped(AT + 4))
-    );
-    assert_eq!(&rt;
-        step(&rt, &mut hart, LRD, AT + 4, 0),
-        StepEnd::Trap(Cause::LoadUnmapped(AT + 4))
-    );
-    assert_eq!(&rt; hart.pc(), CODE);
+    check(&rt, rt.alloc(), &TRAPS);
 }

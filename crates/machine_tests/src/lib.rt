@@ -12,6 +12,8 @@ mod machine;
 #[cfg(test)]
 mod memory;
 #[cfg(test)]
+mod steps;
+#[cfg(test)]
 mod words;
 
 /// The address of a page.

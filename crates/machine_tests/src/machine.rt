@@ -6,13 +6,13 @@ ghost use Rattle.paged_mem.specs.Memory.{with_bytes, zeros};
 ghost use Rattle.std.specs.FinMap as map;
 ghost use Rattle.std.specs.Prelude.{◌≡◌, IfOk, None, replicate};
 
+use crate::steps::{Step, check, gives, holds, run, run_on};
 use cases::{BRANCHES, KNOWN, LOADS, REGISTERS, STORES};
 use ddc_base::OutOfMemory;
 use paged_mem::{FlatRam, PagedRam, Ram, Width};
 use rv64_machine::{Cause, Hart, StepEnd, laws};
 use std::alloc::Global;
 use std::process::Abort;
-use std::test::Fail;
 
 /// A hart at 0x10000 over three pages of zeros from there on.
 fn made<R: Ram>(alloc: Global) -> Result<Hart<R>, OutOfMemory>
@@ -28,94 +28,104 @@ fn made<R: Ram>(alloc: Global) -> Result<Hart<R>, OutOfMemory>
     Ok(Hart::new(ram, 0x10000))
 }
 
-fn fresh<R: Ram>(rt: &impl Abort, alloc: Global) -> Hart<R> {
+pub(crate) fn fresh<R: Ram>(rt: &impl Abort, alloc: Global) -> Hart<R> {
     made(alloc).expect(rt, "memory")
 }
 
-/// Puts a word at the pc and steps over it.
-fn run<R: Ram>(rt: &impl Abort, hart: &mut Hart<R>, word: u32) -> StepEnd {
+/// Whether a word on values of x11 and x12 is done, with x10 and how far the pc goes.
+fn does<R: Ram>(
+    rt: &impl Abort,
+    hart: &mut Hart<R>,
+    (word, a, b): (u32, u64, u64),
+    x10: u64,
+    way: u64,
+) -> bool {
     let pc = hart.pc();
-    assert!(rt; hart.ram_mut().store(pc, Width::W4, u64::from(word)).is_ok());
-    hart.step()
+    gives(rt, hart, (word, a, b), (10, x10)) && hart.pc().wrapping_sub(pc) == way
 }
 
-/// Runs a word on values of x11 and x12, and gives x10 and how far the pc went.
-fn run_on<R: Ram>(rt: &impl Abort, hart: &mut Hart<R>, word: u32, a: u64, b: u64) -> (u64, u64) {
-    hart.set_reg(11, a);
-    hart.set_reg(12, b);
-    let pc = hart.pc();
-    assert_eq!(rt; run(rt, hart, word), StepEnd::Done, "word {word}");
-    (hart.reg(10), hart.pc().wrapping_sub(pc))
-}
+/// A word, the values of x11 and x12, and the value that x10 takes.
+type Row = (u32, u64, u64, u64);
 
-fn check_registers<R: Ram>(rt: &impl Abort, hart: &mut Hart<R>) {
-    for &(word, a, b, result) in &REGISTERS {
-        assert_eq!(rt;
-            run_on(rt, hart, word, a, b),
-            (result, 4),
-            "word {word} on {a} and {b}"
-        );
+fn check_registers<R: Ram>(rt: &impl Abort, hart: &mut Hart<R>, rows: &[Row]) {
+    for (index, &(word, a, b, x10)) in rows.iter().enumerate() {
+        assert!(rt; does(rt, hart, (word, a, b), x10, 4), "row {index}");
     }
 }
 
+/// Whether a branch leaves x10, and is taken where it has to be.
+fn branches<R: Ram>(
+    rt: &impl Abort,
+    hart: &mut Hart<R>,
+    words: (u32, u64, u64),
+    taken: u64,
+) -> bool {
+    let x10 = hart.reg(10);
+    does(rt, hart, words, x10, if taken == 1 { 12 } else { 4 })
+}
+
 fn check_branches<R: Ram>(rt: &impl Abort, hart: &mut Hart<R>) {
-    for &(word, a, b, taken) in &BRANCHES {
-        let (_, way) = run_on(rt, hart, word, a, b);
-        assert_eq!(rt;
-            way,
-            if taken == 1 { 12 } else { 4 },
-            "word {word} on {a} and {b}"
-        );
+    for (index, &(word, a, b, taken)) in BRANCHES.iter().enumerate() {
+        assert!(rt; branches(rt, hart, (word, a, b), taken), "row {index}");
     }
 }
 
 /// Puts the known bytes in memory.
-fn place_known<R: Ram>(rt: &impl Abort, hart: &mut Hart<R>) {
-    for (at, bytes) in [
-        (0x12000, KNOWN[0]),
-        (0x12008, KNOWN[1]),
-        (0x12010, KNOWN[2]),
-    ] {
-        assert!(rt; hart.ram_mut().store(at, Width::W8, bytes).is_ok());
-    }
+fn place_known<R: Ram>(hart: &mut Hart<R>) -> bool {
+    hart.ram_mut().store(0x12000, Width::W8, KNOWN[0]).is_ok()
+        && hart.ram_mut().store(0x12008, Width::W8, KNOWN[1]).is_ok()
+        && hart.ram_mut().store(0x12010, Width::W8, KNOWN[2]).is_ok()
 }
 
 fn check_loads<R: Ram>(rt: &impl Abort, hart: &mut Hart<R>) {
     for &(word, result) in &LOADS {
-        assert_eq!(rt;
-            run_on(rt, hart, word, 0x12008, 0),
-            (result, 4),
+        assert!(rt;
+            does(rt, hart, (word, 0x12008, 0), result, 4),
             "word {word}"
         );
     }
 }
 
+/// Whether a store into the known bytes leaves these numbers.
+fn stores<R: Ram>(
+    rt: &impl Abort,
+    hart: &mut Hart<R>,
+    word: u32,
+    value: u64,
+    after: (u64, u64, u64),
+) -> bool {
+    place_known(hart)
+        && run_on(rt, hart, word, 0x12008, value) == StepEnd::Done
+        && holds(hart, 0x12000, after.0)
+        && holds(hart, 0x12008, after.1)
+        && holds(hart, 0x12010, after.2)
+}
+
 fn check_stores<R: Ram>(rt: &impl Abort, hart: &mut Hart<R>) {
     for &(word, value, low, middle, high) in &STORES {
-        place_known(rt, hart);
-        let _ = run_on(rt, hart, word, 0x12008, value);
-        for (at, after) in [(0x12000, low), (0x12008, middle), (0x12010, high)] {
-            assert_eq!(rt;
-                hart.ram().load(at, Width::W8),
-                Some(after),
-                "word {word} at {at}"
-            );
-        }
+        assert!(rt;
+            stores(rt, hart, word, value, (low, middle, high)),
+            "word {word}"
+        );
     }
+}
+
+fn check_rows<R: Ram>(rt: &impl Abort, hart: &mut Hart<R>) {
+    check_registers(rt, hart, &REGISTERS);
+    check_branches(rt, hart);
+    assert!(rt; place_known(hart));
+    check_loads(rt, hart);
+    check_stores(rt, hart);
 }
 
 #[test]
 fn rows_do_what_an_independent_machine_does(rt: HostRuntime) {
     let mut hart: Hart<PagedRam> = fresh(&rt, rt.alloc());
-    check_registers(&rt, &mut hart);
-    check_branches(&rt, &mut hart);
-    place_known(&rt, &mut hart);
-    check_loads(&rt, &mut hart);
-    check_stores(&rt, &mut hart);
+    check_rows(&rt, &mut hart);
 }
 
 /// Division by zero and overflow, by the table in the standard's chapter on M, on 64 bits and on words.
-static DIVISIONS: [(u32, u64, u64, u64); 6] = [
+static DIVISIONS: [Row; 6] = [
     (
         0x02c5c533,
         0x8000000000000000,
@@ -137,24 +147,27 @@ static DIVISIONS: [(u32, u64, u64, u64); 6] = [
 #[test]
 fn divisions_at_their_edges(rt: HostRuntime) {
     let mut hart: Hart<PagedRam> = fresh(&rt, rt.alloc());
-    for &(word, a, b, result) in &DIVISIONS {
-        assert_eq!(rt;
-            run_on(&rt, &mut hart, word, a, b),
-            (result, 4),
-            "word {word} on {a} and {b}"
-        );
-    }
+    check_registers(&rt, &mut hart, &DIVISIONS);
 }
 
 /// Runs a word on 9 in x10 and a value of x11, and gives how the step ends, x10, and how far the pc went.
-fn run_once(rt: &impl Abort, alloc: Global, word: u32, x11: u64) -> (StepEnd, u64, u64) {
-    let mut hart: Hart<PagedRam> = fresh(rt, alloc);
+fn run_word<R: Ram>(
+    rt: &impl Abort,
+    hart: &mut Hart<R>,
+    word: u32,
+    x11: u64,
+) -> (StepEnd, u64, u64) {
     hart.set_reg(10, 9);
     hart.set_reg(11, x11);
-    let end = run(rt, &mut hart, word);
-    assert_eq!(rt; hart.reg(11), x11);
-    assert_eq!(rt; hart.reg(0), 0);
+    let end = run(rt, hart, word);
+    assert!(rt; hart.reg(11) == x11 && hart.reg(0) == 0);
     (end, hart.reg(10), hart.pc().wrapping_sub(0x10000))
+}
+
+/// The same on a new hart.
+fn run_once(rt: &impl Abort, alloc: Global, word: u32, x11: u64) -> (StepEnd, u64, u64) {
+    let mut hart: Hart<PagedRam> = fresh(rt, alloc);
+    run_word(rt, &mut hart, word, x11)
 }
 
 /// A word, the value of x11, and then x10 and how far the pc went.
@@ -172,11 +185,8 @@ static GOING_ON: [(u32, u64, u64, u64); 8] = [
 #[test]
 fn rows_that_go_on(rt: HostRuntime) {
     for &(word, x11, x10, way) in &GOING_ON {
-        assert_eq!(rt;
-            run_once(&rt, rt.alloc(), word, x11),
-            (StepEnd::Done, x10, way),
-            "word {word}"
-        );
+        let ran = run_once(&rt, rt.alloc(), word, x11);
+        assert!(rt; ran == (StepEnd::Done, x10, way), "word {word}");
     }
 }
 
@@ -221,107 +231,165 @@ static STOPPING: [(u32, u64, StepEnd); 10] = [
 #[test]
 fn rows_that_stop(rt: HostRuntime) {
     for &(word, x11, end) in &STOPPING {
-        assert_eq!(rt;
-            run_once(&rt, rt.alloc(), word, x11),
-            (end, 9, 0),
+        assert!(rt;
+            run_once(&rt, rt.alloc(), word, x11) == (end, 9, 0),
             "word {word}"
         );
     }
 }
 
+/// JAL x0, -8, out of the mapped pages: the jump is carried out, and the next fetch traps.
+static CALLS: [Step; 6] = [
+    Step::Word(0x00000073, StepEnd::Call),
+    Step::Answer(3),
+    Step::Register(10, 3),
+    Step::Pc(0x10004),
+    Step::Word(0xff9ff06f, StepEnd::Done),
+    Step::Ends(StepEnd::Trap(Cause::FetchUnmapped(0xFFFC))),
+];
+
 #[test]
 fn calls_and_fetches(rt: HostRuntime) {
-    let mut hart: Hart<PagedRam> = fresh(&rt, rt.alloc());
-    assert_eq!(rt; run(&rt, &mut hart, 0x00000073), StepEnd::Call);
-    hart.answer(3);
-    assert_eq!(rt; (hart.reg(10), hart.pc()), (3, 0x10004));
-    // JAL x0, -8, out of the mapped pages: the jump is carried out, and the next fetch traps.
-    assert_eq!(rt; run(&rt, &mut hart, 0xff9ff06f), StepEnd::Done);
-    assert_eq!(rt; hart.step(), StepEnd::Trap(Cause::FetchUnmapped(0xFFFC)));
+    check(&rt, rt.alloc(), &CALLS);
 }
+
+/// lui x5, 0x700; addi x5, x5, 0x513: together the word of addi x10, x0, 7. lui x6, 0x10; sw x5, 16(x6)
+/// puts it over addi x10, x0, 1, which follows. Then addi x17, x0, 93; ecall. A call ends a run before it.
+static REWRITING: [Step; 17] = [
+    Step::Put(0x10000, 0x007002B7),
+    Step::Put(0x10004, 0x51328293),
+    Step::Put(0x10008, 0x00010337),
+    Step::Put(0x1000C, 0x00532823),
+    Step::Put(0x10010, 0x00100513),
+    Step::Put(0x10014, 0x05D00893),
+    Step::Put(0x10018, 0x00000073),
+    Step::Ends(StepEnd::Done),
+    Step::Ends(StepEnd::Done),
+    Step::Ends(StepEnd::Done),
+    Step::Ends(StepEnd::Done),
+    Step::Ends(StepEnd::Done),
+    Step::Ends(StepEnd::Done),
+    Step::Ends(StepEnd::Call),
+    Step::Register(10, 7),
+    Step::Register(17, 93),
+    Step::Run(3, StepEnd::Call, 0),
+];
 
 #[test]
 fn a_store_over_the_next_instruction_is_run(rt: HostRuntime) {
-    // lui x5, 0x700; addi x5, x5, 0x513: together the word of addi x10, x0, 7. lui x6, 0x10; sw x5, 16(x6)
-    // puts it over addi x10, x0, 1, which follows. Then addi x17, x0, 93; ecall.
-    let program = [
-        0x007002B7, 0x51328293, 0x00010337, 0x00532823, 0x00100513, 0x05D00893, 0x00000073,
-    ];
-    let mut hart: Hart<PagedRam> = fresh(&rt, rt.alloc());
-    let mut at = 0x10000u64;
-    for word in program {
-        assert!(rt; hart.ram_mut().store(at, Width::W4, word).is_ok());
-        at = at.wrapping_add(4);
+    check(&rt, rt.alloc(), &REWRITING);
+}
+
+/// Whether two equal harts answer a step alike.
+fn step_alike<R: Ram, S: Ram>(one: &mut Hart<R>, other: &mut Hart<S>) -> bool
+    requires { one.old ≡ other.old }
+{
+    let (first, second) = laws::equal_harts_step_alike(one, other);
+    first == second
+}
+
+/// Whether a new hart and another one over such memories do.
+fn steps_beside_another<R: Ram, S: Ram>(alloc: Global, one: &mut Hart<R>) -> bool
+    requires { one.old ≡ record {
+      registers = replicate 32 0;
+      pc = 65536;
+      memory = with_bytes map.empty 65536 (zeros 12288);
+      reservation = None;
+    } }
+{
+    match made::<S>(alloc) {
+        Ok(mut other) => step_alike(one, &mut other),
+        Err(_) => false,
     }
-    for _ in 0..6 {
-        assert_eq!(rt; hart.step(), StepEnd::Done);
+}
+
+fn new_ones_step_alike<R: Ram, S: Ram>(alloc: Global) -> bool {
+    match made::<R>(alloc) {
+        Ok(mut one) => steps_beside_another::<R, S>(alloc, &mut one),
+        Err(_) => false,
     }
-    assert_eq!(rt; hart.step(), StepEnd::Call);
-    assert_eq!(rt; (hart.reg(10), hart.reg(17)), (7, 93));
-    assert_eq!(rt;
-        hart.run(3),
-        (StepEnd::Call, 0),
-        "a call ends a run before it"
-    );
 }
 
 #[test]
-fn equal_harts_step_alike(rt: HostRuntime) -> Result<(), Fail> {
-    let mut one: Hart<PagedRam> = made(rt.alloc())?;
-    let mut other: Hart<FlatRam> = made(rt.alloc())?;
-    let (first, second) = laws::equal_harts_step_alike(&mut one, &mut other);
-    assert_eq!(rt; first, second);
+fn equal_harts_step_alike(rt: HostRuntime) {
+    assert!(rt; new_ones_step_alike::<PagedRam, FlatRam>(rt.alloc()));
     laws::only_stores_write();
     laws::nothing_is_mapped();
     laws::a_store_writes_its_access();
     laws::a_stored_word_is_fetched();
-    Ok(())
 }
 
 /// Two steps that do nothing, and then a word that is no instruction.
+static RUNS: [Step; 7] = [
+    Step::Put(0x10000, 0x0000_0013),
+    Step::Put(0x10004, 0x0000_0013),
+    Step::Run(0, StepEnd::Done, 0),
+    Step::Run(1, StepEnd::Done, 1),
+    Step::Pc(0x10004),
+    Step::Run(9, StepEnd::Trap(Cause::Illegal(0)), 1),
+    Step::Pc(0x10008),
+];
+
 #[test]
 fn runs_of_steps(rt: HostRuntime) {
-    let mut hart: Hart<PagedRam> = fresh(&rt, rt.alloc());
-    assert!(rt;
-        hart.ram_mut()
-            .store(0x10000, Width::W4, 0x0000_0013)
-            .is_ok()
-    );
-    assert!(rt;
-        hart.ram_mut()
-            .store(0x10004, Width::W4, 0x0000_0013)
-            .is_ok()
-    );
-    assert_eq!(rt; hart.run(0), (StepEnd::Done, 0));
-    assert_eq!(rt; hart.run(1), (StepEnd::Done, 1));
-    assert_eq!(rt; hart.pc(), 0x10004);
-    assert_eq!(rt; hart.run(9), (StepEnd::Trap(Cause::Illegal(0)), 1));
-    assert_eq!(rt; hart.pc(), 0x10008);
+    check(&rt, rt.alloc(), &RUNS);
 }
 
-/// How many steps a hart does up to an address, and where it stands then, in a loop of three instructions: two that do nothing, and
-/// JAL x0, -8.
+/// Puts a loop of three instructions at 0x10000: two that do nothing, and JAL x0, -8.
+fn put_loop<R: Ram>(hart: &mut Hart<R>) -> bool {
+    hart.ram_mut()
+        .store(0x10000, Width::W4, 0x0000_0013)
+        .is_ok()
+        && hart
+            .ram_mut()
+            .store(0x10004, Width::W4, 0x0000_0013)
+            .is_ok()
+        && hart
+            .ram_mut()
+            .store(0x10008, Width::W4, 0xff9f_f06f)
+            .is_ok()
+}
+
+/// The most steps, an address, how many steps a hart does up to it in the loop, and where it stands then.
+static STOPS: [(u64, Option<u64>, u64, u64); 8] = [
+    (9, Some(0x10004), 1, 0x10004),
+    (9, Some(0x10008), 2, 0x10008),
+    // The address at which it stands is reached when the loop comes back.
+    (9, Some(0x10000), 3, 0x10000),
+    (3, Some(0x10000), 3, 0x10000),
+    (2, Some(0x10000), 2, 0x10008),
+    (4, Some(0x10001), 4, 0x10004),
+    (4, None, 4, 0x10004),
+    (0, Some(0x10004), 0, 0x10000),
+];
+
+/// How a run in the loop ends, how many steps it does, and where the hart stands then.
+fn run_loop<R: Ram>(
+    rt: &impl Abort,
+    hart: &mut Hart<R>,
+    most: u64,
+    stop: Option<u64>,
+) -> (StepEnd, u64, u64) {
+    assert!(rt; put_loop(hart));
+    let (end, done) = hart.run_to(most, stop);
+    (end, done, hart.pc())
+}
+
+/// The same on a new hart.
+fn run_loop_anew(
+    rt: &impl Abort,
+    alloc: Global,
+    most: u64,
+    stop: Option<u64>,
+) -> (StepEnd, u64, u64) {
+    let mut hart: Hart<PagedRam> = fresh(rt, alloc);
+    run_loop(rt, &mut hart, most, stop)
+}
+
 #[test]
 fn runs_up_to_an_address(rt: HostRuntime) {
-    let rows: [(u64, Option<u64>, u64, u64); 8] = [
-        (9, Some(0x10004), 1, 0x10004),
-        (9, Some(0x10008), 2, 0x10008),
-        // The address at which it stands is reached when the loop comes back.
-        (9, Some(0x10000), 3, 0x10000),
-        (3, Some(0x10000), 3, 0x10000),
-        (2, Some(0x10000), 2, 0x10008),
-        (4, Some(0x10001), 4, 0x10004),
-        (4, None, 4, 0x10004),
-        (0, Some(0x10004), 0, 0x10000),
-    ];
-    for (most, stop, done, pc) in rows {
-        let mut hart: Hart<PagedRam> = fresh(&rt, rt.alloc());
-        let mut at = 0x10000u64;
-        for word in [0x0000_0013, 0x0000_0013, 0xff9f_f06f] {
-            assert!(rt; hart.ram_mut().store(at, Width::W4, word).is_ok());
-            at = at.wrapping_add(4);
-        }
-        assert_eq!(rt; hart.run_to(most, stop), (StepEnd::Done, done), "{most}");
-        assert_eq!(rt; hart.pc(), pc, "{most}");
+    for &(most, stop, done, pc) in &STOPS {
+        let ran = run_loop_anew(&rt, rt.alloc(), most, stop);
+        assert!(rt; ran == (StepEnd::Done, done, pc), "{most}");
     }
 }

@@ -2,6 +2,7 @@
 
 use crate::page_address;
 use paged_mem::{FlatRam, PageView, PagedRam, Ram, StoreRefusal, Width};
+use std::alloc::Global;
 use std::process::Abort;
 
 /// The last page that may be mapped, and its last byte.
@@ -10,7 +11,7 @@ const LAST_PAGE: u64 = 0x3f_ffff_f000;
 const LAST_BYTE: u64 = 0x3f_ffff_ffff;
 
 /// A call on a memory, with what it has to answer last.
-#[derive(Clone, Copy, Debug)]
+#[derive(Clone, Copy)]
 enum Call {
     /// Maps pages where none is.
     Map(u64, u64),
@@ -229,8 +230,8 @@ fn script<R: Ram>(rt: &impl Abort, ram: &mut R) {
     run(rt, ram, &MAPPED_IN_ANY_ORDER);
     run(rt, ram, &STORED_AND_LOADED);
     let bytes = [7; 9000];
-    assert_eq!(rt; ram.write_from(0xb800, &bytes), Ok(()));
-    assert_eq!(rt; ram.write_from(0xc001, &bytes), Err(StoreRefusal::Unmapped));
+    assert!(rt; ram.write_from(0xb800, &bytes) == Ok(()));
+    assert!(rt; ram.write_from(0xc001, &bytes) == Err(StoreRefusal::Unmapped));
     run(rt, ram, &WRITTEN_AND_READ);
     run(rt, ram, &UNMAPPED_AND_MAPPED);
 }
@@ -240,32 +241,57 @@ fn three_pages<R: Ram>(rt: &impl Abort, ram: &mut R) {
     run(rt, ram, &BYTES_AND_RUNS);
 }
 
+fn script_on<R: Ram>(rt: &impl Abort, alloc: Global) {
+    script(rt, &mut R::empty(alloc));
+}
+
+fn three_pages_on<R: Ram>(rt: &impl Abort, alloc: Global) {
+    three_pages(rt, &mut R::empty(alloc));
+}
+
 #[test]
 fn flat_memory(rt: HostRuntime) {
-    script(&rt, &mut FlatRam::empty(rt.alloc()));
-    three_pages(&rt, &mut FlatRam::empty(rt.alloc()));
+    script_on::<FlatRam>(&rt, rt.alloc());
+    three_pages_on::<FlatRam>(&rt, rt.alloc());
 }
 
 #[test]
 fn paged_memory(rt: HostRuntime) {
-    script(&rt, &mut PagedRam::empty(rt.alloc()));
-    three_pages(&rt, &mut PagedRam::empty(rt.alloc()));
+    script_on::<PagedRam>(&rt, rt.alloc());
+    three_pages_on::<PagedRam>(&rt, rt.alloc());
+}
+
+/// Whether a load and a refused store take no page.
+fn takes_none(ram: &mut PagedRam) -> bool {
+    ram.held() == 0
+        && ram.load(page_address(2), Width::W8) == Some(0)
+        && ram.store(12_284, Width::W8, 1).is_err()
+        && ram.held() == 0
+}
+
+/// Whether a store takes two pages.
+fn takes_two(ram: &mut PagedRam) -> bool {
+    ram.store(4092, Width::W8, 1).is_ok() && ram.held() == 2
+}
+
+/// Whether the second of three pages was written, and the third not.
+fn has_views(ram: &PagedRam) -> bool {
+    ram.page(8192) == PageView::Zero
+        && matches!(ram.page(4096), PageView::Full(_))
+        && ram.page(12_288) == PageView::Unmapped
+}
+
+fn check_held(rt: &impl Abort, ram: &mut PagedRam) {
+    maps(rt, ram, 0, 3);
+    assert!(rt; takes_none(ram));
+    assert!(rt; takes_two(ram));
+    assert!(rt; has_views(ram));
+    unmaps(rt, ram, 4096, 1);
+    assert!(rt; ram.held() == 1);
 }
 
 /// Memory is taken for pages that are written, and for no others: a load and a refused store take none.
 #[test]
 fn held_pages(rt: HostRuntime) {
-    let mut ram = PagedRam::empty(rt.alloc());
-    maps(&rt, &mut ram, 0, 3);
-    assert_eq!(rt; ram.held(), 0);
-    assert_eq!(rt; ram.load(page_address(2), Width::W8), Some(0));
-    assert!(rt; ram.store(12_284, Width::W8, 1).is_err());
-    assert_eq!(rt; ram.held(), 0);
-    assert!(rt; ram.store(4092, Width::W8, 1).is_ok());
-    assert_eq!(rt; ram.held(), 2);
-    assert!(rt; ram.page(8192) == PageView::Zero);
-    assert!(rt; matches!(ram.page(4096), PageView::Full(_)));
-    assert!(rt; ram.page(12_288) == PageView::Unmapped);
-    unmaps(&rt, &mut ram, 4096, 1);
-    assert_eq!(rt; ram.held(), 1);
+    check_held(&rt, &mut PagedRam::empty(rt.alloc()));
 }

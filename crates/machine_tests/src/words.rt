@@ -16,22 +16,27 @@ static ASSEMBLED: [(u32, Op); 10] = [
     (0xe4c5_a52f, Op::Amomaxuw),
 ];
 
+/// Whether a word has this operation. The 22 atomic rows, whose opcode is 0x2F, are not looked for at once.
+fn has_row(word: u32, want: Op) -> bool {
+    row_of(word) == Some(want) && row_at_once(word).is_some() == (word & 0x7F != 0x2F)
+}
+
+/// Whether a word fits the row of this operation, which stands at its number.
+fn fits_row(word: u32, want: Op) -> bool {
+    let row = want.row();
+    word & row.mask == row.want && rows()[want as usize] == row
+}
+
 #[test]
 fn rows_of_assembled_words(rt: HostRuntime) {
     laws::no_word_matches_two_rows();
     laws::a_fitting_row_is_the_row();
     for &(word, want) in &ASSEMBLED {
-        assert_eq!(rt; row_of(word), Some(want), "at {word:08x}");
-        // The 22 atomic rows, whose opcode is 0x2F, are not looked for.
-        assert_eq!(rt;
-            row_at_once(word).is_some(),
-            word & 0x7F != 0x2F,
+        assert!(rt;
+            has_row(word, want) && fits_row(word, want),
             "at {word:08x}"
         );
-        let row = want.row();
-        assert_eq!(rt; word & row.mask, row.want, "at {word:08x}");
-        assert_eq!(rt; rows()[want as usize], row);
     }
-    assert_eq!(rt; row_of(0xffff_ffff), None);
-    assert_eq!(rt; row_of(0x1610_b52f), None);
+    assert!(rt; row_of(0xffff_ffff).is_none());
+    assert!(rt; row_of(0x1610_b52f).is_none());
 }
