@@ -22,6 +22,3 @@ pub fn place_after(steps: u64) -> (u32, u64)
         (0, 0)
     }
 }
-
-/// Lets a value go. What owns an audit or a recipe calls this at its end: a drop of its own would write out that of each field there.
-pub(crate) fn let_go<T: Drop>(_value: T) {}

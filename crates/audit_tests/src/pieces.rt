@@ -2,7 +2,7 @@
 
 ghost use Rattle.std.specs.Prelude.{◌≤◌};
 
-use crate::{let_go, place_after};
+use crate::place_after;
 use audit_run::{Audit, Progress};
 use ddc_base::{Bytes, MemShelf, OutOfMemory, read_hex};
 use guest_run::{Guest, RunBox, RunRam};
@@ -10,6 +10,7 @@ use mem_files::Files;
 use recipe::Recipe;
 use recipe_plan::{fetch_inputs, fetch_recipe};
 use std::alloc::Global;
+use std::mem::drop;
 use std::process::Abort;
 
 /// copy.elf, which copies the file `in` to `out`, with a line's end: its source in hex0.
@@ -91,8 +92,8 @@ fn audit_of(alloc: Global, shelf: &mut MemShelf, recipe: Recipe) -> Result<Audit
     match fetch_inputs(alloc, shelf, &recipe) {
         Ok(inputs) => Ok(Audit::new(alloc, recipe, inputs)),
         Err(stop) => {
-            let_go(stop);
-            let_go(recipe);
+            drop(stop);
+            drop(recipe);
             Err(OutOfMemory)
         }
     }
@@ -103,7 +104,7 @@ fn audit_in(alloc: Global, shelf: &mut MemShelf) -> Result<Audit, OutOfMemory> {
     match fetch_recipe(alloc, shelf, "a.toml") {
         Ok(recipe) => audit_of(alloc, shelf, recipe),
         Err(stop) => {
-            let_go(stop);
+            drop(stop);
             Err(OutOfMemory)
         }
     }
@@ -116,7 +117,7 @@ fn worked(alloc: Global) -> Result<Audit, OutOfMemory> {
         Ok(()) => audit_in(alloc, &mut shelf),
         Err(OutOfMemory) => Err(OutOfMemory),
     };
-    let_go(shelf);
+    drop(shelf);
     audit
 }
 
@@ -147,7 +148,7 @@ fn whole_text(alloc: Global) -> Result<Bytes, OutOfMemory> {
     match worked(alloc) {
         Ok(mut audit) => {
             let text = last_text(alloc, &mut audit);
-            let_go(audit);
+            drop(audit);
             text
         }
         Err(OutOfMemory) => Err(OutOfMemory),
@@ -181,7 +182,7 @@ fn new_goes_on(alloc: Global, steps: u64, text: &[u8]) -> bool
     match worked(alloc) {
         Ok(mut audit) => {
             let goes = goes_on(alloc, &mut audit, steps, text);
-            let_go(audit);
+            drop(audit);
             goes
         }
         Err(OutOfMemory) => false,
@@ -211,7 +212,7 @@ fn ends_handed_on(alloc: Global, audit: Audit, text: &[u8]) -> bool {
     match audit.advanced(64) {
         Ok(audit) => {
             let ends = is_over(alloc, &audit, text);
-            let_go(audit);
+            drop(audit);
             ends
         }
         Err(OutOfMemory) => false,
@@ -284,7 +285,7 @@ fn gives_after(alloc: Global, steps: u64, length: Option<u64>) -> bool {
     match worked(alloc) {
         Ok(mut audit) => {
             let gives = gives_behind(alloc, &mut audit, steps, length);
-            let_go(audit);
+            drop(audit);
             gives
         }
         Err(OutOfMemory) => false,
@@ -303,7 +304,7 @@ fn gives(alloc: Global, audit: &Audit, length: Option<u64>) -> bool {
     match audit.setting(alloc) {
         Ok(Some((program, setting))) => {
             let starts = starts_with(alloc, program, &setting, length);
-            let_go(setting);
+            drop(setting);
             starts
         }
         Ok(None) => length.is_none(),
@@ -315,7 +316,7 @@ fn starts_with(alloc: Global, program: &[u8], setting: &RunBox<'_>, length: Opti
     match Guest::<RunRam>::start(alloc, program, setting) {
         Ok(guest) => {
             let first = first_length(guest.files());
-            let_go(guest);
+            drop(guest);
             first.is_some() && first == length
         }
         Err(_) => false,

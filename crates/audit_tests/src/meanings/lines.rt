@@ -1,12 +1,12 @@
 //! The assumptions of each recipe of the tables, as lines.
 
-use crate::let_go;
 use crate::meanings::recipes::{CHECKED, FRONT, INPUTS, KEYS, UNCHECKED};
 use crate::meanings::with_stages;
 use ddc_base::{Name, OutOfMemory};
 use meaning::{Assembly, Assumption, assumptions, laws};
 use recipe::{Recipe, read};
 use std::alloc::Global;
+use std::mem::drop;
 use std::process::Abort;
 
 fn text(name: &Name) -> &str {
@@ -65,7 +65,7 @@ fn put_recipe(alloc: Global, lines: &mut String, text: &str) -> Result<(), OutOf
     match read(alloc, text.as_bytes()) {
         Ok(recipe) => {
             let put = put_assumptions(alloc, lines, &recipe);
-            let_go(recipe);
+            drop(recipe);
             put
         }
         Err(refusal) => put_refusal(alloc, lines, refusal.number()),

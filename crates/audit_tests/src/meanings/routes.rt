@@ -2,12 +2,12 @@
 
 ghost use Rattle.std.specs.Prelude.{◌≤◌, length};
 
-use crate::let_go;
 use crate::meanings::lines::{put_lines, recipe_text};
 use ddc_base::OutOfMemory;
 use meaning::assumptions_for;
 use recipe::{Recipe, read};
 use std::alloc::Global;
+use std::mem::drop;
 use std::process::Abort;
 
 /// Stages, and for each stage a line with its number and the lines of its route.
@@ -123,7 +123,7 @@ fn put_recipe(alloc: Global, lines: &mut String, text: &str) -> Result<(), OutOf
     match read(alloc, text.as_bytes()) {
         Ok(recipe) => {
             let put = put_routes(alloc, lines, &recipe);
-            let_go(recipe);
+            drop(recipe);
             put
         }
         Err(_) => Ok(()),

@@ -6,11 +6,11 @@ ghost use Rattle.audit_run.specs.Saved.{IsOn};
 ghost use Rattle.wheeler.specs.Positions.{Position};
 ghost use Rattle.wheeler.specs.Valid.{IsInputs};
 
-use crate::let_go;
 use audit_run::{Audit, DeltaRefusal, Progress};
 use ddc_base::{Bytes, OutOfMemory};
 use recipe::{Inputs, Recipe};
 use std::alloc::Global;
+use std::mem::drop;
 
 /// The delta of an audit behind so many steps more, against a save of it.
 fn delta_behind(audit: &mut Audit, base: &[u8], more: u64) -> Result<Bytes, OutOfMemory>
@@ -37,7 +37,7 @@ pub fn delta_from(
     match Audit::resume(alloc, recipe, inputs, base) {
         Ok(mut audit) => {
             let text = delta_behind(&mut audit, base, more);
-            let_go(audit);
+            drop(audit);
             text
         }
         Err(_) => Err(OutOfMemory),
@@ -64,7 +64,7 @@ pub fn save_beside(
     match Audit::resume_delta(alloc, recipe, inputs, base, delta) {
         Ok(audit) => {
             let text = save_of(&audit);
-            let_go(audit);
+            drop(audit);
             text
         }
         Err(why) => Err(why),
@@ -83,7 +83,7 @@ pub fn delta_of_none(
     match Audit::resume(alloc, recipe, inputs, save) {
         Ok(audit) => {
             let text = audit.save_delta(&audit);
-            let_go(audit);
+            drop(audit);
             text
         }
         Err(_) => Err(OutOfMemory),

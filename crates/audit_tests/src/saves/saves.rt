@@ -1,12 +1,13 @@
 ghost use Rattle.std.specs.Prelude.{◌≤◌};
 ghost use Rattle.wheeler.specs.Valid.{IsInputs};
 
+use crate::place_after;
 use crate::saves::worked::{RECIPE, REPORT, edited, given, with};
-use crate::{let_go, place_after};
 use audit_run::{Audit, Progress, SaveRefusal};
 use ddc_base::{Bytes, OutOfMemory};
 use recipe::{Inputs, Recipe};
 use std::alloc::Global;
+use std::mem::drop;
 use std::process::Abort;
 
 /// The save of an audit behind so many steps more.
@@ -31,7 +32,7 @@ fn save_after(
 {
     let mut audit = Audit::new(alloc, recipe, inputs);
     let save = save_behind(&mut audit, steps);
-    let_go(audit);
+    drop(audit);
     save
 }
 
@@ -92,7 +93,7 @@ fn is_resumed(alloc: Global, text: &[u8], steps: u64) -> bool {
     match resumed(alloc, RECIPE, b"abc", text) {
         Ok(mut audit) => {
             let goes = goes_on(alloc, &mut audit, steps);
-            let_go(audit);
+            drop(audit);
             goes
         }
         Err(_) => false,
@@ -146,7 +147,7 @@ fn resumed_by(alloc: Global, text: &[u8], steps: u64) -> Result<Came, OutOfMemor
     match resumed(alloc, RECIPE, b"abc", text) {
         Ok(mut audit) => {
             let next = advanced(alloc, &mut audit, steps);
-            let_go(audit);
+            drop(audit);
             next
         }
         Err(_) => Err(OutOfMemory),
@@ -208,7 +209,7 @@ fn reports_from(alloc: Global, text: &[u8], wanted: &str) -> bool {
     match resumed(alloc, RECIPE, b"abc", text) {
         Ok(mut audit) => {
             let ends = ends_with(alloc, &mut audit, wanted);
-            let_go(audit);
+            drop(audit);
             ends
         }
         Err(_) => false,
@@ -292,7 +293,7 @@ fn is_saved_as(alloc: Global, text: &[u8], steps: u64, wanted: &[u8]) -> bool
     match resumed(alloc, RECIPE, b"abc", text) {
         Ok(mut audit) => {
             let is_saved = saves_as(&mut audit, steps, wanted);
-            let_go(audit);
+            drop(audit);
             is_saved
         }
         Err(_) => false,

@@ -3,11 +3,11 @@
 ghost use Rattle.std.specs.Prelude.{IfOk};
 ghost use Rattle.wheeler.specs.Valid.{IsInputs};
 
-use crate::let_go;
 use crate::saves::are_inputs;
 use ddc_base::{Bytes, OutOfMemory, read_hex};
 use recipe::{Inputs, Recipe};
 use std::alloc::Global;
+use std::mem::drop;
 
 /// copy.elf, which copies the file `in` to `out`, with a line's end: its source in hex0.
 pub(crate) const COPY: &str =
@@ -119,8 +119,8 @@ fn fitting(recipe: Recipe, inputs: Inputs) -> Result<Given, OutOfMemory>
     if are_inputs(&recipe, &inputs) {
         return Ok((recipe, inputs));
     }
-    let_go(recipe);
-    let_go(inputs);
+    drop(recipe);
+    drop(inputs);
     Err(OutOfMemory)
 }
 
@@ -131,7 +131,7 @@ fn given_of(alloc: Global, recipe: Recipe, source: &[u8]) -> Result<Given, OutOf
     match inputs(alloc, source) {
         Ok(inputs) => fitting(recipe, inputs),
         Err(OutOfMemory) => {
-            let_go(recipe);
+            drop(recipe);
             Err(OutOfMemory)
         }
     }
