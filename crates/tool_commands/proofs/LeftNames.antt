@@ -1,8 +1,10 @@
 -- The lines of what is left, on a walk over the names by "the first one after".
-use Rattle.std.proofs.Common.{◌≡◌, ℕ, Option, Some, None, List, [], ◌∷◌, ◌++◌, filter, find, map, append_assoc, refl, sym, ap, ◌∙◌}
+use Rattle.std.proofs.Common.{◌≡◌, ℕ, Option, Some, None, List, [], ◌∷◌, ◌++◌, codes, decimal, length, filter, find, map, append_assoc, refl, sym, ap, ◌∙◌}
 use Rattle.std.specs.FinMap as finite
 use Rattle.std.specs.List.{flat_map}
 use Rattle.std.proofs.lemmas.List.{append-nil}
+use Rattle.hex.specs.Hex.{encode_lower}
+use Rattle.sha2.specs.Sha256.{sha256}
 use Rattle.mem_files.specs.World.{World}
 use Rattle.mem_files.specs.Calls.{is_after}
 use Rattle.mem_files.specs.Outputs.{left}
@@ -15,6 +17,13 @@ name_line w name = left_line (named_at w name)
 
 abbrev pub name_lines : World → List (List ℕ) → List ℕ
 name_lines w names = flat_map (name_line w) names
+
+-- the line of a file that is left from its parts
+pub left_line_parts : (text name content : List ℕ)
+    → ((((((text ++ codes "left ") ++ encode_lower name) ++ 32 ∷ []) ++ decimal (length content)) ++ 32 ∷ []) ++ encode_lower (sha256 content)) ++ 10 ∷ []
+    ≡ text ++ left_line (name, content)
+unfolding left_line
+left_line_parts text name content = simp append_assoc
 
 -- one turn of the walk with its line
 pub walk-step : (w : World) (given : Option (List ℕ)) (name text whole : List ℕ) → find (is_after given) (finite.keys w.names) ≡ Some name → text ++ name_lines w (filter (is_after given) (finite.keys w.names)) ≡ whole → (text ++ name_line w name) ++ name_lines w (filter (is_after (Some name)) (finite.keys w.names)) ≡ whole

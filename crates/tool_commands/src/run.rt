@@ -1,24 +1,25 @@
 //! `run PROGRAM STEPS ARG..`: how the program's run ends within so many steps, and what it leaves.
 
-ghost use Rattle.std.specs.Prelude.{◌≡◌, ◌≤◌, ◌<◌, ◌+◌, ◌^◌, ◌∷◌, IfOk, IsTrue, map};
+ghost use Rattle.std.specs.Prelude.{◌≡◌, ◌≤◌, ◌<◌, ◌+◌, ◌^◌, [], ◌∷◌, IfOk, OnOk, IsTrue, map};
 ghost use Rattle.std.specs.List.{list_all};
 ghost use Rattle.ddc_base.specs.Outside.{IsFileName};
 ghost use Rattle.guest_run.specs.Setting.{is_text, IsText};
 ghost use Rattle.guest_run.specs.Run.{first_end};
 ghost use Rattle.guest_run.specs.Start.{start_of};
-ghost use Rattle.command_plan.specs.declared.status.Status.TheVariants.{RunFailed};
 ghost use Rattle.command_plan.specs.Performs.{Performs};
 ghost use Rattle.command_plan.specs.Steps.{Says};
 ghost use Rattle.command_plan.specs.Plan.{answers};
-ghost use Rattle.tool_commands.specs.RunProgram.{setting_of, end_plan, start_plan, status_of, run_file, run_plan};
+ghost use Rattle.tool_commands.specs.RunProgram.{setting_of, exited_text, end_plan, start_plan, status_of, run_file, run_plan};
 
 use crate::run_texts;
 use crate::words::are_run_words;
 use command_plan::words::steps_of;
 use command_plan::{Answer, Status, Stop, fetch_file, usage};
-use ddc_base::{Bytes, OutOfMemory, Shelf};
+use ddc_base::{OutOfMemory, Shelf};
 use guest_run::{Guest, RunBox, RunEnd, RunRam, StartRefusal};
+use mem_files::Files;
 use std::alloc::Global;
+use std::mem::drop;
 
 /// The most bytes of a program's heap, where the command has no other word on it.
 const HEAP: u64 = 536_870_912;
@@ -82,27 +83,46 @@ fn start_in(alloc: Global, program: &[u8], setting: &RunBox, most: u64) -> Resul
     ensures { Says (start_plan (start_of program.now setting.now) most) result }
 {
     match Guest::<RunRam>::start(alloc, program, setting) {
-        Ok(mut guest) => run_guest(alloc, &mut guest, most),
-        Err(StartRefusal::Elf(elf)) => failed(run_texts::not_loaded(alloc, elf)?),
-        Err(StartRefusal::ArgsTooLong) => failed(run_texts::too_many_args(alloc)?),
-        Err(StartRefusal::BoxTooLarge) => failed(run_texts::too_large_box(alloc)?),
+        Ok(mut guest) => {
+            let answer = run_guest(alloc, &mut guest, most);
+            drop(guest);
+            answer
+        }
+        Err(StartRefusal::Elf(elf)) => run_texts::not_loaded(alloc, elf),
+        Err(StartRefusal::ArgsTooLong) => run_texts::too_many_args(alloc),
+        Err(StartRefusal::BoxTooLarge) => run_texts::too_large_box(alloc),
         Err(StartRefusal::OutOfMemory) => Err(Stop::OutOfMemory),
     }
 }
 
 /// What a program is given: its name and the arguments, and nothing else.
-#[tactic(auto, using(crate::proofs::Arguments::text_at))]
 fn box_of<'a>(alloc: Global, name: &'a str, args: &'a [&'a str]) -> Result<RunBox<'a>, OutOfMemory>
     requires text { IsText name.now }
     requires texts { IsTrue (list_all (λ w. is_text w.now) args.now) }
     ensures { IfOk result (λ given. given ≡ setting_of (name.now ∷ map (λ w. w.now) args.now)) }
 {
     let mut given = RunBox::new(alloc, HEAP);
+    push_args(&mut given, name, args)?;
+    Ok(given)
+}
+
+/// Gives a program its name and the arguments, which was given nothing yet.
+#[tactic(auto, using(crate::proofs::Arguments::text_at))]
+fn push_args<'a>(
+    given: &mut RunBox<'a>,
+    name: &'a str,
+    args: &'a [&'a str],
+) -> Result<(), OutOfMemory>
+    requires empty { given.old ≡ setting_of [] }
+    requires text { IsText name.now }
+    requires texts { IsTrue (list_all (λ w. is_text w.now) args.now) }
+    ensures { OnOk result (given.new ≡ setting_of (name.now ∷ map (λ w. w.now) args.now)) }
+{
     given.push_arg(name.as_bytes())?;
     for arg in args {
         given.push_arg(arg.as_bytes())?;
     }
-    Ok(given)
+    Ok(())
 }
 
 /// Runs a program from its state on.
@@ -114,15 +134,22 @@ fn run_guest(alloc: Global, guest: &mut Guest<RunRam>, most: u64) -> Result<Answ
     let end = guest.run(most);
     let steps = guest.steps();
     match end {
-        RunEnd::Exited(status) => Ok(Answer {
-            status: status_of(status),
-            text: run_texts::exit_text(alloc, status, steps + 1, guest.files())?,
-        }),
-        RunEnd::Trapped(cause) => failed(run_texts::trapped(alloc, cause, steps + 1)?),
-        RunEnd::UnknownCall(number) => failed(run_texts::called(alloc, number, steps + 1)?),
-        RunEnd::Spent => failed(run_texts::spent(alloc, most)?),
+        RunEnd::Exited(status) => exited(alloc, status, steps + 1, guest.files()),
+        RunEnd::Trapped(cause) => run_texts::trapped(alloc, cause, steps + 1),
+        RunEnd::UnknownCall(number) => run_texts::called(alloc, number, steps + 1),
+        RunEnd::Spent => run_texts::spent(alloc, most),
         RunEnd::OutOfMemory => Err(Stop::OutOfMemory),
     }
+}
+
+/// The answer to an exit.
+fn exited(alloc: Global, status: u8, step: u64, files: &Files) -> Result<Answer, Stop>
+    ensures { Says (answers (status_of status) (exited_text status step files.now)) result }
+{
+    Ok(Answer {
+        status: status_of(status),
+        text: run_texts::exit_text(alloc, status, step, files)?,
+    })
 }
 
 /// The status of an exit.
@@ -134,14 +161,4 @@ fn status_of(status: u8) -> Status
     } else {
         Status::RunFailed
     }
-}
-
-/// The answer to a run that failed.
-fn failed(text: Bytes) -> Result<Answer, Stop>
-    ensures { Says (answers RunFailed text) result }
-{
-    Ok(Answer {
-        status: Status::RunFailed,
-        text,
-    })
 }

@@ -1,16 +1,21 @@
-//! The texts of the command `run`.
+//! The texts of the command `run`, and its answers where a run failed.
 
-ghost use Rattle.std.specs.Prelude.{◌≡◌, ◌++◌, [], OnOk, IfOk, string_bytes, unwrap_or, IsTrue};
+ghost use Rattle.std.specs.Prelude.{◌≡◌, ◌∷◌, ◌++◌, [], OnOk, IfOk, codes, decimal, string_bytes, unwrap_or, IsTrue};
 ghost use Rattle.std.specs.List.{flat_map};
 ghost use Rattle.hex.specs.Hex.{encode_lower};
 ghost use Rattle.mem_files.specs.Calls.{content_at};
 ghost use Rattle.mem_files.specs.Names.{is_stripped_name};
 ghost use Rattle.mem_files.specs.Outputs.{left};
 ghost use Rattle.mem_files.specs.Sound.{IsSound};
+ghost use Rattle.ddc_base.specs.Lines.{line};
+ghost use Rattle.command_plan.specs.declared.status.Status.TheVariants.{RunFailed};
+ghost use Rattle.command_plan.specs.Plan.{answers};
+ghost use Rattle.command_plan.specs.Steps.{Says};
 ghost use Rattle.command_plan.specs.Causes.Texts.{trap_text, call_text, elf_text, args_text, box_text, spent_text};
 ghost use Rattle.tool_commands.specs.RunProgram.{failed_line, stream_line, left_line, exited_line, exited_text, world_text};
 
-use ddc_base::{Bytes, OutOfMemory, digest};
+use command_plan::{Answer, Status, Stop};
+use ddc_base::{Bytes, OutOfMemory, digest, put_decimal, put_hex};
 use elf_load::ElfRefusal;
 use mem_files::Files;
 use rv64_machine::Cause;
@@ -25,53 +30,63 @@ fn hex_text(alloc: Global, bytes: &[u8]) -> Result<String, OutOfMemory>
 
 /// The line of a run that failed.
 #[tactic(auto, unfolding(crate::specs::RunProgram::failed_line))]
-fn failed(alloc: Global, cause: &str, step: u64) -> Result<Bytes, OutOfMemory>
+fn failed_text(alloc: Global, cause: &str, step: u64) -> Result<Bytes, OutOfMemory>
     ensures { IfOk result (λ text. text ≡ failed_line cause.now step) }
 {
     Ok(Bytes::from_vec(format!(in alloc; "failed {cause} step {step}\n")?.into_bytes()))
 }
 
+/// The answer to a run that failed.
+fn failed(alloc: Global, cause: &str, step: u64) -> Result<Answer, Stop>
+    ensures { Says (answers RunFailed (failed_line cause.now step)) result }
+{
+    Ok(Answer {
+        status: Status::RunFailed,
+        text: failed_text(alloc, cause, step)?,
+    })
+}
+
 /// A run that ended in a trap.
-pub(crate) fn trapped(alloc: Global, cause: Cause, step: u64) -> Result<Bytes, OutOfMemory>
-    ensures { IfOk result (λ text. text ≡ failed_line (trap_text cause) step) }
+pub(crate) fn trapped(alloc: Global, cause: Cause, step: u64) -> Result<Answer, Stop>
+    ensures { Says (answers RunFailed (failed_line (trap_text cause) step)) result }
 {
     let cause = command_plan::causes::trap(alloc, cause)?;
     failed(alloc, cause.as_str(), step)
 }
 
 /// A run that made an unknown call.
-pub(crate) fn called(alloc: Global, number: u64, step: u64) -> Result<Bytes, OutOfMemory>
-    ensures { IfOk result (λ text. text ≡ failed_line (call_text number) step) }
+pub(crate) fn called(alloc: Global, number: u64, step: u64) -> Result<Answer, Stop>
+    ensures { Says (answers RunFailed (failed_line (call_text number) step)) result }
 {
     let cause = command_plan::causes::call(alloc, number)?;
     failed(alloc, cause.as_str(), step)
 }
 
 /// A run that used up its steps.
-pub(crate) fn spent(alloc: Global, steps: u64) -> Result<Bytes, OutOfMemory>
-    ensures { IfOk result (λ text. text ≡ failed_line spent_text steps) }
+pub(crate) fn spent(alloc: Global, steps: u64) -> Result<Answer, Stop>
+    ensures { Says (answers RunFailed (failed_line spent_text steps)) result }
 {
     failed(alloc, command_plan::causes::spent(), steps)
 }
 
 /// A program that the loader refuses.
-pub(crate) fn not_loaded(alloc: Global, refusal: ElfRefusal) -> Result<Bytes, OutOfMemory>
-    ensures { IfOk result (λ text. text ≡ failed_line (elf_text refusal) 0) }
+pub(crate) fn not_loaded(alloc: Global, refusal: ElfRefusal) -> Result<Answer, Stop>
+    ensures { Says (answers RunFailed (failed_line (elf_text refusal) 0)) result }
 {
     let cause = command_plan::causes::elf(alloc, refusal)?;
     failed(alloc, cause.as_str(), 0)
 }
 
 /// A program whose arguments are too long.
-pub(crate) fn too_many_args(alloc: Global) -> Result<Bytes, OutOfMemory>
-    ensures { IfOk result (λ text. text ≡ failed_line args_text 0) }
+pub(crate) fn too_many_args(alloc: Global) -> Result<Answer, Stop>
+    ensures { Says (answers RunFailed (failed_line args_text 0)) result }
 {
     failed(alloc, command_plan::causes::args(), 0)
 }
 
 /// A program that is given too large files.
-pub(crate) fn too_large_box(alloc: Global) -> Result<Bytes, OutOfMemory>
-    ensures { IfOk result (λ text. text ≡ failed_line box_text 0) }
+pub(crate) fn too_large_box(alloc: Global) -> Result<Answer, Stop>
+    ensures { Says (answers RunFailed (failed_line box_text 0)) result }
 {
     failed(alloc, command_plan::causes::box_files(), 0)
 }
@@ -89,32 +104,49 @@ fn exited(alloc: Global, status: u8, step: u64) -> Result<Bytes, OutOfMemory>
 fn stream(alloc: Global, which: u8, bytes: &[u8]) -> Result<Bytes, OutOfMemory>
     ensures { IfOk result (λ text. text ≡ stream_line which bytes.now) }
 {
-    let size = bytes.len();
     let digest = hex_text(alloc, &digest(bytes).0)?;
+    stream_words(alloc, which, bytes.len(), digest.as_str())
+}
+
+/// The line of a stream, by its length and its digest.
+fn stream_words(alloc: Global, which: u8, size: usize, digest: &str) -> Result<Bytes, OutOfMemory>
+    ensures { IfOk result (λ text. text ≡ line (codes "stream" ∷ decimal which ∷ decimal size ∷ digest.now ∷ [])) }
+{
     Ok(Bytes::from_vec(format!(in alloc; "stream {which} {size} {digest}\n")?.into_bytes()))
 }
 
-/// The line of a file that is left.
-#[tactic(auto, unfolding(crate::specs::RunProgram::left_line))]
-fn left(alloc: Global, files: &Files, name: &[u8]) -> Result<Bytes, OutOfMemory>
-    requires { IsTrue (is_stripped_name name.now) }
-    ensures { IfOk result (λ text. text ≡ left_line (name.now, unwrap_or (content_at files.now name.now) [])) }
+/// Adds the line of a stream.
+fn put_stream(alloc: Global, text: &mut Bytes, which: u8, bytes: &[u8]) -> Result<(), OutOfMemory>
+    ensures { OnOk result (text.new ≡ text.old ++ stream_line which bytes.now) }
 {
-    let content = files.content(name).unwrap_or(&[]);
-    let size = content.len();
-    let digest = hex_text(alloc, &digest(content).0)?;
-    let name = hex_text(alloc, name)?;
-    Ok(Bytes::from_vec(format!(in alloc; "left {name} {size} {digest}\n")?.into_bytes()))
+    let line = stream(alloc, which, bytes)?;
+    text.extend(line.as_slice())
 }
 
-/// The lines of all files that are left, by the bytes of their names.
-fn put_left(alloc: Global, text: &mut Bytes, files: &Files) -> Result<(), OutOfMemory>
+/// Adds the line of a file that is left.
+#[tactic(auto, using(crate::proofs::LeftNames::left_line_parts))]
+fn put_left_file(text: &mut Bytes, files: &Files, name: &[u8]) -> Result<(), OutOfMemory>
+    requires { IsTrue (is_stripped_name name.now) }
+    ensures { OnOk result (text.new ≡ text.old ++ left_line (name.now, unwrap_or (content_at files.now name.now) [])) }
+{
+    let content = files.content(name).unwrap_or(&[]);
+    text.extend(b"left ")?;
+    put_hex(text, name)?;
+    text.push(b' ')?;
+    put_decimal(text, content.len() as u64)?;
+    text.push(b' ')?;
+    put_hex(text, &digest(content).0)?;
+    text.push(b'\n')
+}
+
+/// Adds the lines of all files that are left, by the bytes of their names.
+fn put_left(text: &mut Bytes, files: &Files) -> Result<(), OutOfMemory>
     requires { IsSound files.now }
     ensures { OnOk result (text.new ≡ text.old ++ flat_map left_line (left files.now)) }
 {
     let mut last: Option<&[u8]> = None;
     while let Some(name) = files.name_after(last) {
-        text.extend(left(alloc, files, name)?.as_slice())?;
+        put_left_file(text, files, name)?;
         last = Some(name);
     }
     Ok(())
@@ -140,7 +172,7 @@ pub(crate) fn exit_text(
 pub fn put_world(alloc: Global, text: &mut Bytes, files: &Files) -> Result<(), OutOfMemory>
     ensures { OnOk result (text.new ≡ text.old ++ world_text files.now) }
 {
-    text.extend(stream(alloc, 1, files.stream(1))?.as_slice())?;
-    text.extend(stream(alloc, 2, files.stream(2))?.as_slice())?;
-    put_left(alloc, text, files)
+    put_stream(alloc, text, 1, files.stream(1))?;
+    put_stream(alloc, text, 2, files.stream(2))?;
+    put_left(text, files)
 }
