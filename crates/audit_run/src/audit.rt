@@ -26,6 +26,7 @@ use recipe::{Inputs, Recipe};
 use report::Report;
 use std::alloc::Global;
 use std::marker::Model;
+use std::mem::drop;
 use wheeler::Answer;
 
 /// An audit: a recipe, its inputs, and where it stands, which is before the first stage, in a stage, or over.
@@ -103,21 +104,30 @@ impl Audit {
             mut place,
             alloc,
         } = self;
-        take_piece(
+        let piece = take_piece(
             alloc,
             &recipe,
             inputs.as_slice(),
             &mut done,
             &mut place,
             most,
-        )?;
-        Ok(Audit {
-            recipe,
-            inputs,
-            done,
-            place,
-            alloc,
-        })
+        );
+        match piece {
+            Ok(()) => Ok(Audit {
+                recipe,
+                inputs,
+                done,
+                place,
+                alloc,
+            }),
+            Err(OutOfMemory) => {
+                drop(recipe);
+                drop(inputs);
+                drop(done);
+                drop(place);
+                Err(OutOfMemory)
+            }
+        }
     }
 
     /// The answer of an audit that is over.
