@@ -16,7 +16,6 @@ use audit_run::Audit;
 use command_plan::{Answer, Status, Stop, keep};
 use ddc_base::{Bytes, OutOfMemory, Shelf};
 use std::alloc::Global;
-use std::mem::drop;
 
 /// What is kept of an audit that is not over.
 #[derive(Clone, Copy)]
@@ -46,10 +45,7 @@ pub(crate) fn go_on<S: Shelf>(
         (S.state shelf.old) (S.state shelf.new) result }
 {
     let audit = audit.advanced(steps)?;
-    let answer = settle(alloc, &audit, kept, name, report, shelf);
-    // By a call, since a drop at the end is written out here with that of each part.
-    drop(audit);
-    answer
+    settle(alloc, &audit, kept, name, report, shelf)
 }
 
 /// Keeps where an audit stands that is not over, or tells one that is over.

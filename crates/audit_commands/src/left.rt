@@ -27,7 +27,6 @@ use mem_files::{Files, is_stripped_name, strip};
 use recipe::{Inputs, Recipe, Stage};
 use recipe_plan::{apart, fetch_inputs, fetch_recipe};
 use std::alloc::Global;
-use std::mem::drop;
 use wheeler::{Fault, RunCause};
 
 /// Performs the command on the words after its name.
@@ -88,10 +87,7 @@ fn left<S: Shelf>(
     ensures { Performs (left_files recipe.now stage.now file.now out.now) (S.state shelf.old) (S.state shelf.new) result }
 {
     let recipe = fetch_recipe(alloc, shelf, recipe)?;
-    let answer = find(alloc, shelf, &recipe, stage, file, out);
-    // By a call, since a drop at the end is written out here with that of each part.
-    drop(recipe);
-    answer
+    find(alloc, shelf, &recipe, stage, file, out)
 }
 
 /// The command on a recipe, which it leaves to its caller to let go.
@@ -210,29 +206,7 @@ fn run_out<S: Shelf>(
     ensures { Performs (ends_left stage.now.name file.now out.now (run_left guest stage.now.steps)) (S.state shelf.old) (S.state shelf.new) result }
 {
     let mut guest = guest;
-    let answer = run_lent(alloc, shelf, stage, &mut guest, file, out);
-    // By a call, since a drop at the end is written out here with that of each part.
-    drop(guest);
-    answer
-}
-
-/// The same of a guest that is lent.
-fn run_lent<S: Shelf>(
-    alloc: Global,
-    shelf: &mut S,
-    stage: &Stage,
-    guest: &mut Guest<RunRam>,
-    file: &str,
-    out: &str,
-) -> Result<Answer, Stop>
-    requires fresh { guest.old.steps ≡ 0 }
-    requires some { 1 ≤ stage.now.steps }
-    requires few { stage.now.steps ≤ 2 ^ 48 }
-    requires file { IsTrue (is_stripped_name (stripped file.now)) }
-    requires out { IsFileName out.now }
-    ensures { Performs (ends_left stage.now.name file.now out.now (run_left guest.old stage.now.steps)) (S.state shelf.old) (S.state shelf.new) result }
-{
-    match end_of(guest, stage.steps) {
+    match end_of(&mut guest, stage.steps) {
         Some(end) => save_left(
             alloc,
             shelf,

@@ -1,6 +1,6 @@
 //! The lines of an audit that fails.
 
-ghost use Rattle.std.specs.Prelude.{◌≡◌, ◌++◌, IfOk};
+ghost use Rattle.std.specs.Prelude.{◌≡◌, ◌++◌, IfOk, OnOk};
 ghost use Rattle.audit_commands.specs.Texts.{stage_name, run_failed_line, check_failed_line};
 
 use crate::causes::{check_cause, run_cause};
@@ -35,9 +35,9 @@ pub(crate) fn about_stage(
     Ok(text)
 }
 
-/// Writes both behind a text.
+/// Adds both to a text.
 fn put_two(text: &mut Bytes, first: &[u8], second: &[u8]) -> Result<(), OutOfMemory>
-    ensures { IfOk result (λ _. text.new ≡ text.old ++ (first.now ++ second.now)) }
+    ensures { OnOk result (text.new ≡ text.old ++ (first.now ++ second.now)) }
 {
     text.extend(first)?;
     text.extend(second)?;

@@ -26,7 +26,6 @@ use recipe::{Inputs, Recipe};
 use report::Report;
 use std::alloc::Global;
 use std::marker::Model;
-use std::mem::drop;
 use wheeler::Answer;
 
 /// An audit: a recipe, its inputs, and where it stands, which is before the first stage, in a stage, or over.
@@ -104,30 +103,21 @@ impl Audit {
             mut place,
             alloc,
         } = self;
-        let piece = take_piece(
+        take_piece(
             alloc,
             &recipe,
             inputs.as_slice(),
             &mut done,
             &mut place,
             most,
-        );
-        match piece {
-            Ok(()) => Ok(Audit {
-                recipe,
-                inputs,
-                done,
-                place,
-                alloc,
-            }),
-            Err(OutOfMemory) => {
-                drop(recipe);
-                drop(inputs);
-                drop(done);
-                drop(place);
-                Err(OutOfMemory)
-            }
-        }
+        )?;
+        Ok(Audit {
+            recipe,
+            inputs,
+            done,
+            place,
+            alloc,
+        })
     }
 
     /// The answer of an audit that is over.

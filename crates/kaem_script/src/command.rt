@@ -85,7 +85,7 @@ fn run_over(
 }
 
 /// The name of a command's program.
-pub(crate) fn program_name(words: &Command) -> &[u8]
+fn program_name(words: &Command) -> &[u8]
     ensures { result.now ≡ program_name words.now }
 {
     match words.as_slice() {
@@ -95,7 +95,7 @@ pub(crate) fn program_name(words: &Command) -> &[u8]
 }
 
 /// Starts a command's program, without files.
-pub(crate) fn start(
+fn start(
     alloc: Global,
     program: &[u8],
     words: &Command,

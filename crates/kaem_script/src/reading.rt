@@ -1,6 +1,6 @@
 //! The commands of a script.
-ghost use Rattle.std.specs.Prelude.{◌≡◌, ◌+◌, ◌≤◌, ◌<◌, [], false, length, Err, OnOk, IfOk};
-ghost use Rattle.kaem_script.specs.Inside.Commands.{with_value};
+ghost use Rattle.std.specs.Prelude.{◌≡◌, ◌+◌, ◌≤◌, ◌<◌, [], false, length, Ok, Err, OnOk, IfOk};
+ghost use Rattle.std.specs.Result.{result_and};
 ghost use Rattle.kaem_script.specs.Script.{Reads, commands_of, ends_or_begins, ends_word, next_word, with_line};
 
 use crate::refusal::{ScriptFault, ScriptRefusal};
@@ -36,7 +36,7 @@ fn read(
 ) -> Result<(), ScriptRefusal>
     requires none { commands.old ≡ [] }
     requires no_word { words.old ≡ [] }
-    ensures { Reads (commands_of script.now) (with_value commands.new result) }
+    ensures { Reads (commands_of script.now) (result_and result (Ok commands.new)) }
 {
     let mut at = 0;
     while at < script.len() {

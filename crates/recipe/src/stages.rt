@@ -2,17 +2,16 @@ ghost use Rattle.std.specs.Prelude.{◌<◌, ◌≤◌, ◌^◌, ◌-◌, [], If
 ghost use Rattle.toml.specs.View.{table_view};
 ghost use Rattle.recipe.specs.Text.Inside.Views.{tables_view};
 ghost use Rattle.recipe.specs.Text.Reading.{Gives, a_list, a_word, gathered, optional, required};
-ghost use Rattle.recipe.specs.Inside.StageParts.{GoesOn, program_part, run_part};
 ghost use Rattle.recipe.specs.Tables.{next_stage, stage_table};
 
 use crate::names::required_new_name;
-use crate::parts::{Input, Output, Source, Stage, StageFile};
+use crate::parts::{Input, Source, Stage};
 use crate::stage_files::{optional_files, required_output};
 use crate::text::{
     Key, Place, RecipeRefusal, find, no_other_key, optional_name, optional_number, required,
     required_name, required_number, words,
 };
-use ddc_base::{Bytes, ListOf, Name};
+use ddc_base::{Bytes, ListOf};
 use std::alloc::Global;
 use toml::Table;
 
@@ -70,28 +69,8 @@ fn next_stage(
     stage_of(alloc, inputs, sources, stages.as_slice(), place, table)
 }
 
-/// What the first keys of a stage's table say: its name, and the program with what that is given.
-#[derive(Drop)]
-struct ProgramPart {
-    name: Name,
-    program: Name,
-    args: ListOf<Bytes>,
-    env: ListOf<Bytes>,
-    files: ListOf<StageFile>,
-}
-
-/// What the other keys say: what the run makes, its limits, and what that is checked against and becomes.
-#[derive(Drop)]
-struct RunPart {
-    output: Output,
-    steps: u64,
-    heap: u64,
-    check: Option<Name>,
-    becomes: Option<Name>,
-}
-
 /// The stage that a table says at its place.
-#[tactic(auto, unfolding(crate::specs::Tables::stage_table, crate::specs::Inside::StageParts::program_part, crate::specs::Inside::StageParts::run_part))]
+#[tactic(auto, unfolding(crate::specs::Tables::stage_table))]
 fn stage_of(
     alloc: Global,
     inputs: &[Input],
@@ -102,60 +81,23 @@ fn stage_of(
 ) -> Result<Stage, RecipeRefusal>
     ensures { Gives (λ x. x) result (stage_table inputs.now sources.now stages.now place (table_view table.now)) }
 {
-    let first = program_part(alloc, inputs, sources, stages, place, table)?;
-    let other = run_part(alloc, place, table)?;
-    Ok(Stage {
-        name: first.name,
-        program: first.program,
-        args: first.args,
-        env: first.env,
-        files: first.files,
-        output: other.output,
-        steps: other.steps,
-        heap: other.heap,
-        check: other.check,
-        becomes: other.becomes,
-    })
-}
-
-/// What the first keys of a stage's table say.
-#[tactic(auto, unfolding(crate::specs::Inside::StageParts::program_part))]
-fn program_part(
-    alloc: Global,
-    inputs: &[Input],
-    sources: &[Source],
-    stages: &[Stage],
-    place: Place,
-    table: &Table,
-) -> Result<ProgramPart, RecipeRefusal>
-    ensures { GoesOn (program_part inputs.now sources.now stages.now place (table_view table.now)) result }
-{
     let name = required_new_name(inputs, sources, stages, place, table)?;
     let program = required_name(place, Key::Program, table)?;
     let args = required_args(alloc, place, table)?;
     let env = optional_env(alloc, place, table)?.unwrap_or(ListOf::new(alloc));
     let files = optional_files(alloc, place, table)?.unwrap_or(ListOf::new(alloc));
-    Ok(ProgramPart {
-        name,
-        program,
-        args,
-        env,
-        files,
-    })
-}
-
-/// What the other keys say; there is no further one.
-#[tactic(auto, unfolding(crate::specs::Inside::StageParts::run_part))]
-fn run_part(alloc: Global, place: Place, table: &Table) -> Result<RunPart, RecipeRefusal>
-    ensures { GoesOn (run_part place (table_view table.now)) result }
-{
     let output = required_output(alloc, place, table)?;
     let steps = required_number(1, 1 << 48, place, Key::Steps, table)?;
     let heap = optional_number(0, 1 << 30, place, Key::Heap, table)?.unwrap_or(DEFAULT_HEAP);
     let check = optional_name(place, Key::Check, table)?;
     let becomes = optional_name(place, Key::Becomes, table)?;
     no_other_key(place, &KEYS, table)?;
-    Ok(RunPart {
+    Ok(Stage {
+        name,
+        program,
+        args,
+        env,
+        files,
         output,
         steps,
         heap,

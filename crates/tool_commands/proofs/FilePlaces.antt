@@ -1,6 +1,6 @@
 -- The files of a list are placed one after the other, and no rule refuses one of them.
 use Rattle.std.proofs.Common.{◌≡◌, ℕ, ◌+◌, ◌-◌, ◌<◌, ◌≤◌, ◌||◌, false, cond, not, IsTrue, None, Some, Result, Ok, Err, List, [], ◌∷◌, ◌++◌, length, drop, get_or, min, nat_le, nat_lt, refl, sym, ap, ◌∙◌, subst, arith, All}
-use Rattle.std.specs.Prelude.{IsErrAnd, bytes_eq, is_some}
+use Rattle.std.specs.Prelude.{bytes_eq, is_some}
 use Rattle.std.specs.FinMap as fin
 use Rattle.std.specs.Ordering.{eq_by_cmp, is_eq}
 use Rattle.std.specs.declared.cmp.Ordering.{Ordering}
@@ -26,7 +26,7 @@ use Rattle.command_plan.specs.declared.stop.Stop.TheVariants as stop
 use Rattle.command_plan.specs.Plan.{Plan, needs, needs_all}
 use Rattle.command_plan.specs.Steps.{LeadsOn, Obtains}
 use Rattle.command_plan.proofs.Performing.{led_to, wants_memory}
-use Rattle.tool_commands.specs.Inside.Placing.{AreApart, IsPlaced, held}
+use Rattle.tool_commands.specs.Inside.Placing.{AreApart, IsPlaced}
 use Rattle.tool_commands.specs.Scripts.{and_file, and_files}
 
 -- ---- the files
@@ -112,12 +112,6 @@ files_left room listed words next = needs_all 268_435_456 room words (λ content
 -- want of memory on the way
 pub wants_on : {A : Type 0} (plan rest : (A → Plan) → Plan) (old now : ShelfState) → LeadsOn plan rest old now → Obtains plan old now (Err stop.OutOfMemory)
 wants_on plan rest old now leads = record { by_result = λ next. led_to plan rest old now leads next now (Err stop.OutOfMemory) (wants_memory (rest next) now) }
-
--- what ended the command on the way
-pub ends_held : {plan : (FilesListed → Plan) → Plan} {old new : ShelfState} {ending : Stop} (listed : FilesListed) (result : Result (Unit {0}) Stop)
-    → IsErrAnd result (λ handed. handed ≡ ending) → Obtains plan old new (Err ending) → Obtains plan old new (held listed result)
-ends_held listed (Ok value) handed o = absurd handed
-ends_held {plan} {old} {new} listed (Err given) handed o = subst (λ e. Obtains plan old new (Err e)) (sym handed) o
 
 pub at-front : (words : List (List ℕ)) (index : ℕ) (word : List ℕ) → index < length words → word ≡ get_or words index word → drop index words ≡ word ∷ drop (index + 1) words
 at-front words index word less is = at_drop_more (λ (l : List (List ℕ)). l) words index word less ∙ ap (λ w. w ∷ drop (index + 1) words) (sym is)

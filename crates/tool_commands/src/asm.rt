@@ -1,11 +1,11 @@
 //! `asm LANG BASE SOURCE OUT`: what a source comes to is saved.
 
-ghost use Rattle.std.specs.Prelude.{◌≡◌, ◌≤◌, ◌^◌, IfOk, IfSome, if◌then◌else◌, length, map};
+ghost use Rattle.std.specs.Prelude.{◌≡◌, ◌≤◌, ◌^◌, IfOk, IfSome, if◌then◌else◌, map};
 ghost use Rattle.ddc_base.specs.Languages.Words.{language_named};
 ghost use Rattle.ddc_base.specs.Outside.{IsFileName, ShelfState};
-ghost use Rattle.command_plan.specs.declared.status.Status.TheVariants.{CheckFailed, Yes};
+ghost use Rattle.command_plan.specs.declared.status.Status.TheVariants.{CheckFailed};
 ghost use Rattle.command_plan.specs.Performs.{Performs};
-ghost use Rattle.command_plan.specs.Plan.{answers, sets};
+ghost use Rattle.command_plan.specs.Plan.{answers};
 ghost use Rattle.command_plan.specs.Steps.{Obtains, Says};
 ghost use Rattle.command_plan.specs.Words.{are_two_files, or_usage, usage};
 ghost use Rattle.tool_commands.specs.Asm.{made_line, refused_line, as_base, needs_items, needs_made, needs_value, asm_files, asm_plan};
@@ -102,23 +102,7 @@ fn asm<S: Shelf>(
     ensures { Performs (asm_files language base source.now out.now) (S.state shelf.old) (S.state shelf.new) result }
 {
     let text = fetch_file(alloc, shelf, source)?;
-    save_made(alloc, shelf, language, base, text.as_slice(), out)
-}
-
-/// Saves what a source comes to.
-fn save_made<S: Shelf>(
-    alloc: Global,
-    shelf: &mut S,
-    language: Language,
-    base: u64,
-    source: &[u8],
-    out: &str,
-) -> Result<Answer, Stop>
-    requires base { base ≤ 2 ^ 37 }
-    requires out { IsFileName out.now }
-    ensures { Performs (needs_made language base source.now (λ made. sets out.now made (answers Yes (made_line (length made))))) (S.state shelf.old) (S.state shelf.new) result }
-{
-    let made = make(alloc, language, base, source)?;
+    let made = make(alloc, language, base, text.as_slice())?;
     let answer = Answer {
         status: Status::Yes,
         text: made_text(alloc, made.len())?,

@@ -60,14 +60,7 @@ fn compare(alloc: Global, source: &[u8], binary: &[u8]) -> Result<Answer, Stop>
     ensures { Says (comparison (hex0_of source.now) binary.now (difference.first_difference (hex0_of source.now) binary.now)) result }
 {
     let value = hex_langs::hex0(alloc, source)?;
-    compare_value(alloc, value.as_slice(), binary)
-}
-
-/// Says where a value and a binary first differ, or how long they both are.
-fn compare_value(alloc: Global, value: &[u8], binary: &[u8]) -> Result<Answer, Stop>
-    ensures { Says (comparison value.now binary.now (difference.first_difference value.now binary.now)) result }
-{
-    match first_difference(value, binary) {
+    match first_difference(value.as_slice(), binary) {
         None => Ok(Answer {
             status: Status::Yes,
             text: texts::equal(alloc, value.len())?,

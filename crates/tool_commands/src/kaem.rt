@@ -11,17 +11,15 @@ ghost use Rattle.command_plan.specs.Plan.{answers, sets};
 ghost use Rattle.command_plan.specs.Steps.{Says};
 ghost use Rattle.command_plan.specs.Words.{are_three_files, as_steps, or_usage, usage};
 ghost use Rattle.tool_commands.specs.Inside.Listing.{needs_unlisted_words};
-ghost use Rattle.tool_commands.specs.Inside.Placing.{AreApart};
 ghost use Rattle.tool_commands.specs.Kaem.{folded_plan, kaem_files, kaem_plan};
 ghost use Rattle.tool_commands.specs.Scripts.{needs_files};
 ghost use Rattle.tool_commands.specs.ScriptTexts.{command_failed_line, done_line};
 
-use crate::listed_file::FileLine;
 use crate::script_texts;
 use crate::scripts::{fetch_files, fetch_script, fetch_unlisted};
 use command_plan::words::{are_three_files, steps_of};
 use command_plan::{Answer, Status, Stop, keep, usage};
-use ddc_base::{ListOf, Shelf};
+use ddc_base::Shelf;
 use kaem_script::{CommandCause, FileList, Script, ScriptEnd};
 use report::script::{CommandLine, ScriptReport};
 use std::alloc::Global;
@@ -95,27 +93,7 @@ fn run_listed<S: Shelf>(
         (S.state shelf.old) (S.state shelf.new) result }
 {
     let words = fetch_unlisted(alloc, shelf, list, report)?;
-    run_words(alloc, shelf, script, &words, report, most)
-}
-
-/// The command on a script and listed words.
-fn run_words<S: Shelf>(
-    alloc: Global,
-    shelf: &mut S,
-    script: &Script,
-    words: &ListOf<FileLine>,
-    report: &str,
-    most: u64,
-) -> Result<Answer, Stop>
-    requires apart { AreApart words.now }
-    requires few { length words.now ≤ 4096 }
-    requires report { IsFileName report.now }
-    requires some { 1 ≤ most }
-    requires steps { most ≤ 2 ^ 48 }
-    ensures { Performs (needs_files words.now (λ listed. folded_plan report.now script.now listed (folded most listed.world script.now.commands)))
-        (S.state shelf.old) (S.state shelf.new) result }
-{
-    let files = fetch_files(alloc, shelf, words)?;
+    let files = fetch_files(alloc, shelf, &words)?;
     run(alloc, shelf, script, &files, report, most)
 }
 

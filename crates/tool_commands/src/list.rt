@@ -54,32 +54,22 @@ fn listed(alloc: Global, bytes: &[u8]) -> Result<Answer, Stop>
 }
 
 /// The lines of all words, and of the bytes that are left.
+#[tactic(auto, using(crate::proofs::Listing::listings))]
 fn text_of(alloc: Global, bytes: &[u8]) -> Result<Bytes, OutOfMemory>
     requires { length bytes.now < 2 ^ 32 }
     ensures { IfOk result (λ text. text ≡ listing 0 bytes.now) }
 {
     let mut text = Bytes::new(alloc);
-    put_lines(&mut text, bytes)?;
-    Ok(text)
-}
-
-/// Adds the lines of all words, and of the bytes that are left, to an empty text.
-#[tactic(auto, using(crate::proofs::Listing::listings))]
-fn put_lines(text: &mut Bytes, bytes: &[u8]) -> Result<(), OutOfMemory>
-    requires empty { text.old ≡ [] }
-    requires few { length bytes.now < 2 ^ 32 }
-    ensures { OnOk result (text.new ≡ listing 0 bytes.now) }
-{
     let words = bytes.len() / 4;
     for index in 0..words {
         let at = 4 * index;
-        put_word(text, at as u32, &bytes[at..at + 4])?;
+        put_word(&mut text, at as u32, &bytes[at..at + 4])?;
     }
     let at = 4 * words;
     if at < bytes.len() {
-        put_rest(text, at as u32, &bytes[at..])?;
+        put_rest(&mut text, at as u32, &bytes[at..])?;
     }
-    Ok(())
+    Ok(text)
 }
 
 /// Adds a number in eight hexadecimal digits, and a blank.

@@ -1,6 +1,6 @@
 //! `run PROGRAM STEPS ARG..`: how the program's run ends within so many steps, and what it leaves.
 
-ghost use Rattle.std.specs.Prelude.{◌≡◌, ◌≤◌, ◌<◌, ◌+◌, ◌^◌, [], ◌∷◌, IfOk, OnOk, IsTrue, map};
+ghost use Rattle.std.specs.Prelude.{◌≡◌, ◌≤◌, ◌<◌, ◌+◌, ◌^◌, ◌∷◌, IfOk, IsTrue, map};
 ghost use Rattle.std.specs.List.{list_all};
 ghost use Rattle.ddc_base.specs.Outside.{IsFileName};
 ghost use Rattle.guest_run.specs.Setting.{is_text, IsText};
@@ -19,7 +19,6 @@ use ddc_base::{OutOfMemory, Shelf};
 use guest_run::{Guest, RunBox, RunEnd, RunRam, StartRefusal};
 use mem_files::Files;
 use std::alloc::Global;
-use std::mem::drop;
 
 /// The most bytes of a program's heap, where the command has no other word on it.
 const HEAP: u64 = 536_870_912;
@@ -83,11 +82,7 @@ fn start_in(alloc: Global, program: &[u8], setting: &RunBox, most: u64) -> Resul
     ensures { Says (start_plan (start_of program.now setting.now) most) result }
 {
     match Guest::<RunRam>::start(alloc, program, setting) {
-        Ok(mut guest) => {
-            let answer = run_guest(alloc, &mut guest, most);
-            drop(guest);
-            answer
-        }
+        Ok(mut guest) => run_guest(alloc, &mut guest, most),
         Err(StartRefusal::Elf(elf)) => run_texts::not_loaded(alloc, elf),
         Err(StartRefusal::ArgsTooLong) => run_texts::too_many_args(alloc),
         Err(StartRefusal::BoxTooLarge) => run_texts::too_large_box(alloc),
@@ -96,33 +91,18 @@ fn start_in(alloc: Global, program: &[u8], setting: &RunBox, most: u64) -> Resul
 }
 
 /// What a program is given: its name and the arguments, and nothing else.
+#[tactic(auto, using(crate::proofs::Arguments::text_at))]
 fn box_of<'a>(alloc: Global, name: &'a str, args: &'a [&'a str]) -> Result<RunBox<'a>, OutOfMemory>
     requires text { IsText name.now }
     requires texts { IsTrue (list_all (λ w. is_text w.now) args.now) }
     ensures { IfOk result (λ given. given ≡ setting_of (name.now ∷ map (λ w. w.now) args.now)) }
 {
     let mut given = RunBox::new(alloc, HEAP);
-    push_args(&mut given, name, args)?;
-    Ok(given)
-}
-
-/// Gives a program its name and the arguments, which was given nothing yet.
-#[tactic(auto, using(crate::proofs::Arguments::text_at))]
-fn push_args<'a>(
-    given: &mut RunBox<'a>,
-    name: &'a str,
-    args: &'a [&'a str],
-) -> Result<(), OutOfMemory>
-    requires empty { given.old ≡ setting_of [] }
-    requires text { IsText name.now }
-    requires texts { IsTrue (list_all (λ w. is_text w.now) args.now) }
-    ensures { OnOk result (given.new ≡ setting_of (name.now ∷ map (λ w. w.now) args.now)) }
-{
     given.push_arg(name.as_bytes())?;
     for arg in args {
         given.push_arg(arg.as_bytes())?;
     }
-    Ok(())
+    Ok(given)
 }
 
 /// Runs a program from its state on.

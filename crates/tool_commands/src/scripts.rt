@@ -4,14 +4,13 @@ ghost use Rattle.std.specs.Prelude.{◌≡◌, ◌≤◌, IfOk, OnOk, length, �
 ghost use Rattle.std.specs.List.{list_any};
 ghost use Rattle.ddc_base.specs.Outside.{IsFileName, ShelfState};
 ghost use Rattle.kaem_script.specs.declared.refusal.ScriptFault.{ScriptFault as Fault};
-ghost use Rattle.kaem_script.specs.FilesListed.{no_files};
 ghost use Rattle.command_plan.specs.declared.status.Status.TheVariants.{ScriptRefused};
 ghost use Rattle.command_plan.specs.Lists.{needs_list};
 ghost use Rattle.command_plan.specs.Plan.{answers, unless_refused};
 ghost use Rattle.command_plan.specs.Steps.{Obtains, Says};
 ghost use Rattle.command_plan.specs.Words.{is_one_file};
 ghost use Rattle.tool_commands.specs.Inside.Listing.{needs_unlisted_words};
-ghost use Rattle.tool_commands.specs.Inside.Placing.{AreApart, IsPlaced, held};
+ghost use Rattle.tool_commands.specs.Inside.Placing.{AreApart, IsPlaced};
 ghost use Rattle.tool_commands.specs.Scripts.{and_file, file_line, needs_files, needs_script, needs_unlisted, script_of};
 ghost use Rattle.tool_commands.specs.ScriptTexts.{script_line};
 
@@ -135,36 +134,20 @@ pub(crate) fn fetch_files<S: Shelf>(
     fetch_each(alloc, shelf, words.as_slice())
 }
 
-/// Fetches the files of these words, in order.
+/// Fetches the files of these words, in order. The bytes of one of them stand twice, while it is added.
 fn fetch_each<S: Shelf>(alloc: Global, shelf: &mut S, words: &[FileLine]) -> Result<FileList, Stop>
     requires apart { AreApart words.now }
     requires few { length words.now ≤ 4096 }
     ensures { Obtains (needs_files words.now) (S.state shelf.old) (S.state shelf.new) result }
 {
     let mut files = FileList::new(alloc)?;
-    add_each(alloc, shelf, &mut files, words)?;
-    Ok(files)
-}
-
-/// Fetches the files of these words, in order, into an empty list. The bytes of one of them stand twice, while it is added.
-fn add_each<S: Shelf>(
-    alloc: Global,
-    shelf: &mut S,
-    files: &mut FileList,
-    words: &[FileLine],
-) -> Result<(), Stop>
-    requires empty { files.old ≡ no_files }
-    requires apart { AreApart words.now }
-    requires few { length words.now ≤ 4096 }
-    ensures { Obtains (needs_files words.now) (S.state shelf.old) (S.state shelf.new) (held files.new result) }
-{
     let mut room = FILES_LIMIT;
     for word in words {
         let content = fetch(alloc, shelf, word.as_str(), FILE_LIMIT.min(room))?;
         room -= content.len() as u64;
-        add(files, word, content.as_slice())?;
+        add(&mut files, word, content.as_slice())?;
     }
-    Ok(())
+    Ok(files)
 }
 
 /// Adds a file for which there is room.

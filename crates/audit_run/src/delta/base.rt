@@ -54,26 +54,18 @@ fn is_second(base: &[u8]) -> bool
 }
 
 /// The text of the second form of what a save says.
+#[tactic(auto, using(crate::proofs::SaveLemmas::Written::written), unfolding(save_text::specs::Spelled::save_text_in))]
 fn second_text(alloc: Global, known: &Parts<'_>) -> Result<Bytes, OutOfMemory>
     requires { IsSaveText (save_view known.now) }
     ensures { IfOk result (λ text. text ≡ text_of_save (save_view known.now)) }
 {
     let mut out = Bytes::new(alloc);
-    put_second(&mut out, known)?;
-    Ok(out)
-}
-
-/// Adds the text of the second form of what a save says.
-#[tactic(auto, using(crate::proofs::SaveLemmas::Written::written), unfolding(save_text::specs::Spelled::save_text_in))]
-fn put_second(out: &mut Bytes, known: &Parts<'_>) -> Result<(), OutOfMemory>
-    requires { IsSaveText (save_view known.now) }
-    ensures { OnOk result (out.new ≡ out.old ++ text_of_save (save_view known.now)) }
-{
     out.extend(&MAGIC)?;
     out.extend(&known.recipe.0)?;
-    put_counted(out, known.inputs.as_slice())?;
-    put_stages(out, &known.done)?;
-    put_parts(out, &known.state)
+    put_counted(&mut out, known.inputs.as_slice())?;
+    put_stages(&mut out, &known.done)?;
+    put_parts(&mut out, &known.state)?;
+    Ok(out)
 }
 
 fn put_stages(out: &mut Bytes, stages: &[StagePart]) -> Result<(), OutOfMemory>

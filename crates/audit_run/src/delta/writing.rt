@@ -45,6 +45,7 @@ pub fn write(
 }
 
 /// The delta against what a base says.
+#[tactic(auto, using(crate::proofs::SaveLemmas::Written::written))]
 fn beside(
     alloc: Global,
     known: &Parts<'_>,
@@ -60,34 +61,13 @@ fn beside(
     ensures { IfOk result (λ text. text ≡ text_of_delta (save_view known.now)
         (record { base = base_digest (save_view known.now); stages = map stage_of done.now; state = state_of guest.now })) }
 {
-    let mut out = Bytes::new(alloc);
-    put_delta(alloc, &mut out, known, base, done, guest)?;
-    Ok(out)
-}
-
-/// Adds the delta against what a base says.
-#[tactic(auto, using(crate::proofs::SaveLemmas::Written::written))]
-fn put_delta(
-    alloc: Global,
-    out: &mut Bytes,
-    known: &Parts<'_>,
-    base: &[u8],
-    done: &[Done],
-    guest: &Guest<RunRam>,
-) -> Result<(), OutOfMemory>
-    requires text { IsSaveText (save_view known.now) }
-    requires spelled { IsTextOfSave (save_view known.now) base.now }
-    requires pages { length (save_view known.now).state.pages ≤ 2 ^ 26 }
-    requires few { length done.now < 2 ^ 32 }
-    requires short { All (λ f. IsShortStage (stage_of f)) done.now }
-    ensures { OnOk result (out.new ≡ out.old ++ text_of_delta (save_view known.now)
-        (record { base = base_digest (save_view known.now); stages = map stage_of done.now; state = state_of guest.now })) }
-{
     let digest = digest_of(alloc, known, base)?;
+    let mut out = Bytes::new(alloc);
     out.extend(&MAGIC)?;
     out.extend(&digest.0)?;
-    put_beside(out, &known.done, done)?;
-    put_patch_of(alloc, out, &known.state, guest)
+    put_beside(&mut out, &known.done, done)?;
+    put_patch_of(alloc, &mut out, &known.state, guest)?;
+    Ok(out)
 }
 
 /// Adds how many stages in front are the base's, and the further ones.

@@ -17,6 +17,7 @@ use save_text::{MAGIC, put_stage};
 use std::alloc::Global;
 
 /// The one text of an audit that stands in a stage that has the second form.
+#[tactic(auto, using(crate::proofs::SaveLemmas::Written::written), unfolding(save_text::specs::Spelled::save_text_in))]
 pub fn write(
     alloc: Global,
     recipe: &Recipe,
@@ -29,29 +30,12 @@ pub fn write(
     ensures { IfOk result (λ text. text ≡ text_of_save (save_of recipe.now inputs.now (at done.now guest.now))) }
 {
     let mut out = Bytes::new(alloc);
-    put_save(alloc, &mut out, recipe, inputs, done, guest)?;
-    Ok(out)
-}
-
-/// Adds the text of an audit that stands in a stage.
-#[tactic(auto, using(crate::proofs::SaveLemmas::Written::written), unfolding(save_text::specs::Spelled::save_text_in))]
-fn put_save(
-    alloc: Global,
-    out: &mut Bytes,
-    recipe: &Recipe,
-    inputs: &[Bytes],
-    done: &[Done],
-    guest: &Guest<RunRam>,
-) -> Result<(), OutOfMemory>
-    requires given { IsInputs recipe.now inputs.now }
-    requires position { IsPosition recipe.now (at done.now guest.now) }
-    ensures { OnOk result (out.new ≡ out.old ++ text_of_save (save_of recipe.now inputs.now (at done.now guest.now))) }
-{
     out.extend(&MAGIC)?;
     out.extend(&recipe.digest().0)?;
-    put_inputs(out, inputs)?;
-    put_done(out, done)?;
-    put_state(alloc, out, guest)
+    put_inputs(&mut out, inputs)?;
+    put_done(&mut out, done)?;
+    put_state(alloc, &mut out, guest)?;
+    Ok(out)
 }
 
 fn put_inputs(out: &mut Bytes, inputs: &[Bytes]) -> Result<(), OutOfMemory>

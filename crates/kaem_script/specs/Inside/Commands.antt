@@ -20,11 +20,6 @@ use Rattle.kaem_script.specs.declared.fold.Folding.TheVariants as fold
 use Rattle.kaem_script.specs.Fold.{CommandResult, RanAll, Folded, Ran, Stopped, by_first_end, command}
 use Rattle.kaem_script.specs.Reported.{command_line}
 
--- an answer with this value where it has one
-abbrev pub with_value : {A B E : Type 0} → B → Result A E → Result B E
-with_value value (Ok _) = Ok value
-with_value value (Err why) = Err why
-
 -- the files that are there
 abbrev pub world_in : Present → World
 world_in (Given files) = files.now

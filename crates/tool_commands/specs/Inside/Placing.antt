@@ -1,9 +1,8 @@
 -- What the files of a list rest on, which are placed one after the other. No promise rests on its being read.
-use Rattle.std.specs.Prelude.{◌≡◌, ℕ, false, bytes_eq, All, Result, Ok, Err, List, [], ◌∷◌}
+use Rattle.std.specs.Prelude.{◌≡◌, ℕ, false, bytes_eq, All, Ok, List, [], ◌∷◌}
 use Rattle.mem_files.specs.Calls.{placed}
 use Rattle.mem_files.specs.Names.{stripped}
 use Rattle.kaem_script.specs.FilesListed.{FilesListed}
-use Rattle.command_plan.specs.declared.stop.Stop.{Stop}
 
 -- words that stand for files, no two of them for one
 abbrev pub IsApart : List ℕ → List ℕ → Type 0
@@ -16,8 +15,3 @@ AreApart (word ∷ words) = All (IsApart word) words × AreApart words
 -- no rule refuses this file
 abbrev pub IsPlaced : FilesListed → List ℕ → List ℕ → Type 0
 IsPlaced listed word content = (placed listed.world word content).0 ≡ Ok tt
-
--- the files that were added, or what ended the command
-abbrev pub held : FilesListed → Result (Unit {0}) Stop → Result FilesListed Stop
-held listed (Ok _) = Ok listed
-held listed (Err ending) = Err ending

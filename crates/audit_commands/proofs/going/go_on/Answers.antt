@@ -6,13 +6,13 @@ use Rattle.command_plan.proofs.Performing.{wants_memory}
 use Rattle.audit_commands.specs.Inside.Keeping.{Keeps}
 use Rattle.audit_commands.proofs.going.go_on.Goals as goal
 
-pub settle-answer-requires-clause-stands : goal.settle-answer-requires-clause-stands
-settle-answer-requires-clause-stands g c =
+pub settle-requires-clause-stands : goal.settle-requires-clause-stands
+settle-requires-clause-stands g c =
     let old = c.args.audit in
     (forward_from old.recipe old.inputs (standing old) c.args.steps, ap (λ (a : AuditState). a.stands) c.in_ok-audit.ensures)
 
-pub settle-answer-requires-clause-keeps : goal.settle-answer-requires-clause-keeps
-settle-answer-requires-clause-keeps g c = rw c.in_ok-audit.ensures c.requires.keeps
+pub settle-requires-clause-keeps : goal.settle-requires-clause-keeps
+settle-requires-clause-keeps g c = rw c.in_ok-audit.ensures c.requires.keeps
 
 pub returns-in_err-audit : goal.returns-in_err-audit
 returns-in_err-audit g c = λ text keeps.
@@ -25,4 +25,4 @@ returns g c = λ text keeps.
     let new = c.in_ok-audit.audit in
     let there = forward_from old.recipe old.inputs (standing old) c.args.steps in
     let kept : Keeps new.recipe new.inputs c.args.kept text = rw c.in_ok-audit.ensures keeps in
-    rw c.in_ok-audit.ensures at (c.settle-answer.ensures there text (ap (λ (a : AuditState). a.stands) c.in_ok-audit.ensures) kept)
+    rw c.in_ok-audit.ensures at (c.settle.ensures there text (ap (λ (a : AuditState). a.stands) c.in_ok-audit.ensures) kept)

@@ -1,6 +1,6 @@
 use Rattle.std.proofs.Common.{◌≡◌, ◌+◌, ◌-◌, ◌*◌, ◌≤◌, length, arith}
 use Rattle.tool_commands.proofs.Listing.{listing-turn}
-use Rattle.tool_commands.proofs.list.put_lines.Goals as goal
+use Rattle.tool_commands.proofs.list.text_of.Goals as goal
 
 pub loop-index-preserved : goal.loop-index-preserved
 loop-index-preserved c =

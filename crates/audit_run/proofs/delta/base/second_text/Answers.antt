@@ -4,7 +4,7 @@ use Rattle.save_text.specs.Spelled.{IsShortStage}
 use Rattle.save_text.specs.declared.parts.StagePart.{StagePart}
 use Rattle.audit_run.proofs.SaveLemmas.Placed.{all_of}
 use Rattle.audit_run.proofs.DeltaLemmas.Bases.{few_parts, short_parts}
-use Rattle.audit_run.proofs.delta.base.put_second.Goals as goal
+use Rattle.audit_run.proofs.delta.base.second_text.Goals as goal
 
 pub put_stages-requires-clause-few : goal.put_stages-requires-clause-few
 put_stages-requires-clause-few c = subst (λ (parts : List StagePart). length parts < 2 ^ 32) (sym c.deref.ensures.value) (few_parts c.args.known.now.done.items c.requires.stages.0)

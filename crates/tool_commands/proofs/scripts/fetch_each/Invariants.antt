@@ -2,7 +2,7 @@ use Rattle.std.proofs.Common.{drop}
 use Rattle.command_plan.specs.Steps.{LeadsOn}
 use Rattle.tool_commands.specs.Scripts.{needs_files}
 use Rattle.tool_commands.proofs.FilePlaces.{HasRoom, files_left}
-use Rattle.tool_commands.proofs.scripts.add_each.Given as goal
+use Rattle.tool_commands.proofs.scripts.fetch_each.Given as goal
 
 -- the plan goes on behind the files so far, and there is room for the others
 abbrev pub invariant-loop-word : goal.invariant-loop-word
