@@ -3,7 +3,7 @@ use meaning::Assumption;
 use recipe::{Inputs, Recipe};
 
 /// An audit: a recipe, and the contents of its inputs in the recipe's order.
-#[derive(Debug, Drop)]
+#[derive(Drop)]
 pub struct Link {
     pub recipe: Recipe,
     pub inputs: Inputs,
@@ -13,7 +13,7 @@ pub struct Link {
 pub type ChainLinks = ListOf<Link>;
 
 /// A line that remains.
-#[derive(Debug, Drop)]
+#[derive(Drop)]
 pub struct ChainLine {
     /// The number of its audit, from 1.
     pub audit: u32,

@@ -31,7 +31,7 @@ use wheeler::Answer;
 /// An audit: a recipe, its inputs, and where it stands, which is before the first stage, in a stage, or over.
 ///
 /// It keeps the allocator that its constructor took.
-#[derive(Debug, Drop)]
+#[derive(Drop)]
 pub struct Audit {
     recipe: Recipe,
     inputs: Inputs,

@@ -8,7 +8,7 @@ use wheeler::source_check::CheckCause;
 use wheeler::{Answer, Fault, RunCause};
 
 /// Where an audit stands.
-#[derive(Debug, Drop)]
+#[derive(Drop)]
 pub(crate) enum Place {
     /// No advance was made: the first stage has not started.
     Ready,
@@ -28,7 +28,7 @@ impl Place {
 }
 
 /// What some steps come to.
-#[derive(Debug, Drop)]
+#[derive(Drop)]
 pub(crate) enum Moved {
     /// The stage goes on.
     Goes,
@@ -37,7 +37,7 @@ pub(crate) enum Moved {
 }
 
 /// What becomes of the guest of a stage that is done.
-#[derive(Clone, Copy, Debug)]
+#[derive(Clone, Copy)]
 pub(crate) enum EndedGuest {
     /// It is kept until the next stage has started, so that want of memory leaves an audit.
     Kept,
@@ -46,7 +46,7 @@ pub(crate) enum EndedGuest {
 }
 
 /// What an advance answers.
-#[derive(Clone, Copy, Debug, PartialEq, Eq)]
+#[derive(Clone, Copy, PartialEq, Eq)]
 pub enum Progress {
     /// The audit is over: each compared artefact is the audited binary.
     Equal,

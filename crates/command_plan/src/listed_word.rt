@@ -9,7 +9,7 @@ use std::marker::Model;
 use std::str;
 
 /// A word of a list: 1 to 255 bytes from `!` to `~`, which contracts see as these bytes.
-#[derive(Debug, Drop)]
+#[derive(Drop)]
 pub struct ListedWord {
     text: String,
 }

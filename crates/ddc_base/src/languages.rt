@@ -9,7 +9,7 @@ pub mod laws;
 /// A language of a bootstrap chain's first stages that ddc defines, so that a source in it needs no trust in a program.
 ///
 /// Public source: the languages of these names of stage0-posix and mescc-tools. docs/reference/ has the rules of each.
-#[derive(Clone, Copy, Debug, PartialEq, Eq)]
+#[derive(Clone, Copy, PartialEq, Eq)]
 pub enum Language {
     /// Hexadecimal digits with comments.
     Hex0,

@@ -8,7 +8,7 @@ use std::marker::Model;
 /// Values in a row, which contracts see as the list of the values.
 ///
 /// It keeps the allocator that its constructor took.
-#[derive(Debug, Drop)]
+#[derive(Drop)]
 pub struct ListOf<T> {
     items: Vec<T>,
 }

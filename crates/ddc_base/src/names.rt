@@ -6,7 +6,7 @@ use arrayvec::ArrayVec;
 use std::marker::Model;
 
 /// A name: 1 to 32 bytes of `a` to `z`, `0` to `9` and `_`, which contracts see as these bytes. It takes no memory.
-#[derive(Debug, Drop)]
+#[derive(Drop)]
 pub struct Name {
     text: ArrayVec<u8, 32>,
 }

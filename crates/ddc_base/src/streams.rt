@@ -22,7 +22,7 @@ pub trait Deliver: Write {
 }
 
 /// A writer that delivers by its `flush`. It tells nothing of what was delivered.
-#[derive(Debug, Drop)]
+#[derive(Drop)]
 pub(crate) struct ByFlush<W> {
     pub(crate) writer: W,
 }

@@ -17,7 +17,7 @@ mod table;
 pub use refusal::ElfRefusal;
 
 /// A part of a file that is to stand in memory: PT_LOAD of the ELF standard.
-#[derive(Clone, Copy, PartialEq, Eq, Default, Debug)]
+#[derive(Clone, Copy, PartialEq, Eq, Default)]
 pub struct Segment {
     /// The address of its first byte (p_vaddr).
     pub at: u64,
@@ -30,7 +30,7 @@ pub struct Segment {
 }
 
 /// What an accepted file asks for.
-#[derive(Debug, PartialEq, Eq, Drop)]
+#[derive(PartialEq, Eq, Drop)]
 pub struct Image {
     /// The address of the first instruction, a multiple of 4 within a segment.
     pub entry: u64,

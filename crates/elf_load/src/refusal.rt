@@ -3,7 +3,7 @@ ghost use Rattle.elf_load.specs.Refusal.{rank};
 
 /// Why a file is no program that can be loaded. The refusals are tried in this order, and the first
 /// that fits is the answer.
-#[derive(Clone, Copy, PartialEq, Eq, Debug)]
+#[derive(Clone, Copy, Debug, PartialEq, Eq)]
 pub enum ElfRefusal {
     /// Fewer than the 64 bytes of an ELF header.
     Short = 1,

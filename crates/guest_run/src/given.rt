@@ -16,7 +16,7 @@ use std::collections::BTreeMap;
 use std::marker::Model;
 
 /// Files by name, in the order of the names' bytes. Their contents are lent.
-#[derive(Debug, Drop)]
+#[derive(Drop)]
 pub(crate) struct GivenFiles<'a> {
     entries: BTreeMap<Vec<u8>, Lent<'a>>,
     size: u64,

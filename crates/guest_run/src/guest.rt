@@ -25,7 +25,7 @@ use std::marker::Model;
 
 /// A program that was started: its hart with its memory, its files, its heap and how many steps it
 /// has taken. Two guests that are equal in these behave alike, over whatever memories they stand.
-#[derive(Debug, Drop)]
+#[derive(Drop)]
 pub struct Guest<R: Ram> {
     hart: Hart<R>,
     files: Files,

@@ -5,7 +5,7 @@ ghost use Rattle.std.specs.Prelude.{◌≡◌, length};
 use std::marker::Model;
 
 /// Bytes that are lent, which contracts see as a list of numbers below 256.
-#[derive(Debug, Drop)]
+#[derive(Drop)]
 pub(crate) struct Lent<'a> {
     bytes: &'a [u8],
 }

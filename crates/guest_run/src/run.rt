@@ -16,7 +16,7 @@ use rv64_machine::{Cause, Hart, StepEnd};
 use std::alloc::Global;
 
 /// How a run ended. An end leaves the guest as it was, so that it comes again.
-#[derive(Clone, Copy, Debug, PartialEq, Eq)]
+#[derive(Clone, Copy, PartialEq, Eq)]
 pub enum RunEnd {
     /// The program called exit or exit_group; the status is the low 8 bits of its argument.
     Exited(u8),

@@ -15,7 +15,7 @@ use std::marker::Model;
 ///
 /// Texts and contents are lent to it for `'a`, and none of their bytes is copied before a start. It keeps the allocator that its
 /// constructor took.
-#[derive(Debug, Drop)]
+#[derive(Drop)]
 pub struct RunBox<'a> {
     args: Vec<Lent<'a>>,
     env: Vec<Lent<'a>>,

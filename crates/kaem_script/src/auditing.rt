@@ -19,7 +19,7 @@ use report::script::{CommandLines, ScriptReport};
 use std::alloc::Global;
 
 /// How the audit of a script ended.
-#[derive(Debug, Drop)]
+#[derive(Drop)]
 pub enum ScriptEnd {
     /// Every command's program exited with 0.
     Done(ScriptReport),

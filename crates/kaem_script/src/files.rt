@@ -9,7 +9,7 @@ use std::alloc::Global;
 use std::marker::Model;
 
 /// Files in a list, each under a name of its own: at most 4,096 files of 268,435,456 bytes each, and 536,870,912 bytes in all.
-#[derive(Debug, Drop)]
+#[derive(Drop)]
 pub struct FileList {
     names: Vec<Bytes>,
     files: Files,

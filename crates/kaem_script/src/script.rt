@@ -11,7 +11,7 @@ use std::alloc::Global;
 use std::marker::Model;
 
 /// A script that was read: the digest of its bytes, and its commands.
-#[derive(Debug, Drop)]
+#[derive(Drop)]
 pub struct Script {
     digest: Digest,
     commands: ListOf<Command>,

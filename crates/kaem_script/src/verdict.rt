@@ -2,7 +2,7 @@ ghost use Rattle.std.specs.Prelude.{◌≡◌};
 ghost use Rattle.kaem_script.specs.Words.{script_part_word};
 
 /// A part of a script's report, in the order in which the parts are judged.
-#[derive(Clone, Copy, Debug, PartialEq, Eq)]
+#[derive(Clone, Copy, PartialEq, Eq)]
 pub enum ScriptPart {
     /// The digest of the script.
     Header,
@@ -32,7 +32,7 @@ impl ScriptPart {
 }
 
 /// What a replay of a script's report comes to.
-#[derive(Clone, Copy, Debug, PartialEq, Eq)]
+#[derive(Clone, Copy, PartialEq, Eq)]
 pub enum ScriptVerdict {
     /// Every word of the report is true.
     Yes,

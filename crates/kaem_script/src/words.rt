@@ -8,7 +8,7 @@ use mem_files::strip;
 use std::marker::Model;
 
 /// A word: what it says, and how many bytes it takes.
-#[derive(Debug, Drop)]
+#[derive(Drop)]
 pub(crate) struct ScriptWord<'s> {
     pub text: &'s [u8],
     pub size: usize,

@@ -13,7 +13,7 @@ mod transfer;
 pub use table::call;
 
 /// The number of a call, and its six arguments (Linux, arch/riscv: x17, and x10 to x15).
-#[derive(Clone, Copy, Debug, PartialEq, Eq)]
+#[derive(Clone, Copy, PartialEq, Eq)]
 pub struct CallRegs {
     pub number: u64,
     pub a: [u64; 6],
@@ -21,7 +21,7 @@ pub struct CallRegs {
 
 /// What a call comes to: the value that the guest gets, the status it ends with, a number that is no call here, or want
 /// of memory of this process, which the guest doesn't see.
-#[derive(Clone, Copy, Debug, PartialEq, Eq)]
+#[derive(Clone, Copy, PartialEq, Eq)]
 pub enum CallEnd {
     Back(u64),
     Exit(u8),
@@ -30,7 +30,7 @@ pub enum CallEnd {
 }
 
 /// The heap: the address where it begins, its break, and how many bytes it may have.
-#[derive(Clone, Copy, Debug, PartialEq, Eq)]
+#[derive(Clone, Copy, PartialEq, Eq)]
 pub struct Heap {
     pub first: u64,
     pub now: u64,

@@ -1,7 +1,7 @@
 use ddc_base::{ListOf, Name};
 
 /// What has to be believed of a program that an unchecked stage runs. The names are the recipe's.
-#[derive(Debug, Drop)]
+#[derive(Drop)]
 pub enum Assumption {
     /// What the name of an input or of a stage stands for is a program of the source.
     Implements {

@@ -19,7 +19,7 @@ use std::marker::Model;
 ///
 /// Seen as a `World`. A look-up of a name or a number costs its logarithm at most, a read or a write of n bytes costs n,
 /// and bytes that are written at the end cost the same each on average.
-#[derive(Debug, Drop)]
+#[derive(Drop)]
 pub struct Files {
     table: Table,
 }

@@ -10,7 +10,7 @@ use std::marker::Model;
 ///
 /// Seen as a list that tells of each number whether it is used. Each change and each search costs the logarithm of the
 /// list's length, and none but `new` takes memory.
-#[derive(Debug, Drop)]
+#[derive(Drop)]
 pub struct Numbers {
     /// A tree in a list: node 1 is the root, below node i lie 2i and 2i + 1, and the nodes from `leaves` on are the
     /// numbers. A node is set where all numbers below it are used.

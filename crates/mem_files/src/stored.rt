@@ -9,7 +9,7 @@ use std::alloc::{AllocError, Global};
 use std::mem;
 
 /// A file: its name, if it still has one, and its bytes.
-#[derive(Debug, Drop)]
+#[derive(Drop)]
 pub struct Stored {
     name: Option<Vec<u8>>,
     content: Vec<u8>,

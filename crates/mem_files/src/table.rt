@@ -27,7 +27,7 @@ const SLOTS_HEIGHT: u32 = 10;
 const FILES_HEIGHT: u32 = 13;
 
 /// The files by number, the descriptors by number, and the numbers by name.
-#[derive(Debug, Drop)]
+#[derive(Drop)]
 pub struct Table {
     names: BTreeMap<Key, u32>,
     files: Vec<Option<Stored>>,

@@ -1,7 +1,7 @@
 //! A file as lists show it.
 
 /// A file of a guest: its number, its name if it still has one, and its bytes.
-#[derive(Clone, Copy, Debug)]
+#[derive(Clone, Copy)]
 pub struct FileView<'a> {
     pub number: u32,
     pub name: Option<&'a [u8]>,

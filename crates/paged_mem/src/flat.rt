@@ -15,7 +15,7 @@ use std::marker::Model;
 ///
 /// A look-up is a binary search on page numbers, after a guess each for pages in a row from the first one on, as a program's are, and up
 /// to the last one, as the stack's are.
-#[derive(Debug, Drop)]
+#[derive(Drop)]
 pub struct FlatRam {
     pages: Vec<u64>,
     bytes: Vec<u8>,

@@ -24,7 +24,7 @@ use std::marker::Model;
 /// An address in the row of pages from the first one on, in the row after it, or in the one up to the last one, is found at once, any other
 /// by a search. The page of the last fetch is remembered, where it holds bytes.
 /// Contracts see the map, and the numbers of the pages that are held.
-#[derive(Debug, Drop)]
+#[derive(Drop)]
 pub struct PagedRam {
     pages: Vec<u64>,
     entries: Vec<Entry>,

@@ -7,7 +7,7 @@ use ddc_base::OutOfMemory;
 use std::alloc::Global;
 
 /// How many bytes a load or a store moves: 1, 2, 4 or 8.
-#[derive(Clone, Copy, Debug, PartialEq, Eq)]
+#[derive(Clone, Copy, PartialEq, Eq)]
 pub enum Width {
     W1,
     W2,
@@ -39,7 +39,7 @@ pub enum StoreRefusal {
 /// What a page holds: nothing, 4,096 zero bytes, or the 4,096 bytes that are lent.
 ///
 /// `Zero` and `Full` both speak of a mapped page, and a page that is all zero may be shown either way.
-#[derive(Clone, Copy, Debug, PartialEq, Eq)]
+#[derive(Clone, Copy, PartialEq, Eq)]
 pub enum PageView<'a> {
     Unmapped,
     Zero,

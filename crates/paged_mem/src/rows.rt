@@ -8,7 +8,7 @@ use crate::PAGE;
 
 /// Pages with numbers in a row: the address of the first one, how many bytes all of them have, and where the first one stands among the
 /// mapped pages.
-#[derive(Clone, Copy, Debug, PartialEq, Eq)]
+#[derive(Clone, Copy, PartialEq, Eq)]
 pub struct Row {
     pub base: u64,
     pub size: u64,
@@ -100,7 +100,7 @@ pub fn last_row(pages: &[u64]) -> Row
 
 /// The row from the first page on, the row after it, and the one up to the last page: a program's, its data's where they lie apart, and its
 /// stack's.
-#[derive(Clone, Copy, Debug, PartialEq, Eq)]
+#[derive(Clone, Copy, PartialEq, Eq)]
 pub struct Rows {
     pub first: Row,
     pub second: Row,

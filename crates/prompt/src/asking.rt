@@ -10,7 +10,7 @@ use std::marker::Model;
 pub struct Failed;
 
 /// A line of at most 256 bytes, without its LF, in a buffer that takes no memory.
-#[derive(Debug, Drop)]
+#[derive(Drop)]
 pub struct Line {
     bytes: ArrayVec<u8, 256>,
 }
@@ -65,7 +65,7 @@ impl Line {
 }
 
 /// What a prompt gives.
-#[derive(Debug, Drop)]
+#[derive(Drop)]
 pub enum Asked {
     /// A line of at most 256 bytes.
     Line(Line),

@@ -10,7 +10,7 @@ use std::alloc::Global;
 use std::marker::Model;
 
 /// A prompt in memory, which tells everything. Lines that are named by their number, from 1, fail after half of their bytes.
-#[derive(Debug, Drop)]
+#[derive(Drop)]
 pub struct MemPrompt {
     bytes: Bytes,
     at: usize,

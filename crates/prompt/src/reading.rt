@@ -59,7 +59,7 @@ fn whole(line: Line, size: u32) -> Asked
 /// A prompt over a reader, as the process's standard input is (`io::Input::reader`).
 ///
 /// It tells nothing of what is left, and counts the reader's errors. With standard input it is the trusted edge.
-#[derive(Debug, Drop)]
+#[derive(Drop)]
 pub struct ReaderPrompt<R> {
     reader: R,
     faults: u64,

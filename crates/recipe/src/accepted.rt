@@ -11,7 +11,7 @@ use ddc_base::{ListOf, Name};
 use std::marker::Model;
 
 /// A recipe, which contracts see as what it says. Both walks accepted it.
-#[derive(Debug, Drop)]
+#[derive(Drop)]
 pub struct Recipe {
     said: Said,
 }

@@ -3,7 +3,7 @@ use ddc_base::ListOf;
 use ddc_base::digests::Digest;
 
 /// What a recipe says.
-#[derive(Debug, Drop)]
+#[derive(Drop)]
 pub(crate) struct Said {
     /// The digest of the recipe's bytes.
     pub(crate) digest: Digest,

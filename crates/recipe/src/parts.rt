@@ -6,7 +6,7 @@ use ddc_base::{Bytes, ListOf, Name};
 pub type Inputs = ListOf<Bytes>;
 
 /// A file that the audit is given.
-#[derive(Debug, Drop)]
+#[derive(Drop)]
 pub struct Input {
     pub name: Name,
     /// Where a shelf has it.
@@ -16,7 +16,7 @@ pub struct Input {
 }
 
 /// The language of a source.
-#[derive(Clone, Copy, Debug, PartialEq, Eq)]
+#[derive(Clone, Copy, PartialEq, Eq)]
 pub enum SourceLanguage {
     /// One that ddc defines.
     Defined(Language),
@@ -25,7 +25,7 @@ pub enum SourceLanguage {
 }
 
 /// A program's text.
-#[derive(Debug, Drop)]
+#[derive(Drop)]
 pub struct Source {
     pub name: Name,
     pub lang: SourceLanguage,
@@ -36,7 +36,7 @@ pub struct Source {
 }
 
 /// A file that a stage's program finds.
-#[derive(Debug, Drop)]
+#[derive(Drop)]
 pub struct StageFile {
     /// The program's path of it: 1 to 255 bytes, which don't begin with `./`.
     pub path: Bytes,
@@ -45,7 +45,7 @@ pub struct StageFile {
 }
 
 /// What a stage makes.
-#[derive(Debug, Drop)]
+#[derive(Drop)]
 pub enum Output {
     /// What the program writes on its standard output.
     Stream,
@@ -54,7 +54,7 @@ pub enum Output {
 }
 
 /// A run of a program, which makes an artefact.
-#[derive(Debug, Drop)]
+#[derive(Drop)]
 pub struct Stage {
     pub name: Name,
     /// The name of an input or of an earlier stage's artefact.
@@ -77,7 +77,7 @@ pub struct Stage {
 }
 
 /// What is compared at the end.
-#[derive(Debug, Drop)]
+#[derive(Drop)]
 pub struct Compare {
     /// The names of stages: one in format 1, 1 to 16 in format 2, each of them once.
     pub stages: ListOf<Name>,
@@ -86,7 +86,7 @@ pub struct Compare {
 }
 
 /// What the name of an input or a stage stands for, by its index from 0.
-#[derive(Clone, Copy, Debug, PartialEq, Eq)]
+#[derive(Clone, Copy, PartialEq, Eq)]
 pub enum Content {
     /// What an input is.
     Input(usize),

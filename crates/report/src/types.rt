@@ -15,7 +15,7 @@ pub type LeftLines = ListOf<LeftLine>;
 pub type StageLines = ListOf<StageLine>;
 
 /// What a report says of some content: how many bytes it has, and their SHA-256 digest (FIPS 180-4).
-#[derive(Clone, Copy, Debug, PartialEq, Eq)]
+#[derive(Clone, Copy, PartialEq, Eq)]
 pub struct Mark {
     pub length: u64,
     pub digest: Digest,
@@ -42,21 +42,21 @@ impl Mark {
 }
 
 /// An input of the recipe, and what its file held.
-#[derive(Debug, Drop)]
+#[derive(Drop)]
 pub struct InputLine {
     pub name: Name,
     pub mark: Mark,
 }
 
 /// A file that a program left, or was given: its name, of 1 to 255 bytes, and what it held.
-#[derive(Debug, Drop)]
+#[derive(Drop)]
 pub struct LeftLine {
     pub name: Bytes,
     pub mark: Mark,
 }
 
 /// What a stage did.
-#[derive(Debug, Drop)]
+#[derive(Drop)]
 pub struct StageLine {
     pub name: Name,
     /// The step at which its program exited.
@@ -74,7 +74,7 @@ pub struct StageLine {
 }
 
 /// What the comparison found.
-#[derive(Clone, Copy, Debug, PartialEq, Eq)]
+#[derive(Clone, Copy, PartialEq, Eq)]
 pub enum Compared {
     /// Both have these bytes, so many of them.
     Equal(u64),
@@ -84,7 +84,7 @@ pub enum Compared {
 }
 
 /// The comparison of a stage's artefact with an input, the audited binary.
-#[derive(Debug, Drop)]
+#[derive(Drop)]
 pub struct CompareLine {
     pub stage: Name,
     pub binary: Name,
@@ -92,7 +92,7 @@ pub struct CompareLine {
 }
 
 /// What an audit found: 1 to 256 inputs, 1 to 256 stages, and the comparisons.
-#[derive(Debug, Drop)]
+#[derive(Drop)]
 pub struct Report {
     /// 1 or 2: a report of form 1 has one comparison, one of form 2 has 1 to 16.
     pub form: u32,

@@ -4,7 +4,7 @@ ghost use Rattle.std.specs.Prelude.{◌≡◌};
 use paged_mem::Width;
 
 /// Why a hart stopped. A trap leaves its state as it was.
-#[derive(Clone, Copy, Debug, PartialEq, Eq)]
+#[derive(Clone, Copy, PartialEq, Eq)]
 pub enum Cause {
     /// The word at the pc is that of no row.
     Illegal(u32),
@@ -22,7 +22,7 @@ pub enum Cause {
 }
 
 /// How a step ended. Every answer but `Done` leaves the hart as it was.
-#[derive(Clone, Copy, Debug, PartialEq, Eq)]
+#[derive(Clone, Copy, PartialEq, Eq)]
 pub enum StepEnd {
     /// The instruction was carried out.
     Done,
@@ -35,7 +35,7 @@ pub enum StepEnd {
 }
 
 /// What a load-reserved registers: the bytes of a width, 4 or 8 of them, at an address that is a multiple of it and below 2^38.
-#[derive(Clone, Copy, Debug, PartialEq, Eq)]
+#[derive(Clone, Copy, PartialEq, Eq)]
 pub struct Reservation {
     pub wide: Width,
     pub at: u64,

@@ -34,7 +34,7 @@ const NO_PC: u64 = 1;
 /// A hart of RV64IMA with its memory.
 ///
 /// Contracts see it as its state: the registers, the pc, the memory as one map of bytes, and the reservation.
-#[derive(Debug, Drop)]
+#[derive(Drop)]
 pub struct Hart<R: Ram> {
     registers: [u64; 32],
     pc: u64,

@@ -13,7 +13,7 @@ mod lookup;
 pub use lookup::{row_at_once, row_of};
 
 /// The shape of an instruction word: which of its bits are fixed, and which fields the others hold.
-#[derive(Clone, Copy, PartialEq, Eq, Debug)]
+#[derive(Clone, Copy, PartialEq, Eq)]
 pub enum Form {
     /// Two source registers and a destination.
     R,
@@ -40,7 +40,7 @@ pub enum Form {
 }
 
 /// The operations, named after the standard's mnemonics, in the order of the table.
-#[derive(Clone, Copy, PartialEq, Eq, Debug)]
+#[derive(Clone, Copy, PartialEq, Eq)]
 pub enum Op {
     Lui,
     Auipc,
@@ -181,7 +181,7 @@ impl Op {
 }
 
 /// A row of the table: the words with `word & mask == want` are those of the operation `op`.
-#[derive(Clone, Copy, PartialEq, Eq, Debug)]
+#[derive(Clone, Copy, PartialEq, Eq)]
 pub struct Row {
     /// The bits that the operation fixes.
     pub mask: u32,

@@ -3,13 +3,13 @@ use ddc_base::digests::Digest;
 use report::{LeftLines, Mark};
 
 /// An input of the recipe.
-#[derive(Clone, Copy, Debug, PartialEq, Eq)]
+#[derive(Clone, Copy, PartialEq, Eq)]
 pub struct InputPart {
     pub digest: Digest,
 }
 
 /// A stage that is done.
-#[derive(Debug, Drop)]
+#[derive(Drop)]
 pub struct StagePart {
     /// The step at which its program exited.
     pub steps: u64,
@@ -34,7 +34,7 @@ pub(crate) struct StageFront {
 }
 
 /// What the text of a save says. The contents of its state are lent.
-#[derive(Debug, Drop)]
+#[derive(Drop)]
 pub struct Parts<'a> {
     /// The digest of the recipe's bytes.
     pub recipe: Digest,

@@ -24,7 +24,7 @@ use recipe_plan::{fetch_inputs, fetch_recipe};
 use std::alloc::Global;
 
 /// A recipe, its inputs, and the stages before one.
-#[derive(Debug, Drop)]
+#[derive(Drop)]
 pub(crate) struct Ready {
     pub(crate) recipe: Recipe,
     pub(crate) inputs: Inputs,

@@ -6,7 +6,7 @@ ghost use Rattle.segments.specs.Faults.{state_fault_number};
 use elf_load::ElfRefusal;
 
 /// Why bytes are no text of a state. The form is judged first, then counts and ranges, then references.
-#[derive(Clone, Copy, Debug, PartialEq, Eq)]
+#[derive(Clone, Copy, PartialEq, Eq)]
 pub enum StateFault {
     /// The field that begins at this offset is the first that is wrong.
     Form(u64),
@@ -30,7 +30,7 @@ impl StateFault {
 }
 
 /// Why a program does not start.
-#[derive(Clone, Copy, Debug, PartialEq, Eq)]
+#[derive(Clone, Copy, PartialEq, Eq)]
 pub enum StartFault {
     Elf(ElfRefusal),
     ArgsTooLong,
@@ -38,7 +38,7 @@ pub enum StartFault {
 }
 
 /// Why two texts are no piece of a run.
-#[derive(Clone, Copy, Debug, PartialEq, Eq)]
+#[derive(Clone, Copy, PartialEq, Eq)]
 pub enum SegmentFault {
     /// The former is no text of a state.
     From(StateFault),
@@ -55,7 +55,7 @@ pub enum SegmentFault {
 }
 
 /// What a check of two texts answers.
-#[derive(Clone, Copy, Debug, PartialEq, Eq)]
+#[derive(Clone, Copy, PartialEq, Eq)]
 pub enum SegmentAnswer {
     /// They are a piece of so many steps.
     Yes(u64),
@@ -64,7 +64,7 @@ pub enum SegmentAnswer {
 }
 
 /// What a check of a first text answers.
-#[derive(Clone, Copy, Debug, PartialEq, Eq)]
+#[derive(Clone, Copy, PartialEq, Eq)]
 pub enum StartAnswer {
     /// Its state is that of the program's start.
     Yes,

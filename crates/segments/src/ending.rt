@@ -9,7 +9,7 @@ use guest_run::{Guest, RunEnd, RunRam};
 use std::alloc::Global;
 
 /// What a check of a last text answers.
-#[derive(Debug, Drop)]
+#[derive(Drop)]
 pub enum EndAnswer {
     /// The guest before the end of its run, and the end: an exit, a trap or an unknown call.
     Ended(Guest<RunRam>, RunEnd),

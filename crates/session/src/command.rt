@@ -1,5 +1,5 @@
 /// What a line of a session asks for.
-#[derive(Clone, Copy, Debug, PartialEq, Eq)]
+#[derive(Clone, Copy, PartialEq, Eq)]
 pub enum Command {
     /// Where the program stands.
     Where,

@@ -20,7 +20,7 @@ use std::marker::Model;
 /// A program's run that is looked at line by line, from its start on, up to so many steps.
 ///
 /// Program and box are lent to it: to go back, the program is started again. It keeps the allocator that its constructor took.
-#[derive(Debug, Drop)]
+#[derive(Drop)]
 pub struct Session<'a> {
     program: &'a [u8],
     setting: RunBox<'a>,

@@ -14,7 +14,7 @@ use std::alloc::Global;
 use std::marker::Model;
 
 /// The word of a line, which stands for a file by its name without the `./` that it begins with. Contracts see it as its bytes.
-#[derive(Debug, Drop)]
+#[derive(Drop)]
 pub struct FileLine {
     word: ListedWord,
 }

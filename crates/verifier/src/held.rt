@@ -8,7 +8,7 @@ use ddc_base::{Bytes, Name};
 use recipe::{Content, Recipe};
 
 /// The recipe, the inputs, and the artefacts of the stages so far. All are lent.
-#[derive(Debug, Drop)]
+#[derive(Drop)]
 pub(crate) struct Held<'a> {
     pub(crate) recipe: &'a Recipe,
     pub(crate) inputs: &'a [Bytes],

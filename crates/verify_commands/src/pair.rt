@@ -7,7 +7,7 @@ use ddc_base::OutOfMemory;
 use std::alloc::Global;
 
 /// A line of a list of audits.
-#[derive(Debug, Drop)]
+#[derive(Drop)]
 pub struct Pair {
     /// The name of a recipe's file.
     pub recipe: ListedWord,

@@ -4,7 +4,7 @@ use ddc_base::Bytes;
 use report::{LeftLines, Mark, Report};
 
 /// A stage that is done.
-#[derive(Debug, Drop)]
+#[derive(Drop)]
 pub struct Finished {
     /// The step at which its program exited, counted from 1.
     pub steps: u64,
@@ -19,7 +19,7 @@ pub struct Finished {
 }
 
 /// Why a stage is not done.
-#[derive(Clone, Copy, Debug, PartialEq, Eq)]
+#[derive(Clone, Copy, PartialEq, Eq)]
 pub enum Fault {
     /// Its run made no artefact: the cause, and the step, which is 0 where the program did not start.
     Runs(RunCause, u64),
@@ -28,7 +28,7 @@ pub enum Fault {
 }
 
 /// How an audit is over.
-#[derive(Debug, Drop)]
+#[derive(Drop)]
 pub enum Answer {
     /// Every stage is done, and the artefacts were compared.
     Completes(Report),

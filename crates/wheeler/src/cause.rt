@@ -4,7 +4,7 @@ use rv64_machine::Cause;
 /// Why a program does not start.
 ///
 /// The same as `guest_run::StartRefusal` without want of memory.
-#[derive(Clone, Copy, Debug, PartialEq, Eq)]
+#[derive(Clone, Copy, PartialEq, Eq)]
 pub enum StartCause {
     /// The file is no program that can be loaded.
     Elf(ElfRefusal),
@@ -15,7 +15,7 @@ pub enum StartCause {
 }
 
 /// Why a stage's run made no artefact.
-#[derive(Clone, Copy, Debug, PartialEq, Eq)]
+#[derive(Clone, Copy, PartialEq, Eq)]
 pub enum RunCause {
     /// The program does not start.
     Start(StartCause),

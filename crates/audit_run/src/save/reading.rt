@@ -66,7 +66,7 @@ impl SaveRefusal {
 }
 
 /// Where an audit stands in a stage.
-#[derive(Debug, Drop)]
+#[derive(Drop)]
 pub struct Resumed {
     done: Vec<Done>,
     guest: Guest<RunRam>,

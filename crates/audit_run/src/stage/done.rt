@@ -6,7 +6,7 @@ use std::marker::Model;
 use wheeler::Finished;
 
 /// A stage that is done, seen as `Finished`, with the mark of its artefact, so that this is taken once.
-#[derive(Debug, Drop)]
+#[derive(Drop)]
 pub struct Done {
     finished: Finished,
     mark: Mark,

@@ -16,7 +16,7 @@ use std::marker::Model;
 /// are lent.
 ///
 /// Seen as three lists.
-#[derive(Debug, Drop)]
+#[derive(Drop)]
 pub struct FileParts<'a> {
     files: Vec<FileView<'a>>,
     slots: Vec<(u32, Slot)>,

@@ -12,7 +12,7 @@ use std::marker::Model;
 
 /// The kind of a reference inside a word: the immediate of the instruction format of this name that the label's distance goes to
 /// (RISC-V Unprivileged ISA, "Base Instruction Formats" and "Immediate Encoding Variants").
-#[derive(Clone, Copy, Debug, PartialEq, Eq)]
+#[derive(Clone, Copy, PartialEq, Eq)]
 pub enum Kind {
     /// `!name`: 12 bits, behind a `U` of the word before.
     I,
@@ -25,7 +25,7 @@ pub enum Kind {
 }
 
 /// A name, which lies in the source. Contracts see its bytes.
-#[derive(Debug, Drop)]
+#[derive(Drop)]
 pub struct Name<'s> {
     bytes: &'s [u8],
 }
@@ -91,7 +91,7 @@ impl<'s> Ord for Name<'s> {
 }
 
 /// One item of a source. Names lie in the source.
-#[derive(Debug, Drop)]
+#[derive(Drop)]
 pub enum Item<'s> {
     Byte(u8),
     /// Defines the label at the item's address.

@@ -10,21 +10,21 @@ ghost use Rattle.std.specs.Prelude.{◌≡◌, ℕ, List, ◌<◌, ◌≤◌, �
 use crate::items::item::{Item, Kind, Name};
 
 /// The two languages.
-#[derive(Clone, Copy, Debug)]
+#[derive(Clone, Copy)]
 pub enum Dialect {
     Hex1,
     Hex2,
 }
 
 /// Why there is no token.
-#[derive(Clone, Copy, Debug)]
+#[derive(Clone, Copy)]
 pub enum TokenFault {
     OddDigits,
     BadField,
 }
 
 /// A token.
-#[derive(Debug, Drop)]
+#[derive(Drop)]
 pub enum Token<'s> {
     Byte(u8),
     Field(u32),
@@ -186,7 +186,7 @@ fn field_at<'s>(rest: &'s [u8]) -> Result<(Token<'s>, usize), TokenFault>
 }
 
 /// What a sign makes of the name behind it.
-#[derive(Clone, Copy, Debug)]
+#[derive(Clone, Copy)]
 enum Sign {
     Label,
     Absolute,

@@ -13,7 +13,7 @@ use crate::items::token::Token;
 use ddc_base::OutOfMemory;
 
 /// The bytes of an open word so far.
-#[derive(Clone, Copy, Debug)]
+#[derive(Clone, Copy)]
 pub enum Begun {
     Nothing,
     One(u8),
@@ -22,7 +22,7 @@ pub enum Begun {
 }
 
 /// A word whose four bytes aren't there yet.
-#[derive(Debug, Drop)]
+#[derive(Drop)]
 pub struct Open<'s> {
     /// The offset of its first field or reference.
     pub first: usize,
@@ -33,7 +33,7 @@ pub struct Open<'s> {
 }
 
 /// Why a token has no place.
-#[derive(Clone, Copy, Debug)]
+#[derive(Clone, Copy)]
 pub enum Halt {
     /// The word whose first field stands at this offset is not whole.
     Dangling(usize),

@@ -10,7 +10,7 @@ use crate::items::Name;
 use std::cmp::Ordering;
 
 /// A label and its address. Labels are compared by name alone.
-#[derive(Debug, Drop)]
+#[derive(Drop)]
 pub(crate) struct Label<'s> {
     pub name: Name<'s>,
     pub address: u64,

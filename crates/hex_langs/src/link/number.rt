@@ -10,7 +10,7 @@ use crate::items::{Item, Kind};
 use crate::link::labels::LabelTable;
 
 /// Why an item has no number.
-#[derive(Clone, Copy, Debug)]
+#[derive(Clone, Copy)]
 pub enum Miss {
     NoLabel,
     OutOfReach,

@@ -12,7 +12,7 @@ use hex_langs::items::{Dialect, Token, byte_of, token_at};
 use hex_langs::link::{i_field, modulo_word};
 
 /// What a word gives, as text of the source where it gives many bytes.
-#[derive(Debug, Drop)]
+#[derive(Drop)]
 pub enum Meaning<'s> {
     /// The bytes of hexadecimal digits two by two.
     Digits(&'s [u8]),

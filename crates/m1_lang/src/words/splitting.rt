@@ -53,7 +53,7 @@ fn word_more(byte: u8, rest: &[u8]) -> Option<usize>
 }
 
 /// What stands from an offset on, past blanks and comments.
-#[derive(Debug, Drop)]
+#[derive(Drop)]
 pub enum Ahead<'s> {
     End,
     /// A quote that isn't closed, at its offset.

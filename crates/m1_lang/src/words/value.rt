@@ -9,7 +9,7 @@ use hex_langs::items::Token;
 use std::marker::Model;
 
 /// The value of a definition, which lies in the source. Contracts see its text. A field's four bytes are read once.
-#[derive(Debug, Drop)]
+#[derive(Drop)]
 pub struct Value<'s> {
     text: &'s [u8],
     field: Option<u32>,

@@ -7,7 +7,7 @@ use std::alloc::Global;
 use std::marker::Model;
 
 /// A path of a file outside: 1 to 255 bytes from space to `~`, which contracts see as these bytes.
-#[derive(Debug, Drop)]
+#[derive(Drop)]
 pub struct Path {
     text: String,
 }

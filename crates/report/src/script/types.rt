@@ -6,7 +6,7 @@ use ddc_base::digests::Digest;
 pub type CommandLines = ListOf<CommandLine>;
 
 /// What a command of a script did.
-#[derive(Clone, Copy, Debug, PartialEq, Eq)]
+#[derive(Clone, Copy, PartialEq, Eq)]
 pub struct CommandLine {
     /// The step at which its program exited with 0: from 1 to 2^48.
     pub steps: u64,
@@ -17,7 +17,7 @@ pub struct CommandLine {
 }
 
 /// What a script's commands did, one after the other over one world of files: at most 4,096 of each kind of line.
-#[derive(Debug, Drop)]
+#[derive(Drop)]
 pub struct ScriptReport {
     /// The digest of the script's bytes.
     pub script: Digest,

@@ -8,13 +8,13 @@ use std::alloc::{AllocError, AllocFailed};
 use std::marker::Model;
 
 /// A wrong field, by how many bytes were left at its first byte.
-#[derive(Clone, Copy, Debug)]
+#[derive(Clone, Copy)]
 pub struct WrongField {
     pub left: usize,
 }
 
 /// Why a reader that takes memory stops.
-#[derive(Clone, Copy, Debug)]
+#[derive(Clone, Copy)]
 pub enum Stop {
     /// A wrong field, with how many bytes were left at its first byte.
     Wrong(usize),

@@ -2,7 +2,7 @@ use crate::parts::StagePart;
 use ddc_base::digests::Digest;
 
 /// What the text of a delta says beside its base. The contents of its state are lent: what stays the base's is the base's.
-#[derive(Debug, Drop)]
+#[derive(Drop)]
 pub struct DeltaParts<'a> {
     /// The digest of the base's text, of the second form.
     pub base: Digest,

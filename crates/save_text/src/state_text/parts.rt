@@ -3,7 +3,7 @@ use mem_files::Slot;
 use paged_mem::Width;
 
 /// Bytes that are reserved.
-#[derive(Clone, Copy, Debug, PartialEq, Eq)]
+#[derive(Clone, Copy, PartialEq, Eq)]
 pub struct Reserved {
     /// How many: 4 or 8.
     pub width: Width,
@@ -12,7 +12,7 @@ pub struct Reserved {
 }
 
 /// Mapped pages in a row, with pages before and behind it that are not mapped.
-#[derive(Clone, Copy, Debug, PartialEq, Eq)]
+#[derive(Clone, Copy, PartialEq, Eq)]
 pub struct Run {
     /// The number of its first page: its address divided by 4,096.
     pub first: u32,
@@ -21,7 +21,7 @@ pub struct Run {
 }
 
 /// A page that is not all zeros.
-#[derive(Clone, Copy, Debug)]
+#[derive(Clone, Copy)]
 pub struct Page<'a> {
     /// Its address divided by 4,096.
     pub number: u32,
@@ -30,7 +30,7 @@ pub struct Page<'a> {
 }
 
 /// A file of the guest.
-#[derive(Clone, Copy, Debug)]
+#[derive(Clone, Copy)]
 pub struct File<'a> {
     pub number: u32,
     /// None where its name was removed.
@@ -39,7 +39,7 @@ pub struct File<'a> {
 }
 
 /// An open descriptor of the guest, and what it stands for.
-#[derive(Clone, Copy, Debug, PartialEq, Eq)]
+#[derive(Clone, Copy, PartialEq, Eq)]
 pub struct Descriptor {
     pub fd: u32,
     pub slot: Slot,
@@ -56,7 +56,7 @@ pub(crate) struct Numbers {
 }
 
 /// What the text of a state says. Contents are lent.
-#[derive(Debug, Drop)]
+#[derive(Drop)]
 pub struct Parts<'a> {
     /// How many steps were taken.
     pub steps: u64,

@@ -4,7 +4,7 @@ ghost use Rattle.std.specs.Prelude.{◌≡◌};
 /// Why a source of hex1 or hex2 has no value, or a text of hex2 no items, by the offset of a byte or the number of an item.
 ///
 /// The same as `hex_langs::items::HexRefusal` without want of memory, which no source comes to.
-#[derive(Clone, Copy, Debug, PartialEq, Eq)]
+#[derive(Clone, Copy, PartialEq, Eq)]
 pub enum HexCause {
     OddDigits(u64),
     BadField(u64),
@@ -50,7 +50,7 @@ impl HexCause {
 /// Why a source of M1 has no items, by the offset of a byte.
 ///
 /// The same as `m1_lang::M1Refusal` without want of memory, which no source comes to.
-#[derive(Clone, Copy, Debug, PartialEq, Eq)]
+#[derive(Clone, Copy, PartialEq, Eq)]
 pub enum M1Cause {
     BadDefine(u64),
     DoubleDefine(u64),
@@ -94,7 +94,7 @@ impl M1Cause {
 }
 
 /// Why an artefact is not what its source stands for.
-#[derive(Clone, Copy, Debug, PartialEq, Eq)]
+#[derive(Clone, Copy, PartialEq, Eq)]
 pub enum CheckCause {
     /// The source, of hex1 or hex2, has no value.
     Hex(HexCause),
