@@ -16,7 +16,7 @@ use Rattle.command_plan.specs.Plan.{answers, sets}
 use Rattle.audit_commands.specs.declared.going.Kept.{Kept}
 use Rattle.audit_commands.specs.declared.going.Kept.TheVariants.{Whole, Beside}
 use Rattle.audit_commands.specs.Inside.Keeping.{Keeps}
-use Rattle.audit_commands.specs.Texts.{stage_name}
+use Rattle.recipe_plan.specs.NotDone.{stage_name}
 use Rattle.audit_commands.specs.Pause.{paused}
 use Rattle.audit_commands.specs.PauseTexts.{paused_line}
 use Rattle.std.specs.Borrow.{Bor}

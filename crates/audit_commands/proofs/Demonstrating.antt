@@ -21,7 +21,7 @@ use Rattle.command_plan.specs.Plan.{Plan, answers}
 use Rattle.command_plan.specs.Steps.{Says}
 use Rattle.recipe_plan.specs.Reports.{compared_status}
 use Rattle.recipe_plan.specs.Texts.{compared_lines}
-use Rattle.audit_commands.specs.Audit.{undone}
+use Rattle.recipe_plan.specs.NotDone.{undone}
 use Rattle.audit_commands.specs.Demo.{demo_compared, demo_inputs, demo_line, demonstrated, steps_of_all}
 
 module _ (recipe : Said) (inputs : List (List ℕ)) (count : ℕ) (all : count ≡ length recipe.stages)

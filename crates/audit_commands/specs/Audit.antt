@@ -7,25 +7,17 @@ use Rattle.report.specs.declared.types.Report.{Report}
 use Rattle.wheeler.specs.Bench.{bench}
 use Rattle.wheeler.specs.declared.answer.Answer.{Answer}
 use Rattle.wheeler.specs.declared.answer.Answer.TheVariants.{Completes, Fails}
-use Rattle.wheeler.specs.declared.answer.Fault.{Fault}
-use Rattle.wheeler.specs.declared.answer.Fault.TheVariants.{Runs, Checks}
-use Rattle.command_plan.specs.declared.status.Status.TheVariants.{RunFailed, CheckFailed}
 use Rattle.command_plan.specs.Words.{are_two_files, usage}
 use Rattle.command_plan.specs.Plan.{Plan, answers, sets}
 use Rattle.recipe_plan.specs.Recipes.{needs_apart, needs_inputs, needs_recipe}
 use Rattle.recipe_plan.specs.Reports.{compared_status}
 use Rattle.recipe_plan.specs.Texts.{compared_lines}
-use Rattle.audit_commands.specs.Texts.{stage_name, run_failed_line, check_failed_line}
+use Rattle.recipe_plan.specs.NotDone.{undone}
 
 -- a report is saved, and its comparisons are said
 unfoldable pub completed : List ℕ → Report → Plan
 completed out report =
     sets out (report_text report) (answers (compared_status report.compare) (compared_lines report.compare))
-
--- a stage that is not done is said by its name, and nothing is saved
-abbrev pub undone : Said → ℕ → Fault → Plan
-undone recipe number (Runs cause step) = answers RunFailed (run_failed_line (stage_name recipe.stages number) cause step)
-undone recipe number (Checks cause) = answers CheckFailed (check_failed_line (stage_name recipe.stages number) cause)
 
 -- what an audit comes to
 abbrev pub audited : Said → List ℕ → Answer → Plan

@@ -14,7 +14,7 @@ use Rattle.command_plan.specs.Words.{or_usage, usage}
 use Rattle.command_plan.specs.Plan.{Plan, answers, needs}
 use Rattle.recipe_plan.specs.Recipes.{reads_recipe}
 use Rattle.recipe_plan.specs.Texts.{compared_lines}
-use Rattle.audit_commands.specs.Audit.{undone}
+use Rattle.recipe_plan.specs.NotDone.{undone}
 
 -- N: a number from 1 to 16,777,216
 abbrev pub within_demo : Option ℕ → Option ℕ

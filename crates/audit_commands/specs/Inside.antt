@@ -2,4 +2,3 @@
 pub mod Keeping
 pub mod Refusing
 pub mod Resuming
-pub mod Leaving

@@ -1,7 +1,4 @@
-pub mod Texts
 pub mod Audit
-pub mod Step
-pub mod Left
 pub mod Inside
 pub mod PauseTexts
 pub mod Pause

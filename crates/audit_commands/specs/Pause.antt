@@ -12,7 +12,7 @@ use Rattle.command_plan.specs.Words.{are_three_files, as_steps, or_usage, usage}
 use Rattle.command_plan.specs.Plan.{Plan, answers, needs, sets, unless_refused}
 use Rattle.recipe_plan.specs.Recipes.{needs_apart, needs_inputs, needs_recipe}
 use Rattle.audit_commands.specs.Audit.{audited}
-use Rattle.audit_commands.specs.Texts.{stage_name}
+use Rattle.recipe_plan.specs.NotDone.{stage_name}
 use Rattle.audit_commands.specs.PauseTexts.{paused_line, save_refused_line}
 
 -- ---- where an audit came to

@@ -5,29 +5,22 @@ ghost use Rattle.ddc_base.specs.Outside.{IsFileName};
 ghost use Rattle.report.specs.Reports.{IsReport};
 ghost use Rattle.wheeler.specs.Bench.{bench};
 ghost use Rattle.wheeler.specs.Valid.{IsAuditAnswer, IsInputs};
-ghost use Rattle.command_plan.specs.declared.status.Status.TheVariants.{RunFailed, CheckFailed};
 ghost use Rattle.command_plan.specs.Performs.{Performs};
-ghost use Rattle.command_plan.specs.Plan.{answers};
-ghost use Rattle.command_plan.specs.Steps.{Says};
 ghost use Rattle.command_plan.specs.Words.{are_two_files, usage};
 ghost use Rattle.recipe_plan.specs.Recipes.{needs_apart, needs_inputs};
 ghost use Rattle.recipe_plan.specs.Reports.{compared_status};
 ghost use Rattle.recipe_plan.specs.Texts.{compared_lines};
-ghost use Rattle.audit_commands.specs.Audit.{audited, audit_files, audit_plan, completed, undone};
-ghost use Rattle.audit_commands.specs.Texts.{stage_name, run_failed_line, check_failed_line};
+ghost use Rattle.audit_commands.specs.Audit.{audited, audit_files, audit_plan, completed};
 
-use crate::texts;
 use audit_run::run_bench;
 use command_plan::words::are_two_files;
-use command_plan::{Answer, Status, Stop, keep, usage};
+use command_plan::{Answer, Stop, keep, usage};
 use ddc_base::{Bytes, OutOfMemory, Shelf};
 use recipe::{Inputs, Recipe};
 use recipe_plan::texts::compared_lines;
-use recipe_plan::{apart, compared_status, fetch_inputs, fetch_recipe};
+use recipe_plan::{apart, compared_status, fetch_inputs, fetch_recipe, undone};
 use report::{CompareLine, Report};
 use std::alloc::Global;
-use wheeler::source_check::CheckCause;
-use wheeler::{Fault, RunCause};
 
 /// Performs the command on the words after its name.
 #[tactic(auto, using(command_plan::proofs::Performing::performing))]
@@ -130,47 +123,6 @@ pub fn tell<S: Shelf>(
         wheeler::Answer::Completes(made) => keep_report(alloc, made, report, shelf),
         wheeler::Answer::Fails(stage, fault) => undone(alloc, recipe, *stage, *fault),
     }
-}
-
-/// The answer of a stage that is not done.
-pub fn undone(alloc: Global, recipe: &Recipe, number: u32, fault: Fault) -> Result<Answer, Stop>
-    ensures { Says (undone recipe.now number fault) result }
-{
-    match fault {
-        Fault::Runs(cause, step) => run_failed(alloc, recipe, number, cause, step),
-        Fault::Checks(cause) => check_failed(alloc, recipe, number, cause),
-    }
-}
-
-/// The answer of a stage that made no artefact.
-fn run_failed(
-    alloc: Global,
-    recipe: &Recipe,
-    stage: u32,
-    cause: RunCause,
-    step: u64,
-) -> Result<Answer, Stop>
-    ensures { Says (answers RunFailed (run_failed_line (stage_name recipe.now.stages stage) cause step)) result }
-{
-    Ok(Answer {
-        status: Status::RunFailed,
-        text: texts::run_failed(alloc, texts::stage_name(recipe, stage), cause, step)?,
-    })
-}
-
-/// The answer of a stage whose artefact is not what its source stands for.
-fn check_failed(
-    alloc: Global,
-    recipe: &Recipe,
-    stage: u32,
-    cause: CheckCause,
-) -> Result<Answer, Stop>
-    ensures { Says (answers CheckFailed (check_failed_line (stage_name recipe.now.stages stage) cause)) result }
-{
-    Ok(Answer {
-        status: Status::CheckFailed,
-        text: texts::check_failed(alloc, texts::stage_name(recipe, stage), cause)?,
-    })
 }
 
 /// Saves a report, and says how its comparisons ended.

@@ -13,7 +13,7 @@ ghost use Rattle.command_plan.specs.Steps.{Obtains, Says};
 ghost use Rattle.recipe_plan.specs.Recipes.{reads_recipe};
 ghost use Rattle.audit_commands.specs.Demo.{as_demo_size, demo_compared, demo_files, demo_input, demo_inputs, demo_line, demo_plan, demo_recipe, demonstrated, generated_bytes, steps_of_all};
 
-use crate::audit::{compared, undone};
+use crate::audit::compared;
 use crate::generated::{generated_bytes, recipe_text};
 use audit_run::laws::earlier_stages_are_the_audits;
 use audit_run::run_earlier;
@@ -22,7 +22,7 @@ use command_plan::{Answer, Status, Stop, fetch_file, usage};
 use ddc_base::{Bytes, OutOfMemory, Shelf, read_decimal};
 use meaning::Meaning;
 use recipe::{Input, Inputs, Recipe};
-use recipe_plan::read_recipe;
+use recipe_plan::{read_recipe, undone};
 use report::{Report, StageLine};
 use std::alloc::Global;
 use verifier::Verdict;

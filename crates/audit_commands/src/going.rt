@@ -11,10 +11,10 @@ ghost use Rattle.audit_commands.specs.Pause.{came_to, paused};
 
 use crate::audit::tell;
 use crate::pause_texts;
-use crate::texts::stage_name;
 use audit_run::Audit;
 use command_plan::{Answer, Status, Stop, keep};
 use ddc_base::{Bytes, OutOfMemory, Shelf};
+use recipe_plan::stage_name;
 use std::alloc::Global;
 
 /// What is kept of an audit that is not over.

@@ -3,10 +3,10 @@
 ghost use Rattle.std.specs.Prelude.{◌≡◌, IfOk};
 ghost use Rattle.audit_commands.specs.PauseTexts.{delta_refused_line, paused_line, save_refused_line};
 
-use crate::texts::about_stage;
 use audit_run::DeltaRefusal;
 use audit_run::save::SaveRefusal;
 use ddc_base::{Bytes, OutOfMemory};
+use recipe_plan::about_stage;
 use std::alloc::Global;
 
 /// An audit stands in this stage, after so many steps of it.

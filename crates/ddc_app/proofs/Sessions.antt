@@ -16,7 +16,7 @@ use Rattle.command_plan.specs.Endings.{Completes}
 use Rattle.command_plan.specs.Performs.{PerformsTalk, HoldsTalk, Performs, WantsMemory}
 use Rattle.command_plan.proofs.Performing.{stops_complete}
 use Rattle.ddc_app.specs.Commands.{is_step, plan_of, text_plan}
-use Rattle.audit_commands.specs.Step.{step_plan}
+use Rattle.stage_commands.specs.Step.{step_plan}
 use Rattle.ddc_app.specs.Run.{LosesText, NamesFault, TakesOne}
 use Rattle.ddc_app.specs.Inside.Concluding.{Closes, Leaves, SaysEnding, concluded, conversed, unless_lost}
 use Rattle.ddc_app.proofs.Ending as ending

@@ -3,7 +3,7 @@ use Rattle.std.specs.Prelude.{ℕ, Bool, false, List, [], ◌∷◌, bytes_eq, c
 use Rattle.command_plan.specs.Plan.{Plan}
 use Rattle.command_plan.specs.Words.{usage}
 use Rattle.audit_commands.specs.Audit.{audit_plan}
-use Rattle.audit_commands.specs.Left.{left_plan}
+use Rattle.stage_commands.specs.Left.{left_plan}
 use Rattle.audit_commands.specs.Show.{show_plan}
 use Rattle.tool_commands.specs.Asm.{asm_plan}
 use Rattle.tool_commands.specs.Hex0.{hex0_plan}
@@ -13,12 +13,12 @@ use Rattle.tool_commands.specs.List.{list_plan}
 use Rattle.tool_commands.specs.RunProgram.{run_plan}
 use Rattle.audit_commands.specs.Pause.{part_plan, resume_plan}
 use Rattle.audit_commands.specs.Delta.{delta_resume_plan, delta_start_plan}
-use Rattle.audit_commands.specs.Step.{step_plan}
+use Rattle.stage_commands.specs.Step.{step_plan}
 use Rattle.verify_commands.specs.Chain.{chain_plan}
 use Rattle.audit_commands.specs.Demo.{demo_plan}
-use Rattle.segment_commands.specs.Cut.{cut_plan}
-use Rattle.segment_commands.specs.Ends.{ends_plan}
-use Rattle.segment_commands.specs.Segment.{segment_plan}
+use Rattle.stage_commands.specs.Cut.{cut_plan}
+use Rattle.stage_commands.specs.Ends.{ends_plan}
+use Rattle.stage_commands.specs.Segment.{segment_plan}
 use Rattle.verify_commands.specs.Verify.{verify_plan}
 
 -- what the commands do that say one text

@@ -16,12 +16,12 @@ ghost use Rattle.ddc_app.specs.Run.{plan_for, due, IsDue, IsOneText, LosesText, 
 ghost use Rattle.ddc_app.specs.Inside.Concluding.{Closes, Leaves, PutEnds, SaysEnding, unless_lost};
 
 use crate::laws::{chained, verified_as_loaded};
-use audit_commands::{audit, delta_resume, delta_start, demo, left, part, resume, show, step};
+use audit_commands::{audit, delta_resume, delta_start, demo, part, resume, show};
 use command_plan::{Answer, Status, Stop, usage};
 use ddc_base::{PutFail, Shelf, Sink};
 use meaning::Meaning;
 use prompt::Prompt;
-use segment_commands::{cut, ends, segment};
+use stage_commands::{cut, ends, left, segment, step};
 use std::alloc::Global;
 use tool_commands::{asm, hex0, kaem, kaem_verify, list, run};
 use verify_commands::{chain, verify};

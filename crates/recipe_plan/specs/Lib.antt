@@ -1,3 +1,4 @@
 pub mod Texts
+pub mod NotDone
 pub mod Recipes
 pub mod Reports

@@ -1,14 +1,17 @@
-//! What the commands of a recipe begin with: the recipe, the files that are to be none of its inputs, the inputs, and a report; and the lines
-//! on these that several commands print.
+//! What the commands of a recipe begin with: the recipe, the files that are to be none of its inputs, the inputs, and a report; the lines on
+//! these that several commands print; and what they say of a stage that is not done.
 //!
 //! Its rules for people: docs/reference/command-line.md and docs/reference/audit.md.
 #![tactic(auto)]
 
+pub mod causes;
 mod inputs;
+mod not_done;
 mod recipes;
 mod reports;
 pub mod texts;
 
 pub use inputs::{INPUTS_LIMIT, fetch_inputs, fetch_inputs_within};
+pub use not_done::{about_stage, run_failed, stage_name, undone};
 pub use recipes::{apart, fetch_recipe, read_recipe};
 pub use reports::{compared_status, fetch_report};

@@ -2,7 +2,7 @@ use Rattle.std.proofs.Common.{ap, ◌∙◌}
 use Rattle.std.proofs.lemmas.Result.{err_from_is_err_and}
 use Rattle.recipe.specs.declared.contents.Said.{Said}
 use Rattle.command_plan.proofs.Performing.{wants_memory}
-use Rattle.audit_commands.specs.Texts.{stage_name}
+use Rattle.recipe_plan.specs.NotDone.{stage_name}
 use Rattle.audit_commands.specs.PauseTexts.{paused_line}
 use Rattle.audit_commands.proofs.Coming.{sets_kept}
 use Rattle.audit_commands.proofs.going.keep_place.Goals as goal

@@ -1,5 +1,0 @@
-use Rattle.segment_commands.proofs.Cutting.{cut_is_right}
-use Rattle.segment_commands.proofs.laws.cuts.Goals as goal
-
-pub returns : goal.returns
-returns c = cut_is_right

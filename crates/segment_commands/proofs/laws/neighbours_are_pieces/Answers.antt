@@ -1,5 +1,0 @@
-use Rattle.segment_commands.proofs.Neighbours.{neighbours}
-use Rattle.segment_commands.proofs.laws.neighbours_are_pieces.Goals as goal
-
-pub returns : goal.returns
-returns c = neighbours

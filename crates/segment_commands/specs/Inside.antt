@@ -1,3 +1,0 @@
--- No promise rests on this file being read.
-pub mod Going
-pub mod Kept

@@ -1,0 +1,14 @@
+pub mod Stepping
+pub mod Leaving
+pub mod PieceNames
+pub mod Reading
+pub mod Judging
+pub mod Neighbours
+pub mod Stretches
+pub mod RunTexts
+pub mod Written
+pub mod CutWalk
+pub mod EarlierStages
+pub mod ReadyAgain
+pub mod TwoPieces
+pub mod Cutting

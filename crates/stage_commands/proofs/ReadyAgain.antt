@@ -1,0 +1,253 @@
+-- What a cut with 0 found before it saved is found again over every files in which names of states alone are changed.
+use Rattle.std.proofs.Common.{◌≡◌, ◌≢◌, ℕ, zero, suc, ◌-◌, ◌<◌, ◌≤◌, ◌||◌, Bool, true, false, cond, Option, Some, None, Result, Ok, Err, List, [], ◌∷◌, length, map, min, take, le_trans, nat_le, refl, sym, ap, ◌∙◌, subst, arith}
+use Rattle.std.specs.List.{list_any}
+use Rattle.std.specs.Prelude.{All}
+use Rattle.std.specs.FinMap as finite
+use Rattle.std.proofs.Math.Decide.{dec_lt}
+use Rattle.std.proofs.Math.Nat.{min-le_left}
+use Rattle.std.proofs.lemmas.Bool.{leb-true}
+use Rattle.std.proofs.lemmas.List.{length-map}
+use Rattle.std.proofs.lemmas.List.Elements.{All-cons, All-nil}
+use Rattle.std.proofs.lemmas.Slice.Eq.{bytes_eq-Decides}
+use Rattle.ddc_base.specs.declared.outside.Loaded.{Loaded}
+use Rattle.ddc_base.specs.declared.outside.Loaded.TheVariants.{Bytes, Absent, TooLong}
+use Rattle.ddc_base.specs.Outside.{NamedFiles, loaded, loaded_of}
+use Rattle.mem_files.specs.Outputs.{IsContent}
+use Rattle.recipe.specs.Kept.{IsRecipe}
+use Rattle.recipe.specs.Lookups.{stage_at}
+use Rattle.recipe.specs.Reading.{recipe_of}
+use Rattle.recipe.specs.declared.contents.Said.{Said}
+use Rattle.recipe.specs.declared.parts.Input.{Input}
+use Rattle.recipe.specs.declared.text.refusal.RecipeRefusal.{RecipeRefusal}
+use Rattle.recipe.proofs.Keeps.{reads_keep}
+use Rattle.wheeler.specs.Valid.{AreDone, IsInputs}
+use Rattle.wheeler.specs.declared.answer.Fault.{Fault}
+use Rattle.wheeler.specs.declared.answer.Fault.TheVariants.{Runs, Checks}
+use Rattle.wheeler.specs.declared.answer.Finished.{Finished}
+use Rattle.audit_run.specs.Earlier.{done_in_order}
+use Rattle.audit_run.specs.declared.earlier.Undone.{Undone}
+use Rattle.recipe_plan.specs.NotDone.{undone}
+use Rattle.stage_commands.specs.Earlier.{needs_earlier, needs_stage}
+use Rattle.command_plan.specs.declared.status.Status.TheVariants.{FileRefused, RecipeRefused, Yes}
+use Rattle.command_plan.specs.Plan.{Outcome, Plan, answers, follow, needs, needs_all, outcome, unless_refused}
+use Rattle.command_plan.specs.Words.{bare_name, is_one_file, or_usage, usage}
+use Rattle.recipe_plan.specs.Recipes.{is_input, needs_apart, needs_inputs, needs_recipe, reads_recipe}
+use Rattle.recipe_plan.specs.Texts.{recipe_line}
+use Rattle.stage_commands.specs.Names.{each_name, needs_other, piece_name}
+use Rattle.stage_commands.specs.Ready.{needs_ready}
+use Rattle.stage_commands.specs.declared.ready.Ready.{Ready}
+use Rattle.stage_commands.proofs.EarlierStages.{earlier_done}
+
+abbrev pub IsYes : Plan → NamedFiles → Type 0
+IsYes plan files = (outcome plan files).status ≡ Yes
+
+-- where one plan comes to the same as another, both come to 0 or none
+pub yes_as : (plan other : Plan) (files : NamedFiles) → outcome plan files ≡ outcome other files → IsYes plan files → IsYes other files
+yes_as plan other files same zeroed = ap (λ (o : Outcome). o.status) (sym same) ∙ zeroed
+
+pub is_other : (first second : List ℕ) → is_one_file first second ≡ false → first ≢ second
+unfolding is_one_file
+is_other first second apart = λ same. let equal : is_one_file first second ≡ true = (bytes_eq-Decides (bare_name first) (bare_name second)).1 (ap bare_name same) in cc
+
+-- ---- one load
+
+pub follows_load : (name : List ℕ) (limit : ℕ) (next : List ℕ → Plan) (files : NamedFiles) (content : List ℕ) → loaded files name limit ≡ Bytes content
+    → outcome (needs name limit next) files ≡ outcome (next content) files
+follows_load name limit next files content held =
+    ap (λ l. follow l (λ c. outcome (next c) files) (λ text. record { status = FileRefused; text = text; files = files }) name) held
+
+pub load_found : (name : List ℕ) (limit : ℕ) (next : List ℕ → Plan) (files : NamedFiles) → IsYes (needs name limit next) files
+    → (content : List ℕ) × (loaded files name limit ≡ Bytes content)
+load_found name limit next files zeroed = by (loaded files name limit) refl zeroed where
+  by : (l : Loaded) → loaded files name limit ≡ l
+      → (follow l (λ c. outcome (next c) files) (λ text. record { status = FileRefused; text = text; files = files }) name).status ≡ Yes
+      → (content : List ℕ) × (loaded files name limit ≡ Bytes content)
+  by (Bytes content) is zeroed = (content, is)
+  by Absent is zeroed = absurd cc
+  by TooLong is zeroed = absurd cc
+
+within_limit : (limit : ℕ) (held : Option (List ℕ)) (content : List ℕ) → loaded_of limit held ≡ Bytes content → (held ≡ Some content) × (length content ≤ limit)
+within_limit limit None content is = absurd cc
+within_limit limit (Some c) content is = by (nat_le (length c) limit) refl is where
+  by : (b : Bool) → nat_le (length c) limit ≡ b → cond b (Bytes c) TooLong ≡ Bytes content → (Some c ≡ Some content) × (length content ≤ limit)
+  by true fits is = let same : c ≡ content = cc in (ap Some same, subst (λ x. length x ≤ limit) same (leb-true (length c) limit fits))
+  by false fits is = absurd cc
+
+-- ---- names that were judged in turn
+
+module _ (test : List ℕ → Bool) (judge : List ℕ → (Unit {0} → Plan) → Plan) (is : (name : List ℕ) (next : Unit {0} → Plan) → judge name next ≡ cond (test name) usage (next tt))
+    (prefix : List ℕ) where
+  pub record Passed (count : ℕ) : Type 0 where
+    pub apart : (k : ℕ) → k < count → test (piece_name prefix k) ≡ false
+    pub found : (later : NamedFiles) (next : Unit {0} → Plan) → outcome (each_name judge prefix count next) later ≡ outcome (next tt) later
+
+  clear : (name : List ℕ) (next : Unit {0} → Plan) (files : NamedFiles) → IsYes (judge name next) files → test name ≡ false
+  clear name next files zeroed = by (test name) refl (yes_as (judge name next) (cond (test name) usage (next tt)) files (ap (λ p. outcome p files) (is name next)) zeroed) where
+    by : (b : Bool) → test name ≡ b → IsYes (cond b usage (next tt)) files → test name ≡ false
+    by true was zeroed = absurd cc
+    by false was zeroed = was
+
+  pub all_pass : (count : ℕ) (next : Unit {0} → Plan) (files : NamedFiles) → IsYes (each_name judge prefix count next) files → Passed count
+  unfolding each_name
+  all_pass zero next files zeroed = record { apart = λ k less. absurd (omega (arith, less)); found = λ later n. refl }
+  all_pass (suc count) next files zeroed =
+      let name : List ℕ = piece_name prefix count in
+      let before = all_pass count (λ _. judge name next) files zeroed in
+      let here : test name ≡ false = clear name next files (yes_as (each_name judge prefix count (λ _. judge name next)) (judge name next) files (before.found files (λ _. judge name next)) zeroed) in
+      record {
+        apart = λ k less. elim (dec_lt k count) [
+          | yes below ↦ before.apart k below
+          | no not ↦ let same : count ≡ k = omega (arith, less, not) in subst (λ n. test (piece_name prefix n) ≡ false) same here
+        ];
+        found = λ later n. before.found later (λ _. judge name n) ∙ ap (λ p. outcome p later) (is name n ∙ ap (λ b. cond b usage (n tt)) here);
+      }
+
+other_is : (recipe name : List ℕ) (next : Unit {0} → Plan) → needs_other recipe name next ≡ cond (is_one_file recipe name) usage (next tt)
+unfolding needs_other
+other_is recipe name next = refl
+
+apart_is : (said : Said) (name : List ℕ) (next : Unit {0} → Plan) → needs_apart said name next ≡ cond (is_input said name) usage (next tt)
+unfolding needs_apart
+apart_is said name next = refl
+
+-- ---- over files in which names of states alone may be changed
+
+module _ (prefix : List ℕ) (files : NamedFiles) (bytes : (name content : List ℕ) → finite.get files name ≡ Some content → All (λ byte. byte < 256) content) where
+  abbrev pub AreAlike : NamedFiles → Type 0
+  AreAlike later = (name : List ℕ) → ((k : ℕ) → k < 1_000 → name ≢ piece_name prefix k) → finite.get later name ≡ finite.get files name
+
+  loaded_again : (later : NamedFiles) → AreAlike later → (name : List ℕ) (limit : ℕ) → ((k : ℕ) → k < 1_000 → is_one_file name (piece_name prefix k) ≡ false)
+      → loaded later name limit ≡ loaded files name limit
+  loaded_again later alike name limit apart = ap (loaded_of limit) (alike name (λ k few. is_other name (piece_name prefix k) (apart k few)))
+
+  record Given (room : ℕ) (names : List (List ℕ)) : Type 0 where
+    contents : List (List ℕ)
+    found : (later : NamedFiles) → AreAlike later → (next : List (List ℕ) → Plan) → outcome (needs_all 268_435_456 room names next) later ≡ outcome (next contents) later
+    many : length contents ≡ length names
+    each : All IsContent contents
+
+  first_apart : (first others : Bool) → (first || others) ≡ false → (first ≡ false) × (others ≡ false)
+  first_apart true others is = absurd cc
+  first_apart false others is = (refl, is)
+
+  all_given : {A : Type 0} (path : A → List ℕ) (values : List A) (room : ℕ) (next : List (List ℕ) → Plan)
+      → ((k : ℕ) → k < 1_000 → list_any (λ value. is_one_file (path value) (piece_name prefix k)) values ≡ false)
+      → IsYes (needs_all 268_435_456 room (map path values) next) files → Given room (map path values)
+  all_given path [] room next apart zeroed = record { contents = []; found = λ later alike n. refl; many = refl; each = All-nil IsContent }
+  all_given path (value ∷ values) room next apart zeroed =
+      let limit : ℕ = min 268_435_456 room in
+      let behind : List ℕ → (List (List ℕ) → Plan) → Plan = λ c n. needs_all 268_435_456 (room - length c) (map path values) (λ contents. n (c ∷ contents)) in
+      let l = load_found (path value) limit (λ c. behind c next) files zeroed in
+      let parts = λ (k : ℕ) (few : k < 1_000). first_apart (is_one_file (path value) (piece_name prefix k)) (list_any (λ v. is_one_file (path v) (piece_name prefix k)) values) (apart k few) in
+      let rest = all_given path values (room - length l.0) (λ contents. next (l.0 ∷ contents)) (λ k few. (parts k few).1)
+      (yes_as (needs (path value) limit (λ c. behind c next)) (behind l.0 next) files (follows_load (path value) limit (λ c. behind c next) files l.0 l.1) zeroed) in
+      let held = within_limit limit (finite.get files (path value)) l.0 l.1 in
+      record {
+        contents = l.0 ∷ rest.contents;
+        found = λ later alike n.
+            follows_load (path value) limit (λ c. behind c n) later l.0 (loaded_again later alike (path value) limit (λ k few. (parts k few).0) ∙ l.1)
+            ∙ rest.found later alike (λ contents. n (l.0 ∷ contents));
+        many = omega (arith, rest.many);
+        each = All-cons IsContent l.0 rest.contents (record { bytes = bytes (path value) l.0 held.0; small = le_trans held.1 (min-le_left 268_435_456 room) }) rest.each;
+      }
+
+  -- a front of a plan finds what a command begins with, here and over every such files
+  pub record Finds (front : (Ready → Plan) → Plan) : Type 0 where
+    pub ready : Ready
+    pub is : IsRecipe ready.recipe
+    pub given : IsInputs ready.recipe ready.inputs
+    pub done : AreDone ready.recipe ready.done
+    pub found : (later : NamedFiles) → AreAlike later → (next : Ready → Plan) → outcome (front next) later ≡ outcome (next ready) later
+
+  -- a part more before it
+  with_part : (front rest : (Ready → Plan) → Plan) (next : Ready → Plan)
+      → ((later : NamedFiles) → AreAlike later → (n : Ready → Plan) → outcome (front n) later ≡ outcome (rest n) later)
+      → (IsYes (rest next) files → Finds rest) → IsYes (front next) files → Finds front
+  with_part front rest next same finds zeroed =
+      let r = finds (yes_as (front next) (rest next) files (same files (λ name apart. refl) next) zeroed) in
+      record { ready = r.ready; is = r.is; given = r.given; done = r.done; found = λ later alike n. same later alike n ∙ r.found later alike n }
+
+  module _ (recipe stage : List ℕ) (next : Ready → Plan) where
+    -- what follows each part
+    abbrev with_done : Said → List (List ℕ) → (Ready → Plan) → List Finished → Plan
+    with_done said inputs n done = n (record { recipe = said; inputs = inputs; done = done })
+
+    abbrev with_inputs : Said → ℕ → List (List ℕ) → (Ready → Plan) → Plan
+    with_inputs said count inputs n = needs_earlier said inputs count (with_done said inputs n)
+
+    abbrev with_names : Said → ℕ → (Ready → Plan) → Plan
+    with_names said count n = needs_inputs said (λ inputs. with_inputs said count inputs n)
+
+    abbrev with_count : Said → ℕ → (Ready → Plan) → Plan
+    with_count said count n = each_name (needs_apart said) prefix 1_000 (λ _. with_names said count n)
+
+    abbrev with_said : Said → (Ready → Plan) → Plan
+    with_said said n = needs_stage said stage (λ count. with_count said count n)
+
+    abbrev with_text : List ℕ → (Ready → Plan) → Plan
+    with_text text n = reads_recipe text (λ said. with_said said n)
+
+    abbrev with_recipe : (Ready → Plan) → Plan
+    with_recipe n = needs_recipe recipe (λ said. with_said said n)
+
+    abbrev refuses_stage : Said → Undone → Plan
+    refuses_stage said not_done = undone said not_done.stage not_done.fault
+
+    never_undone : (said : Said) (number : ℕ) (fault : Fault) → IsYes (undone said number fault) files → ⊥
+    never_undone said number (Runs cause step) zeroed = cc
+    never_undone said number (Checks cause) zeroed = cc
+
+    -- from the last part to the first
+    from_inputs : (said : Said) (count : ℕ) (inputs : List (List ℕ)) → IsRecipe said → IsInputs said inputs → IsYes (with_inputs said count inputs next) files
+        → Finds (with_inputs said count inputs)
+    from_inputs said count inputs is given zeroed = by (done_in_order said inputs [] (take count said.stages)) refl zeroed where
+      by : (run : Result (List Finished) Undone) → done_in_order said inputs [] (take count said.stages) ≡ run
+          → IsYes (unless_refused run (refuses_stage said) (with_done said inputs next)) files → Finds (λ n. unless_refused run (refuses_stage said) (with_done said inputs n))
+      by (Ok done) ran zeroed = record {
+        ready = record { recipe = said; inputs = inputs; done = done };
+        is = is;
+        given = given;
+        done = earlier_done said inputs is given count done ran;
+        found = λ later alike n. refl;
+      }
+      by (Err not_done) ran zeroed = absurd (never_undone said not_done.stage not_done.fault zeroed)
+
+    from_names : (said : Said) (count : ℕ) → IsRecipe said → ((k : ℕ) → k < 1_000 → is_input said (piece_name prefix k) ≡ false) → IsYes (with_names said count next) files
+        → Finds (with_names said count)
+    from_names said count is apart zeroed =
+        let inputs = all_given (λ (input : Input). input.path) said.inputs 1_073_741_824 (λ inputs. with_inputs said count inputs next) apart zeroed in
+        let given : IsInputs said inputs.contents = record { count = inputs.many ∙ length-map said.inputs (λ (input : Input). input.path); each = inputs.each } in
+        with_part (with_names said count) (with_inputs said count inputs.contents) next (λ later alike n. inputs.found later alike (λ inputs. with_inputs said count inputs n))
+        (from_inputs said count inputs.contents is given) zeroed
+
+    from_count : (said : Said) (count : ℕ) → IsRecipe said → IsYes (with_count said count next) files → Finds (with_count said count)
+    from_count said count is zeroed =
+        let apart = all_pass (is_input said) (needs_apart said) (apart_is said) prefix 1_000 (λ _. with_names said count next) files zeroed in
+        with_part (with_count said count) (with_names said count) next (λ later alike n. apart.found later (λ _. with_names said count n)) (from_names said count is apart.apart) zeroed
+
+    from_said : (said : Said) → IsRecipe said → IsYes (with_said said next) files → Finds (with_said said)
+    from_said said is zeroed = by (stage_at said.stages stage) zeroed where
+      by : (place : Option ℕ) → IsYes (or_usage place (λ count. with_count said count next)) files → Finds (λ n. or_usage place (λ count. with_count said count n))
+      by (Some count) zeroed = from_count said count is zeroed
+      by None zeroed = absurd cc
+
+    from_text : (text : List ℕ) → IsYes (with_text text next) files → Finds (with_text text)
+    from_text text zeroed = by (recipe_of text) refl zeroed where
+      by : (reading : Result Said RecipeRefusal) → recipe_of text ≡ reading
+          → IsYes (unless_refused reading (λ refusal. answers RecipeRefused (recipe_line refusal)) (λ said. with_said said next)) files
+          → Finds (λ n. unless_refused reading (λ refusal. answers RecipeRefused (recipe_line refusal)) (λ said. with_said said n))
+      by (Ok said) reads zeroed = from_said said (reads_keep text said reads) zeroed
+      by (Err refusal) reads zeroed = absurd cc
+
+    from_recipe : ((k : ℕ) → k < 1_000 → is_one_file recipe (piece_name prefix k) ≡ false) → IsYes (with_recipe next) files → Finds with_recipe
+    from_recipe apart zeroed =
+        let text = load_found recipe 1_048_576 (λ t. with_text t next) files zeroed in
+        with_part with_recipe (with_text text.0) next
+        (λ later alike n. follows_load recipe 1_048_576 (λ t. with_text t n) later text.0 (loaded_again later alike recipe 1_048_576 apart ∙ text.1))
+        (from_text text.0) zeroed
+
+    pub found_again : IsYes (needs_ready recipe stage prefix next) files → Finds (needs_ready recipe stage prefix)
+    unfolding needs_ready
+    found_again zeroed =
+        let names = all_pass (is_one_file recipe) (needs_other recipe) (other_is recipe) prefix 1_000 (λ _. with_recipe next) files zeroed in
+        with_part (needs_ready recipe stage prefix) with_recipe next (λ later alike n. names.found later (λ _. with_recipe n)) (from_recipe names.apart) zeroed

@@ -1,0 +1,8 @@
+use Rattle.std.proofs.Common.{subst, sym}
+use Rattle.wheeler.proofs.Places.{all-made}
+use Rattle.audit_run.specs.Stage.Rules.{AreMade}
+use Rattle.stage_commands.proofs.ends.judge_stage.Goals as goal
+
+pub box_of-requires-clause-done : goal.box_of-requires-clause-done
+box_of-requires-clause-done c =
+    subst AreMade (sym c.as_slice-done.ensures) (all-made c.args.ready.now.recipe.stages c.args.ready.now.done c.requires.ready.done.each)

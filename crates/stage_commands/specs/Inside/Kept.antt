@@ -1,0 +1,10 @@
+-- What the code of both commands rests on.
+use Rattle.recipe.specs.Kept.{IsRecipe}
+use Rattle.wheeler.specs.Valid.{AreDone, IsInputs}
+use Rattle.stage_commands.specs.declared.ready.Ready.{Ready}
+
+-- a recipe that keeps its rules, its inputs, and stages of it that are done
+pub record IsReady (ready : Ready) : Type 0 where
+  pub kept : IsRecipe ready.recipe
+  pub given : IsInputs ready.recipe ready.inputs
+  pub done : AreDone ready.recipe ready.done

@@ -1,0 +1,111 @@
+-- `left RECIPE STAGE FILE OUT`: a stage's program is run, whatever it ends with, and what it left at one place is saved.
+-- docs/reference/command-line.md says the same for people.
+use Rattle.std.specs.Prelude.{ℕ, ◌+◌, Bool, ◌&&◌, Option, None, Some, Result, Ok, Err, List, [], ◌∷◌, bytes_eq, codes, decimal, length, slice_get, unwrap_or, if◌then◌else◌}
+use Rattle.ddc_base.specs.Lines.{line}
+use Rattle.guest_run.specs.Run.{End, Exited, Trapped, UnknownCall, after, first_end}
+use Rattle.guest_run.specs.Start.{Refusal}
+use Rattle.guest_run.specs.State.{GuestState}
+use Rattle.mem_files.specs.Calls.{content_at}
+use Rattle.mem_files.specs.Names.{is_stripped_name, stripped}
+use Rattle.mem_files.specs.World.{World}
+use Rattle.recipe.specs.declared.contents.Said.{Said}
+use Rattle.recipe.specs.declared.parts.Stage.{Stage}
+use Rattle.wheeler.specs.Stages.{contents, start_cause, start_stage}
+use Rattle.wheeler.specs.declared.answer.Fault.TheVariants.{Runs}
+use Rattle.wheeler.specs.declared.answer.Finished.{Finished}
+use Rattle.wheeler.specs.declared.cause.RunCause.{RunCause}
+use Rattle.wheeler.specs.declared.cause.RunCause.TheVariants as run
+use Rattle.command_plan.specs.declared.status.Status.{Status}
+use Rattle.command_plan.specs.declared.status.Status.TheVariants.{FileRefused, RunFailed, Yes}
+use Rattle.command_plan.specs.Words.{are_two_files, has_no_zero_byte, or_usage, usage}
+use Rattle.command_plan.specs.Plan.{Plan, answers, sets}
+use Rattle.recipe_plan.specs.Recipes.{needs_apart, needs_inputs, needs_recipe}
+use Rattle.recipe_plan.specs.NotDone.{run_cause_text, undone}
+use Rattle.stage_commands.specs.Earlier.{needs_earlier, needs_stage}
+
+-- ---- how a run ended, and what stood then
+
+-- a run's end: the cause as an audit says it, its step, and the files before that step
+pub record RunLeft : Type 0 where
+  pub cause : RunCause
+  pub step : ℕ
+  pub files : World
+
+-- an end within the steps, which comes in the step that follows the state
+abbrev pub cause_of : End → RunCause
+cause_of (Exited status) = run.Status status
+cause_of (Trapped cause) = run.Trap cause
+cause_of (UnknownCall number) = run.Call number
+
+-- the first end within so many steps, else that they are spent and what stands behind them
+abbrev pub run_left_by : GuestState → ℕ → Option (End × GuestState) → RunLeft
+run_left_by start most (Some (end, guest)) = record { cause = cause_of end; step = guest.steps + 1; files = guest.world }
+run_left_by start most None = record { cause = run.Spent; step = most; files = (unwrap_or (after start most) start).world }
+
+unfoldable pub run_left : GuestState → ℕ → RunLeft
+run_left start most = run_left_by start most (first_end start most)
+
+-- ---- what is asked for
+
+-- what FILE asks for: `1` and `2` are the streams, any other name a file's, from which leading `./` are taken off
+unfoldable pub bytes_left_at : World → List ℕ → Option (List ℕ)
+bytes_left_at files file =
+    if bytes_eq file (codes "1") then Some files.stream1
+    else (if bytes_eq file (codes "2") then Some files.stream2
+    else content_at files (stripped file))
+
+-- ---- what is answered
+
+-- an exit answers the question with any status, and no other end does
+abbrev pub left_status : RunCause → Status
+left_status (run.Status status) = Yes
+left_status _ = RunFailed
+
+abbrev pub absent_status : RunCause → Status
+absent_status (run.Status status) = FileRefused
+absent_status _ = RunFailed
+
+-- how the run ended, behind what it left, or did not leave
+unfoldable pub file_left_line : List ℕ → List ℕ → ℕ → RunCause → ℕ → List ℕ
+file_left_line stage file size cause step =
+    line (codes "left" ∷ stage ∷ file ∷ decimal size ∷ run_cause_text cause ∷ codes "step" ∷ decimal step ∷ [])
+
+unfoldable pub none_left_line : List ℕ → List ℕ → RunCause → ℕ → List ℕ
+none_left_line stage file cause step =
+    line (codes "not" ∷ codes "left" ∷ stage ∷ file ∷ run_cause_text cause ∷ codes "step" ∷ decimal step ∷ [])
+
+-- what stands there is saved, and then the end is said; where nothing does, nothing is saved
+abbrev pub saved_left : List ℕ → List ℕ → List ℕ → RunLeft → Option (List ℕ) → Plan
+saved_left stage file out end (Some content) = sets out content (answers (left_status end.cause) (file_left_line stage file (length content) end.cause end.step))
+saved_left stage file out end None = answers (absent_status end.cause) (none_left_line stage file end.cause end.step)
+
+unfoldable pub ends_left : List ℕ → List ℕ → List ℕ → RunLeft → Plan
+ends_left stage file out end = saved_left stage file out end (bytes_left_at end.files file)
+
+-- the stage's program runs to its end; a start that is refused is a run that failed at step 0
+abbrev pub left_by : Said → ℕ → Stage → List ℕ → List ℕ → Result GuestState Refusal → Plan
+left_by recipe number stage file out (Ok start) = ends_left stage.name file out (run_left start stage.steps)
+left_by recipe number stage file out (Err why) = undone recipe number (Runs (run.Start (start_cause why)) 0)
+
+-- the stage behind those that are done
+unfoldable pub left_of_stage : Said → List (List ℕ) → List Finished → List ℕ → List ℕ → Plan
+left_of_stage recipe inputs done file out =
+    or_usage (slice_get recipe.stages (length done)) (λ stage. left_by recipe (length done + 1) stage file out (start_stage recipe (contents inputs done) stage))
+
+-- the recipe, the stage, an OUT that is none of the inputs, the inputs, the stages before that one; then it is run
+unfoldable pub left_files : List ℕ → List ℕ → List ℕ → List ℕ → Plan
+left_files recipe stage file out =
+    needs_recipe recipe (λ said.
+    needs_stage said stage (λ count.
+    needs_apart said out (λ _.
+    needs_inputs said (λ inputs.
+    needs_earlier said inputs count (λ done.
+    left_of_stage said inputs done file out)))))
+
+-- the words after `left`: RECIPE and OUT can name two files, STAGE has no zero byte, and FILE is a guest's file name, with or without leading `./`
+unfoldable pub are_left_words : List ℕ → List ℕ → List ℕ → List ℕ → Bool
+are_left_words recipe stage file out = are_two_files recipe out && has_no_zero_byte stage && is_stripped_name (stripped file)
+
+abbrev pub left_plan : List (List ℕ) → Plan
+left_plan (recipe ∷ stage ∷ file ∷ out ∷ []) = if are_left_words recipe stage file out then left_files recipe stage file out else usage
+left_plan _ = usage

@@ -1,0 +1,13 @@
+pub mod Texts
+pub mod Names
+pub mod Earlier
+pub mod Step
+pub mod Left
+pub mod Ready
+pub mod Exits
+pub mod States
+pub mod Cut
+pub mod Segment
+pub mod Ends
+pub mod Cutting
+pub mod Inside

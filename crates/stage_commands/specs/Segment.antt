@@ -1,0 +1,25 @@
+-- `segment FROM TO`: whether two texts are a piece of a run. docs/reference/command-line.md and docs/reference/segments.md say the same for people.
+use Rattle.std.specs.Prelude.{ℕ, Result, Ok, Err, List, [], ◌∷◌, if◌then◌else◌}
+use Rattle.segments.specs.declared.answers.SegmentFault.{SegmentFault}
+use Rattle.command_plan.specs.declared.status.Status.TheVariants.{Yes, Refuted}
+use Rattle.command_plan.specs.Plan.{Plan, answers, needs}
+use Rattle.command_plan.specs.Words.{are_two_files, usage}
+use Rattle.stage_commands.specs.States.{piece_of}
+use Rattle.stage_commands.specs.Texts.{refuted_segment_line, segment_line}
+
+-- they are one, of so many steps, or not
+abbrev pub piece_told : Result ℕ SegmentFault → Plan
+piece_told (Ok steps) = answers Yes (segment_line steps)
+piece_told (Err why) = answers Refuted (refuted_segment_line why)
+
+-- the former text and then the latter, each of at most 4,294,967,296 bytes
+unfoldable pub segment_files : List ℕ → List ℕ → Plan
+segment_files from to =
+    needs from 4_294_967_296 (λ former.
+    needs to 4_294_967_296 (λ latter.
+    piece_told (piece_of former latter)))
+
+-- the words after `segment`
+abbrev pub segment_plan : List (List ℕ) → Plan
+segment_plan (from ∷ to ∷ []) = if are_two_files from to then segment_files from to else usage
+segment_plan _ = usage

@@ -1,0 +1,231 @@
+//! `cut RECIPE STAGE EVERY PREFIX`: states along a stage's run are saved.
+
+ghost use Rattle.std.specs.Prelude.{◌≤◌, ◌<◌, ◌+◌, ◌^◌, IsTrue, if◌then◌else◌, map};
+ghost use Rattle.ddc_base.specs.Outside.{IsFileName};
+ghost use Rattle.guest_run.specs.Run.{first_end};
+ghost use Rattle.segments.specs.Segments.{second_text};
+ghost use Rattle.audit_run.specs.Stage.Rules.{IsStageOf};
+ghost use Rattle.recipe.specs.Kept as kept;
+ghost use Rattle.wheeler.specs.Stages.{contents, start_stage};
+ghost use Rattle.command_plan.specs.Performs.{Performs};
+ghost use Rattle.command_plan.specs.Plan.{answers, unless_refused};
+ghost use Rattle.command_plan.specs.Steps.{Saves, Says};
+ghost use Rattle.command_plan.specs.Words.{as_steps, or_usage, usage};
+ghost use Rattle.command_plan.specs.declared.status.Status.TheVariants.{Yes};
+ghost use Rattle.stage_commands.specs.Cut.{came_on, cut_files, cut_from, cut_plan, cut_ready, next_steps, saved_from};
+ghost use Rattle.stage_commands.specs.Exits.{output_left, run_failed};
+ghost use Rattle.stage_commands.specs.Inside.Going.{ComesOn, IsBelow};
+ghost use Rattle.stage_commands.specs.Inside.Kept.{IsReady};
+ghost use Rattle.stage_commands.specs.Names.{are_stage_words, is_prefix, piece_name};
+ghost use Rattle.stage_commands.specs.States.{state_after};
+ghost use Rattle.stage_commands.specs.Texts.{cut_line};
+
+use crate::exits::{output_left, run_failed};
+use crate::names::{MOST_STATES, are_stage_words, piece_name};
+use crate::ready::{Ready, make_ready, stage_behind};
+use crate::texts;
+use audit_run::stage::start_stage;
+use checkpoints::write_state;
+use command_plan::words::steps_of;
+use command_plan::{Answer, Status, Stop, store, usage};
+use ddc_base::Shelf;
+use guest_run::{Guest, RunEnd, RunRam};
+use mem_files::Files;
+use recipe::Stage;
+use std::alloc::Global;
+use wheeler::RunCause;
+
+/// Performs the command on the words after its name.
+#[tactic(auto, using(command_plan::proofs::Performing::performing))]
+pub fn perform<S: Shelf>(alloc: Global, words: &[&str], shelf: &mut S) -> Result<Answer, Stop>
+    ensures { Performs (cut_plan (map (λ w. w.now) words.now)) (S.state shelf.old) (S.state shelf.new) result }
+{
+    match words {
+        [recipe, stage, every, prefix] => on_words(alloc, shelf, recipe, stage, every, prefix),
+        _ => usage(alloc),
+    }
+}
+
+/// The command on four words.
+#[tactic(auto, using(command_plan::proofs::Performing::performing))]
+fn on_words<S: Shelf>(
+    alloc: Global,
+    shelf: &mut S,
+    recipe: &str,
+    stage: &str,
+    every: &str,
+    prefix: &str,
+) -> Result<Answer, Stop>
+    ensures { Performs (or_usage (as_steps every.now) (λ steps. if are_stage_words recipe.now stage.now prefix.now then cut_files recipe.now stage.now steps prefix.now else usage))
+        (S.state shelf.old) (S.state shelf.new) result }
+{
+    match steps_of(every) {
+        Some(every) if are_stage_words(recipe, stage, prefix) => {
+            cut(alloc, shelf, recipe, stage, every, prefix)
+        }
+        _ => usage(alloc),
+    }
+}
+
+/// The command on a recipe, a stage's name, a number of steps and a prefix.
+fn cut<S: Shelf>(
+    alloc: Global,
+    shelf: &mut S,
+    recipe: &str,
+    stage: &str,
+    every: u64,
+    prefix: &str,
+) -> Result<Answer, Stop>
+    requires recipe { IsFileName recipe.now }
+    requires some { 1 ≤ every }
+    requires prefix { IsTrue (is_prefix prefix.now) }
+    ensures { Performs (cut_files recipe.now stage.now every prefix.now) (S.state shelf.old) (S.state shelf.new) result }
+{
+    let ready = make_ready(alloc, shelf, recipe, stage, prefix)?;
+    cut_ready(alloc, shelf, &ready, every, prefix)
+}
+
+/// Cuts the stage behind those that are done.
+fn cut_ready<S: Shelf>(
+    alloc: Global,
+    shelf: &mut S,
+    ready: &Ready,
+    every: u64,
+    prefix: &str,
+) -> Result<Answer, Stop>
+    requires ready { IsReady ready.now }
+    requires some { 1 ≤ every }
+    requires prefix { IsTrue (is_prefix prefix.now) }
+    ensures { Performs (cut_ready every prefix.now ready.now) (S.state shelf.old) (S.state shelf.new) result }
+{
+    match stage_behind(ready) {
+        Some(stage) => cut_stage(alloc, shelf, ready, stage, every, prefix),
+        None => usage(alloc),
+    }
+}
+
+/// Starts the stage and cuts its run.
+fn cut_stage<S: Shelf>(
+    alloc: Global,
+    shelf: &mut S,
+    ready: &Ready,
+    stage: &Stage,
+    every: u64,
+    prefix: &str,
+) -> Result<Answer, Stop>
+    requires ready { IsReady ready.now }
+    requires rules { IsStageOf ready.now.recipe stage.now }
+    requires some { 1 ≤ every }
+    requires prefix { IsTrue (is_prefix prefix.now) }
+    ensures { Performs (cut_from stage.now every prefix.now (start_stage ready.now.recipe (contents ready.now.inputs ready.now.done) stage.now))
+        (S.state shelf.old) (S.state shelf.new) result }
+{
+    let inputs = ready.inputs.as_slice();
+    let done = ready.done.as_slice();
+    match start_stage(alloc, &ready.recipe, stage, inputs, done)? {
+        Ok(mut guest) => save_along(alloc, shelf, stage, every, prefix, &mut guest),
+        Err(cause) => run_failed(alloc, stage, RunCause::Start(cause), 0),
+    }
+}
+
+/// Saves the present state of a stage's run, and then those along it.
+fn save_along<S: Shelf>(
+    alloc: Global,
+    shelf: &mut S,
+    stage: &Stage,
+    every: u64,
+    prefix: &str,
+    guest: &mut Guest<RunRam>,
+) -> Result<Answer, Stop>
+    requires output { kept.IsOutput stage.now.output }
+    requires few { stage.now.steps ≤ 2 ^ 48 }
+    requires some { 1 ≤ every }
+    requires prefix { IsTrue (is_prefix prefix.now) }
+    requires below { guest.old.steps < stage.now.steps }
+    ensures { Performs (saved_from stage.now every prefix.now 1_000 0 guest.old) (S.state shelf.old) (S.state shelf.new) result }
+{
+    for saved in 0..MOST_STATES {
+        save_state(alloc, shelf, prefix, saved, guest)?;
+        match go_on(alloc, stage, every, saved + 1, guest)? {
+            Some(answer) => return Ok(answer),
+            None => {}
+        }
+    }
+    Ok(Answer {
+        status: Status::TooManySegments,
+        text: texts::too_many(alloc)?,
+    })
+}
+
+/// Saves the present state under the name of a number.
+fn save_state<S: Shelf>(
+    alloc: Global,
+    shelf: &mut S,
+    prefix: &str,
+    number: u32,
+    guest: &Guest<RunRam>,
+) -> Result<(), Stop>
+    requires prefix { IsTrue (is_prefix prefix.now) }
+    requires few { number < 1_000 }
+    ensures { Saves (piece_name prefix.now number) (second_text guest.now) (S.state shelf.old) (S.state shelf.new) result }
+{
+    let name = piece_name(alloc, prefix, number)?;
+    let text = write_state(alloc, guest)?;
+    store(alloc, shelf, name.as_str(), text.as_slice())
+}
+
+/// Takes the steps that follow so many saved states. None where the run goes on behind them.
+fn go_on(
+    alloc: Global,
+    stage: &Stage,
+    every: u64,
+    saved: u32,
+    guest: &mut Guest<RunRam>,
+) -> Result<Option<Answer>, Stop>
+    requires output { kept.IsOutput stage.now.output }
+    requires few { stage.now.steps ≤ 2 ^ 48 }
+    requires some { 1 ≤ every }
+    requires below { guest.old.steps < stage.now.steps }
+    ensures comes_on { ComesOn (came_on stage.now saved (first_end guest.old (next_steps stage.now every guest.old))
+        (state_after guest.old (next_steps stage.now every guest.old))) guest.new result }
+    ensures below { IsBelow stage.now.steps guest.new result }
+{
+    let end = guest.run(every.min(stage.steps - guest.steps()));
+    let steps = guest.steps();
+    match end {
+        RunEnd::Exited(status) => {
+            Ok(Some(exited(alloc, stage, saved, status, steps + 1, guest.files())?))
+        }
+        RunEnd::Trapped(cause) => {
+            Ok(Some(run_failed(alloc, stage, RunCause::Trap(cause), steps + 1)?))
+        }
+        RunEnd::UnknownCall(number) => {
+            Ok(Some(run_failed(alloc, stage, RunCause::Call(number), steps + 1)?))
+        }
+        RunEnd::Spent if steps < stage.steps => Ok(None),
+        RunEnd::Spent => Ok(Some(run_failed(alloc, stage, RunCause::Spent, stage.steps)?)),
+        RunEnd::OutOfMemory => Err(Stop::OutOfMemory),
+    }
+}
+
+/// The answer to an exit behind so many saved states.
+fn exited(
+    alloc: Global,
+    stage: &Stage,
+    saved: u32,
+    status: u8,
+    step: u64,
+    files: &Files,
+) -> Result<Answer, Stop>
+    requires { kept.IsOutput stage.now.output }
+    ensures { Says (unless_refused (output_left stage.now status files.now) (λ cause. run_failed stage.now cause step)
+        (λ _. answers Yes (cut_line saved step))) result }
+{
+    match output_left(stage, status, files) {
+        Ok(_) => Ok(Answer {
+            status: Status::Yes,
+            text: texts::cut(alloc, saved, step)?,
+        }),
+        Err(cause) => run_failed(alloc, stage, cause, step),
+    }
+}

@@ -1,0 +1,75 @@
+//! The stages before one.
+
+ghost use Rattle.std.specs.Prelude.{◌≡◌, ◌<◌, IfOk, IfSome, length};
+ghost use Rattle.ddc_base.specs.Outside.{ShelfState};
+ghost use Rattle.recipe.specs.Lookups.{stage_at};
+ghost use Rattle.wheeler.specs.Valid.{AreDone, IsInputs};
+ghost use Rattle.command_plan.specs.Steps.{Obtains};
+ghost use Rattle.stage_commands.specs.Earlier.{needs_earlier, needs_stage};
+
+use audit_run::run_earlier;
+use audit_run::stage::Done;
+use command_plan::{Stop, usage};
+use ddc_base::{Bytes, ListOf};
+use recipe::{Inputs, Recipe};
+use recipe_plan::undone;
+use std::alloc::Global;
+
+/// How many stages come before the one of a name.
+pub(crate) fn stages_before(alloc: Global, recipe: &Recipe, name: &str) -> Result<usize, Stop>
+    ensures obtained { (shelf : ShelfState) → Obtains (needs_stage recipe.now name.now) shelf shelf result }
+    ensures within { IfOk result (λ count. count < length recipe.now.stages) }
+{
+    match stage_at(recipe, name) {
+        Some(count) => Ok(count),
+        None => Err(Stop::Answered(usage(alloc)?)),
+    }
+}
+
+/// The index of the stage of a name.
+fn stage_at(recipe: &Recipe, name: &str) -> Option<usize>
+    ensures value { result ≡ stage_at recipe.now.stages name.now }
+    ensures index { IfSome result (λ index. index < length recipe.now.stages) }
+{
+    recipe
+        .stages()
+        .as_slice()
+        .iter()
+        .position(|stage| stage.name.bytes() == name.as_bytes())
+}
+
+/// Runs so many stages; one that is not done ends the command.
+pub(crate) fn run_before(
+    alloc: Global,
+    recipe: &Recipe,
+    inputs: &Inputs,
+    count: usize,
+) -> Result<ListOf<Done>, Stop>
+    requires given { IsInputs recipe.now inputs.now }
+    requires count { count < length recipe.now.stages }
+    ensures obtained { (shelf : ShelfState) → Obtains (needs_earlier recipe.now inputs.now count) shelf shelf result }
+    ensures done { IfOk result (AreDone recipe.now) }
+{
+    run_over(alloc, recipe, inputs.as_slice(), count)
+}
+
+/// The same, over inputs that are lent.
+fn run_over(
+    alloc: Global,
+    recipe: &Recipe,
+    inputs: &[Bytes],
+    count: usize,
+) -> Result<ListOf<Done>, Stop>
+    requires given { IsInputs recipe.now inputs.now }
+    requires count { count < length recipe.now.stages }
+    ensures obtained { (shelf : ShelfState) → Obtains (needs_earlier recipe.now inputs.now count) shelf shelf result }
+    ensures done { IfOk result (AreDone recipe.now) }
+{
+    match run_earlier(alloc, recipe, inputs, count)? {
+        Ok(done) => Ok(done),
+        Err(not_done) => {
+            let answer = undone(alloc, recipe, not_done.stage, not_done.fault)?;
+            Err(Stop::Answered(answer))
+        }
+    }
+}

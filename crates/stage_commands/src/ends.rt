@@ -1,0 +1,259 @@
+//! `ends RECIPE STAGE PREFIX COUNT`: whether the first saved state is that of the stage's start, and how the run behind the last one ends.
+
+ghost use Rattle.std.specs.Prelude.{◌≡◌, ◌≤◌, ◌<◌, ◌+◌, ◌-◌, ◌^◌, Err, IsTrue, if◌then◌else◌, map};
+ghost use Rattle.ddc_base.specs.Outside.{IsFileName};
+ghost use Rattle.audit_run.specs.Stage.Rules.{IsStageOf};
+ghost use Rattle.guest_run.specs.Start.{start_of};
+ghost use Rattle.recipe.specs.Kept as kept;
+ghost use Rattle.segments.specs.Faults.{start_refusal_of, state_fault_number};
+ghost use Rattle.segments.specs.Segments.{EndsWith};
+ghost use Rattle.command_plan.specs.declared.status.Status.TheVariants.{Refuted, Yes};
+ghost use Rattle.command_plan.specs.Performs.{Performs};
+ghost use Rattle.command_plan.specs.Plan.{answers, needs, unless_refused};
+ghost use Rattle.command_plan.specs.Steps.{Says};
+ghost use Rattle.command_plan.specs.Words.{or_usage, usage};
+ghost use Rattle.stage_commands.specs.Ends.{ends_files, ends_judged, ends_plan, needs_first, needs_last};
+ghost use Rattle.stage_commands.specs.Exits.{output_left, run_failed};
+ghost use Rattle.stage_commands.specs.Inside.Kept.{IsReady};
+ghost use Rattle.stage_commands.specs.Names.{are_stage_words, as_states, is_prefix, piece_name};
+ghost use Rattle.stage_commands.specs.States.{end_behind, state_said};
+ghost use Rattle.stage_commands.specs.Texts.{other_first_line, refuted_first_line, refuted_last_line, run_record};
+ghost use Rattle.wheeler.specs.Stages.{contents, finished, start_cause, start_stage};
+
+use crate::exits::{output_left, run_failed};
+use crate::names::{are_stage_words, fetch_state, states_of};
+use crate::ready::{Ready, make_ready, stage_behind};
+use crate::texts;
+use audit_run::stage::{box_of, content};
+use command_plan::{Answer, Status, Stop, usage};
+use ddc_base::Shelf;
+use guest_run::{Guest, RunBox, RunEnd, RunRam};
+use mem_files::Files;
+use recipe::Stage;
+use segments::{EndAnswer, StartAnswer, StartFault, StateFault, check_end, check_start};
+use std::alloc::Global;
+use wheeler::{RunCause, StartCause};
+
+/// Performs the command on the words after its name.
+#[tactic(auto, using(command_plan::proofs::Performing::performing))]
+pub fn perform<S: Shelf>(alloc: Global, words: &[&str], shelf: &mut S) -> Result<Answer, Stop>
+    ensures { Performs (ends_plan (map (λ w. w.now) words.now)) (S.state shelf.old) (S.state shelf.new) result }
+{
+    match words {
+        [recipe, stage, prefix, count] => on_words(alloc, shelf, recipe, stage, prefix, count),
+        _ => usage(alloc),
+    }
+}
+
+/// The command on four words.
+#[tactic(auto, using(command_plan::proofs::Performing::performing))]
+fn on_words<S: Shelf>(
+    alloc: Global,
+    shelf: &mut S,
+    recipe: &str,
+    stage: &str,
+    prefix: &str,
+    count: &str,
+) -> Result<Answer, Stop>
+    ensures { Performs (or_usage (as_states count.now) (λ states. if are_stage_words recipe.now stage.now prefix.now then ends_files recipe.now stage.now prefix.now states else usage))
+        (S.state shelf.old) (S.state shelf.new) result }
+{
+    match states_of(count) {
+        Some(count) if are_stage_words(recipe, stage, prefix) => {
+            ends(alloc, shelf, recipe, stage, prefix, count)
+        }
+        _ => usage(alloc),
+    }
+}
+
+/// The command on a recipe, a stage's name, a prefix and a number of states.
+fn ends<S: Shelf>(
+    alloc: Global,
+    shelf: &mut S,
+    recipe: &str,
+    stage: &str,
+    prefix: &str,
+    count: u32,
+) -> Result<Answer, Stop>
+    requires recipe { IsFileName recipe.now }
+    requires prefix { IsTrue (is_prefix prefix.now) }
+    requires some { 1 ≤ count }
+    requires few { count ≤ 1_000 }
+    ensures { Performs (ends_files recipe.now stage.now prefix.now count) (S.state shelf.old) (S.state shelf.new) result }
+{
+    let ready = make_ready(alloc, shelf, recipe, stage, prefix)?;
+    judge_states(alloc, shelf, &ready, prefix, count)
+}
+
+/// The command on what it begins with.
+fn judge_states<S: Shelf>(
+    alloc: Global,
+    shelf: &mut S,
+    ready: &Ready,
+    prefix: &str,
+    count: u32,
+) -> Result<Answer, Stop>
+    requires ready { IsReady ready.now }
+    requires prefix { IsTrue (is_prefix prefix.now) }
+    requires some { 1 ≤ count }
+    requires few { count ≤ 1_000 }
+    ensures { Performs (needs (piece_name prefix.now 0) 4_294_967_296 (λ first. needs (piece_name prefix.now (count - 1)) 4_294_967_296 (λ last.
+        ends_judged ready.now first last))) (S.state shelf.old) (S.state shelf.new) result }
+{
+    let first = fetch_state(alloc, shelf, prefix, 0)?;
+    let last = fetch_state(alloc, shelf, prefix, count - 1)?;
+    judge(alloc, ready, first.as_slice(), last.as_slice())
+}
+
+/// Judges both texts by the stage behind those that are done.
+fn judge(alloc: Global, ready: &Ready, first: &[u8], last: &[u8]) -> Result<Answer, Stop>
+    requires { IsReady ready.now }
+    ensures { Says (ends_judged ready.now first.now last.now) result }
+{
+    match stage_behind(ready) {
+        Some(stage) => judge_stage(alloc, ready, stage, first, last),
+        None => usage(alloc),
+    }
+}
+
+/// Judges both texts by a stage.
+fn judge_stage(
+    alloc: Global,
+    ready: &Ready,
+    stage: &Stage,
+    first: &[u8],
+    last: &[u8],
+) -> Result<Answer, Stop>
+    requires ready { IsReady ready.now }
+    requires rules { IsStageOf ready.now.recipe stage.now }
+    ensures { Says (needs_first stage.now (start_stage ready.now.recipe (contents ready.now.inputs ready.now.done) stage.now) (state_said first.now)
+        (needs_last stage.now (end_behind last.now stage.now.steps))) result }
+{
+    let inputs = ready.inputs.as_slice();
+    let done = ready.done.as_slice();
+    let given = box_of(alloc, &ready.recipe, stage, inputs, done)?;
+    let program = content(&ready.recipe, inputs, done, &stage.program);
+    judge_first(alloc, stage, program, &given, first, last)
+}
+
+/// Judges the first text by a program and what it is given, and then the last one.
+fn judge_first(
+    alloc: Global,
+    stage: &Stage,
+    program: &[u8],
+    given: &RunBox,
+    first: &[u8],
+    last: &[u8],
+) -> Result<Answer, Stop>
+    requires output { kept.IsOutput stage.now.output }
+    requires few { stage.now.steps ≤ 2 ^ 48 }
+    ensures { Says (needs_first stage.now (start_of program.now given.now) (state_said first.now)
+        (needs_last stage.now (end_behind last.now stage.now.steps))) result }
+{
+    match check_start(alloc, program, given, first) {
+        StartAnswer::Yes => judge_last(alloc, stage, last),
+        StartAnswer::Start(why) => { run_failed(alloc, stage, RunCause::Start(cause_of(why)), 0) }
+        StartAnswer::NotState(why) => refuted_first(alloc, why),
+        StartAnswer::Differs(offset) => other_first(alloc, offset),
+        StartAnswer::OutOfMemory => Err(Stop::OutOfMemory),
+    }
+}
+
+/// Why a program does not start, as a stage's cause.
+fn cause_of(why: StartFault) -> StartCause
+    ensures { start_cause (start_refusal_of why) ≡ result }
+{
+    match why {
+        StartFault::Elf(refusal) => StartCause::Elf(refusal),
+        StartFault::ArgsTooLong => StartCause::ArgsTooLong,
+        StartFault::BoxTooLarge => StartCause::BoxTooLarge,
+    }
+}
+
+/// The answer to a first text that says no state.
+fn refuted_first(alloc: Global, why: StateFault) -> Result<Answer, Stop>
+    ensures { Says (answers Refuted (refuted_first_line (state_fault_number why))) result }
+{
+    Ok(Answer {
+        status: Status::Refuted,
+        text: texts::refuted_first(alloc, why.number())?,
+    })
+}
+
+/// The answer to a first text that says another state than the start's.
+fn other_first(alloc: Global, offset: u64) -> Result<Answer, Stop>
+    ensures { Says (answers Refuted (other_first_line offset)) result }
+{
+    Ok(Answer {
+        status: Status::Refuted,
+        text: texts::other_first(alloc, offset)?,
+    })
+}
+
+/// Judges the last text, and tells what the run behind it left.
+fn judge_last(alloc: Global, stage: &Stage, last: &[u8]) -> Result<Answer, Stop>
+    requires output { kept.IsOutput stage.now.output }
+    requires few { stage.now.steps ≤ 2 ^ 48 }
+    ensures { Says (needs_last stage.now (end_behind last.now stage.now.steps)) result }
+{
+    match check_end(alloc, last, stage.steps) {
+        EndAnswer::Ended(guest, end) => ended(alloc, stage, end, &guest, last),
+        EndAnswer::NotState(why) => refuted_last(alloc, why),
+        EndAnswer::Over => run_failed(alloc, stage, RunCause::Spent, stage.steps),
+        EndAnswer::OutOfMemory => Err(Stop::OutOfMemory),
+    }
+}
+
+/// The answer to a last text that says no state.
+fn refuted_last(alloc: Global, why: StateFault) -> Result<Answer, Stop>
+    ensures { Says (answers Refuted (refuted_last_line (state_fault_number why))) result }
+{
+    Ok(Answer {
+        status: Status::Refuted,
+        text: texts::refuted_last(alloc, why.number())?,
+    })
+}
+
+/// Tells the end of the run behind the last state.
+fn ended(
+    alloc: Global,
+    stage: &Stage,
+    end: RunEnd,
+    guest: &Guest<RunRam>,
+    last: &[u8],
+) -> Result<Answer, Stop>
+    requires output { kept.IsOutput stage.now.output }
+    requires few { stage.now.steps ≤ 2 ^ 48 }
+    requires ends { EndsWith last.now stage.now.steps guest.now end }
+    ensures { Says (needs_last stage.now (end_behind last.now stage.now.steps)) result }
+{
+    let step = guest.steps() + 1;
+    match end {
+        RunEnd::Exited(status) => exited(alloc, stage, status, step, guest.files()),
+        RunEnd::Trapped(cause) => run_failed(alloc, stage, RunCause::Trap(cause), step),
+        RunEnd::UnknownCall(number) => run_failed(alloc, stage, RunCause::Call(number), step),
+        RunEnd::Spent => unreachable!(),
+        RunEnd::OutOfMemory => unreachable!(),
+    }
+}
+
+/// Tells an exit: what the run did, where it left the stage's output.
+fn exited(
+    alloc: Global,
+    stage: &Stage,
+    status: u8,
+    step: u64,
+    files: &Files,
+) -> Result<Answer, Stop>
+    requires { kept.IsOutput stage.now.output }
+    ensures { Says (unless_refused (output_left stage.now status files.now) (λ cause. run_failed stage.now cause step)
+        (λ made. answers Yes (run_record stage.now.name (finished step files.now made)))) result }
+{
+    match output_left(stage, status, files) {
+        Ok(made) => Ok(Answer {
+            status: Status::Yes,
+            text: texts::run(alloc, &stage.name, step, files, made)?,
+        }),
+        Err(cause) => run_failed(alloc, stage, cause, step),
+    }
+}

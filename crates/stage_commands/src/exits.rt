@@ -1,0 +1,57 @@
+//! How the run of a stage ended.
+
+ghost use Rattle.std.specs.Prelude.{◌≡◌, ◌<◌};
+ghost use Rattle.std.specs.Option.{option_copied};
+ghost use Rattle.mem_files.specs.Outputs.{out};
+ghost use Rattle.recipe.specs.Kept as kept;
+ghost use Rattle.wheeler.specs.Stages.{output_of};
+ghost use Rattle.command_plan.specs.Steps.{Says};
+ghost use Rattle.stage_commands.specs.Exits.{output_left, run_failed};
+ghost use Rattle.stage_commands.specs.Inside.Going.{IsLeft};
+
+use command_plan::{Answer, Stop};
+use mem_files::Files;
+use recipe::{Output, Stage};
+use std::alloc::Global;
+use wheeler::RunCause;
+
+/// What stands at the stage's output behind an exit with a status, or why nothing does.
+pub(crate) fn output_left<'a>(
+    stage: &Stage,
+    status: u8,
+    files: &'a Files,
+) -> Result<&'a [u8], RunCause>
+    requires { kept.IsOutput stage.now.output }
+    ensures { IsLeft (output_left stage.now status files.now) result }
+{
+    if status != 0 {
+        return Err(RunCause::Status(status));
+    }
+    match at_output(stage, files) {
+        Some(made) => Ok(made),
+        None => Err(RunCause::NoOutput),
+    }
+}
+
+/// The bytes at the stage's output.
+fn at_output<'a>(stage: &Stage, files: &'a Files) -> Option<&'a [u8]>
+    requires { kept.IsOutput stage.now.output }
+    ensures { option_copied result ≡ out files.now (output_of stage.now.output) }
+{
+    match &stage.output {
+        Output::Stream => Some(files.stream(1)),
+        Output::File(path) => files.content(path.as_slice()),
+    }
+}
+
+/// The answer to a run that made nothing.
+pub(crate) fn run_failed(
+    alloc: Global,
+    stage: &Stage,
+    cause: RunCause,
+    step: u64,
+) -> Result<Answer, Stop>
+    ensures { Says (run_failed stage.now cause step) result }
+{
+    recipe_plan::run_failed(alloc, stage.name.bytes(), cause, step)
+}

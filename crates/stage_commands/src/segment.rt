@@ -1,0 +1,63 @@
+//! `segment FROM TO`: whether two texts are a piece of a run.
+
+ghost use Rattle.std.specs.Prelude.{map};
+ghost use Rattle.ddc_base.specs.Outside.{IsFileName};
+ghost use Rattle.command_plan.specs.Performs.{Performs};
+ghost use Rattle.command_plan.specs.Steps.{Says};
+ghost use Rattle.stage_commands.specs.Segment.{piece_told, segment_files, segment_plan};
+ghost use Rattle.stage_commands.specs.States.{piece_of};
+
+use crate::names::STATE_LIMIT;
+use crate::texts;
+use command_plan::words::are_two_files;
+use command_plan::{Answer, Status, Stop, fetch, usage};
+use ddc_base::Shelf;
+use segments::{SegmentAnswer, SegmentFault, check};
+use std::alloc::Global;
+
+/// Performs the command on the words after its name.
+#[tactic(auto, using(command_plan::proofs::Performing::performing))]
+pub fn perform<S: Shelf>(alloc: Global, words: &[&str], shelf: &mut S) -> Result<Answer, Stop>
+    ensures { Performs (segment_plan (map (λ w. w.now) words.now)) (S.state shelf.old) (S.state shelf.new) result }
+{
+    match words {
+        [from, to] if are_two_files(from, to) => segment(alloc, shelf, from, to),
+        _ => usage(alloc),
+    }
+}
+
+/// The command on two files.
+#[tactic(auto, using(command_plan::proofs::Performing::performing), unfolding(crate::specs::Segment::segment_files))]
+fn segment<S: Shelf>(alloc: Global, shelf: &mut S, from: &str, to: &str) -> Result<Answer, Stop>
+    requires from { IsFileName from.now }
+    requires to { IsFileName to.now }
+    ensures { Performs (segment_files from.now to.now) (S.state shelf.old) (S.state shelf.new) result }
+{
+    let former = fetch(alloc, shelf, from, STATE_LIMIT)?;
+    let latter = fetch(alloc, shelf, to, STATE_LIMIT)?;
+    tell(alloc, former.as_slice(), latter.as_slice())
+}
+
+/// Whether two texts are a piece.
+fn tell(alloc: Global, from: &[u8], to: &[u8]) -> Result<Answer, Stop>
+    ensures { Says (piece_told (piece_of from.now to.now)) result }
+{
+    match check(alloc, from, to) {
+        SegmentAnswer::Yes(steps) => Ok(Answer {
+            status: Status::Yes,
+            text: texts::segment(alloc, steps)?,
+        }),
+        SegmentAnswer::No(why) => refuted(alloc, why),
+        SegmentAnswer::OutOfMemory => Err(Stop::OutOfMemory),
+    }
+}
+
+/// The answer to two texts that are no piece.
+fn refuted(alloc: Global, why: SegmentFault) -> Result<Answer, Stop>
+    ensures { Says (piece_told (Err why)) result }
+{
+    Ok(Answer {
+        status: Status::Refuted,
+        text: texts::refuted_segment(alloc, why)?,
+    })
+}
