@@ -26,12 +26,7 @@ pub fn undone(alloc: Global, recipe: &Recipe, number: u32, fault: Fault) -> Resu
 }
 
 /// The answer of a stage of this name that made no artefact.
-pub fn run_failed(
-    alloc: Global,
-    stage: &[u8],
-    cause: RunCause,
-    step: u64,
-) -> Result<Answer, Stop>
+pub fn run_failed(alloc: Global, stage: &[u8], cause: RunCause, step: u64) -> Result<Answer, Stop>
     ensures { Says (answers RunFailed (run_failed_line stage.now cause step)) result }
 {
     Ok(Answer {
