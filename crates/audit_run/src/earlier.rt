@@ -19,7 +19,7 @@ use std::alloc::Global;
 use wheeler::{Fault, RunCause};
 
 /// A stage that is not done.
-#[derive(Clone, Copy, PartialEq, Eq)]
+#[derive(Clone, Copy)]
 pub struct Undone {
     /// The stage's number, from 1.
     pub stage: u32,

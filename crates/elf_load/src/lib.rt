@@ -30,7 +30,7 @@ pub struct Segment {
 }
 
 /// What an accepted file asks for.
-#[derive(PartialEq, Eq, Drop)]
+#[derive(Drop)]
 pub struct Image {
     /// The address of the first instruction, a multiple of 4 within a segment.
     pub entry: u64,

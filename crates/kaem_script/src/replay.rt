@@ -22,7 +22,7 @@ use std::alloc::Global;
 const MOST_STEPS: u64 = 1 << 48;
 
 /// What stops the replay of a command.
-#[derive(Clone, Copy, PartialEq, Eq)]
+#[derive(Clone, Copy)]
 pub(crate) enum Stop {
     /// This part is not true.
     Refuted(ScriptPart),

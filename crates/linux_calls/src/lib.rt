@@ -13,7 +13,7 @@ mod transfer;
 pub use table::call;
 
 /// The number of a call, and its six arguments (Linux, arch/riscv: x17, and x10 to x15).
-#[derive(Clone, Copy, PartialEq, Eq)]
+#[derive(Clone, Copy)]
 pub struct CallRegs {
     pub number: u64,
     pub a: [u64; 6],
@@ -30,7 +30,7 @@ pub enum CallEnd {
 }
 
 /// The heap: the address where it begins, its break, and how many bytes it may have.
-#[derive(Clone, Copy, PartialEq, Eq)]
+#[derive(Clone, Copy)]
 pub struct Heap {
     pub first: u64,
     pub now: u64,

@@ -4,7 +4,7 @@ ghost use Rattle.std.specs.Prelude.{◌≡◌};
 ghost use Rattle.m1_lang.specs.Refusals.{m1_refusal_number, m1_refusal_place};
 
 /// The first refusal of a source, by the offset of a byte, which counts from 0.
-#[derive(Clone, Copy, Debug, PartialEq, Eq)]
+#[derive(Clone, Copy, PartialEq, Eq)]
 pub enum M1Refusal {
     /// Fewer than two words follow the `DEFINE` at this offset, or the second is no value.
     BadDefine(u64),

@@ -65,7 +65,7 @@ impl Access {
 }
 
 /// Why a file isn't opened or written.
-#[derive(Clone, Copy, Debug, PartialEq, Eq)]
+#[derive(Clone, Copy)]
 pub enum FileRefusal {
     /// Linux's error number.
     Errno(u16),
@@ -74,7 +74,7 @@ pub enum FileRefusal {
 }
 
 /// Why a file isn't placed.
-#[derive(Clone, Copy, Debug, PartialEq, Eq)]
+#[derive(Clone, Copy, PartialEq, Eq)]
 pub enum PlaceRefusal {
     /// What is left of the name is no guest file name: 1 to 255 bytes, none of them zero.
     BadName,

@@ -30,7 +30,7 @@ impl Width {
 }
 
 /// Why a write was refused. `Unmapped` comes before want of memory.
-#[derive(Clone, Copy, Debug, PartialEq, Eq)]
+#[derive(Clone, Copy, PartialEq, Eq)]
 pub enum StoreRefusal {
     Unmapped,
     OutOfMemory,

@@ -100,7 +100,7 @@ pub fn last_row(pages: &[u64]) -> Row
 
 /// The row from the first page on, the row after it, and the one up to the last page: a program's, its data's where they lie apart, and its
 /// stack's.
-#[derive(Clone, Copy, PartialEq, Eq)]
+#[derive(Clone, Copy)]
 pub struct Rows {
     pub first: Row,
     pub second: Row,

@@ -16,7 +16,7 @@ pub struct Input {
 }
 
 /// The language of a source.
-#[derive(Clone, Copy, PartialEq, Eq)]
+#[derive(Clone, Copy)]
 pub enum SourceLanguage {
     /// One that ddc defines.
     Defined(Language),

@@ -18,7 +18,7 @@ pub use writing::encode;
 use writing::{fits_register, has_immediate};
 
 /// An instruction: its operation and its fields. A field that the operation's form lacks is 0.
-#[derive(Clone, Copy, PartialEq, Eq)]
+#[derive(Clone, Copy)]
 pub struct Inst {
     /// The operation.
     pub op: Op,

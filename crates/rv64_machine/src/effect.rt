@@ -14,7 +14,7 @@ use paged_mem::Width;
 use rv64_table::Op;
 
 /// What an instruction does to its hart.
-#[derive(Clone, Copy, PartialEq, Eq)]
+#[derive(Clone, Copy)]
 pub enum Effect {
     /// rd takes the value.
     Put(u64),
@@ -56,7 +56,7 @@ pub enum Effect {
 }
 
 /// What an atomic memory operation makes of the number in memory and the value of rs2.
-#[derive(Clone, Copy, PartialEq, Eq)]
+#[derive(Clone, Copy)]
 pub enum AmoOperation {
     Swap,
     Add,

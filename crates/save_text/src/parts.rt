@@ -3,7 +3,7 @@ use ddc_base::digests::Digest;
 use report::{LeftLines, Mark};
 
 /// An input of the recipe.
-#[derive(Clone, Copy, PartialEq, Eq)]
+#[derive(Clone, Copy)]
 pub struct InputPart {
     pub digest: Digest,
 }

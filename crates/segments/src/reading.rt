@@ -10,7 +10,7 @@ use guest_run::{Guest, RunRam};
 use std::alloc::Global;
 
 /// Why a text was not read.
-#[derive(Clone, Copy, PartialEq, Eq)]
+#[derive(Clone, Copy)]
 pub(crate) enum Unread {
     Fault(StateFault),
     OutOfMemory,

@@ -1,5 +1,5 @@
 /// What a line of a session asks for.
-#[derive(Clone, Copy, PartialEq, Eq)]
+#[derive(Clone, Copy)]
 pub enum Command {
     /// Where the program stands.
     Where,

@@ -2,7 +2,7 @@ ghost use Rattle.std.specs.Prelude.{◌≡◌};
 ghost use Rattle.verifier.specs.Words.{part_word};
 
 /// A part of a report, in the order in which the parts are judged.
-#[derive(Clone, Copy, PartialEq, Eq)]
+#[derive(Clone, Copy)]
 pub enum Part {
     /// What the report says of the recipe: its digest, the names in it, and the languages of its checks.
     Header,
@@ -35,7 +35,7 @@ impl Part {
 }
 
 /// What a replay of a report comes to.
-#[derive(Clone, Copy, PartialEq, Eq)]
+#[derive(Clone, Copy)]
 pub enum Verdict {
     /// Every word of the report is true, and each comparison says that the artefact and the binary are equal.
     Yes,

@@ -6,7 +6,7 @@ ghost use Rattle.verifier.specs.declared.stop.Stop.TheVariants.{OutOfMemory};
 use crate::part::Part;
 
 /// What stops the replay of a stage.
-#[derive(Clone, Copy, PartialEq, Eq)]
+#[derive(Clone, Copy)]
 pub(crate) enum Stop {
     /// This part is not true.
     Refuted(Part),

@@ -19,7 +19,7 @@ pub struct Finished {
 }
 
 /// Why a stage is not done.
-#[derive(Clone, Copy, PartialEq, Eq)]
+#[derive(Clone, Copy)]
 pub enum Fault {
     /// Its run made no artefact: the cause, and the step, which is 0 where the program did not start.
     Runs(RunCause, u64),

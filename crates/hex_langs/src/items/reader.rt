@@ -14,7 +14,7 @@ use ddc_base::OutOfMemory;
 use std::alloc::Global;
 
 /// The first refusal of a source, by the offset of a byte, or of its items, by the number of an item; both count from 0.
-#[derive(Clone, Copy, Debug, PartialEq, Eq)]
+#[derive(Clone, Copy, PartialEq, Eq)]
 pub enum HexRefusal {
     /// The digit at this offset has no partner.
     OddDigits(u64),

@@ -11,7 +11,7 @@ use ddc_base::Bytes;
 use std::alloc::Global;
 
 /// A language in which a source stands for bytes.
-#[derive(Clone, Copy, PartialEq, Eq)]
+#[derive(Clone, Copy)]
 pub enum HexLanguage {
     Hex0,
     Hex1,

@@ -25,7 +25,7 @@ pub enum Meaning<'s> {
 }
 
 /// Why a word gives nothing.
-#[derive(Clone, Copy, Debug, PartialEq, Eq)]
+#[derive(Clone, Copy)]
 pub enum WordFault {
     /// It is of no form.
     UnknownWord,

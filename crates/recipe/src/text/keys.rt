@@ -4,7 +4,7 @@ ghost use Rattle.recipe.specs.Text.Keys.{key_word, table_word};
 use std::fmt;
 
 /// A kind of table of a recipe.
-#[derive(Clone, Copy, Debug, PartialEq, Eq)]
+#[derive(Clone, Copy, Debug)]
 pub enum Table {
     /// The whole text.
     Top,
@@ -15,7 +15,7 @@ pub enum Table {
 }
 
 /// A key of a recipe's tables.
-#[derive(Clone, Copy, Debug, PartialEq, Eq)]
+#[derive(Clone, Copy, Debug)]
 pub enum Key {
     Format,
     Input,
@@ -42,7 +42,7 @@ pub enum Key {
 }
 
 /// A table of a recipe: its kind and its number from 1, or 0 for the top and for compare.
-#[derive(Clone, Copy, Debug, PartialEq, Eq)]
+#[derive(Clone, Copy, Debug)]
 pub struct Place {
     pub table: Table,
     pub number: u32,

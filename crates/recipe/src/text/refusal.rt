@@ -7,7 +7,7 @@ use std::alloc::{AllocError, AllocFailed};
 use thiserror::Error;
 
 /// Why a text is no recipe: the first refusal of the two walks, with the table and the key where it stands.
-#[derive(Clone, Copy, Debug, PartialEq, Eq, Error)]
+#[derive(Clone, Copy, Debug, Error)]
 pub enum RecipeRefusal {
     /// The bytes are no TOML text.
     #[error("not TOML")]

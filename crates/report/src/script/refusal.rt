@@ -5,7 +5,7 @@ use ddc_base;
 use thiserror::Error;
 
 /// Why bytes were not read as a script's report.
-#[derive(Clone, Copy, Debug, PartialEq, Eq, Error)]
+#[derive(Clone, Copy, Debug, Error)]
 pub enum ScriptReportRefusal {
     /// They are no report's text: the number, from 1, of the first line that no report goes on with.
     #[error("report line {0}")]

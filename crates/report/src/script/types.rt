@@ -6,7 +6,7 @@ use ddc_base::digests::Digest;
 pub type CommandLines = ListOf<CommandLine>;
 
 /// What a command of a script did.
-#[derive(Clone, Copy, PartialEq, Eq)]
+#[derive(Clone, Copy)]
 pub struct CommandLine {
     /// The step at which its program exited with 0: from 1 to 2^48.
     pub steps: u64,

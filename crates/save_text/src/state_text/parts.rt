@@ -3,7 +3,7 @@ use mem_files::Slot;
 use paged_mem::Width;
 
 /// Bytes that are reserved.
-#[derive(Clone, Copy, PartialEq, Eq)]
+#[derive(Clone, Copy)]
 pub struct Reserved {
     /// How many: 4 or 8.
     pub width: Width,
@@ -39,7 +39,7 @@ pub struct File<'a> {
 }
 
 /// An open descriptor of the guest, and what it stands for.
-#[derive(Clone, Copy, PartialEq, Eq)]
+#[derive(Clone, Copy)]
 pub struct Descriptor {
     pub fd: u32,
     pub slot: Slot,

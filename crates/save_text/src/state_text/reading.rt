@@ -19,7 +19,7 @@ pub const MAGIC: [u8; 8] = *b"ddcstat2";
 pub(crate) const OLD_MAGIC: [u8; 8] = *b"ddcstat1";
 
 /// Why a text is refused.
-#[derive(Clone, Copy, Debug, PartialEq, Eq)]
+#[derive(Clone, Copy)]
 pub enum TextRefusal {
     /// The field that begins at this offset is the first wrong one, or the first byte behind the last field.
     Form(u64),
