@@ -1,0 +1,71 @@
+//! How tables over names from outside are hashed.
+
+ghost use Rattle.std.specs.Prelude.{◌≡◌, [], ◌++◌, ℕ, List};
+ghost use Rattle.sha2.specs.Hashers.{Holds256};
+ghost use Rattle.sha2.specs.Sha256.{sha256};
+ghost use Rattle.ddc_base.specs.NameTables.{begun_with, framed};
+
+use sha2::{Digest as _, Sha256};
+use std::hash::{BuildHasher, DefaultHasher, Hasher};
+
+/// Takes the names that will go into a table, one after the other. It takes no memory.
+#[derive(Drop)]
+pub struct NamesDigest {
+    taken: Sha256,
+}
+
+impl NamesDigest {
+    /// Of no names.
+    pub fn new() -> NamesDigest
+        ensures { Holds256 result.taken [] }
+    {
+        NamesDigest {
+            taken: Sha256::new(),
+        }
+    }
+
+    /// Takes one more name.
+    pub fn add(&mut self, name: &[u8])
+        ensures { (message : List ℕ) → Holds256 self.old.taken message → Holds256 self.new.taken (message ++ framed name.now) }
+    {
+        self.taken.update(&name.len().to_le_bytes());
+        self.taken.update(name);
+    }
+
+    /// What hashes the names in their table.
+    pub fn key(self) -> NamesKey
+        ensures { (message : List ℕ) → Holds256 self.taken message → result.begun ≡ begun_with (sha256 message) }
+    {
+        let mut begun = DefaultHasher::new();
+        begun.write(&self.taken.finalize());
+        NamesKey { begun }
+    }
+}
+
+/// The `BuildHasher` of a table over names: SipHash that begins with the SHA-256 digest of all the names. Who changes a name changes
+/// the key, so that nobody can prepare names that collide.
+#[derive(Clone, Copy)]
+pub struct NamesKey {
+    begun: DefaultHasher,
+}
+
+impl NamesKey {
+    /// The key of a table that nothing goes into.
+    pub fn of_none() -> NamesKey
+        ensures { result.begun ≡ begun_with [] }
+    {
+        NamesKey {
+            begun: DefaultHasher::new(),
+        }
+    }
+}
+
+impl BuildHasher for NamesKey {
+    type Hasher = DefaultHasher;
+
+    ghost build_hasher = { λ key. key.begun };
+
+    fn build_hasher(&self) -> DefaultHasher {
+        self.begun
+    }
+}
