@@ -1,5 +1,6 @@
 //! How tables over names from outside are hashed.
 
+ghost use Rattle.std.specs.Hash.DefaultHasher as sip;
 ghost use Rattle.std.specs.Prelude.{◌≡◌, [], ◌++◌, ℕ, List};
 ghost use Rattle.sha2.specs.Hashers.{Holds256};
 ghost use Rattle.sha2.specs.Sha256.{sha256};
@@ -52,7 +53,7 @@ pub struct NamesKey {
 impl NamesKey {
     /// The key of a table that nothing goes into.
     pub fn of_none() -> NamesKey
-        ensures { result.begun ≡ begun_with [] }
+        ensures { result.begun ≡ sip.initial }
     {
         NamesKey {
             begun: DefaultHasher::new(),
