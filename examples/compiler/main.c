@@ -1,0 +1,82 @@
+// cc [-E] [-floats-stop] [-I DIR].. -o OUT FILE..: makes a program of C sources, each of them a unit. With -E, puts out their words.
+
+long only_words;
+long floats_stop;
+char *output_name;
+
+// What every unit begins with.
+char *predefined(void) {
+    return "#define __SIZE_TYPE__ unsigned long\n#define __PTRDIFF_TYPE__ long\n#define __WCHAR_TYPE__ int\n#define __LP64__ 1\n#define __STDC_VERSION__ 199901L\n\n";
+}
+
+void open_unit(char *name) {
+    char *text = read_file(name);
+    if (text == 0)
+        stop(NO_FILE, "is not there: ", name);
+    file = 0;
+    open_text(name, text);
+    open_text("cc", predefined());
+}
+
+// Puts out all words of a unit, each line's in a line.
+void put_words(void) {
+    struct word *word = expanded_word();
+    while (word->kind != END) {
+        if (word->begin)
+            put("\n", 1);
+        else
+            put(" ", 1);
+        put(word->text, word->length);
+        word = expanded_word();
+    }
+    put("\n", 1);
+}
+
+void compile(char *name) {
+    open_unit(name);
+    if (only_words)
+        put_words();
+    forget_macros();
+}
+
+void wrong_words(void) { stop(WRONG_WORDS, "cc [-E] [-floats-stop] [-I DIR].. -o OUT FILE..", ""); }
+
+// Takes the options; gives the place of the first file's name.
+long read_options(char **words, long count) {
+    long at = 1;
+    while (at < count && *words[at] == '-') {
+        char *word = words[at];
+        at += 1;
+        if (same_text(word, "-E")) {
+            only_words = 1;
+        } else if (same_text(word, "-floats-stop")) {
+            floats_stop = 1;
+        } else if (same_text(word, "-I") && at < count) {
+            add_folder(words[at]);
+            at += 1;
+        } else if (same_text(word, "-o") && at < count) {
+            output_name = words[at];
+            at += 1;
+        } else {
+            wrong_words();
+        }
+    }
+    return at;
+}
+
+// Linux begins here, with the address at which the count of words stands, and the words' addresses above it.
+void begin(long *stack) {
+    char **words = (char **)(stack + 1);
+    long count = *stack;
+    long at = read_options(words, count);
+    if (at >= count || output_name == 0)
+        wrong_words();
+    fill_classes();
+    set_directives();
+    while (at < count) {
+        compile(words[at]);
+        at += 1;
+    }
+    write_output(output_name);
+    end(DONE);
+}
