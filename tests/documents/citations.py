@@ -143,7 +143,7 @@ def check_words(root, paragraph):
 
 
 def check_headings(text, crates, root):
-    """docs/PROVING.md goes by crates and their parts, and cites the kit's names too."""
+    """A heading of docs/PROVING.md that names a crate or a part names one that is there."""
     for heading in re.findall(r"^## (.*)$", text, re.M):
         for name in re.findall(r"\b[a-z0-9]+_\w+(?:::\w+)?", heading):
             if not holds(root, crates, name.split("::")):
@@ -165,10 +165,12 @@ def faults(root):
         is_proving = document.name == "PROVING.md"
         # A folder of tests names its own files and edits beside the crates that they are of.
         is_of_tests = document.parent.parent == root / "tests"
+        # The log tells of names that were.
+        is_log = document.name == "LOG.md"
         for piece in paragraphs(text):
             found += [*check_paths(root, piece), *check_files(root, piece, crates)]
             found += [*check_qualified(root, piece, crates)]
-            found += [] if is_of_tests else [*check_beside(root, piece, crates, is_proving)]
-            found += [] if is_proving or is_of_tests else [*check_words(root, piece)]
+            found += [] if is_of_tests or is_log else [*check_beside(root, piece, crates, is_proving)]
+            found += [] if is_proving or is_of_tests or is_log else [*check_words(root, piece)]
         found += [*check_headings(text, crates, root)] if is_proving else []
         yield from (f"{document.relative_to(root)}: {fault}" for fault in found)
