@@ -115,7 +115,7 @@ void copy_bytes(char *to, char *from, long length) {
 
 // ---- what is told
 
-void end(long status) {
+void finish(long status) {
     while (1)
         system_call(EXIT, status, 0, 0, 0);
 }
@@ -161,7 +161,7 @@ void refuse(struct word *place, char *what, struct name *name) {
         write_all(2, name->text, name->length);
     }
     tell("\n");
-    end(REFUSED);
+    finish(REFUSED);
 }
 
 // Ends where the machine, not the source, is the reason.
@@ -170,7 +170,7 @@ void stop(long status, char *what, char *name) {
     tell(what);
     tell(name);
     tell("\n");
-    end(status);
+    finish(status);
 }
 
 // ---- memory

@@ -1,7 +1,6 @@
 // cc [-E] [-floats-stop] [-I DIR].. -o OUT FILE..: makes a program of C sources, each of them a unit. With -E, puts out their words.
 
 long only_words;
-long floats_stop;
 char *output_name;
 
 // What every unit begins with.
@@ -36,6 +35,8 @@ void compile(char *name) {
     open_unit(name);
     if (only_words)
         put_words();
+    else
+        unit();
     forget_macros();
 }
 
@@ -65,7 +66,7 @@ long read_options(char **words, long count) {
 }
 
 // Linux begins here, with the address at which the count of words stands, and the words' addresses above it.
-void begin(long *stack) {
+long begin(long *stack) {
     char **words = (char **)(stack + 1);
     long count = *stack;
     long at = read_options(words, count);
@@ -73,10 +74,19 @@ void begin(long *stack) {
         wrong_words();
     fill_classes();
     set_directives();
+    set_keywords();
+    make_types();
+    make_segments();
+    emit_start();
+    emit_jumps();
     while (at < count) {
         compile(words[at]);
         at += 1;
     }
+    if (!only_words) {
+        fill_uses();
+        put_program();
+    }
     write_output(output_name);
-    end(DONE);
+    return DONE;
 }

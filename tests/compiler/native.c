@@ -6,7 +6,9 @@ __asm__(".globl _start\n"
         "    mov %rsp, %rdi\n"
         "    and $-16, %rsp\n"
         "    call begin\n"
-        "    hlt\n");
+        "    mov %eax, %edi\n"
+        "    mov $60, %eax\n"
+        "    syscall\n");
 
 long system_call(long number, long first, long second, long third, long fourth) {
     static const short numbers[][2] = {{35, 263}, {56, 257}, {57, 3}, {62, 8}, {63, 0}, {64, 1}, {93, 60}, {214, 12}};
