@@ -31,7 +31,7 @@ static _Noreturn void fault(int status) {
 
 // ---- the source
 
-static byte *source;
+static const byte *source;
 static size_t length;
 static size_t place; // the next byte to look at
 static long line = 1;
@@ -46,22 +46,36 @@ static void require(int holds, enum refusal number) {
         refuse(number);
 }
 
-static void read_source(const char *name) {
+// The file's bytes behind those that are there.
+static byte *read_source(byte *text, const char *name) {
     FILE *file = fopen(name, "rb");
     size_t got = 1;
     if (file == NULL)
         fault(CANNOT_OPEN);
     while (got > 0) {
-        source = realloc(source, length + 65536 + 2);
-        if (source == NULL)
+        text = realloc(text, length + 65536);
+        if (text == NULL)
             fault(NO_MEMORY);
-        got = fread(source + length, 1, 65536, file);
+        got = fread(text + length, 1, 65536, file);
         length += got;
     }
     if (ferror(file))
         fault(CANNOT_READ);
     fclose(file);
-    source[length] = 0; // the end, unless a line's end and a further source follow
+    return text;
+}
+
+// All sources, with a line's end between two of them and 0 behind the last one.
+static void read_sources(int count, char **names) {
+    byte *text = NULL;
+    for (int i = 0; i < count; i += 1) {
+        text = read_source(text, names[i]);
+        text[length] = i < count - 1 ? '\n' : 0;
+        length += i < count - 1;
+    }
+    source = text;
+    place = 0;
+    line = 1;
 }
 
 // ---- the output: a header and the code, which is loaded at TEXT_BASE
@@ -189,10 +203,10 @@ enum {
 
 enum { ARROW = '-' | '>' << 8 };
 
-static const char words_of_c[] =
+static const byte words_of_c[] =
     "long char void struct enum if else while break continue return sizeof auto case const default do double extern float for goto inline int register "
     "restrict short signed static switch typedef union unsigned volatile _Alignas _Alignof _Atomic _Bool _Complex _Generic _Imaginary _Noreturn "
-    "_Static_assert _Thread_local begin system_call ";
+    "_Static_assert _Thread_local begin system_call ;";
 
 static long word;
 static const byte *word_start; // of a name, and of a text behind its quote
@@ -560,7 +574,7 @@ enum { LEVEL_OR = 1, LEVEL_AND = 2, LEVEL_EQUAL = 6, LEVEL_BELOW = 7 };
 
 struct operator {
     long sign;
-    long assign; // the sign with `=` behind it, 0 where it has no such form
+    long assign; // the sign with `=` behind it, or a blank, which is no word, where it has no such form
     int level;
     uint32_t words[2]; // the second one is 0 where there is only one
 };
@@ -570,17 +584,17 @@ struct operator {
 #define X10_ONE (10u << 7 | 10u << 15 | 1u << 20)
 
 static const struct operator operators[] = {
-    {'|' | '|' << 8, 0, LEVEL_OR, {0, 0}},
-    {'&' | '&' << 8, 0, LEVEL_AND, {0, 0}},
+    {'|' | '|' << 8, ' ', LEVEL_OR, {0, 0}},
+    {'&' | '&' << 8, ' ', LEVEL_AND, {0, 0}},
     {'|', '|' | '=' << 8, 3, {0x6033 | X11_X10, 0}},
     {'^', '^' | '=' << 8, 4, {0x4033 | X11_X10, 0}},
     {'&', '&' | '=' << 8, 5, {0x7033 | X11_X10, 0}},
-    {'=' | '=' << 8, 0, LEVEL_EQUAL, {SUB | X11_X10, SLTIU | X10_ONE}},
-    {'!' | '=' << 8, 0, LEVEL_EQUAL, {SUB | X11_X10, SLTU | 10u << 7 | 10u << 20}},
-    {'<', 0, LEVEL_BELOW, {SLT | X11_X10, 0}},
-    {'>', 0, LEVEL_BELOW, {SLT | X10_X11, 0}},
-    {'<' | '=' << 8, 0, LEVEL_BELOW, {SLT | X10_X11, XORI | X10_ONE}},
-    {'>' | '=' << 8, 0, LEVEL_BELOW, {SLT | X11_X10, XORI | X10_ONE}},
+    {'=' | '=' << 8, ' ', LEVEL_EQUAL, {SUB | X11_X10, SLTIU | X10_ONE}},
+    {'!' | '=' << 8, ' ', LEVEL_EQUAL, {SUB | X11_X10, SLTU | 10u << 7 | 10u << 20}},
+    {'<', ' ', LEVEL_BELOW, {SLT | X11_X10, 0}},
+    {'>', ' ', LEVEL_BELOW, {SLT | X10_X11, 0}},
+    {'<' | '=' << 8, ' ', LEVEL_BELOW, {SLT | X10_X11, XORI | X10_ONE}},
+    {'>' | '=' << 8, ' ', LEVEL_BELOW, {SLT | X11_X10, XORI | X10_ONE}},
     {'<' | '<' << 8, '<' | '<' << 8 | '=' << 16, 8, {0x1033 | X11_X10, 0}},
     {'>' | '>' << 8, '>' | '>' << 8 | '=' << 16, 8, {0x40005033u | X11_X10, 0}},
     {'+', '+' | '=' << 8, 9, {ADD | X11_X10, 0}},
@@ -1276,22 +1290,13 @@ static void put_start(void) {
 }
 
 static void note_words(void) {
-    static byte text[sizeof words_of_c];
-    byte *kept = source;
-    size_t kept_length = length;
-    memcpy(text, words_of_c, sizeof text);
-    source = text;
-    length = sizeof text - 1;
+    source = words_of_c;
     line = 0;
     next();
-    for (int64_t i = WORD_LONG; word == NAME; i += 1) {
-        declare(ORDINARY, KEYWORD, LONG, i < WORD_OTHER ? i : WORD_OTHER);
+    for (int64_t i = WORD_LONG; word == NAME; i += i < WORD_OTHER) {
+        declare(ORDINARY, KEYWORD, LONG, i);
         next();
     }
-    source = kept;
-    length = kept_length;
-    place = 0;
-    line = 1;
 }
 
 // ---- the header: ELF-64 Object File Format, "ELF Header", "Program Header Table"
@@ -1324,15 +1329,9 @@ static void write_output(const char *name) {
 int main(int count, char **words) {
     if (count < 3)
         fault(WRONG_COUNT);
-    for (int i = 1; i < count - 1; i += 1) {
-        read_source(words[i]);
-        if (i < count - 2) {
-            source[length] = '\n';
-            length += 1;
-        }
-    }
     note_words();
     put_start();
+    read_sources(count - 2, words + 1);
     next();
     read_unit();
     require_bodies();
