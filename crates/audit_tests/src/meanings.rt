@@ -11,6 +11,8 @@ mod lines;
 mod recipes;
 #[cfg(test)]
 mod routes;
+#[cfg(test)]
+mod semantics;
 
 /// A recipe with these stages behind its other tables.
 pub fn with_stages(alloc: Global, front: &str, stages: &str) -> Result<String, OutOfMemory>

@@ -13,3 +13,6 @@ pub mod Directions
 pub mod ComparedStages
 pub mod RouteBack
 pub mod ListedLines
+pub mod Largest
+pub mod LinesOfPrograms
+pub mod Programs

@@ -10,3 +10,7 @@ pub mod Listed
 pub mod Checked
 pub mod Differing
 pub mod Concludes
+pub mod Largest
+pub mod ProgramsImplement
+pub mod MacroAssembly
+pub mod WithMachineCode

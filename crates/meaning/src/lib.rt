@@ -6,13 +6,24 @@
 
 mod assembly;
 mod assumption;
+mod deterministic;
 pub mod laws;
 mod listing;
+mod macro_assembly;
 mod meaning;
+mod of_meaning;
+mod other_languages;
 mod routing;
+mod semantics;
+pub mod semantics_laws;
 mod trusted;
 
 pub use assembly::Assembly;
 pub use assumption::{Assumption, Assumptions};
+pub use deterministic::Deterministic;
 pub use listing::{assumptions, assumptions_for, assumptions_with_compared};
+pub use macro_assembly::MacroAssembly;
 pub use meaning::Meaning;
+pub use of_meaning::OfMeaning;
+pub use other_languages::{OtherLanguages, WithMachineCode};
+pub use semantics::Semantics;
