@@ -13,7 +13,7 @@ use Rattle.recipe.specs.Lookups.{hex_check, source_of}
 use Rattle.report.specs.declared.types.Report.{Report}
 use Rattle.wheeler.specs.declared.answer.Answer.TheVariants.{Completes}
 use Rattle.wheeler.specs.Bench.{bench}
-use Rattle.wheeler.specs.Contents.{Contents, box_of, content}
+use Rattle.wheeler.specs.Contents.{Contents, SourceText, box_of, content}
 use Rattle.wheeler.specs.Stages.{output_of}
 use Rattle.wheeler.specs.Valid.{IsInputs}
 use Rattle.wheeler.proofs.GivenBoxes.{AreContents, box-is}
@@ -22,8 +22,11 @@ use Rattle.meaning.specs.declared.assumption.Assumption.{Assumption}
 use Rattle.meaning.specs.declared.assumption.Assumption.TheVariants as line
 use Rattle.meaning.specs.AllContents.{all_contents, stage_named, text_named}
 use Rattle.meaning.specs.Assumptions.{Holds, LinesHold, checked_line, compiles_line, implements_line, input_assumption, is_trusted, line_by_check, runs_unchecked, stage_assumption, trust_lines}
+use Rattle.meaning.specs.Inside.LargestLaws.{carry-all}
+use Rattle.meaning.specs.Inside.RunLaws.{IsFixed}
 use Rattle.meaning.specs.Meaning.{Implements, Prescribes}
 use Rattle.meaning.specs.Routes.{RouteHolds, is_on, route_by, route_from, route_named, unless_checked}
+use Rattle.meaning.specs.Values.{binary_of}
 use Rattle.meaning.proofs.Argument.{IsClosed, by-stages, needed-each, sound-law}
 use Rattle.meaning.proofs.Gathering.{reached}
 use Rattle.meaning.proofs.Naming.{stage-placed}
@@ -143,6 +146,10 @@ all-closed : (recipe : Said) → IsClosed (is_trusted recipe) recipe
 all-closed recipe k d less was _ = needed-each recipe k d less was
 
 -- ---- both ways, of an audit
+
+pub largest-laws : (prescribes : Prescribes) → IsFixed prescribes
+    → ((source : SourceText) (program : List ℕ) → binary_of source ≡ Some program → Implements prescribes program source) → Laws prescribes (AllImplement prescribes)
+largest-laws prescribes fixed literal = record { fixed = fixed; carry = carry-all prescribes; literal = literal }
 
 module _ (prescribes : Prescribes) (laws : Laws prescribes (AllImplement prescribes)) (recipe : Said) (inputs : List (List ℕ)) (report : Report) (ok : IsRecipe recipe)
     (given : IsInputs recipe inputs) (is : bench recipe inputs ≡ Completes report) where

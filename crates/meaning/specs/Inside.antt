@@ -2,5 +2,6 @@
 pub mod RunLaws
 pub mod AssemblyLaws
 pub mod Trusting
+pub mod LargestLaws
 pub mod MacroLaws
 pub mod OtherLaws

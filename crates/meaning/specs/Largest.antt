@@ -18,7 +18,3 @@ abbrev pub PrescribesSame : Prescribes → Prescribes → Type 0
 PrescribesSame one two =
     (source : SourceText) (box : Setting) (output : OutputPlace) (content : List ℕ)
     → (one source box output content → two source box output content) × (two source box output content → one source box output content)
-
-pub carry-all : (prescribes : Prescribes) (source other : SourceText) (box : Setting) (output : OutputPlace) (program : List ℕ)
-    → prescribes source box output program → AllImplement prescribes source box output other → Implements prescribes program other
-carry-all prescribes source other box output program prescribed all = all program prescribed

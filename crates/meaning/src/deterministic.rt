@@ -1,4 +1,5 @@
-ghost use Rattle.meaning.specs.Largest.{AllImplement, carry-all};
+ghost use Rattle.meaning.specs.Largest.{AllImplement};
+ghost use Rattle.meaning.specs.Inside.LargestLaws.{carry-all};
 
 use crate::meaning::Meaning;
 use crate::semantics::Semantics;

@@ -1,5 +1,5 @@
 -- Why what runs of M1 programs leave is a semantics. The kit wants the grounds for a law of an `impl` among the definitions.
-use Rattle.std.proofs.Common.{◌≡◌, ℕ, Option, Some, Result, Ok, Err, List}
+use Rattle.std.proofs.Common.{◌≡◌, ℕ, Some, Result, Ok, Err, List}
 use Rattle.ddc_base.specs.declared.languages.Language.TheVariants.{Hex0, Hex1, Hex2, M1}
 use Rattle.hex_langs.specs.declared.items.item.Item.{Item}
 use Rattle.m1_lang.specs.declared.refusal.M1Refusal.{M1Refusal}
