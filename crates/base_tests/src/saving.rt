@@ -93,7 +93,7 @@ fn saves_in_place_where_nothing_can_stand_beside(rt: HostRuntime) {
     assert!(rt; places_all(&rt));
 }
 
-static ENDINGS: [&str; 10] = ["0", "1", "2", "3", "4", "5", "6", "7", "8", "9"];
+static ENDINGS: [&str; 12] = ["0", "1", "2", "3", "4", "5", "6", "7", "8", "9", "10", "11"];
 
 fn saves_with<R: Files + AllocGlobal, S: Shelf>(
     rt: &R,
@@ -149,10 +149,20 @@ fn shelf_saves_beside<R: Files + AllocGlobal>(rt: &R) -> Result<bool, OutOfMemor
     all_save_beside(rt, &mut shelf, &ENDINGS)
 }
 
+/// Whether a save beside all these names fails and keeps the file, so that it is not written in place.
+fn keeps_mine<R: Files + AllocGlobal>(rt: &R) -> bool {
+    let mut shelf = DirShelf::new(BrokenHost {
+        host: rt,
+        breaks: Breaks::Writing,
+    });
+    shelf.save("mine", b"another") == Err(SaveFail::Failed) && is_content(rt, "mine", b"11")
+}
+
 fn leaves_the_users_own<R: Files + AllocGlobal>(rt: &R) -> Result<bool, OutOfMemory> {
     Ok(
         is_written(rt, "mine", b"the old content")
             && shelf_saves_beside(rt)?
+            && keeps_mine(rt)
             && all_are_left(rt, &ENDINGS)?
             && is_removed(rt, "mine"),
     )

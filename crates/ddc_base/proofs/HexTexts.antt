@@ -1,10 +1,11 @@
 -- Which texts are the hexadecimal text of some bytes.
-use Rattle.std.proofs.Common.{◌≡◌, ℕ, zero, suc, ◌+◌, ◌-◌, ◌*◌, ◌/◌, ◌%◌, ◌<◌, ◌==◌, true, List, [], ◌∷◌, length, slice_index, Ok, refl, subst, ap, ◌∙◌, arith}
+use Rattle.std.proofs.Common.{◌≡◌, ℕ, zero, suc, ◌+◌, ◌-◌, ◌*◌, ◌/◌, ◌%◌, ◌<◌, ◌==◌, true, List, [], ◌∷◌, length, slice_index, Ok, Err, refl, subst, sym, ap, ◌∙◌, arith}
 use Rattle.std.specs.Prelude.{All, nat_lt, if◌then◌else◌}
 use Rattle.std.specs.List.{list_all}
 use Rattle.std.proofs.lemmas.Bool.{agree_below_at, and_parts, eqb-true}
 use Rattle.std.proofs.lemmas.Bool.Decides.{nat_tests}
 use Rattle.std.proofs.lemmas.List.Elements.{All-cons, All-head, All-nil, All-tail}
+use Rattle.hex.specs.declared.error.FromHexError.{FromHexError}
 use Rattle.hex.specs.Hex.{IsBytes, decode_of, encode_lower, encode_with, lower_digits}
 use Rattle.hex.proofs.HexLemmas.{length-encode_with, decode_of-encode_lower, decode_of-same}
 use Rattle.ddc_base.specs.HexTexts.{IsHexOf}
@@ -108,4 +109,11 @@ decoded text bytes is gives =
     let P : List ℕ → Type 0 = λ some. IsHexOf text some in
     subst P (decode_of-same text spelt.0 bytes back gives) spelt.1
 
-pub ruleset hex_texts = (spells, passes, decoded)
+-- a text that passes is decoded with no refusal
+pub no_refusal : (text : List ℕ) (why : FromHexError) → is_lower_hex text ≡ true → decode_of text ≡ Err why → ⊥
+no_refusal text why is gives =
+    let spelt = spells text is in
+    let back : decode_of text ≡ Ok spelt.0 = ap decode_of spelt.1.spelled ∙ decode_of-encode_lower spelt.0 (from_all spelt.0 spelt.1.are_bytes) in
+    let both = sym back ∙ gives in cc
+
+pub ruleset hex_texts = (spells, passes, decoded, no_refusal)

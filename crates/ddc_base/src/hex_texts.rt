@@ -4,6 +4,7 @@ ghost use Rattle.ddc_base.specs.Inside.HexTests as test;
 ghost use Rattle.std.specs.List.{list_all};
 
 use crate::byte_list::Bytes;
+use hex::FromHexError;
 use std::alloc::Global;
 
 /// Why a hexadecimal text was not read.
@@ -26,8 +27,8 @@ pub fn read_hex(alloc: Global, text: &[u8]) -> Result<Bytes, HexFail>
     }
     match hex::decode(alloc, text) {
         Ok(bytes) => Ok(Bytes::from_vec(bytes)),
-        // Only memory can be wanting.
-        Err(_) => Err(HexFail::OutOfMemory),
+        Err(FromHexError::OutOfMemory) => Err(HexFail::OutOfMemory),
+        Err(_) => Err(HexFail::Bad),
     }
 }
 

@@ -5,6 +5,7 @@ ghost use Rattle.ddc_base.specs.Streams.{TakesAll};
 
 use crate::streams::{ByFlush, write_whole};
 use arrayvec::ArrayString;
+use itoa::Buffer;
 use std::fs::{File, OpenFile, OpenOptions, Permissions};
 use std::io::{ErrorKind, Write};
 use std::rt::Files;
@@ -33,12 +34,13 @@ fn look_at<R: Files>(rt: &R, path: &str) -> io::Result<Standing> {
     }
 }
 
-/// A path with one of the ten endings `.ddc-0` to `.ddc-9` behind it.
-fn path_beside(path: &str, ending: char) -> io::Result<ArrayString<261>> {
+/// A path with `.ddc-` and a number behind it, which is in most cases 0.
+fn path_beside(path: &str, number: u32) -> io::Result<ArrayString<270>> {
+    let mut digits = Buffer::new();
     let mut beside = ArrayString::new();
     let fits = beside.try_push_str(path).is_ok()
         && beside.try_push_str(".ddc-").is_ok()
-        && beside.try_push(ending).is_ok();
+        && beside.try_push_str(digits.format(number)).is_ok();
     if fits {
         Ok(beside)
     } else {
@@ -46,10 +48,10 @@ fn path_beside(path: &str, ending: char) -> io::Result<ArrayString<261>> {
     }
 }
 
-/// Makes a file beside the one of a path, under a name that was not there, which is given back with it.
-fn make_beside<R: Files>(rt: &R, path: &str) -> io::Result<(ArrayString<261>, R::File)> {
-    for ending in '0'..='9' {
-        let beside = path_beside(path, ending)?;
+/// Makes a file beside the one of a path, under the first name that was not there, which is given back with it.
+fn make_beside<R: Files>(rt: &R, path: &str) -> io::Result<(ArrayString<270>, R::File)> {
+    for number in 0..=u32::MAX {
+        let beside = path_beside(path, number)?;
         match File::create_new(rt, beside.as_str()) {
             Ok(file) => return Ok((beside, file)),
             Err(error) if error.kind() == ErrorKind::AlreadyExists => {}
@@ -113,7 +115,6 @@ fn leaves_the_place(kind: ErrorKind) -> bool {
         kind,
         ErrorKind::NotFound
             | ErrorKind::PermissionDenied
-            | ErrorKind::AlreadyExists
             | ErrorKind::ReadOnlyFilesystem
             | ErrorKind::ResourceBusy
             | ErrorKind::CrossesDevices

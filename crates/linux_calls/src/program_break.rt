@@ -50,6 +50,6 @@ pub fn brk<R: Ram>(ram: &mut R, heap: &mut Heap, to: u64) -> CallEnd
             heap.now = to;
             CallEnd::Back(to)
         }
-        Err(_) => CallEnd::OutOfMemory,
+        Err(OutOfMemory) => CallEnd::OutOfMemory,
     }
 }

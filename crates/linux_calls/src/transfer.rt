@@ -77,8 +77,9 @@ pub fn write<R: Ram>(
     if let Err(errno) = files.fits(fd, count) {
         return back(Err(errno));
     }
-    let Ok(bytes) = copy_of(alloc, ram, buffer, count) else {
-        return CallEnd::OutOfMemory;
+    let bytes = match copy_of(alloc, ram, buffer, count) {
+        Ok(bytes) => bytes,
+        Err(AllocError) => return CallEnd::OutOfMemory,
     };
     match files.write(fd, &bytes) {
         Ok(()) => CallEnd::Back(count),

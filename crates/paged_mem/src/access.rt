@@ -12,6 +12,7 @@ use crate::pages::{find, row_from, span};
 use crate::ram::{PageView, StoreRefusal, Width};
 use crate::rows::{Row, Rows};
 use crate::{PAGE, PAGE_LEN};
+use ddc_base::OutOfMemory;
 use std::alloc::Global;
 
 /// The byte at an index of these pages.
@@ -241,7 +242,7 @@ pub fn write_at(
             write(entries, start, source);
             Ok(())
         }
-        Err(_) => Err(StoreRefusal::OutOfMemory),
+        Err(OutOfMemory) => Err(StoreRefusal::OutOfMemory),
     }
 }
 

@@ -9,7 +9,7 @@ use crate::PAGE_LEN;
 use crate::pages::{fill, number};
 use crate::ram::Width;
 use ddc_base::OutOfMemory;
-use std::alloc::Global;
+use std::alloc::{AllocFailed, Global};
 use std::cmp;
 
 /// A mapped page's 4,096 bytes, or nothing where all of them are zero since the page was mapped.
@@ -146,7 +146,7 @@ fn hold(alloc: Global, entry: &mut Entry) -> Result<(), OutOfMemory>
             *entry = Some(page);
             Ok(())
         }
-        Err(_) => Err(OutOfMemory),
+        Err(AllocFailed { .. }) => Err(OutOfMemory),
     }
 }
 

@@ -60,9 +60,9 @@ fn add_entries(entries: &mut Vec<Entry>, count: usize) -> Result<(), AllocError>
 {
     let len = entries.len();
     for added in 0..count {
-        if entries.push(None).is_err() {
+        if let Err(error) = entries.push(None) {
             entries.truncate(len);
-            return Err(AllocError);
+            return Err(error.into());
         }
     }
     Ok(())

@@ -8,6 +8,7 @@ use crate::gaps::{close_gap, insert_numbers, open_entries, open_gap};
 use crate::pages::rank;
 use crate::{PAGE, PAGE_LEN};
 use ddc_base::OutOfMemory;
+use std::alloc::AllocError;
 
 /// Puts `count` pages of zeros where none is, from the page at `first` on.
 pub fn map_pages(
@@ -29,7 +30,7 @@ pub fn map_pages(
     open_gap(bytes, PAGE_LEN * at, PAGE_LEN * count, 0)?;
     match insert_numbers(pages, at, first / PAGE, count) {
         Ok(()) => Ok(()),
-        Err(_) => {
+        Err(AllocError) => {
             close_gap(bytes, PAGE_LEN * at, PAGE_LEN * count);
             Err(OutOfMemory)
         }
@@ -71,7 +72,7 @@ pub fn map_entries(
     open_entries(entries, at, count)?;
     match insert_numbers(pages, at, first / PAGE, count) {
         Ok(()) => Ok(()),
-        Err(_) => {
+        Err(AllocError) => {
             close_gap(entries, at, count);
             Err(OutOfMemory)
         }

@@ -9,8 +9,8 @@ returns-in-Err g c heap =
     fits_refused (g.R.Ram.bytes c.args.ram.now) c.args.files.now c.args.fd c.args.buffer c.args.count (sym c.is_writable.ensures ∙ c.if-not-is_writable.false) c.if-count-eq0.false heap
     (sym c.mapped.ensures ∙ c.if-not-mapped.false) c.in-Err.errno c.back-in-Err.result (sym c.fits.ensures ∙ c.in-Err.is) c.back-in-Err.ensures
 
-pub returns-in_default-copy_of : goal.returns-in_default-copy_of
-returns-in_default-copy_of g c heap =
+pub returns-in-Err-copy_of : goal.returns-in-Err-copy_of
+returns-in-Err-copy_of g c heap =
     fits_wants (g.R.Ram.bytes c.args.ram.now) c.args.files.now c.args.fd c.args.buffer c.args.count (sym c.is_writable.ensures ∙ c.if-not-is_writable.false) c.if-count-eq0.false heap
     (sym c.mapped.ensures ∙ c.if-not-mapped.false) _ (sym c.fits.ensures ∙ c.in_default.is)
 
