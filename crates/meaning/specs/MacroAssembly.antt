@@ -1,15 +1,18 @@
 -- The semantics of hex0, hex1, hex2 and M1 sources: a source means what runs of its program leave. docs/reference/argument.md says the same for people.
-use Rattle.std.specs.Prelude.{ℕ, Option, None, Some, Result, Ok, Err, List, [], ◌∷◌}
+use Rattle.std.specs.Prelude.{◌≡◌, ℕ, Bool, true, Option, None, Some, Result, Ok, Err, List, [], ◌∷◌}
 use Rattle.ddc_base.specs.declared.languages.Language.TheVariants.{Hex2, M1}
 use Rattle.hex_langs.specs.declared.items.item.Item.{Item}
 use Rattle.hex_langs.specs.declared.items.reader.HexRefusal.{HexRefusal}
 use Rattle.hex_langs.specs.Link.Link.{link_of}
 use Rattle.m1_lang.specs.declared.refusal.M1Refusal.{M1Refusal}
 use Rattle.m1_lang.specs.Expansion.{expansion_of}
+use Rattle.recipe.specs.declared.contents.Said.{Said}
 use Rattle.recipe.specs.declared.parts.SourceLanguage.{SourceLanguage}
 use Rattle.recipe.specs.declared.parts.SourceLanguage.TheVariants.{Defined}
-use Rattle.wheeler.specs.Contents.{SourceText}
+use Rattle.recipe.specs.Lookups.{source_of}
+use Rattle.wheeler.specs.Contents.{SourceText, content}
 use Rattle.wheeler.specs.SourceCheck.Checks.{joined_files}
+use Rattle.meaning.specs.AllContents.{all_contents, text_named}
 use Rattle.meaning.specs.Assembly.{ProgramLeaves}
 use Rattle.meaning.specs.Meaning.{Prescribes}
 use Rattle.meaning.specs.Values.{binary_in}
@@ -34,6 +37,12 @@ program_of_text source = program_in source.lang source.base source.files
 -- what a run of the program leaves
 abbrev pub MacroLeaves : Prescribes
 MacroLeaves = ProgramLeaves program_of_text
+
+-- of an audit, each of these programs that has a source is the program of that source
+abbrev pub AreOwnPrograms : (List ℕ → Bool) → Said → List (List ℕ) → Type 0
+AreOwnPrograms trusted recipe inputs =
+    (name source : List ℕ) → trusted name ≡ true → source_of recipe name ≡ Some source
+    → program_of_text (text_named recipe (all_contents recipe inputs) source) ≡ Some (content recipe (all_contents recipe inputs) name)
 
 -- a text as a source of hex2
 abbrev pub as_hex2 : ℕ → List ℕ → SourceText

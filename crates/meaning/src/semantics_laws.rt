@@ -1,32 +1,30 @@
 //! Laws of deterministic semantics. Each law is the contract of a function that does nothing.
 
-ghost use Rattle.std.specs.Prelude.{◌≡◌, ℕ, List, None, Some, true};
+ghost use Rattle.std.specs.Prelude.{◌≡◌, ℕ, List, None, Some};
 ghost use Rattle.mem_files.specs.Outputs.{OutputPlace, out};
 ghost use Rattle.mem_files.specs.World.{World};
 ghost use Rattle.ddc_base.specs.declared.languages.Language.TheVariants.{M1};
 ghost use Rattle.guest_run.specs.Program.{ProgramRun};
 ghost use Rattle.guest_run.specs.Setting.{IsBox, Setting};
 ghost use Rattle.recipe.specs.Kept.{IsRecipe};
-ghost use Rattle.recipe.specs.Lookups.{source_of};
 ghost use Rattle.recipe.specs.declared.contents.Said.{Said};
 ghost use Rattle.recipe.specs.declared.parts.SourceLanguage.TheVariants.{Defined};
 ghost use Rattle.report.specs.declared.types.CompareLine.{CompareLine};
 ghost use Rattle.report.specs.declared.types.Report.{Report};
 ghost use Rattle.wheeler.specs.Bench.{bench};
-ghost use Rattle.wheeler.specs.Contents.{SourceText, content};
+ghost use Rattle.wheeler.specs.Contents.{SourceText};
 ghost use Rattle.wheeler.specs.Valid.{IsInputs};
 ghost use Rattle.wheeler.specs.declared.answer.Answer.TheVariants.{Completes};
-ghost use Rattle.meaning.specs.AllContents.{all_contents, text_named};
 ghost use Rattle.meaning.specs.Assembly.{ValueLeaves};
 ghost use Rattle.meaning.specs.Assumptions.{LinesHold, is_trusted};
 ghost use Rattle.meaning.specs.Checked.{HasItemsOf};
 ghost use Rattle.meaning.specs.Concludes.{Concludes};
 ghost use Rattle.meaning.specs.Largest.{AllImplement, CompilesNoMore, PrescribesSame};
 ghost use Rattle.meaning.specs.Listed.{ListedHold};
-ghost use Rattle.meaning.specs.MacroAssembly.{MacroLeaves, as_hex2, program_of_text};
+ghost use Rattle.meaning.specs.MacroAssembly.{AreOwnPrograms, MacroLeaves, as_hex2, program_of_text};
 ghost use Rattle.meaning.specs.Meaning.{Implements};
 ghost use Rattle.meaning.specs.ProgramsImplement.{ProgramsImplement, RouteImplements};
-ghost use Rattle.meaning.specs.Routes.{RouteHolds};
+ghost use Rattle.meaning.specs.Routes.{RouteHolds, is_on, route_named};
 ghost use Rattle.meaning.specs.Values.{binary_of};
 ghost use Rattle.meaning.specs.WithMachineCode.{MachineCodeOr};
 
@@ -135,13 +133,14 @@ pub fn what_makes_the_program_compiles()
         → program_of_text other ≡ Some made → MacroLeaves source box output made → ⟦<Deterministic<MacroAssembly> as Meaning>⟧.compiles source box output other }
 {}
 
-/// Every line of an audit holds whose programs of unchecked stages are byte for byte the programs of their sources.
+/// Where programs of unchecked stages are byte for byte the programs of their sources, lines on them hold: those of an audit, and those of a route.
 pub fn lines_on_own_programs_hold()
-    ensures { (recipe : Said) (inputs : List (List ℕ)) (report : Report) → IsRecipe recipe → IsInputs recipe inputs
-        → bench recipe inputs ≡ Completes report
-        → ((name source : List ℕ) → is_trusted recipe name ≡ true → source_of recipe name ≡ Some source
-        → program_of_text (text_named recipe (all_contents recipe inputs) source) ≡ Some (content recipe (all_contents recipe inputs) name))
+    ensures all { (recipe : Said) (inputs : List (List ℕ)) (report : Report) → IsRecipe recipe → IsInputs recipe inputs
+        → bench recipe inputs ≡ Completes report → AreOwnPrograms (is_trusted recipe) recipe inputs
         → LinesHold MacroLeaves (AllImplement MacroLeaves) recipe inputs }
+    ensures route { (recipe : Said) (inputs : List (List ℕ)) (report : Report) → IsRecipe recipe → IsInputs recipe inputs
+        → bench recipe inputs ≡ Completes report → (name : List ℕ) → AreOwnPrograms (is_on (route_named recipe name)) recipe inputs
+        → RouteHolds MacroLeaves (AllImplement MacroLeaves) recipe inputs name }
 {}
 
 /// What `Assembly` prescribes is prescribed where M1 has a semantics too.

@@ -1,14 +1,29 @@
 use Rattle.wheeler.specs.Contents.{content}
+use Rattle.recipe.specs.declared.contents.Said.{Said}
+use Rattle.std.proofs.Common.{ℕ, Bool, List}
 use Rattle.guest_run.proofs.Programs.{one-run}
 use Rattle.meaning.specs.AllContents.{all_contents, text_named}
 use Rattle.meaning.specs.Inside.MacroLaws.{literal-program}
 use Rattle.meaning.specs.Inside.RunLaws.{fixed-program, own-program}
-use Rattle.meaning.specs.MacroAssembly.{MacroLeaves, program_of_text}
-use Rattle.meaning.proofs.LinesOfPrograms.{all-lines, largest-laws}
+use Rattle.meaning.specs.Largest.{AllImplement}
+use Rattle.meaning.specs.MacroAssembly.{AreOwnPrograms, MacroLeaves, program_of_text}
+use Rattle.meaning.specs.ProgramsImplement.{TheseImplement}
+use Rattle.meaning.proofs.LinesOfPrograms.{all-lines, largest-laws, route-lines}
+use Rattle.meaning.proofs.Sound.{Laws}
 use Rattle.meaning.proofs.semantics_laws.lines_on_own_programs_hold.Goals as goal
 
-pub returns : goal.returns
-returns c recipe inputs report ok given is own =
+laws : Laws MacroLeaves (AllImplement MacroLeaves)
+laws = largest-laws MacroLeaves (fixed-program program_of_text one-run) literal-program
+
+own-implement : (trusted : List ℕ → Bool) (recipe : Said) (inputs : List (List ℕ)) → AreOwnPrograms trusted recipe inputs
+    → TheseImplement MacroLeaves trusted recipe (all_contents recipe inputs)
+own-implement trusted recipe inputs own name source on at =
     let all = all_contents recipe inputs in
-    (all-lines MacroLeaves (largest-laws MacroLeaves (fixed-program program_of_text one-run) literal-program) recipe inputs report ok given is).1
-    (λ name source on at. own-program program_of_text (text_named recipe all source) (content recipe all name) (own name source on at))
+    own-program program_of_text (text_named recipe all source) (content recipe all name) (own name source on at)
+
+pub returns-clause-all : goal.returns-clause-all
+returns-clause-all c recipe inputs report ok given is own = (all-lines MacroLeaves laws recipe inputs report ok given is).1 (own-implement _ recipe inputs own)
+
+pub returns-clause-route : goal.returns-clause-route
+returns-clause-route c recipe inputs report ok given is name own =
+    (route-lines MacroLeaves laws recipe inputs report ok given is name).1 (own-implement _ recipe inputs own)
