@@ -1,7 +1,7 @@
 -- Lines that are read byte by byte.
 use Rattle.std.proofs.Common.{◌≡◌, ◌≢◌, ◌==◌, ◌+◌, ◌<◌, ◌≤◌, ℕ, suc, Bool, true, false, cond, not, Option, None, Some, List, [], ◌∷◌, ◌++◌, length, take, drop, min, append_assoc, append-nil, refl, sym, ap, subst, ◌∙◌, inl, inr, le_refl, arith}
 use Rattle.std.specs.List.{position}
-use Rattle.std.specs.Io.KnownBytes.{Consumes, IsAtEnd}
+use Rattle.std.specs.Io.KnownBytes.{Consumes, IsAtEnd, Keeps}
 use Rattle.std.proofs.lemmas.Bool.{lt-leb, ne_eqb}
 use Rattle.std.proofs.lemmas.List.Sums.{prefix_len-le-length}
 use Rattle.std.proofs.lemmas.Bool.Decides.{leb_tells}
@@ -10,7 +10,7 @@ use Rattle.std.proofs.Math.Nat.{min-eq_left, min-eq_right}
 use Rattle.std.proofs.Math.Seq.{take-append_seam, drop-append_seam, drop-append-add}
 use Rattle.prompt.specs.declared.asking.Asked.TheVariants.{Line, TooLong, End}
 use Rattle.prompt.specs.Prompts.{asked_of, left_after, line_size}
-use Rattle.prompt.specs.Reading.{GivesLine}
+use Rattle.prompt.specs.Reading.{GivesLine, TakesNoLine}
 use Rattle.prompt.specs.Inside.Read.{HasRead, kept_with, whole_line}
 
 abbrev is_lf : ℕ → Bool
@@ -131,6 +131,16 @@ nothing (Some left) (Some rest) (Some last) line count h c end none =
     let all : left ≡ h.front = h.taken ∙ ap (λ l. h.front ++ l) (c ∙ end) ∙ append-nil h.front in
     let empty : left ≡ [] = all ∙ nil_from_length h.front (h.size ∙ none) in
     (sym (ap asked_of empty), end ∙ sym (ap left_after empty))
+
+-- the reader fails
+pub fails : (old now new : Option (List ℕ)) (line : List ℕ) (count : ℕ) → HasRead old now line count → Keeps now new → count < 65_536 → TakesNoLine old new
+fails old now new line count h keeps few = (h.front, kept_on old now new h.taken keeps, h.plain, subst (λ n. n < 65_536) (sym h.size) few)
+  where
+    kept_on : (old now new : Option (List ℕ)) → Consumes old now h.front → Keeps now new → Consumes old new h.front
+    kept_on None now new taken keeps = tt
+    kept_on (Some left) None new taken keeps = absurd taken
+    kept_on (Some left) (Some rest) None taken keeps = absurd keeps
+    kept_on (Some left) (Some rest) (Some last) taken keeps = taken ∙ ap (λ l. h.front ++ l) (sym keeps)
 
 -- the line is cut
 pub cut : (old now : Option (List ℕ)) (line : List ℕ) (count : ℕ) → HasRead old now line count → count ≡ 65_536 → GivesLine old now TooLong

@@ -1,6 +1,7 @@
-ghost use Rattle.std.specs.Prelude.{◌≡◌, ◌<◌, IfOk, length};
+ghost use Rattle.std.specs.Prelude.{◌≡◌, ◌<◌, IfOk, OnErr, length};
 ghost use Rattle.prompt.specs.Prompts.{LineLeaves};
-ghost use Rattle.prompt.specs.Reading.{GivesLine, TakesByte};
+ghost use Rattle.prompt.specs.Reading.{GivesLine, TakesByte, TakesNoLine};
+ghost use Rattle.std.specs.Io.KnownBytes.{Keeps};
 ghost use Rattle.prompt.specs.Inside.Read.{kept_with, whole_line};
 
 use crate::asking::{Asked, Failed, Line, Prompt};
@@ -9,7 +10,8 @@ use std::io::Read;
 
 /// The next byte of a reader, if there is one.
 fn next_byte<R: Read>(reader: &mut R) -> io::Result<Option<u8>>
-    ensures { IfOk result (TakesByte (R.remaining reader.old) (R.remaining reader.new)) }
+    ensures byte { IfOk result (TakesByte (R.remaining reader.old) (R.remaining reader.new)) }
+    ensures failed { OnErr result (Keeps (R.remaining reader.old) (R.remaining reader.new)) }
 {
     let mut byte = [0];
     if reader.read(&mut byte)? == 0 {
@@ -19,9 +21,11 @@ fn next_byte<R: Read>(reader: &mut R) -> io::Result<Option<u8>>
     }
 }
 
-/// The next line of a reader, taken byte by byte, so that nothing behind it is taken. An error of the reader is this call's error.
+/// The next line of a reader, taken byte by byte, so that nothing behind it is taken. An error of the reader is this call's error, and comes
+/// before a line was taken whole.
 pub fn read_line<R: Read>(reader: &mut R) -> io::Result<Asked>
-    ensures { IfOk result (GivesLine (R.remaining reader.old) (R.remaining reader.new)) }
+    ensures line { IfOk result (GivesLine (R.remaining reader.old) (R.remaining reader.new)) }
+    ensures failed { OnErr result (TakesNoLine (R.remaining reader.old) (R.remaining reader.new)) }
 {
     let mut line = Line::empty();
     for taken in 0..65_536 {
@@ -70,7 +74,8 @@ impl<R: Read> ReaderPrompt<R> {
 
     /// A prompt over this reader, on which nothing has failed yet.
     pub fn new(reader: R) -> ReaderPrompt<R>
-        ensures { ⟦<ReaderPrompt<R> as Prompt>⟧.state result ≡ untold_prompt 0 }
+        ensures state { ⟦<ReaderPrompt<R> as Prompt>⟧.state result ≡ untold_prompt 0 }
+        ensures as_given { result.reader ≡ reader }
     {
         ReaderPrompt { reader, faults: 0 }
     }
@@ -84,6 +89,7 @@ impl<R: Read> Prompt for ReaderPrompt<R> {
     fn line(&mut self) -> Result<Asked, Failed>
         ensures leaves { LineLeaves (untold_prompt self.old.faults) result (untold_prompt self.new.faults) }
         ensures whole { IfOk result (GivesLine (R.remaining self.old.reader) (R.remaining self.new.reader)) }
+        ensures no_line { OnErr result (TakesNoLine (R.remaining self.old.reader) (R.remaining self.new.reader)) }
     {
         match read_line(&mut self.reader) {
             Ok(asked) => Ok(asked),
