@@ -97,7 +97,7 @@ CallTakesMemory guest (call.is_unknown number) = ⊥
 -- the step takes memory of the host: it is a store, or a call that does
 abbrev pub StepTakesMemory : GuestState → Type 0
 StepTakesMemory guest =
-    IsTrue (is_store (effect_at guest.hart)) ⊎ ((act guest.hart ≡ hart.Calls) × CallTakesMemory guest (outcome_of guest))
+    IsTrue (is_store guest.hart.reservation (effect_at guest.hart)) ⊎ ((act guest.hart ≡ hart.Calls) × CallTakesMemory guest (outcome_of guest))
 
 -- whether a step goes on
 abbrev pub step_goes_on : Next → Bool

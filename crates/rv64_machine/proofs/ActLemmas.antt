@@ -122,8 +122,8 @@ carried-memory hart next rd (Amo operation width at value) goes =
 
 -- which is as before, but for a store and the atomic rows that store
 store_or_not : (hart : HartState) (effect : Effect)
-    → ((is_store (Some effect) ≡ false) × (memory_after hart effect ≡ hart.memory))
-    ⊎ (is_store (Some effect) ≡ true)
+    → ((is_store hart.reservation (Some effect) ≡ false) × (memory_after hart effect ≡ hart.memory))
+    ⊎ (is_store hart.reservation (Some effect) ≡ true)
 store_or_not hart (Put value) = inl (refl, refl)
 store_or_not hart (Jump target) = inl (refl, refl)
 store_or_not hart (Branch taken target) = inl (refl, refl)
@@ -134,7 +134,12 @@ store_or_not hart Next = inl (refl, refl)
 store_or_not hart Call = inl (refl, refl)
 store_or_not hart Break = inl (refl, refl)
 store_or_not hart (LoadReserved width at) = inl (refl, refl)
-store_or_not hart (StoreConditional width at value) = inr refl
+store_or_not hart (StoreConditional width at value) = by_held (is_reserved hart.reservation (count_of width) at)
+  where
+    by_held : (held : Bool)
+        → ((held ≡ false) × ((if held then writes hart.memory at (count_of width) value else hart.memory) ≡ hart.memory)) ⊎ (held ≡ true)
+    by_held true = inr refl
+    by_held false = inl (refl, refl)
 store_or_not hart (Amo operation width at value) = inr refl
 
 -- the memory after an act whose effect is known
@@ -146,12 +151,12 @@ act-memory hart next effect goes is =
     carried-memory hart next rd found carries ∙ ap (memory_after hart) same
 
 -- rows other than stores leave memory
-pub act-memory_other : (hart next : HartState) → act hart ≡ GoesOn next → is_store (effect_at hart) ≡ false → next.memory ≡ hart.memory
+pub act-memory_other : (hart next : HartState) → act hart ≡ GoesOn next → is_store hart.reservation (effect_at hart) ≡ false → next.memory ≡ hart.memory
 act-memory_other hart next goes other =
     let (rd, effect, there, carries) = act-goes hart next goes in
     elim (store_or_not hart effect) [
       | inl (is_other, same) ↦ carried-memory hart next rd effect carries ∙ same
-      | inr store ↦ absurd (false≢true (sym other ∙ ap is_store there ∙ store))
+      | inr store ↦ absurd (false≢true (sym other ∙ ap (is_store hart.reservation) there ∙ store))
     ]
 
 -- an act that goes on maps and unmaps nothing
@@ -209,6 +214,79 @@ pub act-store_access : (hart next : HartState) (width : Width) (at value : ℕ) 
 act-store_access hart next width at value goes is =
     ap (λ m. reads m at (count_of width)) (act-memory hart next (Store width at value) goes is)
     ∙ reads-writes hart.memory at (count_of width) value
+
+-- so does a store-conditional of the reserved bytes
+act-conditional_memory : (hart next : HartState) (width : Width) (at value : ℕ) (held : Bool)
+    → act hart ≡ GoesOn next → effect_at hart ≡ Some (StoreConditional width at value) → is_reserved hart.reservation (count_of width) at ≡ held
+    → next.memory ≡ (if held then writes hart.memory at (count_of width) value else hart.memory)
+act-conditional_memory hart next width at value held goes is was =
+    act-memory hart next (StoreConditional width at value) goes is
+    ∙ ap (λ h. if h then writes hart.memory at (count_of width) value else hart.memory) was
+
+reserved_is : (count at : ℕ) → is_reserved (Some (count, at)) count at ≡ true
+reserved_is count at = grind arith
+
+pub act-conditional_access : (hart next : HartState) (width : Width) (at value : ℕ)
+    → act hart ≡ GoesOn next → effect_at hart ≡ Some (StoreConditional width at value) → hart.reservation ≡ Some (count_of width, at)
+    → reads next.memory at (count_of width) ≡ Some (value % 256 ^ count_of width)
+act-conditional_access hart next width at value goes is held =
+    let reserved = ap (λ r. is_reserved r (count_of width) at) held ∙ reserved_is (count_of width) at in
+    ap (λ m. reads m at (count_of width)) (act-conditional_memory hart next width at value true goes is reserved)
+    ∙ reads-writes hart.memory at (count_of width) value
+
+pub act-conditional_other : (hart next : HartState) (width : Width) (at value : ℕ)
+    → act hart ≡ GoesOn next → effect_at hart ≡ Some (StoreConditional width at value)
+    → (address : ℕ) → (address < at) ⊎ (at + count_of width ≤ address) → get next.memory address ≡ get hart.memory address
+act-conditional_other hart next width at value goes is address outside =
+    ap (λ m. get m address) (act-conditional_memory hart next width at value _ goes is refl)
+    ∙ by_held (is_reserved hart.reservation (count_of width) at)
+  where
+    by_held : (held : Bool) → get (if held then writes hart.memory at (count_of width) value else hart.memory) address ≡ get hart.memory address
+    by_held true = get-writes_other hart.memory at (count_of width) value address outside
+    by_held false = refl
+
+-- and an atomic memory operation, of the number that it found
+carried-found : (hart next : HartState) (rd : ℕ) (operation : AmoOperation) (count at value : ℕ) (o : Option ℕ) → reads_aligned hart.memory at count ≡ o
+    → performs_amo hart rd operation count at value o ≡ GoesOn next
+    → (old : ℕ) × (reads_aligned hart.memory at count ≡ Some old)
+carried-found hart next rd operation count at value None found goes = absurd cc
+carried-found hart next rd operation count at value (Some old) found goes = (old, found)
+
+found-reads : (m : Memory) (at count old : ℕ) → reads_aligned m at count ≡ Some old → reads m at count ≡ Some old
+found-reads m at count old is = by_test (at % count == 0) is
+  where
+    by_test : (t : Bool) → (if t then reads m at count else None) ≡ Some old → reads m at count ≡ Some old
+    by_test true e = e
+    by_test false e = absurd cc
+
+act-amo_found : (hart next : HartState) (operation : AmoOperation) (width : Width) (at value : ℕ)
+    → act hart ≡ GoesOn next → effect_at hart ≡ Some (Amo operation width at value)
+    → (old : ℕ) × (reads hart.memory at (count_of width) ≡ Some old)
+    × (next.memory ≡ writes hart.memory at (count_of width) (amo_result operation (8 * count_of width) old value))
+act-amo_found hart next operation width at value goes is =
+    let (rd, effect, there, carries) = act-goes hart next goes in
+    let same : effect ≡ Amo operation width at value = cc in
+    let (old, found) = carried-found hart next rd operation (count_of width) at value _ refl (ap (carried hart rd) (sym same) ∙ carries) in (
+      old,
+      found-reads hart.memory at (count_of width) old found,
+      act-memory hart next (Amo operation width at value) goes is ∙ ap (written_by hart.memory operation (count_of width) at value) found,
+    )
+
+pub act-amo_access : (hart next : HartState) (operation : AmoOperation) (width : Width) (at value : ℕ)
+    → act hart ≡ GoesOn next → effect_at hart ≡ Some (Amo operation width at value)
+    → (old : ℕ) × (reads hart.memory at (count_of width) ≡ Some old)
+    × (reads next.memory at (count_of width) ≡ Some (amo_result operation (8 * count_of width) old value % 256 ^ count_of width))
+act-amo_access hart next operation width at value goes is =
+    let (old, there, left) = act-amo_found hart next operation width at value goes is in
+    (old, there, ap (λ m. reads m at (count_of width)) left ∙ reads-writes hart.memory at (count_of width) (amo_result operation (8 * count_of width) old value))
+
+pub act-amo_other : (hart next : HartState) (operation : AmoOperation) (width : Width) (at value : ℕ)
+    → act hart ≡ GoesOn next → effect_at hart ≡ Some (Amo operation width at value)
+    → (address : ℕ) → (address < at) ⊎ (at + count_of width ≤ address) → get next.memory address ≡ get hart.memory address
+act-amo_other hart next operation width at value goes is address outside =
+    let (old, there, left) = act-amo_found hart next operation width at value goes is in
+    ap (λ m. get m address) left
+    ∙ get-writes_other hart.memory at (count_of width) (amo_result operation (8 * count_of width) old value) address outside
 
 -- a word that is stored over the next instruction is the next instruction
 pub act-after_store : (hart next : HartState) (value : ℕ) → act hart ≡ GoesOn next → effect_at hart ≡ Some (Store W4 next.pc value)

@@ -166,19 +166,19 @@ abbrev pub goes_on : Act → Bool
 goes_on (GoesOn next) = true
 goes_on _ = false
 
--- whether an effect is that of a store: of a store-conditional and an atomic memory operation too
-abbrev pub is_store : Option Effect → Bool
-is_store (Some (Store width at value)) = true
-is_store (Some (StoreConditional width at value)) = true
-is_store (Some (Amo operation width at value)) = true
-is_store _ = false
+-- whether an effect stores, where this is reserved: a store does, an atomic memory operation, and a store-conditional of the reserved bytes
+abbrev pub is_store : Option (ℕ × ℕ) → Option Effect → Bool
+is_store held (Some (Store width at value)) = true
+is_store held (Some (StoreConditional width at value)) = is_reserved held (count_of width) at
+is_store held (Some (Amo operation width at value)) = true
+is_store held _ = false
 
 -- how a step ended, and the state that it left, of a hart with this act and this effect
 abbrev pub EndsStep : Act → Option Effect → HartState → StepEnd → HartState → Type 0
 EndsStep an_act effect old end.Done new = an_act ≡ GoesOn new
 EndsStep an_act effect old end.Call new = (an_act ≡ Calls) × (new ≡ old)
 EndsStep an_act effect old (end.Trap cause) new = (an_act ≡ Traps cause) × (new ≡ old)
-EndsStep an_act effect old end.OutOfMemory new = IsTrue (goes_on an_act) × IsTrue (is_store effect) × (new ≡ old)
+EndsStep an_act effect old end.OutOfMemory new = IsTrue (goes_on an_act) × IsTrue (is_store old.reservation effect) × (new ≡ old)
 
 -- what a step answers, and the state that it leaves: its act's, or want of memory in a store that would go on
 abbrev pub Acts : HartState → StepEnd → HartState → Type 0

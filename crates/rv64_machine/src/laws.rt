@@ -6,9 +6,11 @@ ghost use Rattle.paged_mem.specs.declared.ram.Width.{Width};
 ghost use Rattle.rv64_decode.specs.Decode.{decoded};
 ghost use Rattle.rv64_machine.specs.Hart.{act, effect_at, following, GoesOn, HartState, HasNumbers, is_store, IsHart, runs, Acts, with_register};
 ghost use Rattle.rv64_machine.specs.WithoutAtomics.{ActsWithoutAtomicsStand};
-ghost use Rattle.rv64_machine.specs.declared.effect.Effect.TheVariants.{Store};
+ghost use Rattle.rv64_machine.specs.Atomics.{amo_result};
+ghost use Rattle.rv64_machine.specs.declared.effect.AmoOperation.{AmoOperation};
+ghost use Rattle.rv64_machine.specs.declared.effect.Effect.TheVariants.{Amo, Store, StoreConditional};
 ghost use Rattle.std.specs.FinMap.{contains_key, get};
-ghost use Rattle.std.specs.Prelude.{◌≡◌, ◌≢◌, ℕ, ◌+◌, ◌%◌, ◌^◌, ◌<◌, ◌≤◌, ◌⊎◌, false, Some, None};
+ghost use Rattle.std.specs.Prelude.{◌≡◌, ◌≢◌, ℕ, ◌+◌, ◌*◌, ◌%◌, ◌^◌, ◌<◌, ◌≤◌, ◌⊎◌, false, Some, None};
 
 use crate::answer::StepEnd;
 use crate::hart::Hart;
@@ -29,9 +31,10 @@ pub fn equal_harts_step_alike<R: Ram, S: Ram>(
     (one.step(), other.step())
 }
 
-/// A row other than a store, and other than an atomic row that stores, leaves memory as it was.
+/// A row other than a store, and other than an atomic row that stores, leaves memory as it was: a store-conditional of other bytes than
+/// the reserved ones does too.
 pub fn only_stores_write()
-    ensures { (hart next : HartState) → act hart ≡ GoesOn next → is_store (effect_at hart) ≡ false
+    ensures { (hart next : HartState) → act hart ≡ GoesOn next → is_store hart.reservation (effect_at hart) ≡ false
         → next.memory ≡ hart.memory }
 {}
 
@@ -48,6 +51,30 @@ pub fn a_store_writes_its_access()
         → reads next.memory at (count_of width) ≡ Some (value % 256 ^ count_of width) }
     ensures others { (hart next : HartState) (width : Width) (at value : ℕ)
         → act hart ≡ GoesOn next → effect_at hart ≡ Some (Store width at value)
+        → (address : ℕ) → (address < at) ⊎ (at + count_of width ≤ address)
+        → get next.memory address ≡ get hart.memory address }
+{}
+
+/// A store-conditional of the reserved bytes changes these alone, to the low bytes of its value.
+pub fn a_store_conditional_writes_its_access()
+    ensures access { (hart next : HartState) (width : Width) (at value : ℕ)
+        → act hart ≡ GoesOn next → effect_at hart ≡ Some (StoreConditional width at value)
+        → hart.reservation ≡ Some (count_of width, at)
+        → reads next.memory at (count_of width) ≡ Some (value % 256 ^ count_of width) }
+    ensures others { (hart next : HartState) (width : Width) (at value : ℕ)
+        → act hart ≡ GoesOn next → effect_at hart ≡ Some (StoreConditional width at value)
+        → (address : ℕ) → (address < at) ⊎ (at + count_of width ≤ address)
+        → get next.memory address ≡ get hart.memory address }
+{}
+
+/// An atomic memory operation changes the bytes of its access alone, to the low bytes of what it makes of the number that they held.
+pub fn an_amo_writes_its_access()
+    ensures access { (hart next : HartState) (operation : AmoOperation) (width : Width) (at value : ℕ)
+        → act hart ≡ GoesOn next → effect_at hart ≡ Some (Amo operation width at value)
+        → (old : ℕ) × (reads hart.memory at (count_of width) ≡ Some old)
+        × (reads next.memory at (count_of width) ≡ Some (amo_result operation (8 * count_of width) old value % 256 ^ count_of width)) }
+    ensures others { (hart next : HartState) (operation : AmoOperation) (width : Width) (at value : ℕ)
+        → act hart ≡ GoesOn next → effect_at hart ≡ Some (Amo operation width at value)
         → (address : ℕ) → (address < at) ⊎ (at + count_of width ≤ address)
         → get next.memory address ≡ get hart.memory address }
 {}
