@@ -3,7 +3,6 @@
 //! The rules, with their public sources, are in docs/reference/linking.md.
 
 mod joining;
-mod label;
 mod labels;
 pub mod laws;
 mod number;

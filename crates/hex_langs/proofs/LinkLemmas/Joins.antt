@@ -7,10 +7,9 @@ use Rattle.hex_langs.specs.declared.items.item.Item.{Item}
 use Rattle.hex_langs.specs.declared.items.item.Item.TheVariants.{Byte, Label, Word, Rel, Gap, Abs, Pad}
 use Rattle.hex_langs.specs.declared.items.reader.HexRefusal.{HexRefusal}
 use Rattle.hex_langs.specs.declared.items.reader.HexRefusal.TheVariants as refusal
-use Rattle.hex_langs.specs.declared.link.label.Label as placed
 use Rattle.hex_langs.specs.declared.link.number.Miss.{Miss}
 use Rattle.hex_langs.specs.Link.Link.{address_of, behind, item_bytes, four, bytes_from, Labels, link_of, Links, onto, pad_size, refused, size_at, unless_repeat}
-use Rattle.hex_langs.specs.Link.Representation.Tables.{address_in, Puts, Tables}
+use Rattle.hex_langs.specs.Link.Representation.Tables.{address_in, LabelMap, Puts, Tables}
 
 pub puts-ok : (meant : Result (List ℕ) Miss) (old new : List ℕ) → Puts (Ok tt) meant old new
     → (bytes : List ℕ) × (meant ≡ Ok bytes) × (new ≡ old ++ bytes)
@@ -83,7 +82,7 @@ links-refused (refusal.OutOfReach at) items base tables = absurd tables
 links-refused refusal.TooLong items base tables = absurd tables
 
 -- by the labels of the table as by those of the items
-pub links-joined : (table : List placed.Label) (items : List Item) (base : ℕ) → Tables (Ok table) items base
+pub links-joined : (table : LabelMap) (items : List Item) (base : ℕ) → Tables (Ok table) items base
     → bytes_from (address_in table) base 0 items ≡ link_of items base
 unfolding link_of
 links-joined table items base tables =

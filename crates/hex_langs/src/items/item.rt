@@ -1,13 +1,14 @@
 //! Items: what a source of hex1, hex2 or M1 says, before it is linked.
 
 ghost use Rattle.std.specs.Prelude.{◌≡◌, ◌<◌, ℕ, List};
-ghost use Rattle.std.specs.Prelude.{nat_eq, Some};
+ghost use Rattle.std.specs.Prelude.{[], ◌∷◌, nat_eq, Some};
 ghost use Rattle.std.specs.Ordering.{nat_cmp};
 ghost use Rattle.std.specs.Cmp.{on_equiv, on_per, on_po, on_total, partial_equiv_from_equiv};
-ghost use Rattle.std.specs.Cmp.Lexicographic.{pointwise, slice_cmp, nat_list_cmp_total, nat_list_eq_equiv, texts_po, texts_ties};
-ghost use Rattle.std.proofs.Common.{refl};
+ghost use Rattle.std.specs.Cmp.Lexicographic.{pointwise, bytes_decides, slice_cmp, nat_list_cmp_total, nat_list_eq_equiv, texts_po, texts_ties};
+ghost use Rattle.std.proofs.Common.{ap, refl};
 
 use std::cmp::Ordering;
+use std::hash::{Hash, Hasher};
 use std::marker::Model;
 
 /// The kind of a reference inside a word: the immediate of the instruction format of this name that the label's distance goes to
@@ -87,6 +88,16 @@ impl<'s> Ord for Name<'s> {
 
     fn cmp(&self, other: &Self) -> Ordering {
         self.bytes.cmp(other.bytes)
+    }
+}
+
+impl<'s> Hash for Name<'s> {
+    ghost hash_input = { λ n. n ∷ [] };
+
+    ghost respects_eq = { λ a b is. ap (λ n. n ∷ []) ((bytes_decides a b).0 is) };
+
+    fn hash<H: Hasher>(&self, state: &mut H) {
+        state.write(self.bytes);
     }
 }
 

@@ -10,7 +10,7 @@ use crate::link::number::{Miss, number_of};
 use ddc_base::{Bytes, OutOfMemory};
 use std::alloc::Global;
 
-/// The bytes of items at a base. It takes n log n steps in the length of the items' names, and as many as there are items.
+/// The bytes of items at a base. It takes as many steps as there are items, and as long as their names are.
 pub fn link(alloc: Global, items: &Items<'_>, base: u64) -> Result<Bytes, HexRefusal>
     requires { base ≤ 2 ^ 37 }
     ensures { Links result (link_of items.now base) }

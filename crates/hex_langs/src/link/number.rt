@@ -7,7 +7,7 @@ ghost use Rattle.hex_langs.specs.Link.Representation.Tables.{address_in, AreSmal
 ghost use Rattle.std.specs.Prelude.{◌≤ℤ◌, ◌^◌, neg_ℤ, unsigned_abs};
 
 use crate::items::{Item, Kind};
-use crate::link::labels::LabelTable;
+use crate::link::labels::{LabelTable, address_in};
 
 /// Why an item has no number.
 #[derive(Clone, Copy)]
@@ -118,22 +118,22 @@ pub(crate) fn number_of<'s>(
     ensures { result ≡ written_number (address_in table.now) place item.now }
 {
     match item {
-        Item::Word(value, kind, name) => match table.get(name) {
+        Item::Word(value, kind, name) => match address_in(table, name) {
             None => Err(Miss::NoLabel),
             Some(at) => word_number(*value, *kind, distance(at, place)),
         },
-        Item::Rel(name) => match table.get(name) {
+        Item::Rel(name) => match address_in(table, name) {
             None => Err(Miss::NoLabel),
             Some(at) => distance_number(distance(at, place) - 4),
         },
-        Item::Gap(name, other) => match table.get(name) {
+        Item::Gap(name, other) => match address_in(table, name) {
             None => Err(Miss::NoLabel),
-            Some(at) => match table.get(other) {
+            Some(at) => match address_in(table, other) {
                 None => Err(Miss::NoLabel),
                 Some(from) => distance_number(distance(at, from)),
             },
         },
-        Item::Abs(name) => match table.get(name) {
+        Item::Abs(name) => match address_in(table, name) {
             None => Err(Miss::NoLabel),
             Some(at) => {
                 if at < 4_294_967_296 {

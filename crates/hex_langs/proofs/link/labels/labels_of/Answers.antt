@@ -1,17 +1,34 @@
-use Rattle.std.proofs.Common.{◌≡◌, ◌∙◌, sym, [], None}
-use Rattle.hex_langs.specs.Link.Link.{first_repeat}
-use Rattle.hex_langs.proofs.LinkLemmas.Labellings.{no-repeat, tabled, told-rising}
+use Rattle.std.proofs.Common.{arith, sym, ap, subst, ◌∙◌, ◌≡◌, ◌+◌, List, ◌∷◌, drop, ℕ, Bool, Ok}
+use Rattle.std.proofs.lemmas.List.{at_drop_more, drop_all}
+use Rattle.ddc_base.specs.declared.byte_list.OutOfMemory.{OutOfMemory}
+use Rattle.hex_langs.specs.declared.items.item.Item.{Item}
+use Rattle.hex_langs.specs.Link.Representation.Tables.{Adds}
+use Rattle.hex_langs.proofs.LinkLemmas.Labellings.{IsTableOf, more, of-empty, tabled}
 use Rattle.hex_langs.proofs.link.labels.labels_of.Goals as goal
-use Rattle.hex_langs.proofs.link.labels.labels_of.Goals.{then-ascends, else-ascends+in_ok-repeat}
+
+pub loop-index-init : goal.loop-index-init
+loop-index-init c = record { table = of-empty c.args.items.now c.args.base c.in_ok-table.table c.in_ok-table.ensures; near = omega arith }
+
+pub loop-index-preserved : goal.loop-index-preserved
+loop-index-preserved c =
+    let items = c.args.items.now in
+    let base = c.args.base in
+    let index = c.loop-index.index in
+    let address = c.loop-index.address in
+    let it = c.item_at-item.result in
+    let left = drop (index + 1) items in
+    let next : drop index items ≡ it ∷ left = at_drop_more (λ (l : List Item). l) items index it (omega arith) ∙ ap (λ (i : Item). i ∷ left) (sym c.item_at-item.ensures) in
+    let adds = subst (λ (b : Bool). Adds {E = OutOfMemory} (Ok b) it address c.loop-index.table c.add_label.new.table) c.if-branch.false c.in_ok-add_label.ensures in
+    let now = more OutOfMemory it items left base c.loop-index.table c.add_label.new.table index address
+    (subst (IsTableOf items base c.loop-index.table index address) next c.loop-index.invariant.table) adds in
+    record {
+      table = subst (λ (n : ℕ). IsTableOf items base c.add_label.new.table (index + 1) (address + n) left) (sym c.size_at-address.ensures.value) now;
+      near = omega arith;
+    }
 
 pub returns : goal.returns
 returns c =
     let items = c.args.items.now in
-    let sorted = c.in_ok-sorted.sorted.items in
-    let once : first_repeat [] 0 items ≡ None = elim c.if-ascends.branch [
-      | then-ascends w ↦
-          no-repeat items c.args.base sorted c.in_ok-sorted.ensures.stable
-          (told-rising c.ascends.result c.as_slice.result.now sorted w.if-ascends.true c.as_slice.ensures.value c.ascends.ensures)
-      | else-ascends+in_ok-repeat w ↦ sym w.in_ok-repeat.ensures ∙ sym w.repeat-is ∙ c.in-None.is
-    ] in
-    tabled items c.args.base sorted c.requires.base c.sorted_labels.ensures.few c.in_ok-sorted.ensures.stable once
+    let none = drop_all c.loop-index.index items (omega arith) in
+    tabled items c.args.base c.loop-index.table c.loop-index.index c.loop-index.address c.requires.base (omega arith)
+    (subst (IsTableOf items c.args.base c.loop-index.table c.loop-index.index c.loop-index.address) none c.loop-index.invariant.table)
