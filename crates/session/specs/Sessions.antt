@@ -1,5 +1,5 @@
 -- A stepping session: the reply to each line, by the state in which the program's run stands. docs/reference/step.md says the same for people.
-use Rattle.std.specs.Prelude.{◌≡◌, ℕ, ◌+◌, ◌-◌, ◌≤◌, ◌^◌, Option, Some, None, Result, Ok, Err, List, [], min, nat_lt, if◌then◌else◌}
+use Rattle.std.specs.Prelude.{◌≡◌, ℕ, ◌+◌, ◌-◌, ◌≤◌, ◌^◌, ◌⊎◌, Option, Some, None, Result, Ok, Err, List, [], min, nat_lt, if◌then◌else◌}
 use Rattle.paged_mem.specs.Memory.{bytes_at}
 use Rattle.guest_run.specs.declared.guest.StartRefusal.{StartRefusal}
 use Rattle.guest_run.specs.Setting.{Setting}
@@ -11,7 +11,8 @@ use Rattle.session.specs.declared.command.Command.{Command}
 use Rattle.session.specs.declared.command.Command.TheVariants.{Where, Step, Go, Back, Break, Regs, Mem, Quit, Unknown}
 use Rattle.session.specs.Lines.{command_of}
 use Rattle.session.specs.Replies.{where_line, end_line, end_text, regs_line, mem_line, break_line, no_step_line, unknown_line}
-use Rattle.guest_run.specs.Travels.{travel}
+use Rattle.guest_run.specs.declared.run.RunEnd.TheVariants as RunEnd
+use Rattle.guest_run.specs.Travels.{Travels, travel}
 
 -- a program with its box, the most steps that its run may take, the state in which it stands, and the break, if one was set
 pub record SessionState : Type 0 where
@@ -58,9 +59,13 @@ came_text limit (None, guest) = if nat_lt guest.steps limit then where_line gues
 abbrev pub came : SessionState → Option End × GuestState → List ℕ × SessionState
 came session going = (came_text session.limit going, at_state session going.1)
 
--- so many steps, or as many as are left of the limit, up to the end of the run or to an address
+-- so many steps, or as many as are left of the limit
+abbrev pub within_limit : SessionState → ℕ → ℕ
+within_limit session most = min most (session.limit - session.at.steps)
+
+-- so many steps within the limit, up to the end of the run or to an address
 abbrev pub gone : SessionState → Option ℕ → ℕ → List ℕ × SessionState
-gone session stop most = came session (travel stop session.at (min most (session.limit - session.at.steps)))
+gone session stop most = came session (travel stop session.at (within_limit session most))
 
 -- it went back to a state; each number of steps up to those that were taken has one
 abbrev pub returned : SessionState → Option GuestState → List ℕ × SessionState
@@ -94,12 +99,14 @@ StartsSession program setting limit (Err refusal) = Starts (start_of program set
 
 -- ---- want of memory
 
--- the session stands after some further steps
-abbrev pub IsFurther : SessionState → SessionState → Type 0
-IsFurther old new = (count : ℕ) × (new ≡ at_state old new.at) × (after old.at count ≡ Some new.at)
+-- the session went on as far as it was to go, or wanted memory in a step before, from which the rest comes to the same
+abbrev pub IsFurther : SessionState → Option ℕ → ℕ → SessionState → Type 0
+IsFurther old stop most new =
+    (new ≡ at_state old new.at)
+    × ((new.at ≡ (travel stop old.at (within_limit old most)).1) ⊎ Travels stop old.at (within_limit old most) RunEnd.OutOfMemory new.at)
 
 -- what want of memory leaves: the steps that were done stand, and every other command leaves the session as it was
 abbrev pub KeepsSession : SessionState → Command → SessionState → Type 0
-KeepsSession old (Step count) new = IsFurther old new
-KeepsSession old Go new = IsFurther old new
+KeepsSession old (Step count) new = IsFurther old None count new
+KeepsSession old Go new = IsFurther old old.stop old.limit new
 KeepsSession old _ new = new ≡ old

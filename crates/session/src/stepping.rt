@@ -90,7 +90,7 @@ impl<'a> Session<'a> {
     /// Goes on by at most so many steps, and by no more than the limit leaves.
     fn go_on(&mut self, stop: Option<u64>, most: u64) -> Result<Bytes, OutOfMemory>
         ensures ok { IfOk result (λ reply. gone self.old stop most ≡ (reply, self.new)) }
-        ensures err { OnErr result (IsFurther self.old self.new) }
+        ensures err { OnErr result (IsFurther self.old stop most self.new) }
     {
         let most = most.min(self.limit - self.guest.steps());
         let end = self.guest.run_to(most, stop);
