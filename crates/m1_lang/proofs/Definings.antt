@@ -1,17 +1,14 @@
 -- What one definition does to the table.
-use Rattle.std.proofs.Common.{◌≡◌, ℕ, Bool, true, false, cond, not, List, [], ◌∷◌, ◌++◌, refl, sym, ap, ◌∙◌, Option, Some, None, is_some, Result, Ok, Err}
+use Rattle.std.proofs.Common.{◌≡◌, ℕ, Bool, true, false, cond, not, List, [], ◌∷◌, ◌++◌, refl, sym, ap, ◌∙◌, Option, Some, None, is_some, true≢false, Result, Ok, Err}
 use Rattle.std.proofs.lemmas.Cmp.{nat_list_eq_equiv}
 use Rattle.std.proofs.lemmas.Slice.Eq.{bytes_eq-Decides}
-use Rattle.std.specs.BTreeMap.{BTreeMap}
 use Rattle.std.specs.Prelude.{bytes_eq}
-use Rattle.std.specs.Cmp.Lexicographic.{slice_cmp, texts_ties}
-use Rattle.std.specs.Ordering.{is_eq, nat_cmp}
 use Rattle.m1_lang.specs.Words.Words.{Found, open_quote, Word, Words, word_list, words_of}
 use Rattle.m1_lang.specs.Words.Ahead.{words_at}
 use Rattle.m1_lang.specs.declared.refusal.M1Refusal.{M1Refusal}
 use Rattle.m1_lang.specs.declared.refusal.M1Refusal.TheVariants as refusal
 use Rattle.m1_lang.specs.Definitions.{Cut, Defined, Defines, definitions, definitions_in, is_value, SourcePart, parts, Plain, unless_open, value_in, with_defined}
-use Rattle.m1_lang.specs.Representation.Passes.{behind_define, DefinesOne, looked_up, open_at, or_value, parts_at, quote_or, Tabulates, unless_quoted, valued, Values, values_in, with_values}
+use Rattle.m1_lang.specs.Representation.Passes.{behind_define, Definitions, DefinesOne, Enters, looked_up, open_at, or_value, parts_at, quote_or, Tabulates, unless_quoted, valued, Values, values_in, with_values}
 use Rattle.m1_lang.proofs.Moves.{look-more}
 
 -- the definitions by what they give words
@@ -29,11 +26,11 @@ valued-is (Cut at ∷ rest) seen = refl
 valued-is (Plain word ∷ rest) seen = valued-is rest seen
 
 -- what the table gives words behind a new name
-added : (old new : BTreeMap (List ℕ) (List ℕ)) (name value : List ℕ) → values_in old name ≡ None
-    → ((text : List ℕ) → values_in new text ≡ cond (is_eq (slice_cmp nat_cmp name text)) (Some value) (values_in old text))
+added : (old new : Definitions) (name value : List ℕ) → values_in old name ≡ None
+    → ((text : List ℕ) → values_in new text ≡ cond (bytes_eq name text) (Some value) (values_in old text))
     → values_in new ≡ (λ text. or_value (values_in old text) (cond (bytes_eq text name) (Some value) None))
 added old new name value none found =
-    λ i text. (found text ∙ ap (λ (t : Bool). cond t (Some value) (values_in old text)) (sym (texts_ties name text) ∙ nat_list_eq_equiv.symm name text)
+    λ i text. (found text ∙ ap (λ (t : Bool). cond t (Some value) (values_in old text)) (nat_list_eq_equiv.symm name text)
     ∙ by text (bytes_eq text name) refl (values_in old text) refl) i
   where
     by : (text : List ℕ) (test : Bool) → bytes_eq text name ≡ test → (before : Option (List ℕ)) → values_in old text ≡ before
@@ -60,26 +57,31 @@ two-words : (values : Values) (source : List ℕ) (start at next after : ℕ) (n
 two-words values source start at next after name value first second =
     ap (λ (w : Words). behind_define values start (word_list w)) first ∙ ap (λ (w : Words). behind_define values start (name ∷ word_list w)) second
 
-pub defines-new : (old new : BTreeMap (List ℕ) (List ℕ)) (source : List ℕ) (start at next after : ℕ) (name value : Word)
+none-of : (o : Option (List ℕ)) → is_some o ≡ false → o ≡ None
+none-of None is = refl
+none-of (Some value) is = absurd (true≢false is)
+
+pub defines-new : (E : Type 0) (old new : Definitions) (source : List ℕ) (start at next after : ℕ) (name value : Word)
     → words_at source at ≡ Found name (words_at source next) → words_at source next ≡ Found value (words_at source after)
-    → is_value value.text ≡ true → values_in old name.text ≡ None
-    → ((text : List ℕ) → values_in new text ≡ cond (is_eq (slice_cmp nat_cmp name.text text)) (Some value.text) (values_in old text))
+    → is_value value.text ≡ true → Enters {E = E} (Ok false) name.text value.text old new
     → (behind_define (values_in old) start (word_list (words_at source at)) ≡ valued (values_in new) (parts_at source after))
     × (open_at source at ≡ open_at source after)
-defines-new old new source start at next after name value first second good none found = (
-  two-words (values_in old) source start at next after name value first second
-      ∙ behind-good (values_in old) start name value (word_list (words_at source after)) None good none
-      ∙ ap (λ (v : Values). valued v (parts_at source after)) (sym (added old new name.text value.text none found)),
-  ap open_quote first ∙ ap open_quote second,
-)
+defines-new E old new source start at next after name value first second good enters =
+    let none = none-of (values_in old name.text) (sym enters.0) in (
+      two-words (values_in old) source start at next after name value first second
+          ∙ behind-good (values_in old) start name value (word_list (words_at source after)) None good none
+          ∙ ap (λ (v : Values). valued v (parts_at source after)) (sym (added old new name.text value.text none enters.1)),
+      ap open_quote first ∙ ap open_quote second,
+    )
 
-pub defines-again : (old : BTreeMap (List ℕ) (List ℕ)) (source : List ℕ) (start at next after : ℕ) (name value : Word) (before : List ℕ)
+pub defines-again : (E : Type 0) (old new : Definitions) (source : List ℕ) (start at next after : ℕ) (name value : Word)
     → words_at source at ≡ Found name (words_at source next) → words_at source next ≡ Found value (words_at source after)
-    → is_value value.text ≡ true → values_in old name.text ≡ Some before
+    → is_value value.text ≡ true → Enters {E = E} (Ok true) name.text value.text old new
     → behind_define (values_in old) start (word_list (words_at source at)) ≡ Err (refusal.DoubleDefine start)
-defines-again old source start at next after name value before first second good some =
+defines-again E old new source start at next after name value first second good enters =
     two-words (values_in old) source start at next after name value first second
-    ∙ behind-good (values_in old) start name value (word_list (words_at source after)) (Some before) good some
+    ∙ behind-good (values_in old) start name value (word_list (words_at source after)) (values_in old name.text) good refl
+    ∙ ap (λ (b : Bool). with_values (cond b (Err (refusal.DoubleDefine start)) (Ok (λ text. or_value (values_in old text) (cond (bytes_eq text name.text) (Some value.text) None)))) (λ more. valued more (parts (word_list (words_at source after))))) (sym enters.0)
 
 -- what the whole is, by what is left
 pub meant-by : (values : Values) (source : List ℕ) (at : ℕ) (words : Words) → open_at source 0 ≡ open_at source at
@@ -96,7 +98,7 @@ meant-by values source at words quote whole is =
     by None meant = refl
 
 -- a definition is refused, unless a quote is open behind it
-pub refused : (quote : Option ℕ) (why : M1Refusal) (start at : ℕ) (source : List ℕ) (old new : BTreeMap (List ℕ) (List ℕ))
+pub refused : (quote : Option ℕ) (why : M1Refusal) (start at : ℕ) (source : List ℕ) (old new : Definitions)
     (meant : Result Defined M1Refusal) → looked_up meant ≡ unless_quoted quote (behind_define (values_in old) start (word_list (words_at source at)))
     → DefinesOne (Err why) start source at old new → Tabulates (Err (quote_or quote why)) meant
 refused (Some place) why start at source old new meant is one = is

@@ -2,7 +2,6 @@
 use Rattle.std.proofs.Common.{◌≡◌, ◌≤◌, ◌<◌, ℕ, nat_lt, true, false, List, [], length, refl, ap, sym, subst, ◌∙◌, arith, Option, None, Result, Ok, Err}
 use Rattle.std.proofs.lemmas.Bool.{cond-true, cond-false}
 use Rattle.std.proofs.lemmas.Bool.Decides.{nat_tests}
-use Rattle.std.specs.BTreeMap.{BTreeMap}
 use Rattle.hex_langs.specs.declared.items.item.Item.{Item}
 use Rattle.hex_langs.specs.declared.items.words.Open.{Open}
 use Rattle.hex_langs.specs.Items.Reading.{NoToken, formed, Formed, Reading, with_front, word_end}
@@ -14,7 +13,7 @@ use Rattle.m1_lang.specs.declared.refusal.M1Refusal.{M1Refusal}
 use Rattle.m1_lang.specs.declared.refusal.M1Refusal.TheVariants as refusal
 use Rattle.m1_lang.specs.Definitions.{Defined, definitions_in, is_define, parts, plain_words, value_in}
 use Rattle.m1_lang.specs.Expansion.{counted_items, Expands, expansion_by, expansion_of, then_read, items_unless_refused, words_reading}
-use Rattle.m1_lang.specs.Representation.Passes.{looked_up, plain_behind, parts_at, reading_at, Tabulates, TakesWord, Values, values_in}
+use Rattle.m1_lang.specs.Representation.Passes.{Definitions, looked_up, plain_behind, parts_at, reading_at, Tabulates, TakesWord, Values, values_in}
 use Rattle.m1_lang.proofs.Passing.{define-plain, parts-plain, words-end}
 use Rattle.m1_lang.proofs.Takings.{counted-end}
 
@@ -88,7 +87,7 @@ refused-definitions refusal.TooLong source short is = refused-by _ source _ shor
 refused-definitions refusal.OutOfMemory source short is = tt
 
 -- by the table of the definitions
-pub expanded-by : (table : BTreeMap (List ℕ) (List ℕ)) (source : List ℕ) (result : Result (List Item) M1Refusal) → length source ≤ 67108864
+pub expanded-by : (table : Definitions) (source : List ℕ) (result : Result (List Item) M1Refusal) → length source ≤ 67108864
     → looked_up (definitions_in (words_of source)) ≡ Ok (values_in table)
     → Expands (counted_items (formed None (reading_at (values_in table) source 0))) result → Expands (expansion_of source) result
 expanded-by table source result short looked expands = by (definitions_in (words_of source)) refl looked

@@ -3,13 +3,17 @@
 ghost use Rattle.std.specs.Prelude.{◌≡◌, ◌≤◌, length};
 ghost use Rattle.m1_lang.specs.Words.Words.{words_of};
 ghost use Rattle.m1_lang.specs.Definitions.{definitions_in, is_define};
-ghost use Rattle.m1_lang.specs.Representation.Passes.{quote_or, open_at, DefinesOne, Tabulates};
+ghost use Rattle.m1_lang.specs.Representation.Passes.{quote_or, open_at, DefinesOne, Enters, Tabulates};
 
 use crate::refusal::M1Refusal;
 use crate::words::{Ahead, Value, next_word};
+use ddc_base::{NamesDigest, NamesKey, OutOfMemory};
 use hex_langs::items::Name;
+use indexmap::IndexMap;
 use std::alloc::Global;
-use std::collections::BTreeMap;
+
+/// What each definition's name stands for.
+pub(crate) type Definitions<'s> = IndexMap<Name<'s>, Value<'s>, NamesKey>;
 
 pub(crate) fn is_define(text: &[u8]) -> bool
     ensures { result ≡ is_define text.now }
@@ -33,9 +37,61 @@ fn open_quote(source: &[u8], from: usize) -> Option<usize>
     None
 }
 
+/// The offset behind a name, which the digest takes.
+fn take_name(names: &mut NamesDigest, source: &[u8], at: usize) -> usize
+    requires { at ≤ length source.now }
+    ensures low { at ≤ result }
+    ensures high { result ≤ length source.now }
+{
+    match next_word(source, at) {
+        Ahead::Word(_, name, after) => {
+            names.add(name);
+            after
+        }
+        _ => source.len(),
+    }
+}
+
+/// The key of the table of the definitions: all the names behind a `DEFINE`.
+fn names_key(source: &[u8]) -> NamesKey {
+    let mut names = NamesDigest::new();
+    let mut are_none = true;
+    let mut at = 0;
+    while at < source.len() {
+        match next_word(source, at) {
+            Ahead::Word(_, text, after) => {
+                if is_define(text) {
+                    at = take_name(&mut names, source, after);
+                    are_none = false;
+                } else {
+                    at = after;
+                }
+            }
+            _ => at = source.len(),
+        }
+    }
+    // A digest of no names would be work for nothing.
+    if are_none {
+        NamesKey::of_none()
+    } else {
+        names.key()
+    }
+}
+
+/// Adds a definition, and tells whether its name had one.
+fn add_definition<'s>(
+    table: &mut Definitions<'s>,
+    name: &'s [u8],
+    value: Value<'s>,
+) -> Result<bool, OutOfMemory>
+    ensures { Enters result name.now value.entry table.old table.new }
+{
+    Ok(table.insert(Name::new(name), value)?.is_some())
+}
+
 /// One definition behind its `DEFINE`; the offset behind it.
 fn define<'s>(
-    table: &mut BTreeMap<Name<'s>, Value<'s>>,
+    table: &mut Definitions<'s>,
     source: &'s [u8],
     start: usize,
     at: usize,
@@ -47,10 +103,9 @@ fn define<'s>(
         Ahead::Word(_, name, behind) => match next_word(source, behind) {
             Ahead::Word(_, value, after) => match Value::new(value) {
                 None => Err(M1Refusal::BadDefine(start as u64)),
-                Some(value) => match table.insert(Name::new(name), value) {
-                    Err(_) => Err(M1Refusal::OutOfMemory),
-                    Ok(Some(_)) => Err(M1Refusal::DoubleDefine(start as u64)),
-                    Ok(None) => Ok(after),
+                Some(value) => match add_definition(table, name, value)? {
+                    true => Err(M1Refusal::DoubleDefine(start as u64)),
+                    false => Ok(after),
                 },
             },
             _ => Err(M1Refusal::BadDefine(start as u64)),
@@ -74,10 +129,10 @@ fn unless_open(source: &[u8], at: usize, refusal: M1Refusal) -> M1Refusal
 pub(crate) fn definitions_of<'s>(
     alloc: Global,
     source: &'s [u8],
-) -> Result<BTreeMap<Name<'s>, Value<'s>>, M1Refusal>
+) -> Result<Definitions<'s>, M1Refusal>
     ensures { Tabulates result (definitions_in (words_of source.now)) }
 {
-    let mut table = BTreeMap::new(alloc);
+    let mut table = IndexMap::with_hasher(alloc, names_key(source));
     let mut at = 0;
     while at < source.len() {
         match next_word(source, at) {

@@ -6,13 +6,12 @@ ghost use Rattle.m1_lang.specs.Words.Forms.{tokens_of};
 ghost use Rattle.m1_lang.specs.Expansion.{counted_items, Expands, expansion_of, halt_refusal, word_refusal};
 ghost use Rattle.m1_lang.specs.Representation.Passes.{reading_at, SkipsOne, TakesWord, values_in};
 
-use crate::definitions::{definitions_of, is_define};
+use crate::definitions::{Definitions, definitions_of, is_define};
 use crate::refusal::M1Refusal;
 use crate::taking::{meaning_by, take_meaning};
-use crate::words::{Ahead, Value, WordFault, next_word};
-use hex_langs::items::{Halt, Items, LONGEST_SOURCE, Name, Open};
+use crate::words::{Ahead, WordFault, next_word};
+use hex_langs::items::{Halt, Items, LONGEST_SOURCE, Open};
 use std::alloc::Global;
-use std::collections::BTreeMap;
 
 /// The items that an M1 source of at most 67,108,864 bytes expands to, or its first refusal: a quote that isn't closed, then the
 /// definitions in order, then the other words in order. Names lie in the source.
@@ -47,7 +46,7 @@ fn behind_definition(source: &[u8], at: usize) -> usize
 /// Takes a word at an offset.
 fn take_word<'s>(
     items: &mut Items<'s>,
-    table: &BTreeMap<Name<'s>, Value<'s>>,
+    table: &Definitions<'s>,
     word: Option<Open<'s>>,
     at: usize,
     text: &'s [u8],
@@ -68,7 +67,7 @@ fn take_word<'s>(
 /// The items of the words that belong to no definition.
 fn items_by<'s>(
     alloc: Global,
-    table: &BTreeMap<Name<'s>, Value<'s>>,
+    table: &Definitions<'s>,
     source: &'s [u8],
 ) -> Result<Items<'s>, M1Refusal>
     ensures { Expands (counted_items (formed None (reading_at (values_in table.now) source.now 0))) result }

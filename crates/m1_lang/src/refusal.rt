@@ -3,6 +3,8 @@
 ghost use Rattle.std.specs.Prelude.{◌≡◌};
 ghost use Rattle.m1_lang.specs.Refusals.{m1_refusal_number, m1_refusal_place};
 
+use ddc_base::OutOfMemory;
+
 /// The first refusal of a source, by the offset of a byte, which counts from 0.
 #[derive(Clone, Copy, PartialEq, Eq)]
 pub enum M1Refusal {
@@ -21,6 +23,16 @@ pub enum M1Refusal {
     /// The source has more than 67,108,864 bytes, or more than 33,554,432 items.
     TooLong,
     OutOfMemory,
+}
+
+impl From<OutOfMemory> for M1Refusal {
+    ghost use Rattle.m1_lang.specs.declared.refusal.M1Refusal.TheVariants.{OutOfMemory};
+
+    ghost from_gives = { λ _ e. e ≡ OutOfMemory };
+
+    fn from(_error: OutOfMemory) -> M1Refusal {
+        M1Refusal::OutOfMemory
+    }
 }
 
 impl M1Refusal {

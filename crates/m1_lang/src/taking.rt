@@ -6,9 +6,9 @@ ghost use Rattle.m1_lang.specs.Words.Forms.{defined_tokens, padded, tokens_of};
 ghost use Rattle.m1_lang.specs.Words.Meanings.{MeansResult, MeansTokens, front_bytes, meaning_tokens};
 ghost use Rattle.m1_lang.specs.Representation.Passes.{TakesTokens, values_in};
 
-use crate::words::{Meaning, Value, WordFault, meaning_of};
+use crate::definitions::Definitions;
+use crate::words::{Meaning, WordFault, meaning_of};
 use hex_langs::items::{Begun, Halt, Items, Name, Open, byte_of, take, take_byte, take_four};
-use std::collections::BTreeMap;
 
 /// Takes bytes.
 fn take_bytes<'s>(
@@ -152,7 +152,7 @@ pub(crate) fn take_meaning<'s>(
 }
 
 /// What a word gives that a definition names.
-fn defined_meaning<'s>(table: &BTreeMap<Name<'s>, Value<'s>>, text: &'s [u8]) -> Option<Meaning<'s>>
+fn defined_meaning<'s>(table: &Definitions<'s>, text: &'s [u8]) -> Option<Meaning<'s>>
     ensures { MeansTokens result (defined_tokens (values_in table.now text.now)) }
 {
     match table.get(&Name::new(text)) {
@@ -163,7 +163,7 @@ fn defined_meaning<'s>(table: &BTreeMap<Name<'s>, Value<'s>>, text: &'s [u8]) ->
 
 /// What a word gives by the definitions.
 pub(crate) fn meaning_by<'s>(
-    table: &BTreeMap<Name<'s>, Value<'s>>,
+    table: &Definitions<'s>,
     text: &'s [u8],
 ) -> Result<Meaning<'s>, WordFault>
     ensures { MeansResult result (tokens_of (values_in table.now) text.now) }

@@ -1,8 +1,7 @@
 -- What the code's passes over a source do. No promise rests on its being read.
-use Rattle.std.specs.Prelude.{◌≡◌, ℕ, ◌<◌, ◌≤◌, bytes_eq, not, if◌then◌else◌, is_some, List, [], ◌∷◌, length, Option, Some, None, Result, Ok, Err}
-use Rattle.std.specs.BTreeMap.{BTreeMap, get}
-use Rattle.std.specs.Ordering.{nat_cmp}
-use Rattle.std.specs.Cmp.Lexicographic.{slice_cmp}
+use Rattle.std.specs.Prelude.{◌≡◌, ℕ, ◌<◌, ◌≤◌, bytes_eq, Bool, not, if◌then◌else◌, is_some, List, [], ◌∷◌, length, Option, Some, None, Result, Ok, Err}
+use Rattle.indexmap.specs.IndexMap.{IndexMap, get}
+use Rattle.ddc_base.specs.declared.name_tables.NamesKey.{NamesKey}
 use Rattle.hex_langs.specs.declared.items.item.Item.{Item}
 use Rattle.hex_langs.specs.declared.items.token.Token.{Token}
 use Rattle.hex_langs.specs.declared.items.words.Open.{Open}
@@ -30,9 +29,19 @@ open_at source at = open_quote (words_at source at)
 abbrev pub Values : Type 0
 Values = List ℕ → Option (List ℕ)
 
--- what the table of definitions gives words
-abbrev pub values_in : BTreeMap (List ℕ) (List ℕ) → Values
-values_in table text = get (slice_cmp nat_cmp) table text
+-- the table of definitions
+abbrev pub Definitions : Type 0
+Definitions = IndexMap (List ℕ) (List ℕ) NamesKey
+
+-- what it gives words
+abbrev pub values_in : Definitions → Values
+values_in table text = get bytes_eq table text
+
+-- a definition goes into the table: whether its name was there, and then what is
+abbrev pub Enters : {E : Type 0} → Result Bool E → List ℕ → List ℕ → Definitions → Definitions → Type 0
+Enters (Ok again) name value old new =
+    (again ≡ is_some (values_in old name)) × ((text : List ℕ) → values_in new text ≡ (if bytes_eq name text then Some value else values_in old text))
+Enters (Err wanting) name value old new = Unit {0}
 
 abbrev pub or_value : Option (List ℕ) → Option (List ℕ) → Option (List ℕ)
 or_value (Some value) later = Some value
@@ -67,7 +76,7 @@ unless_quoted (Some at) later = Err (refusal.OpenString at)
 unless_quoted None later = later
 
 -- what the table of definitions is
-abbrev pub Tabulates : Result (BTreeMap (List ℕ) (List ℕ)) M1Refusal → Result Defined M1Refusal → Type 0
+abbrev pub Tabulates : Result Definitions M1Refusal → Result Defined M1Refusal → Type 0
 Tabulates (Ok table) meant = looked_up meant ≡ Ok (values_in table)
 Tabulates (Err refusal.OutOfMemory) meant = Unit {0}
 Tabulates (Err why) meant = looked_up meant ≡ Err why
@@ -79,7 +88,7 @@ behind_define values at (name ∷ []) = Err (refusal.BadDefine at)
 behind_define values at (name ∷ value ∷ rest) = with_values (valued_with values at name.text value.text) (λ more. valued more (parts rest))
 
 -- what one definition does: `DEFINE` stood at start, and its name and value stand from at on
-abbrev pub DefinesOne : Result ℕ M1Refusal → ℕ → List ℕ → ℕ → BTreeMap (List ℕ) (List ℕ) → BTreeMap (List ℕ) (List ℕ) → Type 0
+abbrev pub DefinesOne : Result ℕ M1Refusal → ℕ → List ℕ → ℕ → Definitions → Definitions → Type 0
 DefinesOne (Ok after) start source at old new =
     (behind_define (values_in old) start (word_list (words_at source at)) ≡ valued (values_in new) (parts_at source after))
     × (open_at source at ≡ open_at source after) × (at < after) × (after ≤ length source)
