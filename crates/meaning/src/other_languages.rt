@@ -10,7 +10,7 @@ use crate::semantics::Semantics;
 use std::marker::PhantomData;
 
 /// A deterministic semantics of sources in other languages, as C: any relation that prescribes at most one content. What it says of sources of
-/// hex0, hex1 and hex2 that have a value is not asked.
+/// hex0, hex1 and hex2 that have a value is not asked. It has nothing that runs.
 pub trait OtherLanguages {
     /// The source, run as a program with the box, prescribes this content at the output.
     ghost prescribes: { SourceText → Setting → OutputPlace → List ℕ → Type 0 };
@@ -20,7 +20,8 @@ pub trait OtherLanguages {
         → prescribes source box output one → prescribes source box output other → one ≡ other };
 }
 
-/// The same, with sources that have a value of hex0, hex1 or hex2 prescribing what runs of it leave.
+/// A semantics of other languages beside machine code: a source that has a value of hex0, hex1 or hex2 prescribes what runs of the value leave,
+/// and any other what is given.
 pub struct WithMachineCode<L> {
     others: PhantomData<L>,
 }
