@@ -74,15 +74,6 @@ defines-new E old new source start at next after name value first second good en
       ap open_quote first ∙ ap open_quote second,
     )
 
-pub defines-again : (E : Type 0) (old new : Definitions) (source : List ℕ) (start at next after : ℕ) (name value : Word)
-    → words_at source at ≡ Found name (words_at source next) → words_at source next ≡ Found value (words_at source after)
-    → is_value value.text ≡ true → Enters {E = E} (Ok true) name.text value.text old new
-    → behind_define (values_in old) start (word_list (words_at source at)) ≡ Err (refusal.DoubleDefine start)
-defines-again E old new source start at next after name value first second good enters =
-    two-words (values_in old) source start at next after name value first second
-    ∙ behind-good (values_in old) start name value (word_list (words_at source after)) (values_in old name.text) good refl
-    ∙ ap (λ (b : Bool). with_values (cond b (Err (refusal.DoubleDefine start)) (Ok (λ text. or_value (values_in old text) (cond (bytes_eq text name.text) (Some value.text) None)))) (λ more. valued more (parts (word_list (words_at source after))))) (sym enters.0)
-
 -- what the whole is, by what is left
 pub meant-by : (values : Values) (source : List ℕ) (at : ℕ) (words : Words) → open_at source 0 ≡ open_at source at
     → valued (λ text. None) (parts_at source 0) ≡ valued values (parts_at source at) → words_at source at ≡ words
