@@ -1,6 +1,6 @@
 -- A run that is checked in pieces: what each answer says of the bytes, and what the answers say together.
 -- docs/reference/segments.md says the same for people.
-use Rattle.std.specs.Prelude.{◌≡◌, ℕ, ◌+◌, ◌-◌, ◌<◌, ◌≤◌, ◌^◌, ◌⊎◌, Ok, Err, Some, None, List, [], ◌∷◌}
+use Rattle.std.specs.Prelude.{◌≡◌, ℕ, ◌+◌, ◌-◌, ◌<◌, ◌≤◌, ◌^◌, ◌⊎◌, IsOk, Ok, Err, Some, None, List, [], ◌∷◌}
 use Rattle.ddc_base.specs.Difference.{first_difference}
 use Rattle.save_text.specs.StateText.Spelled.{text_of_state}
 use Rattle.checkpoints.specs.Checkpoint.{MayWantMemory, ReadsState, state_of}
@@ -103,12 +103,13 @@ pub record BeginsOtherwise (program : List ℕ) (setting : Setting) (text : List
   pub is : IsStateOf text other
   pub differs : first_difference (second_text guest) (second_text other) ≡ Some offset
 
+-- what an answer on a program and a text says; memory may be wanting only where the program starts
 abbrev pub StartChecks : List ℕ → Setting → List ℕ → StartAnswer → Type 0
 StartChecks program setting text beginning.Yes = BeginsWith program setting text
 StartChecks program setting text (beginning.Start why) = start_of program setting ≡ Err (start_refusal_of why)
 StartChecks program setting text (beginning.NotState why) = ((guest : GuestState) × (start_of program setting ≡ Ok guest)) × IsNoState text why
 StartChecks program setting text (beginning.Differs offset) = BeginsOtherwise program setting text offset
-StartChecks program setting text beginning.OutOfMemory = Unit {0}
+StartChecks program setting text beginning.OutOfMemory = IsOk (start_of program setting)
 
 -- ---- the end
 
