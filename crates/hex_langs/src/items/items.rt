@@ -8,7 +8,7 @@ ghost use Rattle.hex_langs.specs.declared.items.item.Item.TheVariants.{Byte};
 
 use crate::items::item::{Item, Name};
 use ddc_base::OutOfMemory;
-use std::alloc::Global;
+use std::alloc::{AllocFailed, Global};
 use std::marker::Model;
 
 /// At most so many items stand in a list.
@@ -82,7 +82,7 @@ fn add_other<'s>(
     codes.push(code)?;
     match others.push(item) {
         Ok(()) => Ok(()),
-        Err(_) => {
+        Err(AllocFailed { .. }) => {
             codes.pop();
             Err(OutOfMemory)
         }
