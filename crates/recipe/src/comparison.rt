@@ -1,6 +1,6 @@
 ghost use Rattle.std.specs.Prelude.{◌≡◌, [], map};
 ghost use Rattle.toml.specs.View.{table_view, view};
-ghost use Rattle.recipe.specs.Text.Reading.{Gives, gathered, required};
+ghost use Rattle.recipe.specs.Text.Reading.{Gives, NeverWants, gathered, required};
 ghost use Rattle.recipe.specs.Tables as spec;
 ghost use Rattle.recipe.specs.Tables.{compare_table, compared_stages, is_among, next_stage_name, some_stage_names};
 
@@ -84,7 +84,8 @@ fn names_of(alloc: Global, values: &[Value]) -> Result<ListOf<Name>, RecipeRefus
 /// The name that a value says, which none of these is.
 #[tactic(auto, unfolding(crate::specs::Tables::next_stage_name))]
 fn next_name(names: &ListOf<Name>, value: &Value) -> Result<Name, RecipeRefusal>
-    ensures { Gives (λ x. x) result (next_stage_name COMPARE Key.Stages names.now (view value.now)) }
+    ensures value { Gives (λ x. x) result (next_stage_name COMPARE Key.Stages names.now (view value.now)) }
+    ensures memory { NeverWants result }
 {
     let name = name(COMPARE, Key::Stages, value)?;
     if is_among(names.as_slice(), &name) {

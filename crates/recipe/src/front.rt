@@ -1,7 +1,7 @@
 ghost use Rattle.std.specs.Prelude.{◌≤◌, IfOk, IfSome, length, option_map};
 ghost use Rattle.toml.specs.View.{table_view};
 ghost use Rattle.recipe.specs.Text.Inside.Views.{tables_view};
-ghost use Rattle.recipe.specs.Text.Reading.{Gives, a_list, a_number, a_table, optional, required};
+ghost use Rattle.recipe.specs.Text.Reading.{Gives, NeverWants, a_list, a_number, a_table, optional, required};
 ghost use Rattle.recipe.specs.Inside.Views.{top_view};
 ghost use Rattle.recipe.specs.Tables.{top_table};
 
@@ -50,7 +50,8 @@ pub(crate) fn top_of<'a>(alloc: Global, top: &'a Table) -> Result<Top<'a>, Recip
 
 /// The recipe's format, 1 or 2.
 fn format_of(top: &Table) -> Result<u32, RecipeRefusal>
-    ensures { Gives (λ x. x) result (required (a_number 1 2) TOP Key.Format (table_view top.now)) }
+    ensures value { Gives (λ x. x) result (required (a_number 1 2) TOP Key.Format (table_view top.now)) }
+    ensures memory { NeverWants result }
 {
     let format = required_number(1, 2, TOP, Key::Format, top)?;
     Ok(format as u32)
@@ -88,7 +89,8 @@ fn optional_tables<'a>(
 /// The table at a key of the top.
 #[tactic(auto, unfolding(crate::specs::Text::Reading::required))]
 fn required_table<'a>(key: Key, top: &'a Table) -> Result<&'a Table, RecipeRefusal>
-    ensures { Gives (λ x. table_view x.now) result (required a_table TOP key (table_view top.now)) }
+    ensures value { Gives (λ x. table_view x.now) result (required a_table TOP key (table_view top.now)) }
+    ensures memory { NeverWants result }
 {
     table(TOP, key, required(TOP, key, top)?)
 }

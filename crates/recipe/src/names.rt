@@ -2,7 +2,7 @@
 
 ghost use Rattle.std.specs.Prelude.{◌≡◌};
 ghost use Rattle.toml.specs.View.{table_view, view};
-ghost use Rattle.recipe.specs.Text.Reading.{Gives, required};
+ghost use Rattle.recipe.specs.Text.Reading.{Gives, NeverWants, required};
 ghost use Rattle.recipe.specs.Tables.{a_new_name, is_input_name, is_source_name, is_stage_name, is_taken};
 
 use crate::parts::{Input, Source, Stage};
@@ -19,7 +19,8 @@ pub(crate) fn required_new_name(
     place: Place,
     table: &Table,
 ) -> Result<Name, RecipeRefusal>
-    ensures { Gives (λ x. x) result (required (a_new_name inputs.now sources.now stages.now) place Key.Name (table_view table.now)) }
+    ensures value { Gives (λ x. x) result (required (a_new_name inputs.now sources.now stages.now) place Key.Name (table_view table.now)) }
+    ensures memory { NeverWants result }
 {
     new_name(
         inputs,
@@ -39,7 +40,8 @@ fn new_name(
     place: Place,
     value: &Value,
 ) -> Result<Name, RecipeRefusal>
-    ensures { Gives (λ x. x) result (a_new_name inputs.now sources.now stages.now place Key.Name (view value.now)) }
+    ensures value { Gives (λ x. x) result (a_new_name inputs.now sources.now stages.now place Key.Name (view value.now)) }
+    ensures memory { NeverWants result }
 {
     let name = name(place, Key::Name, value)?;
     if is_taken(inputs, sources, stages, &name) {

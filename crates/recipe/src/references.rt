@@ -2,7 +2,7 @@
 
 ghost use Rattle.std.specs.Prelude.{◌≡◌, ◌<◌, ◌≤◌, ◌^◌, ◌-◌, length, is_some, Some};
 ghost use Rattle.std.specs.List.{list_all};
-ghost use Rattle.recipe.specs.Text.Reading.{Gives, each_passes, refused_unless};
+ghost use Rattle.recipe.specs.Text.Reading.{Gives, NeverWants, each_passes, refused_unless};
 ghost use Rattle.recipe.specs.declared.text.refusal.RecipeRefusal.TheVariants.{NotMadeYet as NotYet};
 ghost use Rattle.recipe.specs.Lookups as spec;
 ghost use Rattle.recipe.specs.Lookups.{IsIndex};
@@ -21,7 +21,8 @@ pub(crate) fn second_walk(said: &Said) -> Result<(), RecipeRefusal>
     requires inputs { length said.now.inputs ≤ 256 }
     requires sources { length said.now.sources ≤ 256 }
     requires stages { length said.now.stages ≤ 256 }
-    ensures { Gives (λ x. x) result (second_walk said.now) }
+    ensures refers { Gives (λ x. x) result (second_walk said.now) }
+    ensures memory { NeverWants result }
 {
     inputs_refer(said, said.inputs.as_slice())?;
     sources_refer(said, said.sources.as_slice())?;
@@ -33,7 +34,8 @@ pub(crate) fn second_walk(said: &Said) -> Result<(), RecipeRefusal>
 /// The inputs' `implements`.
 fn inputs_refer(said: &Said, inputs: &[Input]) -> Result<(), RecipeRefusal>
     requires { length inputs.now < 2 ^ 32 - 1 }
-    ensures { Gives (λ x. x) result (each_passes (input_refers said.now) 1 inputs.now) }
+    ensures refers { Gives (λ x. x) result (each_passes (input_refers said.now) 1 inputs.now) }
+    ensures memory { NeverWants result }
 {
     let mut number = 1u32;
     for input in inputs {
@@ -44,7 +46,8 @@ fn inputs_refer(said: &Said, inputs: &[Input]) -> Result<(), RecipeRefusal>
 }
 
 fn input_refers(said: &Said, number: u32, input: &Input) -> Result<(), RecipeRefusal>
-    ensures { Gives (λ x. x) result (input_refers said.now number input.now) }
+    ensures refers { Gives (λ x. x) result (input_refers said.now number input.now) }
+    ensures memory { NeverWants result }
 {
     let place = Place {
         table: Table::Input,
@@ -65,7 +68,8 @@ fn refers_to_source(
     key: Key,
     name: &Option<Name>,
 ) -> Result<(), RecipeRefusal>
-    ensures { Gives (λ x. x) result (refers_to_source sources.now place key name.now) }
+    ensures refers { Gives (λ x. x) result (refers_to_source sources.now place key name.now) }
+    ensures memory { NeverWants result }
 {
     match name {
         Some(name) => made_by_now(source_named(sources, name).is_some(), place, key),
@@ -75,7 +79,8 @@ fn refers_to_source(
 
 /// Refuses a name that stands for nothing that is there by then.
 fn made_by_now(made: bool, place: Place, key: Key) -> Result<(), RecipeRefusal>
-    ensures { Gives (λ x. x) result (refused_unless (NotYet place key) made) }
+    ensures refers { Gives (λ x. x) result (refused_unless (NotYet place key) made) }
+    ensures memory { NeverWants result }
 {
     if made {
         Ok(())
@@ -87,7 +92,8 @@ fn made_by_now(made: bool, place: Place, key: Key) -> Result<(), RecipeRefusal>
 /// The sources' files.
 fn sources_refer(said: &Said, sources: &[Source]) -> Result<(), RecipeRefusal>
     requires { length sources.now < 2 ^ 32 - 1 }
-    ensures { Gives (λ x. x) result (each_passes (source_refers said.now) 1 sources.now) }
+    ensures refers { Gives (λ x. x) result (each_passes (source_refers said.now) 1 sources.now) }
+    ensures memory { NeverWants result }
 {
     let mut number = 1u32;
     for source in sources {
@@ -98,7 +104,8 @@ fn sources_refer(said: &Said, sources: &[Source]) -> Result<(), RecipeRefusal>
 }
 
 fn source_refers(said: &Said, number: u32, source: &Source) -> Result<(), RecipeRefusal>
-    ensures { Gives (λ x. x) result (source_refers said.now number source.now) }
+    ensures refers { Gives (λ x. x) result (source_refers said.now number source.now) }
+    ensures memory { NeverWants result }
 {
     let place = Place {
         table: Table::Source,
@@ -130,7 +137,8 @@ fn is_content(inputs: &[Input], stages: &[Stage], name: &Name) -> bool
 fn stages_refer(said: &Said, stages: &[Stage]) -> Result<(), RecipeRefusal>
     requires few { length stages.now < 2 ^ 32 - 1 }
     requires same { stages.now ≡ said.now.stages }
-    ensures { Gives (λ x. x) result (each_passes (stage_refers said.now) 1 stages.now) }
+    ensures refers { Gives (λ x. x) result (each_passes (stage_refers said.now) 1 stages.now) }
+    ensures memory { NeverWants result }
 {
     let mut number = 1u32;
     for stage in stages {
@@ -143,7 +151,8 @@ fn stages_refer(said: &Said, stages: &[Stage]) -> Result<(), RecipeRefusal>
 fn stage_refers(said: &Said, number: u32, stage: &Stage) -> Result<(), RecipeRefusal>
     requires from_one { 1 ≤ number }
     requires within { number ≤ length said.now.stages }
-    ensures { Gives (λ x. x) result (stage_refers said.now number stage.now) }
+    ensures refers { Gives (λ x. x) result (stage_refers said.now number stage.now) }
+    ensures memory { NeverWants result }
 {
     let place = Place {
         table: Table::Stage,
@@ -161,7 +170,8 @@ fn stage_refers_after(
     place: Place,
     stage: &Stage,
 ) -> Result<(), RecipeRefusal>
-    ensures { Gives (λ x. x) result (stage_refers_after said.now earlier.now place stage.now) }
+    ensures refers { Gives (λ x. x) result (stage_refers_after said.now earlier.now place stage.now) }
+    ensures memory { NeverWants result }
 {
     let inputs = said.inputs.as_slice();
     made_by_now(
@@ -195,7 +205,8 @@ fn check_refers(
     place: Place,
     check: &Option<Name>,
 ) -> Result<(), RecipeRefusal>
-    ensures { Gives (λ x. x) result (check_refers said.now earlier.now place check.now) }
+    ensures refers { Gives (λ x. x) result (check_refers said.now earlier.now place check.now) }
+    ensures memory { NeverWants result }
 {
     match check {
         Some(name) => named_source_checks(said, earlier, place, name),
@@ -209,7 +220,8 @@ fn named_source_checks(
     place: Place,
     name: &Name,
 ) -> Result<(), RecipeRefusal>
-    ensures { Gives (λ x. x) result (checks_source said.now earlier.now place (spec.source_named said.now.sources name.now)) }
+    ensures refers { Gives (λ x. x) result (checks_source said.now earlier.now place (spec.source_named said.now.sources name.now)) }
+    ensures memory { NeverWants result }
 {
     match source_named(said.sources.as_slice(), name) {
         Some(source) => source_checks(said, earlier, place, source),
@@ -224,7 +236,8 @@ fn source_checks(
     place: Place,
     source: &Source,
 ) -> Result<(), RecipeRefusal>
-    ensures { Gives (λ x. x) result (checks_source said.now earlier.now place (Some source.now)) }
+    ensures refers { Gives (λ x. x) result (checks_source said.now earlier.now place (Some source.now)) }
+    ensures memory { NeverWants result }
 {
     if !are_contents(said.inputs.as_slice(), earlier, source.files.as_slice()) {
         return Err(RecipeRefusal::NotMadeYet(place, Key::Check));
@@ -238,7 +251,8 @@ fn source_checks(
 /// What is compared.
 #[tactic(auto, unfolding(crate::specs::SecondWalk::compare_refers))]
 fn compare_refers(said: &Said) -> Result<(), RecipeRefusal>
-    ensures { Gives (λ x. x) result (compare_refers said.now) }
+    ensures refers { Gives (λ x. x) result (compare_refers said.now) }
+    ensures memory { NeverWants result }
 {
     let there = are_stages(said.stages.as_slice(), said.compare.stages.as_slice());
     made_by_now(there, COMPARE, stages_key(said.format))?;
@@ -265,7 +279,8 @@ fn programs_have_sources(said: &Said, stages: &[Stage]) -> Result<(), RecipeRefu
     requires few { length stages.now < 2 ^ 32 - 1 }
     requires few_inputs { length said.now.inputs ≤ 256 }
     requires few_stages { length said.now.stages ≤ 256 }
-    ensures { Gives (λ x. x) result (each_passes (program_has_source said.now) 1 stages.now) }
+    ensures refers { Gives (λ x. x) result (each_passes (program_has_source said.now) 1 stages.now) }
+    ensures memory { NeverWants result }
 {
     let mut number = 1u32;
     for stage in stages {
@@ -278,7 +293,8 @@ fn programs_have_sources(said: &Said, stages: &[Stage]) -> Result<(), RecipeRefu
 fn program_has_source(said: &Said, number: u32, stage: &Stage) -> Result<(), RecipeRefusal>
     requires few_inputs { length said.now.inputs ≤ 256 }
     requires few_stages { length said.now.stages ≤ 256 }
-    ensures { Gives (λ x. x) result (program_has_source said.now number stage.now) }
+    ensures refers { Gives (λ x. x) result (program_has_source said.now number stage.now) }
+    ensures memory { NeverWants result }
 {
     match &stage.check {
         Some(_) => Ok(()),
@@ -289,7 +305,8 @@ fn program_has_source(said: &Said, number: u32, stage: &Stage) -> Result<(), Rec
 fn named_has_source(said: &Said, program: &Name) -> Result<(), RecipeRefusal>
     requires few_inputs { length said.now.inputs ≤ 256 }
     requires few_stages { length said.now.stages ≤ 256 }
-    ensures { Gives (λ x. x) result (has_source said.now (spec.content_named said.now.inputs said.now.stages program.now)) }
+    ensures refers { Gives (λ x. x) result (has_source said.now (spec.content_named said.now.inputs said.now.stages program.now)) }
+    ensures memory { NeverWants result }
 {
     match content_of(said.inputs.as_slice(), said.stages.as_slice(), program) {
         Some(content) => has_source(said, content),
@@ -302,7 +319,8 @@ fn has_source(said: &Said, content: Content) -> Result<(), RecipeRefusal>
     requires index { IsIndex said.now.inputs said.now.stages content }
     requires few_inputs { length said.now.inputs ≤ 256 }
     requires few_stages { length said.now.stages ≤ 256 }
-    ensures { Gives (λ x. x) result (has_source said.now (Some content)) }
+    ensures refers { Gives (λ x. x) result (has_source said.now (Some content)) }
+    ensures memory { NeverWants result }
 {
     if content_source(said, content).is_some() {
         return Ok(());

@@ -1,7 +1,7 @@
 ghost use Rattle.std.specs.Prelude.{◌≡◌, ◌<◌, ◌≤◌, ◌^◌, ◌-◌, [], IfOk, length};
 ghost use Rattle.toml.specs.View.{table_view, view};
 ghost use Rattle.recipe.specs.Text.Inside.Views.{tables_view};
-ghost use Rattle.recipe.specs.Text.Reading.{Gives, a_list, a_name, gathered, required};
+ghost use Rattle.recipe.specs.Text.Reading.{Gives, NeverWants, a_list, a_name, gathered, required};
 ghost use Rattle.recipe.specs.Tables.{a_language, next_source, source_language, source_table};
 
 use crate::names::required_new_name;
@@ -79,7 +79,8 @@ fn source_of(
 /// The language of a source.
 #[tactic(auto, unfolding(crate::specs::Text::Reading::required))]
 fn required_language(place: Place, table: &Table) -> Result<SourceLanguage, RecipeRefusal>
-    ensures { Gives (λ x. x) result (required a_language place Key.Lang (table_view table.now)) }
+    ensures value { Gives (λ x. x) result (required a_language place Key.Lang (table_view table.now)) }
+    ensures memory { NeverWants result }
 {
     language(place, required(place, Key::Lang, table)?)
 }
@@ -87,7 +88,8 @@ fn required_language(place: Place, table: &Table) -> Result<SourceLanguage, Reci
 /// The same, of the value.
 #[tactic(auto, unfolding(crate::specs::Tables::a_language))]
 fn language(place: Place, value: &Value) -> Result<SourceLanguage, RecipeRefusal>
-    ensures { Gives (λ x. x) result (a_language place Key.Lang (view value.now)) }
+    ensures value { Gives (λ x. x) result (a_language place Key.Lang (view value.now)) }
+    ensures memory { NeverWants result }
 {
     let word = text(place, Key::Lang, value)?;
     match source_language(word.as_bytes()) {

@@ -2,7 +2,7 @@
 
 ghost use Rattle.std.specs.Prelude.{◌≡◌, [], IfOk, map, option_map};
 ghost use Rattle.toml.specs.View.{table_view, view};
-ghost use Rattle.recipe.specs.Text.Reading.{Gives, gathered, optional, required};
+ghost use Rattle.recipe.specs.Text.Reading.{Gives, NeverWants, gathered, optional, required};
 ghost use Rattle.recipe.specs.Tables.{an_output, entry_text, guest_path, is_file_path, next_file, output_said, some_files};
 
 use crate::parts::{Output, StageFile};
@@ -91,7 +91,8 @@ fn next_file(
 /// The string at a key of an entry.
 #[tactic(auto, unfolding(crate::specs::Text::Reading::a_text))]
 fn entry_text<'a>(place: Place, key: Key, entry: &'a Table) -> Result<&'a str, RecipeRefusal>
-    ensures { Gives (λ x. x.now) result (entry_text place Key.Files key (table_view entry.now)) }
+    ensures value { Gives (λ x. x.now) result (entry_text place Key.Files key (table_view entry.now)) }
+    ensures memory { NeverWants result }
 {
     match find(entry, key) {
         Some(value) => text(place, Key::Files, value),
