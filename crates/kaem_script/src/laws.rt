@@ -5,6 +5,7 @@ ghost use Rattle.guest_run.specs.Start.{Elf, Refusal, start_of};
 ghost use Rattle.mem_files.specs.Sound.{IsSound};
 ghost use Rattle.mem_files.specs.World.{World};
 ghost use Rattle.report.specs.declared.script.types.ScriptReport.{ScriptReport};
+ghost use Rattle.kaem_script.specs.ByLines.{commands_by_line};
 ghost use Rattle.kaem_script.specs.Faults.{first_script_fault};
 ghost use Rattle.kaem_script.specs.Fold.{Ran, command_box, command};
 ghost use Rattle.kaem_script.specs.Kept.{AreCommands, IsCommand};
@@ -13,6 +14,12 @@ ghost use Rattle.kaem_script.specs.Reported.{end_of_script};
 ghost use Rattle.kaem_script.specs.Runs.{IsCommandRun};
 ghost use Rattle.kaem_script.specs.Script.{Said, commands_of};
 ghost use Rattle.kaem_script.specs.declared.auditing.ScriptEnd.TheVariants.{Done};
+
+/// One reading: what a script says in one pass, byte by byte, is what it says line by line and word by word, its first fault and the offset of
+/// that included.
+pub fn one_reading()
+    ensures { (script : List ℕ) → commands_of script ≡ commands_by_line script }
+{}
 
 /// A script that is read has at most 4,096 commands of 1 to 64 words; each word has at most 255 bytes, none of them zero, and the first
 /// names a file of a guest.
