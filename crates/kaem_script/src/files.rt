@@ -47,12 +47,11 @@ impl FileList {
     pub fn push(&mut self, name: &[u8], content: &[u8]) -> Result<(), PlaceRefusal>
         ensures { Pushes self.old name.now content.now result self.new }
     {
-        let Ok(kept) = Bytes::from_slice(self.alloc, strip(name)) else {
-            return Err(PlaceRefusal::OutOfMemory);
+        let kept = match Bytes::from_slice(self.alloc, strip(name)) {
+            Ok(kept) => kept,
+            Err(OutOfMemory) => return Err(PlaceRefusal::OutOfMemory),
         };
-        let Ok(()) = self.names.reserve(1) else {
-            return Err(PlaceRefusal::OutOfMemory);
-        };
+        self.names.reserve(1)?;
         match self.files.place(name, content) {
             Ok(()) => {
                 push_name(&mut self.names, kept);
