@@ -124,6 +124,18 @@ void take_bit_field(struct type *type, struct word *name, struct type *of) {
     place_bits(word, type, named, of, constant_expression());
 }
 
+// Refuses a name of a member, or of one of an anonymous member, that the structure has already.
+void check_members(struct type *type, struct type *anonymous) {
+    struct member *member = anonymous->members;
+    while (member != 0) {
+        if (member->name == 0)
+            check_members(type, member->type);
+        else if (find_member(type, member->name) != 0)
+            refuse(word, "a member that stands twice:", member->name);
+        member = member->next;
+    }
+}
+
 // The members of one declaration, up to its `;`.
 void member_declaration(struct type *type) {
     struct type *base = specifiers();
@@ -132,6 +144,7 @@ void member_declaration(struct type *type) {
     if (sign == ';') {
         if (!is_structure(base) || !without_name)
             refuse(word, "a declaration of no member", 0);
+        check_members(type, base);
         place_member(word, type, 0, base);
     }
     while (sign != ';') {

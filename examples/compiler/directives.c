@@ -250,7 +250,8 @@ void skip_group(struct word *place) {
             depth += 1;
         else if (depth > 0 && directive == ENDIF)
             depth -= 1;
-        else if (depth == 0 && (directive == ELIF || directive == ELSE || directive == ENDIF) && other_branch(directive, place))
+        else if (depth == 0 && (directive == ELIF || directive == ELSE || directive == ENDIF)
+                 && other_branch(directive, new_word(END)))
             return;
     }
 }

@@ -65,11 +65,14 @@ struct node *text_node(char *text, long length) {
 long address_of_object(struct symbol *symbol) {
     symbol->is_used = 1;
     if (symbol->value == 0) {
-        long size = size_of(word, symbol->type);
+        long size = symbol->type->size;
+        if (size == UNKNOWN)
+            refuse(word, "an object that is used before its size is known:", symbol->name);
         if (symbol->is_defined && size > PAGE)
             symbol->value = take_zeros(size, symbol->type->align);
         else
             symbol->value = take_data(size, symbol->type->align);
+        symbol->room = size;
     }
     return symbol->value;
 }
@@ -320,12 +323,12 @@ struct node *unary(void) {
     long mark = sign;
     if (mark == KEY_SIZEOF)
         return size_node();
+    if (mark == AND_ALSO)
+        refuse(word, "the address of a label", 0);
     if (mark != '-' && mark != '+' && mark != '!' && mark != '~' && mark != '*' && mark != '&' && mark != INCREMENT
         && mark != DECREMENT)
         return postfix();
     advance();
-    if (mark == AND_ALSO)
-        refuse(word, "the address of a label", 0);
     struct node *node = cast_expression();
     if (mark == '-')
         return negated(node);

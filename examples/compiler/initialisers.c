@@ -162,9 +162,10 @@ struct type *take_initialiser(struct type *type) {
     last_item = 0;
     ready = 0;
     refuse_unless(sign == '{' || type->kind != ARRAY || (is_text_array(type) && sign == TEXT), "an array's initialiser without braces");
-    initialise(type, 0);
-    if (ready != 0)
-        refuse(word, "a structure's initialiser without braces", 0);
+    if (is_structure(type) && sign != '{')
+        initialise_scalar(type, 0);
+    else
+        initialise(type, 0);
     if (type->kind == ARRAY && type->count == UNKNOWN)
         return array_of(word, type->of, elements);
     size_of(word, type);

@@ -4,7 +4,7 @@
 enum { OBJECT = 1, LOCAL, CODE, TYPE_NAME, ENUMERATOR, };
 
 // OBJECT: `value` is its address, or 0 before it has one. LOCAL: its place from x8. CODE: its place in the code, where it is defined.
-// ENUMERATOR: its value. `depth` is that of the block in which it stands.
+// ENUMERATOR: its value. An object that has its address has so much `room` there. `depth` is that of the block in which it stands.
 struct symbol {
     struct symbol *next;
     struct name *name;
@@ -17,6 +17,7 @@ struct symbol {
     long is_defined;
     long is_used;
     long has_content;
+    long room;
 };
 
 struct tag {

@@ -170,6 +170,8 @@ long is_null(struct node *node) { return node->kind == FOLDED && node->value == 
 // Can a value be given to a place of that type without a cast?
 void check_given(struct node *node, struct type *type) {
     struct type *from = as_value(node)->type;
+    if (is_structure(type) || is_structure(from))
+        refuse_unless(from == type, "a structure of another type");
     if (is_pointer(type) && !is_pointer(from))
         refuse_unless(is_integer(from) && is_null(node), "a number where a pointer is wanted");
     if (is_pointer(from) && !is_pointer(type))

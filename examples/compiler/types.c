@@ -217,7 +217,8 @@ void place_member(struct word *place, struct type *type, struct name *name, stru
         type->bits = (offset + size) * 8;
 }
 
-// Adds a bit-field: in a unit of its type, and at the next one's begin where it would go over the end. One of no width ends the unit.
+// Adds a bit-field: in a unit of its type, and at the next one's begin where it would go over the end. One of no width ends the unit;
+// one of no name has no say in the alignment.
 void place_bits(struct word *place, struct type *type, struct name *name, struct type *of, long width) {
     if (!is_integer(of) || of->size > 4)
         refuse(place, "a bit-field of another type than int or below", 0);
@@ -231,10 +232,10 @@ void place_bits(struct word *place, struct type *type, struct name *name, struct
         bit = rounded(bit, unit);
     if (type->kind == STRUCT || type->bits < width)
         type->bits = bit + width;
-    if (type->align < of->align)
-        type->align = of->align;
     if (name == 0)
         return;
+    if (type->align < of->align)
+        type->align = of->align;
     struct member *made = new_member(type, name, of);
     made->offset = bit / unit * of->size;
     made->first = bit % unit;

@@ -11,6 +11,12 @@ struct type *completed(struct word *place, struct type *before, struct type *typ
     return type;
 }
 
+// An object that was used before has to have the size then that it has now.
+void check_room(struct symbol *symbol) {
+    if (symbol->room != 0 && symbol->type->size != UNKNOWN && symbol->room != symbol->type->size)
+        refuse(word, "another size than where it was used:", symbol->name);
+}
+
 // The object or function of a name that other units, or the functions of this one, know too.
 struct symbol *shared_symbol(struct word *place, long kind, struct type *type) {
     struct symbol *symbol = symbol_here(place->name);
@@ -32,9 +38,8 @@ struct symbol *shared_symbol(struct word *place, long kind, struct type *type) {
     }
     if (symbol->kind != kind)
         refuse(place, "another kind of name than in another unit:", place->name);
-    if (symbol->value != 0 && kind == OBJECT && symbol->type->size != type->size)
-        refuse(place, "another size than in another unit:", place->name);
     symbol->type = type;
+    check_room(symbol);
     bind(symbol);
     return symbol;
 }
@@ -51,6 +56,7 @@ void declare_type(struct word *place, struct type *type) {
 // Puts an object with an initialiser into the data.
 void define_content(struct symbol *symbol) {
     symbol->type = take_initialiser(symbol->type);
+    check_room(symbol);
     if (symbol->has_content)
         refuse(symbol->place, "an object with two initialisers:", symbol->name);
     if (symbol->value >= ZERO_BASE)

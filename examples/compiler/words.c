@@ -87,10 +87,11 @@ void refuse_here(char *what) { refuse(new_word(END), what, 0); }
 
 // Past a comment that begins at a place.
 char *over_comment(char *at) {
+    struct word *place = new_word(END);
     at += 2;
     while (*at != '*' || at[1] != '/') {
         if (*at == 0)
-            refuse_here("a comment without end");
+            refuse(place, "a comment without end", 0);
         if (*at == '\n')
             file->line += 1;
         at += 1;
