@@ -3,6 +3,7 @@ pub mod Sessions
 pub mod Loads
 pub mod Walks
 pub mod Openings
+pub mod Judging
 pub mod Accepting
 pub mod Verifying
 pub mod Chaining

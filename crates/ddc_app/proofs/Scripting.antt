@@ -1,5 +1,5 @@
 -- What the commands on scripts come to.
-use Rattle.std.proofs.Common.{◌≡◌, ℕ, ◌≤◌, ◌^◌, ◌↔◌, ◌&&◌, Bool, true, false, cond, IsTrue, Option, Some, None, Result, Ok, List, [], ◌∷◌, length, decimal, codes, refl, sym, ap, ◌∙◌, subst, arith}
+use Rattle.std.proofs.Common.{◌≡◌, ℕ, ◌≤◌, ◌^◌, ◌↔◌, ◌&&◌, Bool, true, false, cond, IsTrue, Option, Some, None, Result, Ok, List, [], ◌∷◌, length, decimal, codes, refl, sym, ap, ◌∙◌, subst, arith, All, ◌<◌}
 use Rattle.std.specs.FinMap as finite
 use Rattle.std.specs.List.{list_any}
 use Rattle.std.specs.Prelude.{nat_le}
@@ -9,6 +9,7 @@ use Rattle.ddc_base.specs.Decimals.{as_decimal}
 use Rattle.ddc_base.specs.declared.outside.Loaded.TheVariants.{Bytes}
 use Rattle.ddc_base.specs.Outside.{NamedFiles, loaded}
 use Rattle.ddc_base.proofs.StoredFiles.{others-insert}
+use Rattle.mem_files.specs.Outputs.{IsContent}
 use Rattle.mem_files.specs.Sound.{IsSound}
 use Rattle.mem_files.specs.World.{World}
 use Rattle.report.specs.Script.Reading.{script_report_of}
@@ -29,7 +30,7 @@ use Rattle.kaem_script.proofs.OneReport.{no_fault_reports, reported_without_faul
 use Rattle.command_plan.specs.declared.status.Status.{Status}
 use Rattle.command_plan.specs.declared.status.Status.TheVariants as status
 use Rattle.command_plan.specs.Lists.{list_of, needs_list}
-use Rattle.command_plan.specs.Plan.{Outcome, Plan, answers, needs, outcome, unless_refused}
+use Rattle.command_plan.specs.Plan.{LoadsBytes, Outcome, Plan, answers, needs, outcome, unless_refused}
 use Rattle.command_plan.specs.Texts.{list_line, report_line, usage_line}
 use Rattle.command_plan.specs.Words.{are_three_files, as_steps, is_one_file, or_usage, usage, within_steps}
 use Rattle.tool_commands.specs.Kaem.{folded_plan, kaem_files}
@@ -38,14 +39,14 @@ use Rattle.tool_commands.specs.Scripts.{and_files, file_line, needs_files, needs
 use Rattle.tool_commands.specs.ScriptTexts.{command_failed_line, commands_true_line, script_line}
 use Rattle.tool_commands.proofs.ListedFiles.{listed-sound}
 use Rattle.tool_commands.proofs.ReadScripts.{read-good}
-use Rattle.ddc_app.specs.Accepting.{HoldBytes, is_compared}
+use Rattle.ddc_app.specs.Accepting.{is_compared}
 use Rattle.ddc_app.specs.Commands.{plan_of}
 use Rattle.ddc_app.specs.Holding.{AreHeld}
 use Rattle.ddc_app.specs.Pausing.{IsStepCount}
 use Rattle.ddc_app.specs.Scripted.{ChangesReportAlone, HoldsScript, IsScriptTrue, ScriptReported, ScriptVerified, kaem, kaem_ended, kaem_verify}
 use Rattle.ddc_app.proofs.Beginnings.{three_apart}
 use Rattle.ddc_app.proofs.CountWords.{count-again}
-use Rattle.ddc_app.proofs.Loads.{are_contents, as_many, follow_all, follows, found_again, held_small, is_loaded, other_held, set_held, within}
+use Rattle.ddc_app.proofs.Loads.{as_many, follow_all, follows, found_again, held_small, is_loaded, loaded_contents, loads_bytes, other_held, set_held, within}
 use Rattle.ddc_app.proofs.Walks.{IsRefusal, both_need, both_need_all, both_read, told}
 
 -- ---- what holds of every refusal and of what the loads lead to holds of both commands
@@ -283,6 +284,38 @@ module _ (script list report : List ℕ) (files : NamedFiles) (said : Said) (lis
       follow_all 268_435_456 536_870_912 files h.words h.contents (λ contents. next (and_files no_files h.words contents)) h.contents_held
       ∙ ap (λ l. outcome (next l) files) (sym h.listed_are)
 
+  -- what is loaded of the script and of the listed words are bytes
+  pub record AreBytes : Type 0 where
+    pub text : All (λ byte. byte < 256) h.script_bytes
+    pub contents : All IsContent h.contents
+
+  front_loads : (next : Said → List (List ℕ) → Plan) → LoadsBytes (needs_script_and_list script list report next) files
+      → All (λ byte. byte < 256) h.script_bytes × LoadsBytes (next said h.words) files
+  unfolding needs_unlisted
+  front_loads next bytes =
+      let behind : Said → List (List ℕ) → Plan = λ s words. needs_unlisted words report (λ _. next s words) in
+      let lists : Said → Plan = λ s. needs_list file_line 4_096 list (behind s) in
+      let refuse : ScriptFault × ℕ → Plan = λ fault. answers status.ScriptRefused (script_line fault.0 fault.1) in
+      let refuse_list : ℕ → Plan = λ number. answers status.ListRefused (list_line number) in
+      let first = loads_bytes script 1_048_576 (λ b. unless_refused (script_of b) refuse lists) files h.script_bytes h.script_held bytes in
+      let lines : LoadsBytes (lists said) files = subst (λ reading. LoadsBytes (unless_refused reading refuse lists) files) h.script_reads first.1 in
+      let second = loads_bytes list 1_048_576 (λ b. unless_refused (list_of file_line 4_096 b) refuse_list (behind said)) files h.list_bytes h.list_held lines in
+      let words : LoadsBytes (behind said h.words) files = subst (λ reading. LoadsBytes (unless_refused reading refuse_list (behind said)) files) h.list_reads second.1 in
+      (first.0, subst (λ clash. LoadsBytes (cond clash usage (next said h.words)) files) h.apart words)
+
+  -- they are where the loads of `kaem` find bytes
+  pub kaem_loaded : (steps : List ℕ) (most : ℕ) → as_steps steps ≡ Some most → LoadsBytes (plan_of (codes "kaem" ∷ script ∷ list ∷ report ∷ steps ∷ [])) files → AreBytes
+  unfolding kaem_files needs_files
+  kaem_loaded steps most count bytes =
+      let last : Said → FilesListed → Plan = λ s l. folded_plan report s l (folded most l.world s.commands) in
+      let front = front_loads (λ s words. needs_files words (last s))
+      (subst (λ three. LoadsBytes (cond three (kaem_files script list report most) usage) files) h.three
+      (subst (λ n. LoadsBytes (or_usage n (λ m. cond (are_three_files script list report) (kaem_files script list report m) usage)) files) count bytes)) in
+      record {
+        text = front.0;
+        contents = loaded_contents 536_870_912 files h.words h.contents (λ contents. last said (and_files no_files h.words contents)) h.contents_held front.1;
+      }
+
   ends_so : (f : Folded) → outcome (folded_plan report said listed f) files ≡ kaem_ended report files said listed f
   ends_so (RanAll ran world) = refl
   ends_so (Stopped number cause step) = refl
@@ -315,16 +348,16 @@ module _ (script list report : List ℕ) (files : NamedFiles) (said : Said) (lis
 
   -- ---- the report of what ran
 
-  pub listed_sound : HoldBytes files → IsList listed × IsSound listed.world
+  pub listed_sound : AreBytes → IsList listed × IsSound listed.world
   listed_sound bytes =
       subst (λ (l : FilesListed). IsList l × IsSound l.world) (sym h.listed_are)
       (listed-sound h.list_bytes h.words h.contents h.list_reads (as_many 268_435_456 536_870_912 files h.words h.contents h.contents_held)
-      (are_contents 536_870_912 files h.words h.contents bytes h.contents_held) (held_small 536_870_912 files h.words h.contents h.contents_held))
+      bytes.contents (held_small 536_870_912 files h.words h.contents h.contents_held))
 
-  pub report_good : HoldBytes files → (most : ℕ) (ran : List Ran) (world : World) → most ≤ 2 ^ 48 → folded most listed.world said.commands ≡ RanAll ran world
+  pub report_good : AreBytes → (most : ℕ) (ran : List Ran) (world : World) → most ≤ 2 ^ 48 → folded most listed.world said.commands ≡ RanAll ran world
       → IsScriptReport (script_report said listed ran world)
   report_good bytes most ran world few all_ran =
-      let good = read-good h.script_bytes said h.script_reads (bytes script h.script_bytes (within 1_048_576 (finite.get files script) h.script_bytes h.script_held).0) in
+      let good = read-good h.script_bytes said h.script_reads bytes.text in
       let sound = listed_sound bytes in
       done-report most said listed ran world few good.0 good.1 sound.0 sound.1 all_ran
 
@@ -362,13 +395,14 @@ module _ (script list report : List ℕ) (files : NamedFiles) (said : Said) (lis
       by text made held reads None none ends = (shows_true script list report files said listed text made held reads none, refl)
       by text made held reads (Some (part, place)) none ends = absurd cc
 
-  true_yes : HoldBytes files → IsScriptTrue report files said listed → (kaem_verify script list report files).status ≡ status.Yes
+  true_yes : AreBytes → IsScriptTrue report files said listed → (kaem_verify script list report files).status ≡ status.Yes
   true_yes bytes t =
       ap (λ (o : Outcome). o.status)
       (accepts_report (2 ^ 48) t.ran t.world (omega arith) t.all_ran (report_good bytes (2 ^ 48) t.ran t.world (omega arith) t.all_ran) t.held)
 
-  pub script_verified : HoldBytes files → ((kaem_verify script list report files).status ≡ status.Yes) ↔ IsScriptTrue report files said listed
-  script_verified bytes = (λ ends. (yes_shows ends).0, true_yes bytes)
+  pub script_verified : (steps : ℕ) → IsStepCount steps → LoadsBytes (plan_of (codes "kaem" ∷ script ∷ list ∷ report ∷ decimal steps ∷ [])) files
+      → ((kaem_verify script list report files).status ≡ status.Yes) ↔ IsScriptTrue report files said listed
+  script_verified steps counted bytes = (λ ends. (yes_shows ends).0, true_yes (kaem_loaded (decimal steps) steps (count-again steps counted) bytes))
 
   pub script_text : (kaem_verify script list report files).status ≡ status.Yes → (kaem_verify script list report files).text ≡ commands_true_line (length said.commands)
   script_text ends = (yes_shows ends).1
@@ -411,20 +445,23 @@ few_steps steps most is = by_count (as_decimal steps) is
     by_count None here = absurd cc
     by_count (Some count) here = by_limits count (nat_le 1 count && nat_le count (2 ^ 48)) refl here
 
-pub script_accepted : (script list report : List ℕ) (steps : ℕ) (files : NamedFiles) → HoldBytes files → (kaem script list report steps files).status ≡ status.Yes
-    → (kaem_verify script list report (kaem script list report steps files).files).status ≡ status.Yes
+-- what a command that ends in a yes leaves is accepted
+pub script_accepted : (script list report steps : List ℕ) (files : NamedFiles) → LoadsBytes (plan_of (codes "kaem" ∷ script ∷ list ∷ report ∷ steps ∷ [])) files
+    → (outcome (plan_of (codes "kaem" ∷ script ∷ list ∷ report ∷ steps ∷ [])) files).status ≡ status.Yes
+    → (kaem_verify script list report (outcome (plan_of (codes "kaem" ∷ script ∷ list ∷ report ∷ steps ∷ [])) files).files).status ≡ status.Yes
 script_accepted script list report steps files bytes ends =
-    let r = kaem_reports script list report files (decimal steps) ends in
+    let r = kaem_reports script list report files steps ends in
     let text : List ℕ = script_report_text (script_report r.said r.listed r.ran r.world) in
-    let few = few_steps (decimal steps) r.most r.counted in
-    let good = report_good script list report files r.said r.listed r.holds bytes r.most r.ran r.world few r.all_ran in
+    let few = few_steps steps r.most r.counted in
+    let loaded = kaem_loaded script list report files r.said r.listed r.holds steps r.most r.counted bytes in
+    let good = report_good script list report files r.said r.listed r.holds loaded r.most r.ran r.world few r.all_ran in
     let again = holds_again script list report files r.said r.listed r.holds text in
     subst (λ (o : Outcome). (kaem_verify script list report o.files).status ≡ status.Yes) (sym r.answer_is)
     (ap (λ (o : Outcome). o.status)
     (accepts_report script list report (finite.insert files report text) r.said r.listed again r.most r.ran r.world few r.all_ran good (set_held files report text)))
 
-pub accepted_text : (script list report : List ℕ) (steps : ℕ) (files : NamedFiles) (said : Said) (listed : FilesListed) → HoldsScript script list report files said listed → HoldBytes files
-    → (kaem script list report steps files).status ≡ status.Yes
+pub accepted_text : (script list report : List ℕ) (steps : ℕ) (files : NamedFiles) (said : Said) (listed : FilesListed) → HoldsScript script list report files said listed
+    → LoadsBytes (plan_of (codes "kaem" ∷ script ∷ list ∷ report ∷ decimal steps ∷ [])) files → (kaem script list report steps files).status ≡ status.Yes
     → (kaem_verify script list report (kaem script list report steps files).files).text ≡ commands_true_line (length said.commands)
 accepted_text script list report steps files said listed h bytes ends =
     let r = kaem_reports script list report files (decimal steps) ends in
@@ -433,4 +470,4 @@ accepted_text script list report steps files said listed h bytes ends =
     let left : (kaem script list report steps files).files ≡ after = ap (λ (o : Outcome). o.files) r.answer_is in
     subst (λ (now : NamedFiles). (kaem_verify script list report now).text ≡ commands_true_line (length said.commands)) (sym left)
     (script_text script list report after said listed (holds_again script list report files said listed h text)
-    (subst (λ (now : NamedFiles). (kaem_verify script list report now).status ≡ status.Yes) left (script_accepted script list report steps files bytes ends)))
+    (subst (λ (now : NamedFiles). (kaem_verify script list report now).status ≡ status.Yes) left (script_accepted script list report (decimal steps) files bytes ends)))

@@ -6,5 +6,6 @@ pub mod Holding
 pub mod Pausing
 pub mod Differences
 pub mod Verified
+pub mod Judged
 pub mod Chained
 pub mod Scripted

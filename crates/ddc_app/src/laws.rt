@@ -1,26 +1,34 @@
 //! Laws of what commands come to. Each law is the contract of a function that does nothing.
+//!
+//! Where a law asks that what a command loads is bytes (`LoadsBytes` of its plan), a call of `run` with the command's words says so: its clause `calls`.
 
 ghost use Rattle.ddc_app.specs.Accepting.{HoldBytes, audit, is_compared, verify};
 ghost use Rattle.ddc_app.specs.Chained.{Chained, chain};
 ghost use Rattle.ddc_app.specs.Commands.{plan_of};
 ghost use Rattle.ddc_app.specs.Differences.{AreDeltaWords, DeltaPieces, Differences, IsSavedBeside, LeavesAllBut, delta_resume, delta_start, in_differences};
+ghost use Rattle.ddc_app.specs.Judged.{HoldsReport};
 ghost use Rattle.ddc_app.specs.Pausing.{AreWords, IsStepCount, LeavesOthers, LeavesUnwritten, Pieces, IsSavedAt, in_pieces, part, resume};
 ghost use Rattle.ddc_app.specs.Scripted.{ChangesReportAlone, HoldsScript, IsScriptTrue, ScriptReported, ScriptVerified, kaem, kaem_ended, kaem_verify};
 ghost use Rattle.ddc_app.specs.Verified.{Verified};
 ghost use Rattle.command_plan.specs.Plan.{LoadsBytes};
-ghost use Rattle.command_plan.specs.declared.status.Status.TheVariants.{Paused, Yes};
+ghost use Rattle.command_plan.specs.declared.status.Status.TheVariants.{Differs, Paused, Refuted, Yes};
 ghost use Rattle.ddc_base.specs.Outside.{NamedFiles};
 ghost use Rattle.ddc_base.specs.Lines.{line};
 ghost use Rattle.kaem_script.specs.FilesListed.{FilesListed};
 ghost use Rattle.kaem_script.specs.Fold.{folded};
 ghost use Rattle.kaem_script.specs.Script.{Said};
+ghost use Rattle.recipe.specs.declared.contents.Said.{Said as Recipe};
 ghost use Rattle.report.specs.Lines.{line_words};
 ghost use Rattle.report.specs.declared.line.Line.TheVariants.{Left, Stream1, Stream2};
+ghost use Rattle.report.specs.declared.types.Report.{Report};
 ghost use Rattle.std.specs.FinMap as map;
-ghost use Rattle.std.specs.Prelude.{◌≡◌, ◌+◌, ◌↔◌, [], ◌∷◌, All, IsTrue, List, codes, decimal, length, sum, ℕ};
+ghost use Rattle.std.specs.Prelude.{◌≡◌, ◌+◌, ◌↔◌, [], ◌∷◌, All, IsTrue, List, None, Some, codes, decimal, false, length, sum, true, ℕ};
 ghost use Rattle.tool_commands.specs.RunProgram.{left_line, stream_line};
 ghost use Rattle.tool_commands.specs.ScriptTexts.{commands_true_line};
 ghost use Rattle.report.specs.Marks.{mark_of};
+ghost use Rattle.verifier.specs.Faults.{first_fault};
+ghost use Rattle.verifier.specs.declared.part.Part.{Part};
+ghost use Rattle.wheeler.specs.Bench.{all_equal};
 
 use audit_chain::laws::composed;
 use meaning::Meaning;
@@ -50,6 +58,20 @@ pub fn verified_as_loaded<M: Meaning>()
 {
     a_true_report_shows::<M>();
 }
+
+/// `verify` both ways, over files that hold a recipe and a report that read, and the recipe's inputs: it comes to 0 exactly where the report has no
+/// fault and all its comparisons say equal, to 3 exactly where it has none and a comparison says that it differs, and is refuted exactly where it has one.
+pub fn verdicts()
+    ensures yes { (recipe report : List ℕ) (files : NamedFiles) (said : Recipe) (inputs : List (List ℕ)) (made : Report)
+        → HoldsReport recipe report files said inputs made
+        → ((verify recipe report files).status ≡ Yes) ↔ ((first_fault said inputs made ≡ None) × (all_equal made.compare ≡ true)) }
+    ensures differs { (recipe report : List ℕ) (files : NamedFiles) (said : Recipe) (inputs : List (List ℕ)) (made : Report)
+        → HoldsReport recipe report files said inputs made
+        → ((verify recipe report files).status ≡ Differs) ↔ ((first_fault said inputs made ≡ None) × (all_equal made.compare ≡ false)) }
+    ensures refuted { (recipe report : List ℕ) (files : NamedFiles) (said : Recipe) (inputs : List (List ℕ)) (made : Report)
+        → HoldsReport recipe report files said inputs made
+        → ((verify recipe report files).status ≡ Refuted) ↔ ((one : Part × ℕ) × (first_fault said inputs made ≡ Some one)) }
+{}
 
 /// Composed audits, on the answer of `chain`, whatever sources mean: where `chain LIST` over files, of which those that it loads are found to be
 /// bytes, comes to 0, each line of the list is a true audit whose comparisons are equal, and the text has exactly what remains of all of them.
@@ -164,11 +186,12 @@ pub fn scripts_fold()
         → kaem script list report steps files ≡ kaem_ended report files said listed (folded steps listed.world said.commands) }
 {}
 
-/// `kaem-verify` over files of bytes that hold a script says yes exactly where what is held as the report is the text of what the script's commands
-/// come to, and its yes says how many they are.
+/// `kaem-verify` over files that hold a script, and of which those that `kaem` loads are bytes, says yes exactly where what is held as the report is the
+/// text of what the script's commands come to, and its yes says how many they are.
 pub fn scripts_verified()
-    ensures yes { (script list report : List ℕ) (files : NamedFiles) (said : Said) (listed : FilesListed)
-        → HoldsScript script list report files said listed → HoldBytes files
+    ensures yes { (script list report : List ℕ) (steps : ℕ) (files : NamedFiles) (said : Said) (listed : FilesListed)
+        → HoldsScript script list report files said listed → IsStepCount steps
+        → LoadsBytes (plan_of (codes "kaem" ∷ script ∷ list ∷ report ∷ decimal steps ∷ [])) files
         → ((kaem_verify script list report files).status ≡ Yes) ↔ IsScriptTrue report files said listed }
     ensures text { (script list report : List ℕ) (files : NamedFiles) (said : Said) (listed : FilesListed)
         → HoldsScript script list report files said listed → (kaem_verify script list report files).status ≡ Yes
@@ -184,13 +207,15 @@ pub fn scripts_shown()
         → ScriptVerified script list report files (kaem_verify script list report files) }
 {}
 
-/// A script's own report is accepted: where `kaem` over files of bytes comes to 0, `kaem-verify` over the files afterwards does too, and says how many
-/// commands the script has.
+/// A script's own report is accepted: where `kaem` over files, of which those that it loads are found to be bytes, comes to 0, `kaem-verify` over the
+/// files afterwards does too, and says how many commands the script has.
 pub fn scripts_accepted()
-    ensures yes { (script list report : List ℕ) (steps : ℕ) (files : NamedFiles) → HoldBytes files → (kaem script list report steps files).status ≡ Yes
+    ensures yes { (script list report : List ℕ) (steps : ℕ) (files : NamedFiles)
+        → LoadsBytes (plan_of (codes "kaem" ∷ script ∷ list ∷ report ∷ decimal steps ∷ [])) files → (kaem script list report steps files).status ≡ Yes
         → (kaem_verify script list report (kaem script list report steps files).files).status ≡ Yes }
     ensures text { (script list report : List ℕ) (steps : ℕ) (files : NamedFiles) (said : Said) (listed : FilesListed)
-        → HoldsScript script list report files said listed → HoldBytes files → (kaem script list report steps files).status ≡ Yes
+        → HoldsScript script list report files said listed → LoadsBytes (plan_of (codes "kaem" ∷ script ∷ list ∷ report ∷ decimal steps ∷ [])) files
+        → (kaem script list report steps files).status ≡ Yes
         → (kaem_verify script list report (kaem script list report steps files).files).text ≡ commands_true_line (length said.commands) }
 {}
 
