@@ -1,7 +1,7 @@
 // cc0 SOURCE.. OUTPUT: compiles the sources, joined with a line's end, from cc0 (cc0.md) to a program for 64-bit RISC-V Linux.
 //
-// The same compiler as cc0.M1, in C for gcc: it writes the same bytes, and refuses with the same number and line. It has the same parts under the
-// same names, in the same order, so that the two can be read side by side. There is one pass and no tree: what is read is put as instructions at once.
+// The same compiler as cc0.M1, in C for gcc: it writes the same bytes, and refuses with the same number and line. It has the same parts, nearly all
+// under the same names, so that the two can be read side by side. There is one pass and no tree: what is read is put as instructions at once.
 //
 // In a compiled program x2 is the stack, x8 the frame of the function, x10 the value of an expression and x11 the left operand; x12 is used in between.
 // A call pushes its arguments, the first one first, and takes them off. The frame has the caller's x8 at 0(x8), the way back at 8(x8), the arguments
@@ -107,10 +107,9 @@ static void put(uint32_t word) {
 
 // ---- instructions: RISC-V Unprivileged ISA, "RV32/64G Instruction Set Listings"
 
-enum { ADD = 0x33, ADDI = 0x13, LD = 0x3003, LBU = 0x4003, SD = 0x3023, SB = 0x0023, JAL = 0x6f, JALR = 0x67, LUI = 0x37, ECALL = 0x73 };
-enum { SLT = 0x2033, SLTU = 0x3033, SLTIU = 0x3013, XORI = 0x4013, ANDI = 0x7013, SLLI = 0x1013, BEQ = 0x0063, BNE = 0x1063 };
-#define SUB 0x40000033u
-#define MUL 0x02000033u
+enum { ADD = 0x33, SLL = 0x1033, SLT = 0x2033, SLTU = 0x3033, XOR = 0x4033, OR = 0x6033, AND = 0x7033, SUB = 0x40000033, SRA = 0x40005033 };
+enum { MUL = 0x2000033, DIV = 0x2004033, REM = 0x2006033, ADDI = 0x13, SLLI = 0x1013, SLTIU = 0x3013, XORI = 0x4013, ANDI = 0x7013 };
+enum { LD = 0x3003, LBU = 0x4003, SB = 0x23, SD = 0x3023, BEQ = 0x63, BNE = 0x1063, JAL = 0x6f, JALR = 0x67, LUI = 0x37, ECALL = 0x73 };
 
 static uint32_t rd(uint32_t number) { return number << 7; }
 static uint32_t rs1(uint32_t number) { return number << 15; }
@@ -569,8 +568,11 @@ static void read_unary(void);
 
 enum { LEVEL_OR = 1, LEVEL_AND = 2, LEVEL_EQUAL = 6, LEVEL_BELOW = 7 };
 
-#define BOTH (rd(10) | rs1(11) | rs2(10))
-#define TURNED (rd(10) | rs1(10) | rs2(11))
+// rd and the operands: x10 of x11 and x10, of x10 and x11, of x10 and the number 1, of x0 and x10.
+#define X11_X10 (10u << 7 | 11u << 15 | 10u << 20)
+#define X10_X11 (10u << 7 | 10u << 15 | 11u << 20)
+#define X10_ONE (10u << 7 | 10u << 15 | 1u << 20)
+#define X0_X10 (10u << 7 | 10u << 20)
 
 struct operator {
     long sign;
@@ -579,29 +581,25 @@ struct operator {
     uint32_t words[2]; // the second one is 0 where there is only one
 };
 
-#define X11_X10 (10u << 7 | 11u << 15 | 10u << 20)
-#define X10_X11 (10u << 7 | 10u << 15 | 11u << 20)
-#define X10_ONE (10u << 7 | 10u << 15 | 1u << 20)
-
 static const struct operator operators[] = {
     {'|' | '|' << 8, ' ', LEVEL_OR, {0, 0}},
     {'&' | '&' << 8, ' ', LEVEL_AND, {0, 0}},
-    {'|', '|' | '=' << 8, 3, {0x6033 | X11_X10, 0}},
-    {'^', '^' | '=' << 8, 4, {0x4033 | X11_X10, 0}},
-    {'&', '&' | '=' << 8, 5, {0x7033 | X11_X10, 0}},
+    {'|', '|' | '=' << 8, 3, {OR | X11_X10, 0}},
+    {'^', '^' | '=' << 8, 4, {XOR | X11_X10, 0}},
+    {'&', '&' | '=' << 8, 5, {AND | X11_X10, 0}},
     {'=' | '=' << 8, ' ', LEVEL_EQUAL, {SUB | X11_X10, SLTIU | X10_ONE}},
-    {'!' | '=' << 8, ' ', LEVEL_EQUAL, {SUB | X11_X10, SLTU | 10u << 7 | 10u << 20}},
+    {'!' | '=' << 8, ' ', LEVEL_EQUAL, {SUB | X11_X10, SLTU | X0_X10}},
     {'<', ' ', LEVEL_BELOW, {SLT | X11_X10, 0}},
     {'>', ' ', LEVEL_BELOW, {SLT | X10_X11, 0}},
     {'<' | '=' << 8, ' ', LEVEL_BELOW, {SLT | X10_X11, XORI | X10_ONE}},
     {'>' | '=' << 8, ' ', LEVEL_BELOW, {SLT | X11_X10, XORI | X10_ONE}},
-    {'<' | '<' << 8, '<' | '<' << 8 | '=' << 16, 8, {0x1033 | X11_X10, 0}},
-    {'>' | '>' << 8, '>' | '>' << 8 | '=' << 16, 8, {0x40005033u | X11_X10, 0}},
+    {'<' | '<' << 8, '<' | '<' << 8 | '=' << 16, 8, {SLL | X11_X10, 0}},
+    {'>' | '>' << 8, '>' | '>' << 8 | '=' << 16, 8, {SRA | X11_X10, 0}},
     {'+', '+' | '=' << 8, 9, {ADD | X11_X10, 0}},
     {'-', '-' | '=' << 8, 9, {SUB | X11_X10, 0}},
     {'*', '*' | '=' << 8, 10, {MUL | X11_X10, 0}},
-    {'/', '/' | '=' << 8, 10, {0x02004033u | X11_X10, 0}},
-    {'%', '%' | '=' << 8, 10, {0x02006033u | X11_X10, 0}},
+    {'/', '/' | '=' << 8, 10, {DIV | X11_X10, 0}},
+    {'%', '%' | '=' << 8, 10, {REM | X11_X10, 0}},
 };
 
 enum { OPERATORS = sizeof operators / sizeof *operators };
@@ -613,7 +611,7 @@ static const struct operator *operator_of(long sign) {
     return NULL;
 }
 
-static const struct operator *assigning(long sign) {
+static const struct operator *assigning_operator_of(long sign) {
     for (int i = 0; i < OPERATORS; i += 1)
         if (operators[i].assign == sign)
             return &operators[i];
@@ -709,7 +707,7 @@ static void read_assignment(const struct operator *one) {
 
 static void read_expression(void) {
     read_binary(LEVEL_OR);
-    const struct operator *one = assigning(word);
+    const struct operator *one = assigning_operator_of(word);
     if (word == '=' || one != NULL)
         read_assignment(word == '=' ? NULL : one);
 }
@@ -733,7 +731,7 @@ static void read_index(void) {
     expect(']');
     settle(pushed);
     put_scale(element);
-    put(ADD | BOTH);
+    put(ADD | X11_X10);
     is_at(element, 10, 0);
 }
 
