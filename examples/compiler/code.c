@@ -567,7 +567,7 @@ void call_function(struct node *node) {
 // ---- values
 
 void load_place(struct node *node, long into) {
-    if (is_by_address(node->type)) {
+    if (is_by_address(node->type) || node->type->kind == VOID) {
         value(node->left, into);
         return;
     }

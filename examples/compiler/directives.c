@@ -38,6 +38,10 @@ void set_directives(void) {
     set_directive("pragma", PRAGMA);
     set_directive("warning", WARNING);
     name_defined = name_of("defined");
+    name_line = name_of("__LINE__");
+    name_file = name_of("__FILE__");
+    name_date = name_of("__DATE__");
+    name_time = name_of("__TIME__");
 }
 
 // ---- conditions

@@ -243,6 +243,7 @@ struct node *call(struct node *function) {
             last->next = argument;
         last = argument;
         made->value += 1;
+        refuse_unless(made->value < 256, "a call with more than 255 arguments");
         if (parameter != 0)
             parameter = parameter->next;
         if (sign != ')') {

@@ -32,6 +32,11 @@ struct row {
 // Words that come before those of the file. A word of the kind END stands behind words that are taken alone.
 struct word *pending;
 struct macro *macros;
+// Names that stand for their place or the time.
+struct name *name_line;
+struct name *name_file;
+struct name *name_date;
+struct name *name_time;
 
 struct word *file_word(void);
 struct word *expanded_word(void);
@@ -342,6 +347,37 @@ struct row *expansion(struct word *call, struct macro *macro, struct argument *a
     return row;
 }
 
+// The text of a number, without a sign.
+char *decimal(long value) {
+    char *digits = take(24);
+    long at = 23;
+    while (value > 9) {
+        at -= 1;
+        digits[at] = '0' + value % 10;
+        value = value / 10;
+    }
+    digits[at - 1] = '0' + value;
+    return digits + at - 1;
+}
+
+// __LINE__ and __FILE__ become what they stand for; 0 for any other name. What a day or an hour changes is refused.
+struct word *of_place(struct word *word) {
+    if (word->name == name_date || word->name == name_time)
+        refuse(word, "the name", word->name);
+    if (word->name != name_line && word->name != name_file)
+        return 0;
+    struct word *made = copy_word(word);
+    made->begin = word->begin;
+    made->kind = NUMBER;
+    made->text = decimal(word->line);
+    if (word->name == name_file) {
+        made->kind = TEXT;
+        made->text = joined("\"", 1, joined(word->file->name, length_of(word->file->name), "\"", 1), length_of(word->file->name) + 1);
+    }
+    made->length = length_of(made->text);
+    return made;
+}
+
 // Expands a name, if a macro of that name is called. Its words are then those to come.
 long expand(struct word *word) {
     struct macro *macro = word->name->macro;
@@ -367,8 +403,14 @@ long expand(struct word *word) {
 struct word *expanded_word(void) {
     while (1) {
         struct word *word = raw_word();
-        if (word->kind != NAME || !expand(word))
+        if (word->kind != NAME)
             return word;
+        if (!expand(word)) {
+            struct word *made = of_place(word);
+            if (made != 0)
+                return made;
+            return word;
+        }
     }
 }
 

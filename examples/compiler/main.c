@@ -5,7 +5,7 @@ char *output_name;
 
 // What every unit begins with.
 char *predefined(void) {
-    return "#define __SIZE_TYPE__ unsigned long\n#define __PTRDIFF_TYPE__ long\n#define __WCHAR_TYPE__ int\n#define __LP64__ 1\n#define __STDC_VERSION__ 199901L\n\n";
+    return "#define __STDC__ 1\n#define __SIZE_TYPE__ unsigned long\n#define __PTRDIFF_TYPE__ long\n#define __WCHAR_TYPE__ int\n#define __LP64__ 1\n#define __STDC_VERSION__ 199901L\n\n";
 }
 
 void open_unit(char *name) {

@@ -149,7 +149,7 @@ struct type *array_of(struct word *place, struct type *type, long count) {
     made->of = type;
     made->count = count;
     if (count != UNKNOWN) {
-        if (count < 0 || count > 1000000000)
+        if (count < 0 || count > 1000000000000L / size)
             refuse(place, "an array of a negative or too large count", 0);
         made->size = count * size;
     }

@@ -1,5 +1,5 @@
 #!/usr/bin/env python3
-"""Prints a C program of random constant expressions: as initialisers of file level, counts of arrays, constants of enumerations, and the same
+"""Prints a C program of random constant expressions: as initialisers of file level, constants of enumerations, cases, and the same
 computed as the program runs.
 
     random_constants.py NUMBER
@@ -28,7 +28,6 @@ class Constants(random_program.Program):
         for number, text in enumerate(texts[:20]):
             self.put(f"static {self.random.choice(random_program.TYPES)} scalar{number} = {text};")
             self.put(f"enum {{ CONSTANT{number} = (int)({text}) }};")
-            self.put(f"static char array{number}[(CONSTANT{number} & 63) + 1];")
         self.put("static long choose(long which) {\n    switch (which) {")
         for number in range(20):
             self.put(f"    case ((long)({texts[number]}) & ~255) + {number}: return {number};")
@@ -38,7 +37,7 @@ class Constants(random_program.Program):
         for number, text in enumerate(texts):
             self.put(f'    printf("%d %ld\\n", (int)sizeof({text}), (long)({text}));')
         for number in range(20):
-            self.put(f'    printf("%ld %d %d %ld\\n", (long)scalar{number}, (int)sizeof array{number}, CONSTANT{number}, choose(values[{number}]));')
+            self.put(f'    printf("%ld %d %ld\\n", (long)scalar{number}, CONSTANT{number}, choose(values[{number}]));')
         self.put("    return 0;\n}")
         return "\n".join(self.lines) + "\n"
 

@@ -14,7 +14,7 @@ GCC_WORDS = ["-march=rv64im", "-mabi=lp64", "-mno-relax", "-O0", "-w", "-funsign
              "-fno-builtin", "-nostdinc"]
 
 
-def run(words, folder=None, seconds=60):
+def run(words, folder=None, seconds=600):
     """Runs a program; gives its status, output and errors. One that takes too long has the status 'time'."""
     try:
         done = subprocess.run([str(word) for word in words], cwd=folder, capture_output=True, timeout=seconds)

@@ -134,6 +134,12 @@ int main(void) {
          7));
     list
     printf("%d %d %d %d %d %d\n", total, chosen_branch, nested, numbers, spaced, CHOSEN);
+    printf("%d %d %s %d\n", __LINE__, xglue(__LI, NE__) + 0, str(__LINE__), __STDC__);
+#if __LINE__ < 100 || __STDC_VERSION__ < 199901L
+    puts("a line that is wrong");
+#endif
+    show((__FILE__ __LINE__));
+    printf("%s\n", __FILE__ + sizeof(__FILE__) - sizeof("table/preprocessor.c"));
     printf("%s %s %d\n", __func__, __FUNCTION__, (int)sizeof __func__);
     return TABSIZE \
         - 99;
