@@ -64,7 +64,7 @@ few_steps every steps is = within (as_decimal every) steps is
 states_within : (n : ℕ) → 1 ≤ n → n ≤ 1_000 → within_states (Some n) ≡ Some n
 states_within n some few = grind (arith, nat_tests)
 
-count_again : (n : ℕ) → 1 ≤ n → n ≤ 1_000 → as_states (decimal n) ≡ Some n
+pub count_again : (n : ℕ) → 1 ≤ n → n ≤ 1_000 → as_states (decimal n) ≡ Some n
 unfolding as_states
 count_again n some few =
     ap within_states (as_decimal-is (decimal n) n (record { small = omega (arith, few); spelled = refl })) ∙ states_within n some few
@@ -82,7 +82,7 @@ state_loaded files name g valid held =
 
 -- ---- what both commands come to
 
-segment_told : (files : NamedFiles) (a b from to : List ℕ) (steps : ℕ) → are_two_files a b ≡ true → loaded files a 4_294_967_296 ≡ Bytes from → loaded files b 4_294_967_296 ≡ Bytes to
+pub segment_told : (files : NamedFiles) (a b from to : List ℕ) (steps : ℕ) → are_two_files a b ≡ true → loaded files a 4_294_967_296 ≡ Bytes from → loaded files b 4_294_967_296 ≡ Bytes to
     → piece_of from to ≡ Ok steps → segment_over a b files ≡ record { status = Yes; text = segment_line steps; files = files }
 unfolding segment_files
 segment_told files a b from to steps two first second piece =

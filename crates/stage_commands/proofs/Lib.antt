@@ -12,3 +12,6 @@ pub mod EarlierStages
 pub mod ReadyAgain
 pub mod TwoPieces
 pub mod Cutting
+pub mod StatesRead
+pub mod PiecesShown
+pub mod CheckedRun

@@ -66,7 +66,7 @@ load_found name limit next files zeroed = by (loaded files name limit) refl zero
   by Absent is zeroed = absurd cc
   by TooLong is zeroed = absurd cc
 
-within_limit : (limit : ℕ) (held : Option (List ℕ)) (content : List ℕ) → loaded_of limit held ≡ Bytes content → (held ≡ Some content) × (length content ≤ limit)
+pub within_limit : (limit : ℕ) (held : Option (List ℕ)) (content : List ℕ) → loaded_of limit held ≡ Bytes content → (held ≡ Some content) × (length content ≤ limit)
 within_limit limit None content is = absurd cc
 within_limit limit (Some c) content is = by (nat_le (length c) limit) refl is where
   by : (b : Bool) → nat_le (length c) limit ≡ b → cond b (Bytes c) TooLong ≡ Bytes content → (Some c ≡ Some content) × (length content ≤ limit)

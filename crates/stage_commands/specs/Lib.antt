@@ -10,4 +10,5 @@ pub mod Cut
 pub mod Segment
 pub mod Ends
 pub mod Cutting
+pub mod Checked
 pub mod Inside

@@ -1,0 +1,56 @@
+-- What `segment` with 0 says, and what `ends` and all `segment`s with 0 say together. docs/reference/segments.md says the same for people.
+use Rattle.std.specs.Prelude.{◌≡◌, ℕ, ◌+◌, ◌<◌, ◌≤◌, Option, None, Some, Result, Ok, Err, List}
+use Rattle.ddc_base.specs.declared.outside.Loaded.TheVariants.{Bytes}
+use Rattle.ddc_base.specs.Outside.{NamedFiles, loaded}
+use Rattle.guest_run.specs.declared.run.RunEnd.{RunEnd}
+use Rattle.guest_run.specs.declared.run.RunEnd.TheVariants as run
+use Rattle.guest_run.specs.Run.{End, Exited, Trapped, UnknownCall}
+use Rattle.guest_run.specs.State.{GuestState}
+use Rattle.wheeler.specs.Stages.{finished, stage_result}
+use Rattle.wheeler.specs.declared.answer.Finished.{Finished}
+use Rattle.segments.specs.Segments.{EndsWith, GoesOnFrom, IsNoState, IsSegment}
+use Rattle.segments.specs.declared.answers.StateFault.{StateFault}
+use Rattle.command_plan.specs.declared.status.Status.TheVariants.{Yes}
+use Rattle.command_plan.specs.Plan.{Outcome}
+use Rattle.stage_commands.specs.Cutting.{CutRun, ends_over, segment_over}
+use Rattle.stage_commands.specs.Names.{piece_name}
+use Rattle.stage_commands.specs.Texts.{run_record, segment_line}
+
+-- ---- two texts, and the last one
+
+-- two names hold texts that are a piece of so many steps
+pub record HoldPiece (from to : List ℕ) (files : NamedFiles) (steps : ℕ) : Type 0 where
+  pub former : List ℕ
+  pub former_is : loaded files from 4_294_967_296 ≡ Bytes former
+  pub latter : List ℕ
+  pub latter_is : loaded files to 4_294_967_296 ≡ Bytes latter
+  pub piece : IsSegment former latter steps
+
+-- what `segment` with 0 comes to
+abbrev pub piece_told_yes : ℕ → NamedFiles → Outcome
+piece_told_yes steps files = record { status = Yes; text = segment_line steps; files = files }
+
+-- what the end behind a text says of the bytes
+abbrev pub run_end : End → RunEnd
+run_end (Exited status) = run.Exited status
+run_end (Trapped cause) = run.Trapped cause
+run_end (UnknownCall number) = run.UnknownCall number
+
+abbrev pub EndShows : List ℕ → ℕ → Result (Option (End × GuestState)) StateFault → Type 0
+EndShows text limit (Err why) = IsNoState text why
+EndShows text limit (Ok None) = GoesOnFrom text limit
+EndShows text limit (Ok (Some (end, guest))) = EndsWith text limit guest (run_end end)
+
+-- ---- all together
+
+-- `ends` comes to 0, and so does `segment` of each two neighbours
+pub record AreChecked (recipe stage prefix : List ℕ) (count : ℕ) (files : NamedFiles) : Type 0 where
+  pub few : count ≤ 1_000
+  pub both_ends : (ends_over recipe stage prefix count files).status ≡ Yes
+  pub pieces : (number : ℕ) → number + 1 < count → (segment_over (piece_name prefix number) (piece_name prefix (number + 1)) files).status ≡ Yes
+
+-- what is printed is the stage's run from its start: its steps in all, its exit with 0, and what it left; which is the bench's record where that has one
+pub record IsRunTold (recipe stage prefix : List ℕ) (files : NamedFiles) (came : Outcome) : Type 0 where
+  pub run : CutRun recipe stage prefix files
+  pub told : came ≡ record { status = Yes; text = run_record run.named.name (finished (run.last.steps + 1) run.last.world run.made); files = files }
+  pub as_benched : (f : Finished) → stage_result run.ready.recipe run.ready.inputs run.ready.done run.named ≡ Ok f → came.text ≡ run_record run.named.name f
