@@ -4,7 +4,6 @@ use Rattle.std.specs.Prelude.{All, slice_get}
 use Rattle.std.specs.FinMap as finite
 use Rattle.std.proofs.Math.Decide.{dec_lt}
 use Rattle.std.proofs.lemmas.Bool.Decides.{Decides-eqb}
-use Rattle.std.proofs.lemmas.Option.{same_Some}
 use Rattle.ddc_base.specs.ByteLists.{AreBytes}
 use Rattle.ddc_base.specs.Decimals.{as_decimal}
 use Rattle.ddc_base.specs.Difference.{first_difference}
@@ -19,11 +18,9 @@ use Rattle.guest_run.specs.State.{GuestState}
 use Rattle.guest_run.proofs.Running.{after-none}
 use Rattle.guest_run.proofs.RunLaws.{after-sum, first_end-sum}
 use Rattle.recipe.specs.declared.parts.Stage.{Stage}
-use Rattle.wheeler.specs.Stages.{by_end, by_start, contents, finished, output_of, stage_result, start_stage}
-use Rattle.wheeler.specs.Stages as bench
+use Rattle.wheeler.specs.Stages.{contents, finished, output_of, stage_result, start_stage}
 use Rattle.wheeler.specs.declared.answer.Finished.{Finished}
 use Rattle.wheeler.specs.declared.cause.RunCause.TheVariants as cause
-use Rattle.wheeler.proofs.Endings as made_by
 use Rattle.segments.specs.Segments.{ChecksPiece, EndsWith, IsStateOf, second_text}
 use Rattle.segments.specs.declared.answers.SegmentFault.{SegmentFault}
 use Rattle.segments.specs.declared.answers.StateFault.{StateFault}
@@ -40,7 +37,7 @@ use Rattle.stage_commands.specs.Segment.{piece_told, segment_files}
 use Rattle.stage_commands.specs.States.{ReadsAs, end_behind, piece_answer, piece_of, state_said}
 use Rattle.stage_commands.specs.Texts.{run_record}
 use Rattle.stage_commands.specs.declared.ready.Ready.{Ready}
-use Rattle.stage_commands.proofs.Cutting.{count_again, segment_told}
+use Rattle.stage_commands.proofs.Cutting.{count_again, is_benched, segment_told}
 use Rattle.stage_commands.proofs.EarlierStages.{StartsValid, starts_valid}
 use Rattle.stage_commands.proofs.PiecesShown.{end_shown, piece_shown}
 use Rattle.stage_commands.proofs.ReadyAgain.{Finds, IsYes, follows_load, found_again, load_found, within_limit, yes_as}
@@ -110,7 +107,7 @@ module _ (files : NamedFiles) (bytes : (name content : List ℕ) → finite.get 
     abbrev Told : Outcome → Type 0
     Told o = IsRunTold recipe stage prefix files o
 
-    module _ (fa : Finds prefix files bytes (needs_ready recipe stage prefix)) (first last : List ℕ) (first_is : loaded files (piece_name prefix 0) 4_294_967_296 ≡ Bytes first)
+    module _ (fa : Finds prefix files bytes recipe stage (needs_ready recipe stage prefix)) (first last : List ℕ) (first_is : loaded files (piece_name prefix 0) 4_294_967_296 ≡ Bytes first)
         (last_is : loaded files (piece_name prefix (count - 1)) 4_294_967_296 ≡ Bytes last) (of : Stage) (there : slice_get fa.ready.recipe.stages (length fa.ready.done) ≡ Some of) where
       module _ (begun : GuestState) (starts : start_stage fa.ready.recipe (contents fa.ready.inputs fa.ready.done) of ≡ Ok begun) where
         v : StartsValid fa.ready.recipe fa.ready.inputs fa.is fa.given of begun
@@ -188,26 +185,25 @@ module _ (files : NamedFiles) (bytes : (name content : List ℕ) → finite.get 
             text = run_record of.name (finished (guest.steps + 1) guest.world made)
 
             as_benched : (f : Finished) → stage_result fa.ready.recipe fa.ready.inputs fa.ready.done of ≡ Ok f → text ≡ run_record of.name f
-            as_benched f result =
-                let comes : stage_result fa.ready.recipe fa.ready.inputs fa.ready.done of ≡ bench.ending fa.ready.recipe fa.ready.inputs fa.ready.done of (Exited 0) guest =
-                ap (by_start fa.ready.recipe fa.ready.inputs fa.ready.done of) starts ∙ ap (by_end fa.ready.recipe fa.ready.inputs fa.ready.done of) whole in
-                let b = made_by.ended fa.ready.recipe fa.ready.inputs fa.ready.done of (Exited 0) guest f (sym comes ∙ result) in
-                let same : made ≡ b.made = same_Some made b.made (sym left ∙ b.there) in
-                ap (λ m. run_record of.name (finished (guest.steps + 1) guest.world m)) same ∙ ap (run_record of.name) (sym b.is)
+            as_benched f result = ap (run_record of.name) (sym (is_benched fa.ready of begun guest starts whole made left f result))
 
             is_run : Told (record { status = Yes; text = text; files = files })
             is_run = record {
               run = record {
-                ready = fa.ready;
-                found = fa.found files (λ name apart. refl);
-                named = of;
-                there = there;
-                begun = begun;
-                starts = starts;
+                start = record {
+                  ready = fa.ready;
+                  begins = fa.begins;
+                  found = fa.found files (λ name apart. refl);
+                  named = of;
+                  there = there;
+                  begun = begun;
+                  starts = starts;
+                };
                 last = guest;
                 exits = whole;
                 made = made;
                 left = left;
+                benched = is_benched fa.ready of begun guest starts whole made left;
               };
               told = refl;
               as_benched = as_benched;
@@ -250,7 +246,7 @@ module _ (files : NamedFiles) (bytes : (name content : List ℕ) → finite.get 
       by_start_of (Err why) starts zeroed = absurd cc
       by_start_of (Ok begun) starts zeroed = by_first begun starts (state_said first) (reads first) zeroed
 
-    module _ (fa : Finds prefix files bytes (needs_ready recipe stage prefix)) where
+    module _ (fa : Finds prefix files bytes recipe stage (needs_ready recipe stage prefix)) where
       abbrev judge : List ℕ → List ℕ → Stage → Plan
       judge first last of = needs_first of (start_stage fa.ready.recipe (contents fa.ready.inputs fa.ready.done) of) (state_said first) (needs_last of (end_behind last of.steps))
 

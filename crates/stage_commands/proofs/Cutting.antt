@@ -57,7 +57,7 @@ within (Some n) steps is = by (nat_le 1 n && nat_le n (2 ^ 48)) refl is where
       subst (λ m. (1 ≤ m) × (m ≤ 2 ^ 48)) (same_Some n steps is) (leb-true 1 n parts.0, leb-true n (2 ^ 48) parts.1)
   by false fits is = absurd cc
 
-few_steps : (every : List ℕ) (steps : ℕ) → as_steps every ≡ Some steps → (1 ≤ steps) × (steps ≤ 2 ^ 48)
+pub few_steps : (every : List ℕ) (steps : ℕ) → as_steps every ≡ Some steps → (1 ≤ steps) × (steps ≤ 2 ^ 48)
 unfolding as_steps
 few_steps every steps is = within (as_decimal every) steps is
 
@@ -91,6 +91,16 @@ segment_told files a b from to steps two first second piece =
     ∙ follows_load b 4_294_967_296 (λ latter. piece_told (piece_of from latter)) files to second
     ∙ ap (λ r. outcome (piece_told r) files) piece
 
+-- a run that exits with 0 and leaves the output is the bench's own, where that has the stage done
+pub is_benched : (ready : Ready) (of : Stage) (begun end : GuestState) → start_stage ready.recipe (contents ready.inputs ready.done) of ≡ Ok begun
+    → first_end begun of.steps ≡ Some (Exited 0, end) → (made : List ℕ) → out end.world (output_of of.output) ≡ Some made
+    → (f : Finished) → stage_result ready.recipe ready.inputs ready.done of ≡ Ok f → f ≡ finished (end.steps + 1) end.world made
+is_benched ready of begun end starts exits made left f result =
+    let comes : stage_result ready.recipe ready.inputs ready.done of ≡ ending ready.recipe ready.inputs ready.done of (Exited 0) end =
+    ap (by_start ready.recipe ready.inputs ready.done of) starts ∙ ap (by_end ready.recipe ready.inputs ready.done of) exits in
+    let e = ended ready.recipe ready.inputs ready.done of (Exited 0) end f (sym comes ∙ result) in
+    e.is ∙ ap (finished (end.steps + 1) end.world) (same_Some e.made made (sym e.there ∙ left))
+
 -- the stage's start and the state behind which the run exits
 module _ (ready : Ready) (of : Stage) (there : slice_get ready.recipe.stages (length ready.done) ≡ Some of) (begun from end : GuestState)
     (starts : start_stage ready.recipe (contents ready.inputs ready.done) of ≡ Ok begun) (good : IsValid begun) (fresh : begun.steps ≡ 0)
@@ -115,7 +125,7 @@ module _ (ready : Ready) (of : Stage) (there : slice_get ready.recipe.stages (le
 
 module _ (recipe stage every prefix : List ℕ) (files : NamedFiles) (bytes : (name content : List ℕ) → finite.get files name ≡ Some content → All (λ byte. byte < 256) content)
     (steps : ℕ) (steps_are : as_steps every ≡ Some steps) (words : are_stage_words recipe stage prefix ≡ true) where
-  module _ (fa : Finds prefix files bytes (needs_ready recipe stage prefix)) (of : Stage) (there : slice_get fa.ready.recipe.stages (length fa.ready.done) ≡ Some of) (begun : GuestState)
+  module _ (fa : Finds prefix files bytes recipe stage (needs_ready recipe stage prefix)) (of : Stage) (there : slice_get fa.ready.recipe.stages (length fa.ready.done) ≡ Some of) (begun : GuestState)
       (starts : start_stage fa.ready.recipe (contents fa.ready.inputs fa.ready.done) of ≡ Ok begun) (zeroed : IsYes (saved_from of steps prefix 1_000 0 begun) files) where
     abbrev came : Outcome
     came = outcome (saved_from of steps prefix 1_000 0 begun) files
@@ -158,16 +168,20 @@ module _ (recipe stage every prefix : List ℕ) (files : NamedFiles) (bytes : (n
 
     abbrev run : CutRun recipe stage prefix files
     run = record {
-      ready = fa.ready;
-      found = fa.found files (λ name apart. refl);
-      named = of;
-      there = there;
-      begun = begun;
-      starts = starts;
+      start = record {
+        ready = fa.ready;
+        begins = fa.begins;
+        found = fa.found files (λ name apart. refl);
+        named = of;
+        there = there;
+        begun = begun;
+        starts = starts;
+      };
       last = w.end;
       exits = whole;
       made = w.made;
       left = w.there;
+      benched = is_benched fa.ready of begun w.end starts whole w.made w.there;
     }
 
     bounds : (1 ≤ steps) × (steps ≤ 2 ^ 48)
@@ -240,13 +254,7 @@ module _ (recipe stage every prefix : List ℕ) (files : NamedFiles) (bytes : (n
     as_benched : (f : Finished) → stage_result fa.ready.recipe fa.ready.inputs fa.ready.done of ≡ Ok f
         → (ends_over recipe stage prefix (w.more + 1) came.files).text ≡ run_record of.name f
     as_benched f result =
-        let comes : stage_result fa.ready.recipe fa.ready.inputs fa.ready.done of ≡ ending fa.ready.recipe fa.ready.inputs fa.ready.done of (Exited 0) w.end =
-        ap (by_start fa.ready.recipe fa.ready.inputs fa.ready.done of) starts ∙ ap (by_end fa.ready.recipe fa.ready.inputs fa.ready.done of) whole in
-        let e = ended fa.ready.recipe fa.ready.inputs fa.ready.done of (Exited 0) w.end f (sym comes ∙ result) in
-        let same : e.made ≡ w.made = same_Some e.made w.made (sym e.there ∙ w.there) in
-        ap (λ (o : Outcome). o.text) both_ends
-        ∙ ap (λ made. run_record of.name (finished (w.end.steps + 1) w.end.world made)) (sym same)
-        ∙ ap (run_record of.name) (sym e.is)
+        ap (λ (o : Outcome). o.text) both_ends ∙ ap (run_record of.name) (sym (is_benched fa.ready of begun w.end starts whole w.made w.there f result))
 
     is_cut : IsRightCut recipe stage every prefix files came
     is_cut = record {
@@ -267,7 +275,7 @@ module _ (recipe stage every prefix : List ℕ) (files : NamedFiles) (bytes : (n
   abbrev Cut : Plan → Type 0
   Cut plan = IsRightCut recipe stage every prefix files (outcome plan files)
 
-  module _ (fa : Finds prefix files bytes (needs_ready recipe stage prefix)) where
+  module _ (fa : Finds prefix files bytes recipe stage (needs_ready recipe stage prefix)) where
     by_start_of : (of : Stage) → slice_get fa.ready.recipe.stages (length fa.ready.done) ≡ Some of → (s : Result GuestState Refusal)
         → start_stage fa.ready.recipe (contents fa.ready.inputs fa.ready.done) of ≡ s → IsYes (cut_from of steps prefix s) files → Cut (cut_from of steps prefix s)
     by_start_of of there (Ok begun) starts zeroed = is_cut fa of there begun starts zeroed

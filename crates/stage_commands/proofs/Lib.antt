@@ -9,9 +9,12 @@ pub mod RunTexts
 pub mod Written
 pub mod CutWalk
 pub mod EarlierStages
+pub mod BegunStages
 pub mod ReadyAgain
 pub mod TwoPieces
 pub mod Cutting
 pub mod StatesRead
 pub mod PiecesShown
 pub mod CheckedRun
+pub mod OutputLeft
+pub mod CutEnding

@@ -27,15 +27,17 @@ use Rattle.wheeler.specs.declared.answer.Finished.{Finished}
 use Rattle.audit_run.specs.Earlier.{done_in_order}
 use Rattle.audit_run.specs.declared.earlier.Undone.{Undone}
 use Rattle.recipe_plan.specs.NotDone.{undone}
+use Rattle.stage_commands.specs.Begun.{IsBegun}
 use Rattle.stage_commands.specs.Earlier.{needs_earlier, needs_stage}
 use Rattle.command_plan.specs.declared.status.Status.TheVariants.{FileRefused, RecipeRefused, Yes}
 use Rattle.command_plan.specs.Plan.{Outcome, Plan, answers, follow, needs, needs_all, outcome, unless_refused}
 use Rattle.command_plan.specs.Words.{bare_name, is_one_file, or_usage, usage}
-use Rattle.recipe_plan.specs.Recipes.{is_input, needs_apart, needs_inputs, needs_recipe, reads_recipe}
+use Rattle.recipe_plan.specs.Recipes.{is_input, needs_apart, needs_inputs, needs_recipe, paths, reads_recipe}
 use Rattle.recipe_plan.specs.Texts.{recipe_line}
 use Rattle.stage_commands.specs.Names.{each_name, needs_other, piece_name}
 use Rattle.stage_commands.specs.Ready.{needs_ready}
 use Rattle.stage_commands.specs.declared.ready.Ready.{Ready}
+use Rattle.stage_commands.proofs.BegunStages.{begun_of}
 use Rattle.stage_commands.proofs.EarlierStages.{earlier_done}
 
 abbrev pub IsYes : Plan → NamedFiles → Type 0
@@ -122,6 +124,7 @@ module _ (prefix : List ℕ) (files : NamedFiles) (bytes : (name content : List 
 
   record Given (room : ℕ) (names : List (List ℕ)) : Type 0 where
     contents : List (List ℕ)
+    held : map (λ path. finite.get files path) names ≡ map Some contents
     found : (later : NamedFiles) → AreAlike later → (next : List (List ℕ) → Plan) → outcome (needs_all 268_435_456 room names next) later ≡ outcome (next contents) later
     many : length contents ≡ length names
     each : All IsContent contents
@@ -133,7 +136,7 @@ module _ (prefix : List ℕ) (files : NamedFiles) (bytes : (name content : List 
   all_given : {A : Type 0} (path : A → List ℕ) (values : List A) (room : ℕ) (next : List (List ℕ) → Plan)
       → ((k : ℕ) → k < 1_000 → list_any (λ value. is_one_file (path value) (piece_name prefix k)) values ≡ false)
       → IsYes (needs_all 268_435_456 room (map path values) next) files → Given room (map path values)
-  all_given path [] room next apart zeroed = record { contents = []; found = λ later alike n. refl; many = refl; each = All-nil IsContent }
+  all_given path [] room next apart zeroed = record { contents = []; held = refl; found = λ later alike n. refl; many = refl; each = All-nil IsContent }
   all_given path (value ∷ values) room next apart zeroed =
       let limit : ℕ = min 268_435_456 room in
       let behind : List ℕ → (List (List ℕ) → Plan) → Plan = λ c n. needs_all 268_435_456 (room - length c) (map path values) (λ contents. n (c ∷ contents)) in
@@ -144,6 +147,7 @@ module _ (prefix : List ℕ) (files : NamedFiles) (bytes : (name content : List 
       let held = within_limit limit (finite.get files (path value)) l.0 l.1 in
       record {
         contents = l.0 ∷ rest.contents;
+        held = λ i. held.0 i ∷ rest.held i;
         found = λ later alike n.
             follows_load (path value) limit (λ c. behind c n) later l.0 (loaded_again later alike (path value) limit (λ k few. (parts k few).0) ∙ l.1)
             ∙ rest.found later alike (λ contents. n (l.0 ∷ contents));
@@ -152,22 +156,22 @@ module _ (prefix : List ℕ) (files : NamedFiles) (bytes : (name content : List 
       }
 
   -- a front of a plan finds what a command begins with, here and over every such files
-  pub record Finds (front : (Ready → Plan) → Plan) : Type 0 where
+  pub record Finds (recipe stage : List ℕ) (front : (Ready → Plan) → Plan) : Type 0 where
     pub ready : Ready
+    pub begins : IsBegun recipe stage files ready
     pub is : IsRecipe ready.recipe
     pub given : IsInputs ready.recipe ready.inputs
     pub done : AreDone ready.recipe ready.done
     pub found : (later : NamedFiles) → AreAlike later → (next : Ready → Plan) → outcome (front next) later ≡ outcome (next ready) later
 
-  -- a part more before it
-  with_part : (front rest : (Ready → Plan) → Plan) (next : Ready → Plan)
-      → ((later : NamedFiles) → AreAlike later → (n : Ready → Plan) → outcome (front n) later ≡ outcome (rest n) later)
-      → (IsYes (rest next) files → Finds rest) → IsYes (front next) files → Finds front
-  with_part front rest next same finds zeroed =
-      let r = finds (yes_as (front next) (rest next) files (same files (λ name apart. refl) next) zeroed) in
-      record { ready = r.ready; is = r.is; given = r.given; done = r.done; found = λ later alike n. same later alike n ∙ r.found later alike n }
-
   module _ (recipe stage : List ℕ) (next : Ready → Plan) where
+    -- a part more before it
+    with_part : (front rest : (Ready → Plan) → Plan) → ((later : NamedFiles) → AreAlike later → (n : Ready → Plan) → outcome (front n) later ≡ outcome (rest n) later)
+        → (IsYes (rest next) files → Finds recipe stage rest) → IsYes (front next) files → Finds recipe stage front
+    with_part front rest same finds zeroed =
+        let r = finds (yes_as (front next) (rest next) files (same files (λ name apart. refl) next) zeroed) in
+        record { ready = r.ready; begins = r.begins; is = r.is; given = r.given; done = r.done; found = λ later alike n. same later alike n ∙ r.found later alike n }
+
     -- what follows each part
     abbrev with_done : Said → List (List ℕ) → (Ready → Plan) → List Finished → Plan
     with_done said inputs n done = n (record { recipe = said; inputs = inputs; done = done })
@@ -198,56 +202,65 @@ module _ (prefix : List ℕ) (files : NamedFiles) (bytes : (name content : List 
     never_undone said number (Checks cause) zeroed = cc
 
     -- from the last part to the first
-    from_inputs : (said : Said) (count : ℕ) (inputs : List (List ℕ)) → IsRecipe said → IsInputs said inputs → IsYes (with_inputs said count inputs next) files
-        → Finds (with_inputs said count inputs)
-    from_inputs said count inputs is given zeroed = by (done_in_order said inputs [] (take count said.stages)) refl zeroed where
-      by : (run : Result (List Finished) Undone) → done_in_order said inputs [] (take count said.stages) ≡ run
-          → IsYes (unless_refused run (refuses_stage said) (with_done said inputs next)) files → Finds (λ n. unless_refused run (refuses_stage said) (with_done said inputs n))
-      by (Ok done) ran zeroed = record {
-        ready = record { recipe = said; inputs = inputs; done = done };
-        is = is;
-        given = given;
-        done = earlier_done said inputs is given count done ran;
-        found = λ later alike n. refl;
-      }
-      by (Err not_done) ran zeroed = absurd (never_undone said not_done.stage not_done.fault zeroed)
+    module _ (text : List ℕ) (held : loaded files recipe 1_048_576 ≡ Bytes text) where
+      module _ (said : Said) (reads : recipe_of text ≡ Ok said) where
+        is : IsRecipe said
+        is = reads_keep text said reads
 
-    from_names : (said : Said) (count : ℕ) → IsRecipe said → ((k : ℕ) → k < 1_000 → is_input said (piece_name prefix k) ≡ false) → IsYes (with_names said count next) files
-        → Finds (with_names said count)
-    from_names said count is apart zeroed =
-        let inputs = all_given (λ (input : Input). input.path) said.inputs 1_073_741_824 (λ inputs. with_inputs said count inputs next) apart zeroed in
-        let given : IsInputs said inputs.contents = record { count = inputs.many ∙ length-map said.inputs (λ (input : Input). input.path); each = inputs.each } in
-        with_part (with_names said count) (with_inputs said count inputs.contents) next (λ later alike n. inputs.found later alike (λ inputs. with_inputs said count inputs n))
-        (from_inputs said count inputs.contents is given) zeroed
+        module _ (count : ℕ) (place : stage_at said.stages stage ≡ Some count) where
+          from_inputs : (inputs : List (List ℕ)) → map (λ path. finite.get files path) (paths said) ≡ map Some inputs → IsInputs said inputs
+              → IsYes (with_inputs said count inputs next) files → Finds recipe stage (with_inputs said count inputs)
+          from_inputs inputs hold given zeroed = by (done_in_order said inputs [] (take count said.stages)) refl zeroed where
+            by : (run : Result (List Finished) Undone) → done_in_order said inputs [] (take count said.stages) ≡ run
+                → IsYes (unless_refused run (refuses_stage said) (with_done said inputs next)) files
+                → Finds recipe stage (λ n. unless_refused run (refuses_stage said) (with_done said inputs n))
+            by (Ok done) ran zeroed = record {
+              ready = record { recipe = said; inputs = inputs; done = done };
+              begins = begun_of recipe stage files text said count inputs done held reads place hold ran;
+              is = is;
+              given = given;
+              done = earlier_done said inputs is given count done ran;
+              found = λ later alike n. refl;
+            }
+            by (Err not_done) ran zeroed = absurd (never_undone said not_done.stage not_done.fault zeroed)
 
-    from_count : (said : Said) (count : ℕ) → IsRecipe said → IsYes (with_count said count next) files → Finds (with_count said count)
-    from_count said count is zeroed =
-        let apart = all_pass (is_input said) (needs_apart said) (apart_is said) prefix 1_000 (λ _. with_names said count next) files zeroed in
-        with_part (with_count said count) (with_names said count) next (λ later alike n. apart.found later (λ _. with_names said count n)) (from_names said count is apart.apart) zeroed
+          from_names : ((k : ℕ) → k < 1_000 → is_input said (piece_name prefix k) ≡ false) → IsYes (with_names said count next) files
+              → Finds recipe stage (with_names said count)
+          from_names apart zeroed =
+              let inputs = all_given (λ (input : Input). input.path) said.inputs 1_073_741_824 (λ inputs. with_inputs said count inputs next) apart zeroed in
+              let given : IsInputs said inputs.contents = record { count = inputs.many ∙ length-map said.inputs (λ (input : Input). input.path); each = inputs.each } in
+              with_part (with_names said count) (with_inputs said count inputs.contents) (λ later alike n. inputs.found later alike (λ inputs. with_inputs said count inputs n))
+              (from_inputs inputs.contents inputs.held given) zeroed
 
-    from_said : (said : Said) → IsRecipe said → IsYes (with_said said next) files → Finds (with_said said)
-    from_said said is zeroed = by (stage_at said.stages stage) zeroed where
-      by : (place : Option ℕ) → IsYes (or_usage place (λ count. with_count said count next)) files → Finds (λ n. or_usage place (λ count. with_count said count n))
-      by (Some count) zeroed = from_count said count is zeroed
-      by None zeroed = absurd cc
+          from_count : IsYes (with_count said count next) files → Finds recipe stage (with_count said count)
+          from_count zeroed =
+              let apart = all_pass (is_input said) (needs_apart said) (apart_is said) prefix 1_000 (λ _. with_names said count next) files zeroed in
+              with_part (with_count said count) (with_names said count) (λ later alike n. apart.found later (λ _. with_names said count n)) (from_names apart.apart) zeroed
 
-    from_text : (text : List ℕ) → IsYes (with_text text next) files → Finds (with_text text)
-    from_text text zeroed = by (recipe_of text) refl zeroed where
-      by : (reading : Result Said RecipeRefusal) → recipe_of text ≡ reading
-          → IsYes (unless_refused reading (λ refusal. answers RecipeRefused (recipe_line refusal)) (λ said. with_said said next)) files
-          → Finds (λ n. unless_refused reading (λ refusal. answers RecipeRefused (recipe_line refusal)) (λ said. with_said said n))
-      by (Ok said) reads zeroed = from_said said (reads_keep text said reads) zeroed
-      by (Err refusal) reads zeroed = absurd cc
+        from_said : IsYes (with_said said next) files → Finds recipe stage (with_said said)
+        from_said zeroed = by (stage_at said.stages stage) refl zeroed where
+          by : (place : Option ℕ) → stage_at said.stages stage ≡ place → IsYes (or_usage place (λ count. with_count said count next)) files
+              → Finds recipe stage (λ n. or_usage place (λ count. with_count said count n))
+          by (Some count) place zeroed = from_count count place zeroed
+          by None place zeroed = absurd cc
 
-    from_recipe : ((k : ℕ) → k < 1_000 → is_one_file recipe (piece_name prefix k) ≡ false) → IsYes (with_recipe next) files → Finds with_recipe
+      from_text : IsYes (with_text text next) files → Finds recipe stage (with_text text)
+      from_text zeroed = by (recipe_of text) refl zeroed where
+        by : (reading : Result Said RecipeRefusal) → recipe_of text ≡ reading
+            → IsYes (unless_refused reading (λ refusal. answers RecipeRefused (recipe_line refusal)) (λ said. with_said said next)) files
+            → Finds recipe stage (λ n. unless_refused reading (λ refusal. answers RecipeRefused (recipe_line refusal)) (λ said. with_said said n))
+        by (Ok said) reads zeroed = from_said said reads zeroed
+        by (Err refusal) reads zeroed = absurd cc
+
+    from_recipe : ((k : ℕ) → k < 1_000 → is_one_file recipe (piece_name prefix k) ≡ false) → IsYes (with_recipe next) files → Finds recipe stage with_recipe
     from_recipe apart zeroed =
         let text = load_found recipe 1_048_576 (λ t. with_text t next) files zeroed in
-        with_part with_recipe (with_text text.0) next
+        with_part with_recipe (with_text text.0)
         (λ later alike n. follows_load recipe 1_048_576 (λ t. with_text t n) later text.0 (loaded_again later alike recipe 1_048_576 apart ∙ text.1))
-        (from_text text.0) zeroed
+        (from_text text.0 text.1) zeroed
 
-    pub found_again : IsYes (needs_ready recipe stage prefix next) files → Finds (needs_ready recipe stage prefix)
+    pub found_again : IsYes (needs_ready recipe stage prefix next) files → Finds recipe stage (needs_ready recipe stage prefix)
     unfolding needs_ready
     found_again zeroed =
         let names = all_pass (is_one_file recipe) (needs_other recipe) (other_is recipe) prefix 1_000 (λ _. with_recipe next) files zeroed in
-        with_part (needs_ready recipe stage prefix) with_recipe next (λ later alike n. names.found later (λ _. with_recipe n)) (from_recipe names.apart) zeroed
+        with_part (needs_ready recipe stage prefix) with_recipe (λ later alike n. names.found later (λ _. with_recipe n)) (from_recipe names.apart) zeroed

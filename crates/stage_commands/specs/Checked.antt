@@ -52,5 +52,5 @@ pub record AreChecked (recipe stage prefix : List ℕ) (count : ℕ) (files : Na
 -- what is printed is the stage's run from its start: its steps in all, its exit with 0, and what it left; which is the bench's record where that has one
 pub record IsRunTold (recipe stage prefix : List ℕ) (files : NamedFiles) (came : Outcome) : Type 0 where
   pub run : CutRun recipe stage prefix files
-  pub told : came ≡ record { status = Yes; text = run_record run.named.name (finished (run.last.steps + 1) run.last.world run.made); files = files }
-  pub as_benched : (f : Finished) → stage_result run.ready.recipe run.ready.inputs run.ready.done run.named ≡ Ok f → came.text ≡ run_record run.named.name f
+  pub told : came ≡ record { status = Yes; text = run_record run.start.named.name (finished (run.last.steps + 1) run.last.world run.made); files = files }
+  pub as_benched : (f : Finished) → stage_result run.start.ready.recipe run.start.ready.inputs run.start.ready.done run.start.named ≡ Ok f → came.text ≡ run_record run.start.named.name f

@@ -12,6 +12,7 @@ use Rattle.segments.specs.Segments.{second_text}
 use Rattle.command_plan.specs.declared.status.Status.TheVariants.{Yes}
 use Rattle.command_plan.specs.Plan.{Outcome, Plan, outcome}
 use Rattle.command_plan.specs.Words.{as_steps}
+use Rattle.stage_commands.specs.Begun.{IsBegun}
 use Rattle.stage_commands.specs.Cut.{cut_plan}
 use Rattle.stage_commands.specs.Ends.{ends_plan}
 use Rattle.stage_commands.specs.Names.{piece_name}
@@ -30,24 +31,30 @@ segment_over from to files = outcome (segment_plan (from ∷ to ∷ [])) files
 abbrev pub ends_over : List ℕ → List ℕ → List ℕ → ℕ → NamedFiles → Outcome
 ends_over recipe stage prefix count files = outcome (ends_plan (recipe ∷ stage ∷ prefix ∷ decimal count ∷ [])) files
 
--- the run of the stage that the words name over these files: with what the commands begin, the stage and its start, and its exit with 0, which left
--- the stage's output
-pub record CutRun (recipe stage prefix : List ℕ) (files : NamedFiles) : Type 0 where
+-- the stage that the words name over these files, behind what the commands begin with, and its start
+pub record CutStart (recipe stage prefix : List ℕ) (files : NamedFiles) : Type 0 where
   pub ready : Ready
+  pub begins : IsBegun recipe stage files ready
   pub found : (next : Ready → Plan) → outcome (needs_ready recipe stage prefix next) files ≡ outcome (next ready) files
   pub named : Stage
   pub there : slice_get ready.recipe.stages (length ready.done) ≡ Some named
   pub begun : GuestState
   pub starts : start_stage ready.recipe (contents ready.inputs ready.done) named ≡ Ok begun
+
+-- its run: the exit with 0, which left the stage's output. So it is the bench's own where that has the stage done
+pub record CutRun (recipe stage prefix : List ℕ) (files : NamedFiles) : Type 0 where
+  pub start : CutStart recipe stage prefix files
   pub last : GuestState
-  pub exits : first_end begun named.steps ≡ Some (Exited 0, last)
+  pub exits : first_end start.begun start.named.steps ≡ Some (Exited 0, last)
   pub made : List ℕ
-  pub left : out last.world (output_of named.output) ≡ Some made
+  pub left : out last.world (output_of start.named.output) ≡ Some made
+  pub benched : (f : Finished) → stage_result start.ready.recipe start.ready.inputs start.ready.done start.named ≡ Ok f
+      → f ≡ finished (last.steps + 1) last.world made
 
 -- the state of the run behind so many steps is held under a name
 pub record IsHeldState {recipe stage prefix : List ℕ} {files : NamedFiles} (run : CutRun recipe stage prefix files) (later : NamedFiles) (name : List ℕ) (steps : ℕ) : Type 0 where
   pub state : GuestState
-  pub reached : after run.begun steps ≡ Some state
+  pub reached : after run.start.begun steps ≡ Some state
   pub held : map.get later name ≡ Some (second_text state)
 
 -- a cut that came to 0: its states stand, and no other name is changed; every two neighbours are a piece of EVERY steps; and both ends are right, told
@@ -65,6 +72,6 @@ pub record IsRightCut (recipe stage every prefix : List ℕ) (files : NamedFiles
   pub pieces : (number : ℕ) → number + 1 < count
       → segment_over (piece_name prefix number) (piece_name prefix (number + 1)) came.files ≡ record { status = Yes; text = segment_line steps; files = came.files }
   pub both_ends : ends_over recipe stage prefix count came.files
-      ≡ record { status = Yes; text = run_record run.named.name (finished (run.last.steps + 1) run.last.world run.made); files = came.files }
-  pub as_benched : (f : Finished) → stage_result run.ready.recipe run.ready.inputs run.ready.done run.named ≡ Ok f
-      → (ends_over recipe stage prefix count came.files).text ≡ run_record run.named.name f
+      ≡ record { status = Yes; text = run_record run.start.named.name (finished (run.last.steps + 1) run.last.world run.made); files = came.files }
+  pub as_benched : (f : Finished) → stage_result run.start.ready.recipe run.start.ready.inputs run.start.ready.done run.start.named ≡ Ok f
+      → (ends_over recipe stage prefix count came.files).text ≡ run_record run.start.named.name f

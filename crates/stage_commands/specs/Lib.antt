@@ -9,6 +9,9 @@ pub mod States
 pub mod Cut
 pub mod Segment
 pub mod Ends
+pub mod Begun
 pub mod Cutting
 pub mod Checked
+pub mod LeftMade
+pub mod CutEnds
 pub mod Inside

@@ -1,16 +1,23 @@
 //! Laws about the definitions. Each is the contract of a function that does nothing.
 
 ghost use Rattle.std.specs.FinMap as map;
-ghost use Rattle.std.specs.Prelude.{◌≡◌, ◌<◌, ◌≤◌, ◌^◌, ℕ, All, IsTrue, List, Ok, Option, Result, Some};
+ghost use Rattle.std.specs.Prelude.{◌≡◌, ◌*◌, ◌<◌, ◌≤◌, ◌^◌, ◌↔◌, ℕ, All, IsTrue, List, None, Ok, Option, Result, Some};
 ghost use Rattle.ddc_base.specs.ByteLists.{AreBytes};
 ghost use Rattle.ddc_base.specs.Outside.{NamedFiles};
-ghost use Rattle.command_plan.specs.Words.{are_two_files};
-ghost use Rattle.command_plan.specs.declared.status.Status.TheVariants.{Yes};
+ghost use Rattle.command_plan.specs.Words.{are_two_files, as_steps};
+ghost use Rattle.command_plan.specs.declared.status.Status.TheVariants.{TooManySegments, Yes};
+ghost use Rattle.command_plan.specs.Plan.{outcome};
 ghost use Rattle.stage_commands.specs.Checked.{AreChecked, EndShows, HoldPiece, IsRunTold, piece_told_yes};
-ghost use Rattle.stage_commands.specs.Cutting.{IsRightCut, cut_over, ends_over, segment_over};
-ghost use Rattle.guest_run.specs.Run.{End, after};
+ghost use Rattle.stage_commands.specs.CutEnds.{SaysSame, cut_end_from};
+ghost use Rattle.stage_commands.specs.Cutting.{CutStart, IsRightCut, cut_over, ends_over, segment_over};
+ghost use Rattle.stage_commands.specs.Left.{are_left_words};
+ghost use Rattle.stage_commands.specs.LeftMade.{LeftRun, artefact_saved, left_over, output_word};
+ghost use Rattle.stage_commands.specs.Names.{are_stage_words};
+ghost use Rattle.guest_run.specs.Run.{End, after, first_end};
 ghost use Rattle.guest_run.specs.State.{GuestState};
 ghost use Rattle.guest_run.specs.Valid.{IsValid};
+ghost use Rattle.wheeler.specs.Stages.{stage_result};
+ghost use Rattle.wheeler.specs.declared.answer.Finished.{Finished};
 ghost use Rattle.segments.specs.Segments.{ChecksPiece, second_text};
 ghost use Rattle.segments.specs.declared.answers.SegmentFault.{SegmentFault};
 ghost use Rattle.segments.specs.declared.answers.StateFault.{StateFault};
@@ -69,4 +76,27 @@ pub fn cuts()
     ensures { (recipe stage every prefix : List ℕ) (files : NamedFiles)
         → ((name content : List ℕ) → map.get files name ≡ Some content → All (λ byte. byte < 256) content)
         → (cut_over recipe stage every prefix files).status ≡ Yes → IsRightCut recipe stage every prefix files (cut_over recipe stage every prefix files) }
+{}
+
+/// How a cut ends: where the stage is found and starts, the status and the text are told by the first end of its run within 1,000 times EVERY steps
+/// and its limit. 14 comes exactly where so many steps go on, below the limit.
+pub fn cuts_end()
+    ensures told { (recipe stage every prefix : List ℕ) (files : NamedFiles) (start : CutStart recipe stage prefix files) (steps : ℕ) → as_steps every ≡ Some steps
+        → IsTrue (are_stage_words recipe stage prefix)
+        → SaysSame (cut_over recipe stage every prefix files) (outcome (cut_end_from start.named steps start.begun) files) }
+    ensures many { (recipe stage every prefix : List ℕ) (files : NamedFiles) (start : CutStart recipe stage prefix files) (steps : ℕ) → as_steps every ≡ Some steps
+        → IsTrue (are_stage_words recipe stage prefix)
+        → ((cut_over recipe stage every prefix files).status ≡ TooManySegments)
+        ↔ ((first_end start.begun (1_000 * steps) ≡ None) × (1_000 * steps < start.named.steps)) }
+{}
+
+/// What `left` saves of a stage's output is the artefact: where the bench has the stage done, `left RECIPE STAGE FILE OUT`, with the FILE that asks for the
+/// output, comes to 0, saves what the bench made under OUT and changes no other name, and says its size, the exit with 0 and the step of the bench's
+/// record. A `left` with 0 has found the stage so.
+pub fn artefacts_are_left()
+    ensures made { (recipe stage out : List ℕ) (files : NamedFiles) (run : LeftRun recipe stage out files) (f : Finished)
+        → IsTrue (are_left_words recipe stage (output_word run.named.output) out)
+        → stage_result run.ready.recipe run.ready.inputs run.ready.done run.named ≡ Ok f
+        → left_over recipe stage (output_word run.named.output) out files ≡ artefact_saved run.named out f files }
+    ensures found { (recipe stage file out : List ℕ) (files : NamedFiles) → (left_over recipe stage file out files).status ≡ Yes → LeftRun recipe stage out files }
 {}

@@ -1,0 +1,52 @@
+-- What commands on one stage find in the files.
+use Rattle.std.proofs.Common.{◌≡◌, ℕ, suc, ◌+◌, ◌<◌, Bool, Some, Result, Ok, Err, List, [], ◌∷◌, ◌++◌, length, map, take, sym, ap, ◌∙◌, arith}
+use Rattle.std.specs.Prelude.{bytes_eq}
+use Rattle.std.specs.FinMap as finite
+use Rattle.std.specs.List.{position}
+use Rattle.std.proofs.lemmas.List.{length-append, length-take-le}
+use Rattle.std.proofs.lemmas.List.Quantifiers.{position-Some}
+use Rattle.ddc_base.specs.declared.outside.Loaded.TheVariants.{Bytes}
+use Rattle.ddc_base.specs.Outside.{NamedFiles, loaded}
+use Rattle.recipe.specs.Lookups.{stage_at}
+use Rattle.recipe.specs.Reading.{recipe_of}
+use Rattle.recipe.specs.declared.contents.Said.{Said}
+use Rattle.recipe.specs.declared.parts.Stage.{Stage}
+use Rattle.wheeler.specs.Stages.{stage_result}
+use Rattle.wheeler.specs.declared.answer.Fault.{Fault}
+use Rattle.wheeler.specs.declared.answer.Finished.{Finished}
+use Rattle.audit_run.specs.Earlier.{done_in_order, unless_undone}
+use Rattle.recipe_plan.specs.Recipes.{paths}
+use Rattle.stage_commands.specs.Begun.{IsBegun}
+
+stands_within : (test : Stage → Bool) (stages : List Stage) (at : ℕ) → position test stages ≡ Some at → at < length stages
+stands_within test [] at is = absurd cc
+stands_within test (stage ∷ stages) at is = (position-Some test (stage ∷ stages) at stage is).0
+
+-- so many are done
+done_count : (recipe : Said) (inputs : List (List ℕ)) (stages : List Stage) (done out : List Finished) → done_in_order recipe inputs done stages ≡ Ok out
+    → length out ≡ length done + length stages
+done_count recipe inputs [] done out made = let same : done ≡ out = cc in omega (arith, ap length same)
+done_count recipe inputs (stage ∷ stages) done out made =
+    by (λ d. done_count recipe inputs stages d out) (stage_result recipe inputs done stage) made where
+      by : ((d : List Finished) → done_in_order recipe inputs d stages ≡ Ok out → length out ≡ length d + length stages) → (r : Result Finished Fault)
+          → unless_undone (suc (length done)) r (λ f. done_in_order recipe inputs (done ++ f ∷ []) stages) ≡ Ok out → length out ≡ length done + suc (length stages)
+      by later (Err fault) made = absurd cc
+      by later (Ok f) made = let rest = later (done ++ f ∷ []) made in let one = length-append done (f ∷ []) in omega (arith, rest, one)
+
+pub begun_of : (recipe stage : List ℕ) (files : NamedFiles) (text : List ℕ) (said : Said) (count : ℕ) (inputs : List (List ℕ)) (done : List Finished)
+    → loaded files recipe 1_048_576 ≡ Bytes text → recipe_of text ≡ Ok said → stage_at said.stages stage ≡ Some count
+    → map (λ path. finite.get files path) (paths said) ≡ map Some inputs → done_in_order said inputs [] (take count said.stages) ≡ Ok done
+    → IsBegun recipe stage files (record { recipe = said; inputs = inputs; done = done })
+begun_of recipe stage files text said count inputs done held reads place given made =
+    let within : count < length said.stages = stands_within (λ (s : Stage). bytes_eq s.name stage) said.stages count place in
+    let many = done_count said inputs (take count said.stages) [] done made in
+    let front = length-take-le count said.stages (omega (arith, within)) in
+    let same : count ≡ length done = omega (arith, many, front) in
+    record {
+      text = text;
+      held = held;
+      said = reads;
+      inputs = given;
+      place = place ∙ ap Some same;
+      before = ap (λ n. done_in_order said inputs [] (take n said.stages)) (sym same) ∙ made;
+    }
