@@ -1,5 +1,5 @@
 -- An audit's own report is accepted.
-use Rattle.std.proofs.Common.{◌≡◌, ℕ, Bool, true, false, cond, IsTrue, Some, None, Ok, List, refl, sym, ap, ◌∙◌, subst}
+use Rattle.std.proofs.Common.{◌≡◌, ℕ, Bool, true, false, cond, IsTrue, Some, None, Ok, List, [], ◌∷◌, codes, refl, sym, ap, ◌∙◌, subst}
 use Rattle.std.specs.FinMap as finite
 use Rattle.ddc_base.specs.declared.outside.Loaded.TheVariants.{Bytes}
 use Rattle.ddc_base.specs.Outside.{NamedFiles, loaded}
@@ -20,16 +20,18 @@ use Rattle.wheeler.proofs.Rules.{rules}
 use Rattle.verifier.proofs.OneReport.{none-fault}
 use Rattle.command_plan.specs.declared.status.Status.{Status}
 use Rattle.command_plan.specs.declared.status.Status.TheVariants.{ReportRefused}
-use Rattle.command_plan.specs.Plan.{Plan, Outcome, answers, outcome, unless_refused}
+use Rattle.command_plan.specs.Plan.{LoadsBytes, Plan, Outcome, answers, outcome, unless_refused}
 use Rattle.command_plan.specs.Words.{are_two_files, usage}
 use Rattle.recipe_plan.specs.Recipes.{is_input, needs_apart, needs_inputs}
 use Rattle.recipe_plan.specs.Reports.{needs_report}
 use Rattle.command_plan.specs.Texts.{report_line}
 use Rattle.audit_commands.specs.Audit.{audit_files, audited, completed}
 use Rattle.verify_commands.specs.Verify.{judged_report, verified, verify_files}
-use Rattle.ddc_app.specs.Accepting.{HoldBytes, audit, is_compared, verify}
+use Rattle.ddc_app.specs.Accepting.{audit, is_compared, verify}
+use Rattle.ddc_app.specs.Commands.{plan_of}
+use Rattle.ddc_app.proofs.Beginnings.{audit_loaded}
 use Rattle.ddc_app.proofs.Loads.{follows, is_loaded, set_held, two_apart}
-use Rattle.ddc_app.proofs.Openings.{Holds, apart_opens, are_inputs, holds_again, inputs_open, is_recipe, recipe_opens}
+use Rattle.ddc_app.proofs.Openings.{Holds, apart_opens, holds_again, inputs_open, is_recipe, recipe_opens}
 use Rattle.ddc_app.proofs.Walks.{IsRefusal, both_need_apart, both_need_inputs, both_need_recipe, told}
 
 -- ---- an audit that comes to a comparison
@@ -108,8 +110,8 @@ module _ (recipe report : List ℕ) (files : NamedFiles) (r : Replays recipe rep
       ∙ inputs_open recipe r.said r.inputs files r.holds (λ inputs. verified r.said inputs r.made)
       ∙ ap (λ fault. outcome (judged_report r.said r.made.compare fault) files) (none-fault r.said r.inputs r.made r.given.count r.comes)
 
-pub accepts : (recipe report : List ℕ) (files : NamedFiles) → HoldBytes files → IsTrue (is_compared (audit recipe report files).status)
-    → (verify recipe report (audit recipe report files).files).status ≡ (audit recipe report files).status
+pub accepts : (recipe report : List ℕ) (files : NamedFiles) → LoadsBytes (plan_of (codes "audit" ∷ recipe ∷ report ∷ [])) files
+    → IsTrue (is_compared (audit recipe report files).status) → (verify recipe report (audit recipe report files).files).status ≡ (audit recipe report files).status
 unfolding completed
 accepts recipe report files bytes compared =
     let (two, w) = went recipe report files (are_two_files recipe report) compared in
@@ -121,7 +123,7 @@ accepts recipe report files bytes compared =
       inputs = w.inputs;
       holds = holds_again recipe w.said w.inputs files w.holds report text (two_apart recipe report two) w.apart;
       apart = w.apart;
-      given = are_inputs recipe w.said w.inputs files w.holds bytes;
+      given = audit_loaded recipe report w.said w.inputs files two w.holds w.apart bytes;
       made = w.made;
       comes = w.comes;
       report_held = set_held files report text;

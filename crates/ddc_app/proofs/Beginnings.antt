@@ -1,5 +1,5 @@
 -- How a piece of an audit begins beside the undivided audit: both are refused alike, or a recipe and its inputs are found.
-use Rattle.std.proofs.Common.{◌≡◌, ℕ, Bool, true, false, cond, IsTrue, ◌&&◌, ◌⊎◌, inl, inr, Ok, List, decimal, refl, sym, ap, ◌∙◌, subst}
+use Rattle.std.proofs.Common.{◌≡◌, ℕ, Bool, true, false, cond, IsTrue, ◌&&◌, ◌⊎◌, inl, inr, Ok, List, [], ◌∷◌, codes, decimal, refl, sym, ap, ◌∙◌, subst}
 use Rattle.std.proofs.lemmas.Bool.{and_parts}
 use Rattle.ddc_base.specs.declared.outside.Loaded.TheVariants.{Bytes}
 use Rattle.ddc_base.specs.Outside.{NamedFiles, loaded}
@@ -9,18 +9,20 @@ use Rattle.recipe.specs.Reading.{recipe_of}
 use Rattle.recipe.specs.declared.contents.Said.{Said}
 use Rattle.wheeler.specs.Bench.{bench}
 use Rattle.wheeler.specs.Positions.{position}
+use Rattle.wheeler.specs.Valid.{IsInputs}
 use Rattle.command_plan.specs.declared.status.Status.{Status}
-use Rattle.command_plan.specs.Plan.{Plan, Outcome, outcome}
+use Rattle.command_plan.specs.Plan.{LoadsBytes, Plan, Outcome, outcome}
 use Rattle.command_plan.specs.Words.{are_three_files, are_two_files, as_steps, is_one_file, or_usage, usage}
 use Rattle.recipe_plan.specs.Recipes.{is_input, needs_apart, needs_inputs}
 use Rattle.audit_commands.specs.Audit.{audit_files, audited}
 use Rattle.audit_commands.specs.Delta.{are_four_files}
 use Rattle.audit_commands.specs.Pause.{came_to, part_files, whole_save}
 use Rattle.ddc_app.specs.Accepting.{audit}
+use Rattle.ddc_app.specs.Commands.{plan_of}
 use Rattle.ddc_app.specs.Pausing.{AreWords, IsStepCount, part}
 use Rattle.ddc_app.proofs.CountWords.{count-again}
 use Rattle.ddc_app.proofs.Loads.{two_apart}
-use Rattle.ddc_app.proofs.Openings.{Holds, apart_opens}
+use Rattle.ddc_app.proofs.Openings.{Holds, apart_loads, apart_opens, are_loaded, recipe_loads}
 use Rattle.ddc_app.proofs.Walks.{IsRefusal, both_need_apart, both_need_inputs, both_need_recipe, told}
 
 -- ---- the words
@@ -78,6 +80,19 @@ pub with_words : (good : Bool) (steps : ℕ) (next : ℕ → Plan) (files : Name
 with_words good steps next files is count =
     ap (λ n. outcome (or_usage n (λ count. cond good (next count) usage)) files) (count-again steps count)
     ∙ ap (λ g. outcome (cond g (next steps) usage) files) is
+
+-- ---- what is loaded
+
+-- the inputs are bytes where the loads of `audit` find bytes
+pub audit_loaded : (recipe report : List ℕ) (said : Said) (inputs : List (List ℕ)) (files : NamedFiles) → are_two_files recipe report ≡ true → Holds recipe said inputs files
+    → is_input said report ≡ false → LoadsBytes (plan_of (codes "audit" ∷ recipe ∷ report ∷ [])) files → IsInputs said inputs
+unfolding audit_files
+audit_loaded recipe report said inputs files two h apart bytes =
+    let last : List (List ℕ) → Plan = λ contents. audited said report (bench said contents) in
+    are_loaded recipe said inputs files h last
+    (apart_loads said report (λ _. needs_inputs said last) files apart
+    (recipe_loads recipe said inputs files h (λ s. needs_apart s report (λ _. needs_inputs s (λ contents. audited s report (bench s contents))))
+    (subst (λ good. LoadsBytes (cond good (audit_files recipe report) usage) files) two bytes)))
 
 -- ---- the first piece
 
@@ -141,3 +156,19 @@ module _ (recipe save report : List ℕ) (steps : ℕ) (files : NamedFiles) wher
       ap (λ two. outcome (cond two (audit_files recipe report) usage) files) (three_apart recipe save report words.three).two in
       subst (λ (p : Outcome). Begins p (audit recipe report files)) (sym (with_words (are_three_files recipe save report) steps (part_files recipe save report) files words.three count))
       (subst (λ (w : Outcome). Begins (outcome (part_files recipe save report steps) files) w) (sym two) (begins_files words))
+
+-- the inputs are bytes where its loads find bytes
+pub part_loaded : (recipe save report : List ℕ) (steps : ℕ) (files : NamedFiles) (piece whole : Outcome) → IsStepCount steps → (b : Begun recipe save report files steps piece whole)
+    → LoadsBytes (plan_of (codes "part" ∷ recipe ∷ save ∷ report ∷ decimal steps ∷ [])) files → IsInputs b.c.said b.c.inputs
+unfolding part_files
+part_loaded recipe save report steps files piece whole counted b bytes =
+    let three : IsTrue (are_three_files recipe save report) = b.c.words.three in
+    let said : Said = b.c.said in
+    let last : List (List ℕ) → Plan = λ inputs. came_to said (whole_save said inputs) save report (position said inputs steps) in
+    are_loaded recipe said b.c.inputs files b.holds last
+    (apart_loads said save (λ _. needs_inputs said last) files b.c.no_save
+    (apart_loads said report (λ _. needs_apart said save (λ _. needs_inputs said last)) files b.c.no_report
+    (recipe_loads recipe said b.c.inputs files b.holds (λ s. needs_apart s report (λ _. needs_apart s save (λ _. needs_inputs s (λ inputs.
+    came_to s (whole_save s inputs) save report (position s inputs steps)))))
+    (subst (λ good. LoadsBytes (cond good (part_files recipe save report steps) usage) files) three
+    (subst (λ n. LoadsBytes (or_usage n (λ count. cond (are_three_files recipe save report) (part_files recipe save report count) usage)) files) (count-again steps counted) bytes)))))

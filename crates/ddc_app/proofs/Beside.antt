@@ -1,5 +1,5 @@
 -- From a whole save, and from a delta against it, an audit goes on as it would have without a pause.
-use Rattle.std.proofs.Common.{◌≡◌, ◌≢◌, ℕ, ◌+◌, Bool, true, false, cond, IsTrue, inl, inr, Some, Result, Ok, Err, List, refl, sym, ap, ◌∙◌, subst}
+use Rattle.std.proofs.Common.{◌≡◌, ◌≢◌, ℕ, ◌+◌, Bool, true, false, cond, IsTrue, inl, inr, Some, Result, Ok, Err, List, [], ◌∷◌, codes, refl, sym, ap, ◌∙◌, subst}
 use Rattle.std.specs.FinMap as finite
 use Rattle.ddc_base.specs.Outside.{NamedFiles}
 use Rattle.recipe.specs.Kept.{IsRecipe}
@@ -19,20 +19,21 @@ use Rattle.wheeler.specs.Bench.{bench}
 use Rattle.wheeler.specs.Positions.{Position, On, forward, position}
 use Rattle.wheeler.specs.Valid.{IsInputs, IsPosition}
 use Rattle.command_plan.specs.declared.status.Status.TheVariants.{SaveRefused}
-use Rattle.command_plan.specs.Plan.{Plan, Outcome, answers, needs, outcome, unless_refused}
+use Rattle.command_plan.specs.Plan.{LoadsBytes, Plan, Outcome, answers, needs, outcome, unless_refused}
 use Rattle.command_plan.specs.Words.{usage}
 use Rattle.recipe_plan.specs.Recipes.{is_input, needs_apart, needs_inputs}
 use Rattle.audit_commands.specs.Audit.{audited}
 use Rattle.audit_commands.specs.Delta.{are_four_files, delta_resume_files, delta_start_files, needs_position_beside, read_beside, resumes_beside, starts_beside}
 use Rattle.audit_commands.specs.Pause.{came_to, needs_position, read_as}
 use Rattle.audit_commands.specs.PauseTexts.{delta_refused_line, save_refused_line}
-use Rattle.ddc_app.specs.Accepting.{HoldBytes, audit}
+use Rattle.ddc_app.specs.Accepting.{audit}
+use Rattle.ddc_app.specs.Commands.{plan_of}
 use Rattle.ddc_app.specs.Differences.{AreDeltaWords, DeltaPieces, IsSavedBeside, delta_resume, delta_start}
 use Rattle.ddc_app.specs.Pausing.{AreSame, IsStepCount, IsSavedAt}
-use Rattle.ddc_app.proofs.Beginnings.{Case, four_apart, four_of, three_apart, with_words}
+use Rattle.ddc_app.proofs.Beginnings.{Case, audit_loaded, four_apart, four_of, three_apart, with_words}
 use Rattle.ddc_app.proofs.Leaving.{delta_resume_stays, delta_start_stays}
 use Rattle.ddc_app.proofs.Loads.{follows, is_loaded, not_equal, two_apart}
-use Rattle.ddc_app.proofs.Openings.{Holds, apart_opens, are_inputs, inputs_open, is_recipe, recipe_opens}
+use Rattle.ddc_app.proofs.Openings.{Holds, apart_opens, inputs_open, is_recipe, recipe_opens}
 use Rattle.ddc_app.proofs.Pieces.{Pauses, Settles, alike, settles}
 use Rattle.ddc_app.proofs.Resuming.{audit_opens, goes_on, is_place, reads_again}
 
@@ -208,8 +209,8 @@ module _ (recipe base patch report : List ℕ) (b : Behind recipe base patch rep
 
 -- ---- each piece
 
-module _ (recipe base patch report : List ℕ) (first : ℕ) (files : NamedFiles) (words : AreDeltaWords recipe base patch report files) (bytes : HoldBytes files)
-    (at : IsSavedAt recipe base files first) where
+module _ (recipe base patch report : List ℕ) (first : ℕ) (files : NamedFiles) (words : AreDeltaWords recipe base patch report files)
+    (bytes : LoadsBytes (plan_of (codes "audit" ∷ recipe ∷ report ∷ [])) files) (at : IsSavedAt recipe base files first) where
   abbrev holds : Holds recipe at.said at.inputs files
   holds = record { bytes = at.bytes; recipe_held = at.recipe_held; reads = at.recipe_reads; inputs_held = at.inputs_held }
 
@@ -225,7 +226,7 @@ module _ (recipe base patch report : List ℕ) (first : ℕ) (files : NamedFiles
       no_save = words.with_patch.apart at.bytes at.said at.recipe_held at.recipe_reads;
     };
     no_base = words.with_base.apart at.bytes at.said at.recipe_held at.recipe_reads;
-    given = are_inputs recipe at.said at.inputs files holds bytes;
+    given = audit_loaded recipe report at.said at.inputs files (three_apart recipe patch report words.with_patch.three).two holds no_report bytes;
     first = first;
     place = at.position;
     stands = at.stands;
@@ -247,7 +248,8 @@ module _ (recipe base patch report : List ℕ) (first : ℕ) (files : NamedFiles
         (subst (Settles recipe patch report b.c (kept_beside recipe base patch report b) files total) (sym (comes clash))
         (settles recipe patch report b.c files files holds refl (kept_beside recipe base patch report b) total (position at.said at.inputs total) refl))
 
-pub delta_starts : (recipe base patch report : List ℕ) (first steps : ℕ) (files : NamedFiles) → AreDeltaWords recipe base patch report files → IsStepCount steps → HoldBytes files
+pub delta_starts : (recipe base patch report : List ℕ) (first steps : ℕ) (files : NamedFiles) → AreDeltaWords recipe base patch report files → IsStepCount steps
+    → LoadsBytes (plan_of (codes "audit" ∷ recipe ∷ report ∷ [])) files
     → IsSavedAt recipe base files first → DeltaPieces recipe base patch report files first (first + steps) (delta_start recipe base patch report steps files)
 delta_starts recipe base patch report first steps files words counted bytes at =
     let four = four_of recipe base patch report words.with_base.three words.with_patch.three words.apart in
@@ -257,7 +259,8 @@ delta_starts recipe base patch report first steps files words counted bytes at =
     (λ no_report. starts_at recipe base patch report (behind recipe base patch report first files words bytes at no_report) files h at.save_held steps counted)
     (delta_start_stays recipe base patch report steps files base (apart_of recipe base patch report four).0 (apart_of recipe base patch report four).1)
 
-pub delta_resumes : (recipe base patch report : List ℕ) (first count steps : ℕ) (files : NamedFiles) → AreDeltaWords recipe base patch report files → IsStepCount steps → HoldBytes files
+pub delta_resumes : (recipe base patch report : List ℕ) (first count steps : ℕ) (files : NamedFiles) → AreDeltaWords recipe base patch report files → IsStepCount steps
+    → LoadsBytes (plan_of (codes "audit" ∷ recipe ∷ report ∷ [])) files
     → IsSavedBeside recipe base patch files first count → DeltaPieces recipe base patch report files first (count + steps) (delta_resume recipe base patch report steps files)
 delta_resumes recipe base patch report first count steps files words counted bytes at =
     let four = four_of recipe base patch report words.with_base.three words.with_patch.three words.apart in

@@ -1,5 +1,5 @@
 -- An audit by differences comes to the same as the undivided audit, and its report is accepted.
-use Rattle.std.proofs.Common.{◌≡◌, ℕ, ◌+◌, false, cond, IsTrue, ◌⊎◌, inl, inr, List, [], ◌∷◌, refl, sym, ap, ◌∙◌, subst, arith, All}
+use Rattle.std.proofs.Common.{◌≡◌, ℕ, ◌+◌, false, cond, IsTrue, ◌⊎◌, inl, inr, List, [], ◌∷◌, codes, decimal, refl, sym, ap, ◌∙◌, subst, arith, All}
 use Rattle.std.specs.List.{fold}
 use Rattle.std.proofs.lemmas.List.Elements.{All-head, All-tail}
 use Rattle.ddc_base.specs.Outside.{NamedFiles}
@@ -8,16 +8,15 @@ use Rattle.wheeler.specs.Positions.{Position, On, position}
 use Rattle.wheeler.specs.Valid.{IsInputs}
 use Rattle.command_plan.specs.declared.status.Status.{Status}
 use Rattle.command_plan.specs.declared.status.Status.TheVariants.{Paused}
-use Rattle.command_plan.specs.Plan.{Outcome, outcome}
+use Rattle.command_plan.specs.Plan.{LoadsBytes, Outcome, outcome}
 use Rattle.audit_commands.specs.Audit.{audited}
 use Rattle.audit_commands.specs.Pause.{whole_save}
-use Rattle.ddc_app.specs.Accepting.{HoldBytes, audit, is_compared, verify}
+use Rattle.ddc_app.specs.Accepting.{audit, is_compared, verify}
+use Rattle.ddc_app.specs.Commands.{plan_of}
 use Rattle.ddc_app.specs.Differences.{AreDeltaWords, AreKept, Differences, IsSavedBeside, behind_save, delta_resume, delta_start, differing_in_turn, in_differences}
 use Rattle.ddc_app.specs.Pausing.{AreSame, IsStepCount, is_paused, part}
-use Rattle.ddc_app.proofs.Accepting.{accepts}
-use Rattle.ddc_app.proofs.Beginnings.{Begun, Case, Refused, begins, four_of, three_apart}
+use Rattle.ddc_app.proofs.Beginnings.{Begun, Case, Refused, begins, four_of, part_loaded, three_apart}
 use Rattle.ddc_app.proofs.Beside.{Behind, IsBaseHeld, kept_beside, kept_of, resume_leaves_base, resumes_at, start_leaves_base, starts_at}
-use Rattle.ddc_app.proofs.Openings.{are_inputs}
 use Rattle.ddc_app.proofs.Pausing.{compared, first_settles}
 use Rattle.ddc_app.proofs.Pieces.{Ends, Settles, alike, saved_of, settles}
 
@@ -53,7 +52,8 @@ module _ (recipe base patch report : List ℕ) (b : Behind recipe base patch rep
 
 -- ---- all of them
 
-module _ (recipe base patch report : List ℕ) (steps : ℕ) (files : NamedFiles) (words : AreDeltaWords recipe base patch report files) (bytes : HoldBytes files) where
+module _ (recipe base patch report : List ℕ) (steps : ℕ) (files : NamedFiles) (words : AreDeltaWords recipe base patch report files)
+    (counted : IsStepCount steps) (bytes : LoadsBytes (plan_of (codes "part" ∷ recipe ∷ base ∷ report ∷ decimal steps ∷ [])) files) where
   abbrev piece : Outcome
   piece = part recipe base report steps files
 
@@ -74,8 +74,11 @@ module _ (recipe base patch report : List ℕ) (steps : ℕ) (files : NamedFiles
   abbrev Begins : Type 0
   Begins = Begun recipe base report files steps piece whole
 
+  abbrev given : (b : Begins) → IsInputs b.c.said b.c.inputs
+  given b = part_loaded recipe base report steps files piece whole counted b bytes
+
   finished : (b : Begins) (last : Outcome) → Ends recipe base report b.c files (bench b.c.said b.c.inputs) last → Finished last
-  finished b last e = record { name = base; c = b.c; given = are_inputs recipe b.c.said b.c.inputs files b.holds bytes; answers = b.answers; ends = e }
+  finished b last e = record { name = base; c = b.c; given = given b; answers = b.answers; ends = e }
 
   abbrev behind : (b : Begins) (place : Position) → position b.c.said b.c.inputs steps ≡ On place → Behind recipe base patch report
   behind b place stands = record {
@@ -89,7 +92,7 @@ module _ (recipe base patch report : List ℕ) (steps : ℕ) (files : NamedFiles
       no_save = words.with_patch.apart b.holds.bytes b.c.said b.holds.recipe_held b.holds.reads;
     };
     no_base = b.c.no_save;
-    given = are_inputs recipe b.c.said b.c.inputs files b.holds bytes;
+    given = given b;
     first = steps;
     place = place;
     stands = stands;
@@ -132,14 +135,18 @@ module _ (recipe base patch report : List ℕ) (steps : ℕ) (files : NamedFiles
   refused_stays (second ∷ counts) over =
       ap (λ b. cond b (differing_in_turn recipe base patch report (delta_start recipe base patch report second piece.files) counts) piece) over
 
+  -- both are refused alike
+  abbrev Refuses : Outcome → Type 0
+  Refuses last = (last ≡ whole) × (is_compared whole.status ≡ false)
+
   stands : (counts : List ℕ) → All IsStepCount (steps ∷ counts) → Refused piece whole ⊎ Begins
-      → (behind_save recipe base patch report piece counts ≡ whole) ⊎ Stands counts (behind_save recipe base patch report piece counts)
-  stands counts are (inl r) = inl (refused_stays counts r.refusal.0 ∙ r.same)
+      → Refuses (behind_save recipe base patch report piece counts) ⊎ Stands counts (behind_save recipe base patch report piece counts)
+  stands counts are (inl r) = inl (refused_stays counts r.refusal.0 ∙ r.same, ap (λ (o : Outcome). is_compared o.status) (sym r.same) ∙ r.refusal.1)
   stands counts are (inr b) = inr (by_pieces b counts (All-tail IsStepCount steps counts are) (first_settles recipe base report steps files piece whole b))
 
   came : (counts : List ℕ) → All IsStepCount (steps ∷ counts)
-      → (behind_save recipe base patch report piece counts ≡ whole) ⊎ Stands counts (behind_save recipe base patch report piece counts)
-  came counts are = stands counts are (begins recipe base report steps files words.with_base (All-head IsStepCount steps counts are))
+      → Refuses (behind_save recipe base patch report piece counts) ⊎ Stands counts (behind_save recipe base patch report piece counts)
+  came counts are = stands counts are (begins recipe base report steps files words.with_base counted)
 
   pub same : (counts : List ℕ) → All IsStepCount (steps ∷ counts)
       → Differences recipe base patch report files steps counts (in_differences recipe base patch report steps counts files)
@@ -147,8 +154,8 @@ module _ (recipe base patch report : List ℕ) (steps : ℕ) (files : NamedFiles
     last : Outcome
     last = behind_save recipe base patch report piece counts
 
-    by : (last ≡ whole) ⊎ Stands counts last → Differences recipe base patch report files steps counts last
-    by (inl is) = inr (alike report last whole is)
+    by : Refuses last ⊎ Stands counts last → Differences recipe base patch report files steps counts last
+    by (inl is) = inr (alike report last whole is.0)
     by (inr (inl kept)) = inl kept
     by (inr (inr f)) = inr (subst (AreSame report last) (sym f.answers) f.ends.same)
 
@@ -159,9 +166,7 @@ module _ (recipe base patch report : List ℕ) (steps : ℕ) (files : NamedFiles
     last : Outcome
     last = behind_save recipe base patch report piece counts
 
-    by : (last ≡ whole) ⊎ Stands counts last → (verify recipe report last.files).status ≡ last.status
-    by (inl is) =
-        subst (λ (o : Outcome). (verify recipe report o.files).status ≡ o.status) (sym is)
-        (accepts recipe report files bytes (subst (λ (o : Outcome). IsTrue (is_compared o.status)) is over))
+    by : Refuses last ⊎ Stands counts last → (verify recipe report last.files).status ≡ last.status
+    by (inl is) = let never = sym is.1 ∙ ap (λ (o : Outcome). is_compared o.status) (sym is.0) ∙ over in absurd cc
     by (inr (inl kept)) = let never = sym (ap is_compared kept.0) ∙ over in absurd cc
     by (inr (inr f)) = compared recipe f.name report f.c files last f.given f.ends over

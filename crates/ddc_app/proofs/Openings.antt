@@ -1,5 +1,5 @@
 -- A recipe and its inputs in files, and what a plan that needs them goes on to.
-use Rattle.std.proofs.Common.{◌≡◌, ℕ, Bool, false, cond, Ok, List, length, ap, ◌∙◌}
+use Rattle.std.proofs.Common.{◌≡◌, ℕ, Bool, false, cond, Ok, List, length, ap, ◌∙◌, subst}
 use Rattle.std.specs.FinMap as finite
 use Rattle.std.proofs.lemmas.List.{length-map}
 use Rattle.ddc_base.specs.declared.outside.Loaded.TheVariants.{Bytes}
@@ -18,13 +18,18 @@ use Rattle.recipe_plan.specs.Recipes.{is_input, needs_apart, needs_inputs, needs
 use Rattle.recipe_plan.specs.Texts.{recipe_line}
 use Rattle.ddc_app.specs.Accepting.{HoldBytes}
 use Rattle.ddc_app.specs.Holding.{AreHeld}
-use Rattle.ddc_app.proofs.Loads.{are_contents, as_many, follow_all, follows, found_again, loaded_contents, other_held}
+use Rattle.ddc_app.proofs.Loads.{are_contents, as_many, follow_all, follows, found_again, loaded_contents, loads_bytes, other_held}
 
 -- a file that is none of the inputs, and one that is
 pub apart_opens : (said : Said) (file : List ℕ) (next : Unit {0} → Plan) (files : NamedFiles) (clash : Bool) → is_input said file ≡ clash
     → outcome (needs_apart said file next) files ≡ outcome (cond clash usage (next tt)) files
 unfolding needs_apart
 apart_opens said file next files clash is = ap (λ c. outcome (cond c usage (next tt)) files) is
+
+pub apart_loads : (said : Said) (file : List ℕ) (next : Unit {0} → Plan) (files : NamedFiles) → is_input said file ≡ false → LoadsBytes (needs_apart said file next) files
+    → LoadsBytes (next tt) files
+unfolding needs_apart
+apart_loads said file next files apart bytes = subst (λ clash. LoadsBytes (cond clash usage (next tt)) files) apart bytes
 
 -- the files hold a recipe that reads and its inputs
 pub record Holds (recipe : List ℕ) (said : Said) (inputs : List (List ℕ)) (files : NamedFiles) : Type 0 where
@@ -39,6 +44,13 @@ module _ (recipe : List ℕ) (said : Said) (inputs : List (List ℕ)) (files : N
       let refuse : Refusal → Plan = λ refusal. answers RecipeRefused (recipe_line refusal) in
       follows recipe 1_048_576 (λ bytes. unless_refused (recipe_of bytes) refuse next) files h.bytes h.recipe_held
       ∙ ap (λ reading. outcome (unless_refused reading refuse next) files) h.reads
+
+  -- where a plan's loads find bytes, so do those behind its recipe
+  pub recipe_loads : (next : Said → Plan) → LoadsBytes (needs_recipe recipe next) files → LoadsBytes (next said) files
+  recipe_loads next bytes =
+      let refuse : Refusal → Plan = λ refusal. answers RecipeRefused (recipe_line refusal) in
+      subst (λ reading. LoadsBytes (unless_refused reading refuse next) files) h.reads
+      (loads_bytes recipe 1_048_576 (λ b. unless_refused (recipe_of b) refuse next) files h.bytes h.recipe_held bytes).1
 
   pub inputs_open : (next : List (List ℕ) → Plan) → outcome (needs_inputs said next) files ≡ outcome (next inputs) files
   inputs_open next = follow_all 268_435_456 1_073_741_824 files (paths said) inputs next h.inputs_held

@@ -1,5 +1,5 @@
 -- An audit in any pieces comes to the same as the undivided audit, and its report is accepted.
-use Rattle.std.proofs.Common.{◌≡◌, ℕ, ◌+◌, false, cond, IsTrue, ◌⊎◌, inl, inr, List, [], ◌∷◌, refl, sym, ap, ◌∙◌, subst, arith, All}
+use Rattle.std.proofs.Common.{◌≡◌, ℕ, ◌+◌, false, cond, IsTrue, ◌⊎◌, inl, inr, List, [], ◌∷◌, codes, decimal, refl, sym, ap, ◌∙◌, subst, arith, All}
 use Rattle.std.specs.List.{fold, sum}
 use Rattle.std.proofs.lemmas.List.Elements.{All-head, All-tail}
 use Rattle.ddc_base.specs.Outside.{NamedFiles}
@@ -11,15 +11,15 @@ use Rattle.wheeler.specs.declared.answer.Answer.{Answer}
 use Rattle.wheeler.specs.declared.answer.Answer.TheVariants.{Completes, Fails}
 use Rattle.wheeler.specs.declared.answer.Fault.TheVariants.{Runs, Checks}
 use Rattle.command_plan.specs.declared.status.Status.{Status}
-use Rattle.command_plan.specs.Plan.{Outcome, outcome}
+use Rattle.command_plan.specs.Plan.{LoadsBytes, Outcome, outcome}
 use Rattle.audit_commands.specs.Audit.{audited, completed}
 use Rattle.audit_commands.specs.Pause.{whole_save}
-use Rattle.ddc_app.specs.Accepting.{HoldBytes, audit, is_compared, verify}
+use Rattle.ddc_app.specs.Accepting.{audit, is_compared, verify}
+use Rattle.ddc_app.specs.Commands.{plan_of}
 use Rattle.ddc_app.specs.Pausing.{AreSame, AreWords, IsStepCount, Pieces, in_pieces, is_paused, part, resume, resumed_in_turn}
 use Rattle.ddc_app.proofs.Accepting.{judges}
-use Rattle.ddc_app.proofs.Beginnings.{Begun, Case, Refused, begins}
+use Rattle.ddc_app.proofs.Beginnings.{Begun, Case, Refused, begins, part_loaded}
 use Rattle.ddc_app.proofs.Loads.{set_held}
-use Rattle.ddc_app.proofs.Openings.{are_inputs}
 use Rattle.ddc_app.proofs.Pieces.{Ends, Settles, alike, piece_of, settles}
 use Rattle.ddc_app.proofs.Resuming.{resumes_at}
 
@@ -69,14 +69,15 @@ module _ (recipe save report : List ℕ) (c : Case recipe save report) (first : 
       (settles recipe save report c first piece.files p.holds p.same_report kept (total + steps) (position c.said c.inputs (total + steps)) refl)))
 
 all_settle : (recipe save report : List ℕ) (steps : ℕ) (counts : List ℕ) (files : NamedFiles) (piece whole : Outcome) → All IsStepCount (steps ∷ counts)
-    → HoldBytes files → (b : Begun recipe save report files steps piece whole)
+    → (b : Begun recipe save report files steps piece whole) → IsInputs b.c.said b.c.inputs
     → Settles recipe save report b.c (whole_save b.c.said b.c.inputs) files (sum (steps ∷ counts)) (resumed_in_turn recipe save report piece counts)
-all_settle recipe save report steps counts files piece whole are bytes b =
+all_settle recipe save report steps counts files piece whole are b given =
     let none : steps ≡ 0 + steps = omega arith in
-    further recipe save report b.c files (are_inputs recipe b.c.said b.c.inputs files b.holds bytes) counts (All-tail IsStepCount steps counts are) (0 + steps) piece
+    further recipe save report b.c files given counts (All-tail IsStepCount steps counts are) (0 + steps) piece
     (subst (λ n. Settles recipe save report b.c (whole_save b.c.said b.c.inputs) files n piece) none (first_settles recipe save report steps files piece whole b))
 
-pub same : (recipe save report : List ℕ) (steps : ℕ) (counts : List ℕ) (files : NamedFiles) → AreWords recipe save report files → All IsStepCount (steps ∷ counts) → HoldBytes files
+pub same : (recipe save report : List ℕ) (steps : ℕ) (counts : List ℕ) (files : NamedFiles) → AreWords recipe save report files → All IsStepCount (steps ∷ counts)
+    → LoadsBytes (plan_of (codes "part" ∷ recipe ∷ save ∷ report ∷ decimal steps ∷ [])) files
     → Pieces recipe save report files (sum (steps ∷ counts)) (in_pieces recipe save report steps counts files)
 same recipe save report steps counts files words are bytes = by (begins recipe save report steps files words (All-head IsStepCount steps counts are)) where
   piece : Outcome
@@ -89,7 +90,7 @@ same recipe save report steps counts files words are bytes = by (begins recipe s
   by (inl r) = inr (alike report (resumed_in_turn recipe save report piece counts) whole (stays_over recipe save report piece counts r.refusal.0 ∙ r.same))
   by (inr b) =
       piece_of recipe save report b.c files (sum (steps ∷ counts)) (resumed_in_turn recipe save report piece counts) b.answers
-      (all_settle recipe save report steps counts files piece whole are bytes b)
+      (all_settle recipe save report steps counts files piece whole are b (part_loaded recipe save report steps files piece whole (All-head IsStepCount steps counts are) b bytes))
 
 -- ---- its report
 
@@ -116,7 +117,8 @@ compared recipe save report c first piece given e over = by (bench c.said c.inpu
   by (Fails number (Runs cause step)) comes same = let never = sym (ap is_compared same.status) ∙ over in absurd cc
   by (Fails number (Checks cause)) comes same = let never = sym (ap is_compared same.status) ∙ over in absurd cc
 
-pub accepted : (recipe save report : List ℕ) (steps : ℕ) (counts : List ℕ) (files : NamedFiles) → AreWords recipe save report files → All IsStepCount (steps ∷ counts) → HoldBytes files
+pub accepted : (recipe save report : List ℕ) (steps : ℕ) (counts : List ℕ) (files : NamedFiles) → AreWords recipe save report files → All IsStepCount (steps ∷ counts)
+    → LoadsBytes (plan_of (codes "part" ∷ recipe ∷ save ∷ report ∷ decimal steps ∷ [])) files
     → IsTrue (is_compared (in_pieces recipe save report steps counts files).status)
     → (verify recipe report (in_pieces recipe save report steps counts files).files).status ≡ (in_pieces recipe save report steps counts files).status
 accepted recipe save report steps counts files words are bytes over = by (begins recipe save report steps files words (All-head IsStepCount steps counts are)) where
@@ -129,14 +131,17 @@ accepted recipe save report steps counts files words are bytes over = by (begins
   last : Outcome
   last = resumed_in_turn recipe save report piece counts
 
+  given : (b : Begun recipe save report files steps piece whole) → IsInputs b.c.said b.c.inputs
+  given b = part_loaded recipe save report steps files piece whole (All-head IsStepCount steps counts are) b bytes
+
   settled : (b : Begun recipe save report files steps piece whole)
       → Settles recipe save report b.c (whole_save b.c.said b.c.inputs) files (sum (steps ∷ counts)) last → (verify recipe report last.files).status ≡ last.status
   settled b (inl p) = let never = sym (ap is_compared p.status) ∙ over in absurd cc
   settled b (inr e) =
-      compared recipe save report b.c files last (are_inputs recipe b.c.said b.c.inputs files b.holds bytes) e over
+      compared recipe save report b.c files last (given b) e over
 
   by : Refused piece whole ⊎ Begun recipe save report files steps piece whole → (verify recipe report last.files).status ≡ last.status
   by (inl r) =
       let never = sym r.refusal.1 ∙ ap (λ (o : Outcome). is_compared o.status) (sym (stays_over recipe save report piece counts r.refusal.0)) ∙ over in
       absurd cc
-  by (inr b) = settled b (all_settle recipe save report steps counts files piece whole are bytes b)
+  by (inr b) = settled b (all_settle recipe save report steps counts files piece whole are b (given b))

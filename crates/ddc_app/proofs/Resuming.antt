@@ -1,5 +1,5 @@
 -- From the save of a position an audit goes on as it would have without a pause.
-use Rattle.std.proofs.Common.{◌≡◌, ◌≢◌, ℕ, ◌+◌, Bool, true, false, cond, IsTrue, inl, inr, Some, Result, Ok, Err, List, refl, sym, ap, ◌∙◌, subst}
+use Rattle.std.proofs.Common.{◌≡◌, ◌≢◌, ℕ, ◌+◌, Bool, true, false, cond, IsTrue, inl, inr, Some, Result, Ok, Err, List, [], ◌∷◌, codes, refl, sym, ap, ◌∙◌, subst}
 use Rattle.std.specs.FinMap as finite
 use Rattle.ddc_base.specs.Outside.{NamedFiles}
 use Rattle.recipe.specs.Kept.{IsRecipe}
@@ -18,17 +18,18 @@ use Rattle.wheeler.proofs.Forwards.{forward_from-sum}
 use Rattle.wheeler.proofs.Places.{beginning-standing, from-standing}
 use Rattle.wheeler.proofs.Rules.{rules}
 use Rattle.command_plan.specs.declared.status.Status.TheVariants.{SaveRefused}
-use Rattle.command_plan.specs.Plan.{Plan, answers, needs, outcome, unless_refused}
+use Rattle.command_plan.specs.Plan.{LoadsBytes, Plan, answers, needs, outcome, unless_refused}
 use Rattle.command_plan.specs.Words.{are_three_files, usage}
 use Rattle.recipe_plan.specs.Recipes.{is_input, needs_apart, needs_inputs}
 use Rattle.audit_commands.specs.Audit.{audit_files, audited}
 use Rattle.audit_commands.specs.Pause.{came_to, needs_position, read_as, resume_files, whole_save}
 use Rattle.audit_commands.specs.PauseTexts.{save_refused_line}
-use Rattle.ddc_app.specs.Accepting.{HoldBytes, audit}
+use Rattle.ddc_app.specs.Accepting.{audit}
+use Rattle.ddc_app.specs.Commands.{plan_of}
 use Rattle.ddc_app.specs.Pausing.{AreWords, IsStepCount, Pieces, IsSavedAt, resume}
-use Rattle.ddc_app.proofs.Beginnings.{Case, three_apart, with_words}
+use Rattle.ddc_app.proofs.Beginnings.{Case, audit_loaded, three_apart, with_words}
 use Rattle.ddc_app.proofs.Loads.{follows, is_loaded}
-use Rattle.ddc_app.proofs.Openings.{Holds, apart_opens, are_inputs, inputs_open, is_recipe, recipe_opens}
+use Rattle.ddc_app.proofs.Openings.{Holds, apart_opens, inputs_open, is_recipe, recipe_opens}
 use Rattle.ddc_app.proofs.Pieces.{Settles, alike, piece_of, settles}
 
 -- ---- the save
@@ -100,8 +101,8 @@ resumes_at recipe save report c files given h count p stands held steps counted 
     ∙ ap (λ reading. outcome (unless_refused reading refuse (last c.inputs)) files) (reads_again c.said c.inputs p c.is given place)
     ∙ ap (λ o. outcome (came_to c.said (whole_save c.said c.inputs) save report o) files) (goes_on c.said c.inputs count steps p stands)
 
-pub resumes : (recipe save report : List ℕ) (count steps : ℕ) (files : NamedFiles) → AreWords recipe save report files → IsStepCount steps → HoldBytes files
-    → IsSavedAt recipe save files count → Pieces recipe save report files (count + steps) (resume recipe save report steps files)
+pub resumes : (recipe save report : List ℕ) (count steps : ℕ) (files : NamedFiles) → AreWords recipe save report files → IsStepCount steps
+    → LoadsBytes (plan_of (codes "audit" ∷ recipe ∷ report ∷ [])) files → IsSavedAt recipe save files count → Pieces recipe save report files (count + steps) (resume recipe save report steps files)
 resumes recipe save report count steps files words counted bytes at = by (is_input at.said report) refl where
   h : Holds recipe at.said at.inputs files
   h = record { bytes = at.bytes; recipe_held = at.recipe_held; reads = at.recipe_reads; inputs_held = at.inputs_held }
@@ -120,7 +121,7 @@ resumes recipe save report count steps files words counted bytes at = by (is_inp
         no_report = clash;
         no_save = words.apart at.bytes at.said at.recipe_held at.recipe_reads;
       } in
-      let comes = resumes_at recipe save report c files (are_inputs recipe at.said at.inputs files h bytes) h count at.position at.stands at.save_held steps counted in
+      let comes = resumes_at recipe save report c files (audit_loaded recipe report at.said at.inputs files c.words.two h clash bytes) h count at.position at.stands at.save_held steps counted in
       piece_of recipe save report c files (count + steps) (resume recipe save report steps files)
       (audit_opens recipe save report files words.three at.said at.inputs h false clash
       ∙ inputs_open recipe at.said at.inputs files h (λ inputs. audited at.said report (bench at.said inputs)))

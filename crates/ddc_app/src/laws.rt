@@ -34,10 +34,11 @@ use audit_chain::laws::composed;
 use meaning::Meaning;
 use verifier::conclusion::laws::a_true_report_shows;
 
-/// An audit's own report is accepted: where `audit RECIPE REPORT` over files of bytes comes to 0 or 3, `verify RECIPE REPORT` over the
-/// files afterwards comes to the same.
+/// An audit's own report is accepted: where `audit RECIPE REPORT` over files, of which those that it loads are found to be bytes, comes to 0 or 3,
+/// `verify RECIPE REPORT` over the files afterwards comes to the same.
 pub fn accepted()
-    ensures { (recipe report : List ℕ) (files : NamedFiles) → HoldBytes files → IsTrue (is_compared (audit recipe report files).status)
+    ensures { (recipe report : List ℕ) (files : NamedFiles) → LoadsBytes (plan_of (codes "audit" ∷ recipe ∷ report ∷ [])) files
+        → IsTrue (is_compared (audit recipe report files).status)
         → (verify recipe report (audit recipe report files).files).status ≡ (audit recipe report files).status }
 {}
 
@@ -91,10 +92,11 @@ pub fn parts()
         → Pieces recipe save report files steps (part recipe save report steps files) }
 {}
 
-/// A further piece: over files of bytes that hold the save of the position behind `count` steps, `resume` by some steps pauses behind as many
-/// more, or it comes to the same as `audit` over these files.
+/// A further piece: over files that hold the save of the position behind `count` steps, and of which those that `audit` loads are bytes, `resume` by
+/// some steps pauses behind as many more, or it comes to the same as `audit` over these files.
 pub fn resumes()
-    ensures { (recipe save report : List ℕ) (count steps : ℕ) (files : NamedFiles) → AreWords recipe save report files → IsStepCount steps → HoldBytes files
+    ensures { (recipe save report : List ℕ) (count steps : ℕ) (files : NamedFiles) → AreWords recipe save report files → IsStepCount steps
+        → LoadsBytes (plan_of (codes "audit" ∷ recipe ∷ report ∷ [])) files
         → IsSavedAt recipe save files count
         → Pieces recipe save report files (count + steps) (resume recipe save report steps files) }
 {}
@@ -117,31 +119,31 @@ pub fn unwritten_stays()
         → map.get (in_pieces recipe save report steps counts files).files report ≡ map.get files report }
 {}
 
-/// An audit in any pieces over files of bytes comes to the same as the undivided audit, or pauses behind all the steps that were asked for. Its
-/// report is accepted: where it comes to 0 or 3, so does `verify` over the files afterwards.
+/// An audit in any pieces, whose first one finds bytes in what it loads, comes to the same as the undivided audit, or pauses behind all the steps that
+/// were asked for. Its report is accepted: where it comes to 0 or 3, so does `verify` over the files afterwards.
 pub fn pauses()
     ensures same { (recipe save report : List ℕ) (steps : ℕ) (counts : List ℕ) (files : NamedFiles) → AreWords recipe save report files
-        → All IsStepCount (steps ∷ counts) → HoldBytes files
+        → All IsStepCount (steps ∷ counts) → LoadsBytes (plan_of (codes "part" ∷ recipe ∷ save ∷ report ∷ decimal steps ∷ [])) files
         → Pieces recipe save report files (sum (steps ∷ counts)) (in_pieces recipe save report steps counts files) }
     ensures accepted { (recipe save report : List ℕ) (steps : ℕ) (counts : List ℕ) (files : NamedFiles) → AreWords recipe save report files
-        → All IsStepCount (steps ∷ counts) → HoldBytes files → IsTrue (is_compared (in_pieces recipe save report steps counts files).status)
+        → All IsStepCount (steps ∷ counts) → LoadsBytes (plan_of (codes "part" ∷ recipe ∷ save ∷ report ∷ decimal steps ∷ [])) files
+        → IsTrue (is_compared (in_pieces recipe save report steps counts files).status)
         → (verify recipe report (in_pieces recipe save report steps counts files).files).status
         ≡ (in_pieces recipe save report steps counts files).status }
 {}
 
-/// A piece behind a whole save: over files of bytes whose BASE holds the save of the position behind `first` steps, `delta-start` by some steps
-/// pauses behind as many more and leaves their delta against that save, or it comes to the same as `audit` over these files.
+/// A piece behind a whole save: over files whose BASE holds the save of the position behind `first` steps, and of which those that `audit` loads are
+/// bytes, `delta-start` by some steps pauses behind as many more and leaves their delta against that save, or it comes to the same as `audit` over these files.
 pub fn delta_starts()
     ensures { (recipe base patch report : List ℕ) (first steps : ℕ) (files : NamedFiles) → AreDeltaWords recipe base patch report files
-        → IsStepCount steps → HoldBytes files → IsSavedAt recipe base files first
+        → IsStepCount steps → LoadsBytes (plan_of (codes "audit" ∷ recipe ∷ report ∷ [])) files → IsSavedAt recipe base files first
         → DeltaPieces recipe base patch report files first (first + steps) (delta_start recipe base patch report steps files) }
 {}
 
-/// A further piece: over files of bytes whose BASE holds such a save, and PATCH the delta of the position behind `count` steps against it,
-/// `delta-resume` by some steps pauses behind as many more and leaves their delta, or it comes to the same as `audit` over these files.
+/// A further piece: over such files whose BASE holds such a save, and PATCH the delta of the position behind `count` steps against it, `delta-resume` by some steps pauses behind as many more and leaves their delta, or it comes to the same as `audit` over these files.
 pub fn delta_resumes()
     ensures { (recipe base patch report : List ℕ) (first count steps : ℕ) (files : NamedFiles) → AreDeltaWords recipe base patch report files
-        → IsStepCount steps → HoldBytes files → IsSavedBeside recipe base patch files first count
+        → IsStepCount steps → LoadsBytes (plan_of (codes "audit" ∷ recipe ∷ report ∷ [])) files → IsSavedBeside recipe base patch files first count
         → DeltaPieces recipe base patch report files first (count + steps) (delta_resume recipe base patch report steps files) }
 {}
 
@@ -165,14 +167,16 @@ pub fn deltas_leave_unwritten()
         → LeavesUnwritten patch report files (delta_resume recipe base patch report steps files) }
 {}
 
-/// An audit by differences, in any pieces over files of bytes, comes to the same as the undivided audit, or pauses behind all the steps that were
-/// asked for. Its report is accepted: where it comes to 0 or 3, so does `verify` over the files afterwards.
+/// An audit by differences in any pieces, whose first one finds bytes in what it loads, comes to the same as the undivided audit, or pauses behind all
+/// the steps that were asked for. Its report is accepted: where it comes to 0 or 3, so does `verify` over the files afterwards.
 pub fn differences()
     ensures same { (recipe base patch report : List ℕ) (steps : ℕ) (counts : List ℕ) (files : NamedFiles)
-        → AreDeltaWords recipe base patch report files → All IsStepCount (steps ∷ counts) → HoldBytes files
+        → AreDeltaWords recipe base patch report files → All IsStepCount (steps ∷ counts)
+        → LoadsBytes (plan_of (codes "part" ∷ recipe ∷ base ∷ report ∷ decimal steps ∷ [])) files
         → Differences recipe base patch report files steps counts (in_differences recipe base patch report steps counts files) }
     ensures accepted { (recipe base patch report : List ℕ) (steps : ℕ) (counts : List ℕ) (files : NamedFiles)
-        → AreDeltaWords recipe base patch report files → All IsStepCount (steps ∷ counts) → HoldBytes files
+        → AreDeltaWords recipe base patch report files → All IsStepCount (steps ∷ counts)
+        → LoadsBytes (plan_of (codes "part" ∷ recipe ∷ base ∷ report ∷ decimal steps ∷ [])) files
         → IsTrue (is_compared (in_differences recipe base patch report steps counts files).status)
         → (verify recipe report (in_differences recipe base patch report steps counts files).files).status
         ≡ (in_differences recipe base patch report steps counts files).status }
