@@ -18,7 +18,6 @@ use Rattle.mem_files.specs.Outputs.{IsContent}
 use Rattle.command_plan.specs.declared.status.Status.TheVariants.{FileRefused}
 use Rattle.command_plan.specs.Plan.{LoadsBytes, Plan, bytes_then, needs, needs_all, follow, outcome}
 use Rattle.command_plan.specs.Words.{are_two_files, bare_name, is_file_word, is_one_file}
-use Rattle.ddc_app.specs.Accepting.{HoldBytes}
 use Rattle.ddc_app.specs.Holding.{AreHeld}
 
 -- ---- one load
@@ -124,16 +123,7 @@ held_small room files (name ∷ names) (content ∷ contents) held =
     more : (a b c sum : ℕ) → sum ≡ a + b → b ≤ c - a → a ≤ c → sum ≤ c
     more a b c sum is rest first = omega (arith, is, rest, first)
 
-pub are_contents : (room : ℕ) (files : NamedFiles) (names contents : List (List ℕ)) → HoldBytes files → AreHeld 268_435_456 room files names contents → All IsContent contents
-are_contents room files names [] bytes held = All-nil IsContent
-are_contents room files [] (content ∷ contents) bytes held = absurd held
-are_contents room files (name ∷ names) (content ∷ contents) bytes held =
-    let one = within (min 268_435_456 room) (finite.get files name) content held.0 in
-    All-cons IsContent content contents
-    (record { bytes = bytes name content one.0; small = le_trans one.1 (min-le_left 268_435_456 room) })
-    (are_contents (room - length content) files names contents bytes held.1)
-
--- the same where a plan's loads found them to be bytes
+-- where a plan's loads found them to be bytes, they are contents of files
 pub loaded_contents : (room : ℕ) (files : NamedFiles) (names contents : List (List ℕ)) (next : List (List ℕ) → Plan) → AreHeld 268_435_456 room files names contents
     → LoadsBytes (needs_all 268_435_456 room names next) files → All IsContent contents
 loaded_contents room files names [] next held bytes = All-nil IsContent

@@ -16,9 +16,8 @@ use Rattle.command_plan.specs.Plan.{LoadsBytes, Plan, answers, outcome, unless_r
 use Rattle.command_plan.specs.Words.{is_one_file, usage}
 use Rattle.recipe_plan.specs.Recipes.{is_input, needs_apart, needs_inputs, needs_recipe, paths}
 use Rattle.recipe_plan.specs.Texts.{recipe_line}
-use Rattle.ddc_app.specs.Accepting.{HoldBytes}
 use Rattle.ddc_app.specs.Holding.{AreHeld}
-use Rattle.ddc_app.proofs.Loads.{are_contents, as_many, follow_all, follows, found_again, loaded_contents, loads_bytes, other_held}
+use Rattle.ddc_app.proofs.Loads.{as_many, follow_all, follows, found_again, loaded_contents, loads_bytes, other_held}
 
 -- a file that is none of the inputs, and one that is
 pub apart_opens : (said : Said) (file : List ℕ) (next : Unit {0} → Plan) (files : NamedFiles) (clash : Bool) → is_input said file ≡ clash
@@ -69,9 +68,6 @@ module _ (recipe : List ℕ) (said : Said) (inputs : List (List ℕ)) (files : N
 
   count : length inputs ≡ length said.inputs
   count = as_many 268_435_456 1_073_741_824 files (paths said) inputs h.inputs_held ∙ length-map said.inputs (λ (input : Input). input.path)
-
-  pub are_inputs : HoldBytes files → IsInputs said inputs
-  are_inputs bytes = record { count = count; each = are_contents 1_073_741_824 files (paths said) inputs bytes h.inputs_held }
 
   pub are_loaded : (next : List (List ℕ) → Plan) → LoadsBytes (needs_inputs said next) files → IsInputs said inputs
   are_loaded next bytes = record { count = count; each = loaded_contents 1_073_741_824 files (paths said) inputs next h.inputs_held bytes }

@@ -4,7 +4,6 @@ use Rattle.std.specs.FinMap as finite
 use Rattle.std.specs.List.{AllZip}
 use Rattle.ddc_base.specs.declared.outside.Loaded.TheVariants.{Bytes}
 use Rattle.ddc_base.specs.Outside.{NamedFiles, loaded}
-use Rattle.recipe.specs.declared.text.refusal.RecipeRefusal.{RecipeRefusal}
 use Rattle.recipe.specs.Kept.{IsRecipe}
 use Rattle.recipe.specs.Reading.{recipe_of}
 use Rattle.recipe.specs.declared.contents.Said.{Said}
@@ -28,14 +27,13 @@ use Rattle.command_plan.specs.Words.{are_two_files, usage}
 use Rattle.recipe_plan.specs.Recipes.{is_input, needs_apart, needs_inputs, paths}
 use Rattle.recipe_plan.specs.Reports.{compared_status, needs_report}
 use Rattle.command_plan.specs.Texts.{report_line}
-use Rattle.recipe_plan.specs.Texts.{recipe_line}
 use Rattle.verify_commands.specs.Verify.{judged_report, verified, verify_files}
-use Rattle.ddc_app.specs.Accepting.{HoldBytes, is_compared, verify}
+use Rattle.ddc_app.specs.Accepting.{is_compared, verify}
 use Rattle.ddc_app.specs.Commands.{plan_of}
 use Rattle.ddc_app.specs.Verified.{ShownBy, Verified}
 use Rattle.ddc_app.specs.Holding.{AreHeld}
 use Rattle.ddc_app.proofs.Loads.{loads_bytes, within}
-use Rattle.ddc_app.proofs.Openings.{Holds, are_inputs, are_loaded, is_recipe}
+use Rattle.ddc_app.proofs.Openings.{Holds, apart_loads, are_loaded, is_recipe, recipe_loads}
 use Rattle.ddc_app.proofs.Walks.{IsRefusal, both_need, both_need_apart, both_need_inputs, both_need_recipe, both_read, told}
 
 -- ---- a replay that comes to a comparison
@@ -103,17 +101,15 @@ module _ (recipe report : List ℕ) (files : NamedFiles) where
   -- the inputs are bytes where the plan's loads found bytes
   typed : (two : Bool) (answer : Outcome) → IsTrue (is_compared (outcome (cond two (verify_files recipe report) usage) files).status)
       → LoadsBytes (cond two (verify_files recipe report) usage) files → (r : Replayed recipe report files answer) → IsInputs r.said r.inputs
-  unfolding verify_files needs_apart
+  unfolding verify_files
   typed false answer compared bytes r = absurd cc
   typed true answer compared bytes r =
       let last : Report → List (List ℕ) → Plan = λ made inputs. verified r.said inputs made in
       let loads : Report → Plan = λ made. needs_inputs r.said (last made) in
       let refuse : ℕ → Plan = λ number. answers status.ReportRefused (report_line number) in
-      let refuse_recipe : RecipeRefusal → Plan = λ refusal. answers status.RecipeRefused (recipe_line refusal) in
       let next : Said → Plan = λ said. needs_apart said report (λ _. needs_report report (λ made. needs_inputs said (λ inputs. verified said inputs made))) in
-      let read = (loads_bytes recipe 1_048_576 (λ b. unless_refused (recipe_of b) refuse_recipe next) files r.holds.bytes r.holds.recipe_held bytes).1 in
-      let judged : LoadsBytes (next r.said) files = subst (λ reading. LoadsBytes (unless_refused reading refuse_recipe next) files) r.holds.reads read in
-      let reported : LoadsBytes (needs_report report loads) files = subst (λ clash. LoadsBytes (cond clash usage (needs_report report loads)) files) r.apart judged in
+      let reported : LoadsBytes (needs_report report loads) files =
+      apart_loads r.said report (λ _. needs_report report loads) files r.apart (recipe_loads recipe r.said r.inputs files r.holds next bytes) in
       let made = (loads_bytes report 1_073_741_824 (λ text. unless_refused (report_of text) refuse loads) files r.text r.text_held reported).1 in
       are_loaded recipe r.said r.inputs files r.holds (last r.made) (subst (λ reading. LoadsBytes (unless_refused reading refuse loads) files) r.text_reads made)
 
@@ -139,13 +135,13 @@ module _ (prescribes : Prescribes) (compiles : Compiles) where
   Shown = (said : Said) (inputs : List (List ℕ)) (made : Report) → IsRecipe said → IsInputs said inputs → first_fault said inputs made ≡ None
       → Shows prescribes compiles said inputs made.compare (true_verdict made.compare)
 
-  shows_all : Shown → (recipe report : List ℕ) (files : NamedFiles) → IsTrue (is_compared (verify recipe report files).status)
-      → ((r : Replayed recipe report files (verify recipe report files)) → IsInputs r.said r.inputs) → Verified prescribes compiles recipe report files (verify recipe report files)
-  shows_all shows recipe report files compared are =
+  pub verifies : Shown → (recipe report : List ℕ) (files : NamedFiles) → LoadsBytes (plan_of (codes "verify" ∷ recipe ∷ report ∷ [])) files
+      → IsTrue (is_compared (verify recipe report files).status) → Verified prescribes compiles recipe report files (verify recipe report files)
+  verifies shows recipe report files bytes compared =
       let r = replayed recipe report files (are_two_files recipe report) compared in
       let answers : (verify recipe report files).status ≡ compared_status r.made.compare = ap (λ (a : Outcome). a.status) r.leads in
       let rules = is_recipe recipe r.said r.inputs files r.holds in
-      let given = are r in
+      let given = typed recipe report files (are_two_files recipe report) (verify recipe report files) compared bytes r in
       record {
         recipe_bytes = r.holds.bytes;
         recipe_held = (within 1_048_576 (finite.get files recipe) r.holds.bytes r.holds.recipe_held).0;
@@ -166,15 +162,6 @@ module _ (prescribes : Prescribes) (compiles : Compiles) where
         shown = subst (ShownBy prescribes compiles r.said r.inputs r.made.compare) (sym answers)
             (by-status r.said r.inputs r.made.compare (shows r.said r.inputs r.made rules given r.none));
       }
-
-  pub verifies : Shown → (recipe report : List ℕ) (files : NamedFiles) → HoldBytes files → IsTrue (is_compared (verify recipe report files).status)
-      → Verified prescribes compiles recipe report files (verify recipe report files)
-  verifies shows recipe report files bytes compared = shows_all shows recipe report files compared (λ r. are_inputs recipe r.said r.inputs files r.holds bytes)
-
-  pub verifies_as_loaded : Shown → (recipe report : List ℕ) (files : NamedFiles) → LoadsBytes (plan_of (codes "verify" ∷ recipe ∷ report ∷ [])) files
-      → IsTrue (is_compared (verify recipe report files).status) → Verified prescribes compiles recipe report files (verify recipe report files)
-  verifies_as_loaded shows recipe report files bytes compared =
-      shows_all shows recipe report files compared (typed recipe report files (are_two_files recipe report) (verify recipe report files) compared bytes)
 
 -- a comparison is an answer
 pub compared_answers : (s : Status) → IsTrue (is_compared s) → IsTrue (is_answer s)

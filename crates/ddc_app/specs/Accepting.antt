@@ -1,6 +1,5 @@
 -- What an audit and a replay of its report come to over files. docs/reference/command-line.md says the same for people.
-use Rattle.std.specs.Prelude.{◌≡◌, ◌<◌, ℕ, Bool, true, false, All, List, [], ◌∷◌, Some, codes}
-use Rattle.std.specs.FinMap as map
+use Rattle.std.specs.Prelude.{ℕ, Bool, true, false, List, [], ◌∷◌, codes}
 use Rattle.ddc_base.specs.Outside.{NamedFiles}
 use Rattle.command_plan.specs.declared.status.Status.{Status}
 use Rattle.command_plan.specs.declared.status.Status.TheVariants.{Yes, Differs}
@@ -19,7 +18,3 @@ abbrev pub is_compared : Status → Bool
 is_compared Yes = true
 is_compared Differs = true
 is_compared _ = false
-
--- what is held are bytes
-abbrev pub HoldBytes : NamedFiles → Type 0
-HoldBytes files = (name content : List ℕ) → map.get files name ≡ Some content → All (λ byte. byte < 256) content

@@ -2,7 +2,7 @@
 //!
 //! Where a law asks that what a command loads is bytes (`LoadsBytes` of its plan), a call of `run` with the command's words says so: its clause `calls`.
 
-ghost use Rattle.ddc_app.specs.Accepting.{HoldBytes, audit, is_compared, verify};
+ghost use Rattle.ddc_app.specs.Accepting.{audit, is_compared, verify};
 ghost use Rattle.ddc_app.specs.Chained.{Chained, chain};
 ghost use Rattle.ddc_app.specs.Commands.{plan_of};
 ghost use Rattle.ddc_app.specs.Differences.{AreDeltaWords, DeltaPieces, Differences, IsSavedBeside, LeavesAllBut, delta_resume, delta_start, in_differences};
@@ -42,17 +42,10 @@ pub fn accepted()
         → (verify recipe report (audit recipe report files).files).status ≡ (audit recipe report files).status }
 {}
 
-/// Wheeler's argument on the answer of `verify`, whatever sources mean: where `verify RECIPE REPORT` over files of bytes comes to 0 or 3, the
-/// report is true, the text ends in exactly the lines of what is assumed, and the status shows the conclusion that belongs to it.
+/// Wheeler's argument on the answer of `verify`, whatever sources mean: where `verify RECIPE REPORT` over files, of which those that it loads are
+/// found to be bytes, comes to 0 or 3, the report is true, the text ends in exactly the lines of what is assumed, and the status shows the
+/// conclusion that belongs to it.
 pub fn verified<M: Meaning>()
-    ensures { (recipe report : List ℕ) (files : NamedFiles) → HoldBytes files → IsTrue (is_compared (verify recipe report files).status)
-        → Verified M.prescribes M.compiles recipe report files (verify recipe report files) }
-{
-    a_true_report_shows::<M>();
-}
-
-/// The same over any files of which those that `verify` loads were found to be bytes, as they are in `run`.
-pub fn verified_as_loaded<M: Meaning>()
     ensures { (recipe report : List ℕ) (files : NamedFiles) → LoadsBytes (plan_of (codes "verify" ∷ recipe ∷ report ∷ [])) files
         → IsTrue (is_compared (verify recipe report files).status)
         → Verified M.prescribes M.compiles recipe report files (verify recipe report files) }

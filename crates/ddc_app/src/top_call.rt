@@ -7,15 +7,15 @@ ghost use Rattle.command_plan.specs.Answered.{is_answer};
 ghost use Rattle.command_plan.specs.Endings.{Completes};
 ghost use Rattle.command_plan.specs.Performs.{HoldsTalk, Performs, WantsMemory};
 ghost use Rattle.command_plan.specs.Plan.{talk_of};
-ghost use Rattle.ddc_app.specs.Accepting.{is_compared};
+ghost use Rattle.ddc_app.specs.Accepting.{is_compared, verify};
 ghost use Rattle.ddc_app.specs.Commands.{is_step, text_plan};
 ghost use Rattle.ddc_app.specs.Chained.{Chained};
-ghost use Rattle.ddc_app.specs.Scripted.{ScriptReported, ScriptVerified};
+ghost use Rattle.ddc_app.specs.Scripted.{ScriptReported, ScriptVerified, kaem_verify};
 ghost use Rattle.ddc_app.specs.Verified.{Verified};
 ghost use Rattle.ddc_app.specs.Run.{plan_for, due, IsDue, IsOneText, LosesText, NamesFault, TakesOne};
 ghost use Rattle.ddc_app.specs.Inside.Concluding.{Closes, Leaves, PutEnds, SaysEnding, unless_lost};
 
-use crate::laws::{chained, verified_as_loaded};
+use crate::laws::{chained, verified};
 use audit_commands::{audit, delta_resume, delta_start, demo, part, resume, show};
 use command_plan::{Answer, Status, Stop, usage};
 use ddc_base::{PutFail, Shelf, Sink};
@@ -89,6 +89,11 @@ pub fn run<M: Meaning, S: Shelf, K: Sink, P: Prompt>(
         → map (λ word. word.now) words.now ≡ codes "verify" ∷ recipe ∷ report ∷ [] → IsTrue (is_compared result)
         → Verified M.prescribes M.compiles recipe report (S.state shelf.old).files (due words.now (S.state shelf.old)) }
 
+    // What `audit` accepts, `verify` accepts: a 0 or a 3 is what it comes to over the files that are left.
+    ensures accepted { IsDue words.now (S.state shelf.old) → (recipe report : List ℕ)
+        → map (λ word. word.now) words.now ≡ codes "audit" ∷ recipe ∷ report ∷ [] → IsTrue (is_compared result)
+        → (verify recipe report (due words.now (S.state shelf.old)).files).status ≡ result }
+
     // What a yes of `chain` shows.
     ensures chained { IsDue words.now (S.state shelf.old) → (list : List ℕ) → map (λ word. word.now) words.now ≡ codes "chain" ∷ list ∷ []
         → result ≡ Status.Yes
@@ -102,6 +107,11 @@ pub fn run<M: Meaning, S: Shelf, K: Sink, P: Prompt>(
         → map (λ word. word.now) words.now ≡ codes "kaem-verify" ∷ script ∷ list ∷ report ∷ [] → result ≡ Status.Yes
         → ScriptVerified script list report (S.state shelf.old).files (due words.now (S.state shelf.old)) }
 
+    // And what `kaem` accepts, `kaem-verify` accepts.
+    ensures replays { IsDue words.now (S.state shelf.old) → (script list report steps : List ℕ)
+        → map (λ word. word.now) words.now ≡ codes "kaem" ∷ script ∷ list ∷ report ∷ steps ∷ [] → result ≡ Status.Yes
+        → (kaem_verify script list report (due words.now (S.state shelf.old)).files).status ≡ Status.Yes }
+
     // The prompt is asked in a session alone.
     ensures prompt_stays { IsOneText words.now (S.state shelf.old) ⊎ (result ≡ Status.ShelfFault)
         → P.state prompt.new ≡ P.state prompt.old }
@@ -110,7 +120,7 @@ pub fn run<M: Meaning, S: Shelf, K: Sink, P: Prompt>(
     ensures out_tells { (K.state out.new).tells ≡ (K.state out.old).tells }
     ensures prompt_tells { (P.state prompt.new).tells ≡ (P.state prompt.old).tells }
 {
-    verified_as_loaded::<M>();
+    verified::<M>();
     chained::<M>();
     act::<M, S, K, P>(alloc, words, shelf, out, prompt)
 }

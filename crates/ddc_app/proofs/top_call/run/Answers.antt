@@ -1,12 +1,13 @@
 use Rattle.std.proofs.Common.{ℕ, List, sym, ap, ◌∙◌, subst}
-use Rattle.command_plan.specs.Plan.{LoadsBytes, outcome}
+use Rattle.command_plan.specs.Plan.{LoadsBytes, Outcome, outcome}
 use Rattle.command_plan.specs.Answered.{is_answer}
-use Rattle.ddc_app.specs.Accepting.{is_compared}
+use Rattle.ddc_app.specs.Accepting.{is_compared, verify}
 use Rattle.ddc_app.specs.Chained.{Chained}
 use Rattle.ddc_app.specs.Commands.{plan_of}
-use Rattle.ddc_app.specs.Scripted.{ScriptReported, ScriptVerified}
+use Rattle.ddc_app.specs.Scripted.{ScriptReported, ScriptVerified, kaem_verify}
 use Rattle.ddc_app.specs.Verified.{Verified}
-use Rattle.ddc_app.proofs.Scripting.{kaem_reports, kaem_verifies}
+use Rattle.ddc_app.proofs.Accepting.{accepts}
+use Rattle.ddc_app.proofs.Scripting.{kaem_reports, kaem_verifies, script_accepted}
 use Rattle.ddc_app.proofs.Sessions as sessions
 use Rattle.ddc_app.proofs.Verifying.{compared_answers}
 use Rattle.ddc_app.proofs.top_call.run.Goals as goal
@@ -34,8 +35,18 @@ returns g c =
           let status = sessions.status _ _ _ _ _ _ _ _ _ l settled answers in
           let bytes = (sessions.calls _ _ _ _ _ _ _ _ _ l answers).bytes settled in
           subst (Verified g.M.Meaning.prescribes g.M.Meaning.compiles recipe report files) (sym same)
-          (c.verified_as_loaded.ensures recipe report files (subst (λ (w : List (List ℕ)). LoadsBytes (plan_of w) files) words bytes)
+          (c.verified.ensures recipe report files (subst (λ (w : List (List ℕ)). LoadsBytes (plan_of w) files) words bytes)
           (sym (ap is_compared (status ∙ ap (λ o. o.status) same)) ∙ compared));
+      accepted = λ settled recipe report words compared.
+          let files = (g.S.Shelf.state c.args.shelf.now).files in
+          let same = ap (λ (w : List (List ℕ)). outcome (plan_of w) files) words in
+          let answers = compared_answers _ compared in
+          let status = sessions.status _ _ _ _ _ _ _ _ _ l settled answers in
+          let bytes = (sessions.calls _ _ _ _ _ _ _ _ _ l answers).bytes settled in
+          let is = status ∙ ap (λ o. o.status) same in
+          ap (λ (o : Outcome). (verify recipe report o.files).status) same
+          ∙ accepts recipe report files (subst (λ (w : List (List ℕ)). LoadsBytes (plan_of w) files) words bytes) (sym (ap is_compared is) ∙ compared)
+          ∙ sym is;
       chained = λ settled list words yes.
           let files = (g.S.Shelf.state c.args.shelf.now).files in
           let same = ap (λ (w : List (List ℕ)). outcome (plan_of w) files) words in
@@ -57,6 +68,15 @@ returns g c =
           let status = sessions.status _ _ _ _ _ _ _ _ _ l settled (ap is_answer ends) in
           subst (ScriptVerified script list report files) (sym same)
           (kaem_verifies script list report files (sym (ap (λ o. o.status) same) ∙ sym status ∙ ends));
+      replays = λ settled script list report steps words ends.
+          let files = (g.S.Shelf.state c.args.shelf.now).files in
+          let same = ap (λ (w : List (List ℕ)). outcome (plan_of w) files) words in
+          let answers = ap is_answer ends in
+          let status = sessions.status _ _ _ _ _ _ _ _ _ l settled answers in
+          let bytes = (sessions.calls _ _ _ _ _ _ _ _ _ l answers).bytes settled in
+          ap (λ (o : Outcome). (kaem_verify script list report o.files).status) same
+          ∙ script_accepted script list report steps files (subst (λ (w : List (List ℕ)). LoadsBytes (plan_of w) files) words bytes)
+          (sym (ap (λ o. o.status) same) ∙ sym status ∙ ends);
       prompt_stays = sessions.prompt_stays _ _ _ _ _ _ _ _ _ l;
       shelf_tells = sessions.shelf_tells _ _ _ _ _ _ _ _ _ l;
       out_tells = sessions.out_tells _ _ _ _ _ _ _ _ _ l;
