@@ -133,7 +133,8 @@ pub fn delta_starts()
         → DeltaPieces recipe base patch report files first (first + steps) (delta_start recipe base patch report steps files) }
 {}
 
-/// A further piece: over such files whose BASE holds such a save, and PATCH the delta of the position behind `count` steps against it, `delta-resume` by some steps pauses behind as many more and leaves their delta, or it comes to the same as `audit` over these files.
+/// A further piece: over such files whose BASE holds such a save, and PATCH the delta of the position behind `count` steps against it,
+/// `delta-resume` by some steps pauses behind as many more and leaves their delta, or it comes to the same as `audit` over these files.
 pub fn delta_resumes()
     ensures { (recipe base patch report : List ℕ) (first count steps : ℕ) (files : NamedFiles) → AreDeltaWords recipe base patch report files
         → IsStepCount steps → LoadsBytes (plan_of (codes "audit" ∷ recipe ∷ report ∷ [])) files → IsSavedBeside recipe base patch files first count
