@@ -85,9 +85,20 @@ long is_known_attribute(void) {
         || same_text(text, "unused") || same_text(text, "__unused__");
 }
 
+// Goes past what stands in parentheses, of which the first stands here.
+void skip_parentheses(void) {
+    long open = 1;
+    advance();
+    while (open > 0) {
+        if (sign == END)
+            refuse_word(")");
+        open += (sign == '(') - (sign == ')');
+        advance();
+    }
+}
+
 // Attributes that change nothing of what is made.
 void attributes(void) {
-    long depth_of_words = 0;
     while (taken(KEY_ATTRIBUTE)) {
         expect('(', "((");
         expect('(', "((");
@@ -95,17 +106,8 @@ void attributes(void) {
             if (!is_known_attribute())
                 refuse(word, "the attribute", word->name);
             advance();
-            if (sign == '(') {
-                depth_of_words = 0;
-                while (depth_of_words > 0 || sign == '(') {
-                    depth_of_words += (sign == '(') - (sign == ')');
-                    advance();
-                    if (sign == END)
-                        refuse_word(")");
-                    if (depth_of_words == 0 && sign == '(')
-                        refuse_word(", or )");
-                }
-            }
+            if (sign == '(')
+                skip_parentheses();
             if (sign != ')')
                 expect(',', ", or )");
         }

@@ -20,10 +20,15 @@ void check_room(struct symbol *symbol) {
 // The object or function of a name that other units, or the functions of this one, know too.
 struct symbol *shared_symbol(struct word *place, long kind, struct type *type) {
     struct symbol *symbol = symbol_here(place->name);
+    // In a block it is the one of file level that is seen there, also where that is static.
+    if (symbol == 0 && place->name->symbol != 0 && place->name->symbol->depth == 0 && place->name->symbol->kind == kind)
+        symbol = place->name->symbol;
     if (symbol != 0) {
         if (symbol->kind != kind)
             refuse(place, "another kind of name than was declared before:", place->name);
         symbol->type = completed(place, symbol->type, type);
+        if (depth > 0)
+            bind(symbol);
         return symbol;
     }
     if (storage != KEY_STATIC)

@@ -24,8 +24,9 @@ static int calls_early(void) { return used_early() * 2; }
 static inline int used_early(void) { return 21; }
 
 int main(void) {
-    int other_unit(int);
-    extern int number;
+    int other_unit(int), helper(int);
+    extern int number, own;
+    own += 0;
     number += 5;
     table[2] = 4;
     shared.text = "set in one";
