@@ -5,7 +5,6 @@ use Rattle.std.specs.FinMap as finite
 use Rattle.std.proofs.Math.Decide.{dec_lt}
 use Rattle.std.proofs.lemmas.Bool.Decides.{Decides-eqb}
 use Rattle.ddc_base.specs.ByteLists.{AreBytes}
-use Rattle.ddc_base.specs.Decimals.{as_decimal}
 use Rattle.ddc_base.specs.Difference.{first_difference}
 use Rattle.ddc_base.proofs.Decimals.{as_decimal-is}
 use Rattle.ddc_base.specs.declared.outside.Loaded.TheVariants.{Bytes}
@@ -28,7 +27,7 @@ use Rattle.command_plan.specs.declared.status.Status.TheVariants.{Yes}
 use Rattle.command_plan.specs.Plan.{Outcome, Plan, answers, needs, outcome, unless_refused}
 use Rattle.command_plan.specs.Words.{are_two_files, or_usage, usage}
 use Rattle.stage_commands.specs.Checked.{AreChecked, EndShows, HoldPiece, IsRunTold, piece_told_yes}
-use Rattle.stage_commands.specs.Cutting.{CutRun, ends_over, segment_over}
+use Rattle.stage_commands.specs.Cutting.{ends_over, segment_over}
 use Rattle.stage_commands.specs.Ends.{ends_files, ends_judged, needs_first, needs_last, unless_other_start}
 use Rattle.stage_commands.specs.Exits.{run_failed, unless_absent}
 use Rattle.stage_commands.specs.Names.{are_stage_words, as_states, piece_name, within_states}

@@ -1,6 +1,6 @@
 -- How a cut ends is what the run's first end says.
 use Rattle.std.proofs.Common.{◌≡◌, ℕ, zero, suc, ◌+◌, ◌-◌, ◌*◌, ◌/◌, ◌<◌, ◌≤◌, ◌↔◌, Bool, true, false, cond, IsTrue, Option, None, Some, Result, Ok, Err, List, length, min, nat_le, unwrap_or, refl, sym, ap, ◌∙◌, subst, arith}
-use Rattle.std.specs.Prelude.{nat_lt, slice_get}
+use Rattle.std.specs.Prelude.{nat_lt}
 use Rattle.std.specs.FinMap as finite
 use Rattle.std.proofs.Math.Nat.{add-mul, div-eq_of_lt, mul-add-div_right, zero-mul}
 use Rattle.std.proofs.Math.Decide.{dec_lt}

@@ -1,5 +1,5 @@
 -- What `left` saves of a stage's output is the artefact that the bench makes.
-use Rattle.std.proofs.Common.{◌≡◌, ℕ, ◌+◌, ◌-◌, Bool, true, false, cond, IsTrue, Option, None, Some, Result, Ok, Err, List, [], ◌∷◌, length, map, min, refl, sym, ap, ◌∙◌, subst, arith}
+use Rattle.std.proofs.Common.{◌≡◌, ℕ, ◌+◌, ◌-◌, Bool, true, false, cond, IsTrue, Option, None, Some, Result, Ok, Err, List, [], ◌∷◌, length, map, min, refl, sym, ap, ◌∙◌}
 use Rattle.std.specs.Prelude.{not, slice_get, take}
 use Rattle.std.specs.FinMap as finite
 use Rattle.std.proofs.lemmas.Bool.{and_parts}
@@ -9,7 +9,7 @@ use Rattle.mem_files.specs.Calls.{content_at}
 use Rattle.mem_files.specs.Names.{begins_with_dot_slash, is_file_name, stripped}
 use Rattle.mem_files.specs.Outputs.{out}
 use Rattle.mem_files.specs.World.{World}
-use Rattle.guest_run.specs.Run.{End, Exited, first_end}
+use Rattle.guest_run.specs.Run.{End, first_end}
 use Rattle.guest_run.specs.Start.{Refusal}
 use Rattle.guest_run.specs.State.{GuestState}
 use Rattle.recipe.specs.Kept.{IsOutput, IsRecipe}
@@ -29,7 +29,7 @@ use Rattle.wheeler.proofs.Endings.{ended}
 use Rattle.audit_run.specs.Earlier.{done_in_order}
 use Rattle.audit_run.specs.declared.earlier.Undone.{Undone}
 use Rattle.command_plan.specs.declared.status.Status.TheVariants.{RecipeRefused, Yes}
-use Rattle.command_plan.specs.Plan.{Outcome, Plan, answers, needs, needs_all, outcome, unless_refused}
+use Rattle.command_plan.specs.Plan.{Plan, answers, needs, needs_all, outcome, unless_refused}
 use Rattle.command_plan.specs.Words.{or_usage, usage}
 use Rattle.recipe_plan.specs.NotDone.{undone}
 use Rattle.recipe_plan.specs.Recipes.{is_input, needs_apart, needs_inputs, paths, reads_recipe}

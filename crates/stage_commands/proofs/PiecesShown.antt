@@ -1,24 +1,21 @@
 -- What is printed of texts is so.
-use Rattle.std.proofs.Common.{◌≡◌, ℕ, ◌+◌, ◌-◌, ◌<◌, ◌≤◌, ◌^◌, Bool, inl, inr, Option, None, Some, Result, Ok, Err, List, nat_le, unwrap_or, refl, sym, ap, ◌∙◌, subst, arith}
+use Rattle.std.proofs.Common.{◌≡◌, ℕ, ◌+◌, ◌-◌, ◌<◌, ◌≤◌, ◌^◌, inr, Option, None, Some, Result, Ok, Err, List, nat_le, unwrap_or, refl, sym, ap, ◌∙◌, subst, arith}
 use Rattle.std.specs.Prelude.{nat_lt}
 use Rattle.std.proofs.Math.Decide.{dec_lt}
 use Rattle.std.proofs.lemmas.Bool.Decides.{Decides-ltb}
 use Rattle.ddc_base.specs.ByteLists.{AreBytes}
 use Rattle.ddc_base.specs.Difference.{first_difference}
 use Rattle.checkpoints.proofs.Decisions.{by_case, is_at_most}
-use Rattle.guest_run.specs.declared.run.RunEnd.{RunEnd}
 use Rattle.guest_run.specs.Run.{End, Exited, Trapped, UnknownCall, after, first_end}
 use Rattle.guest_run.specs.State.{GuestState}
-use Rattle.guest_run.specs.Valid.{IsValid}
 use Rattle.guest_run.proofs.Running.{after-counted}
 use Rattle.guest_run.proofs.RunLaws.{no_end-goes_on}
 use Rattle.guest_run.proofs.Validity.{after-valid}
-use Rattle.segments.specs.Segments.{AreTwoStates, ChecksPiece, EndsWith, GoesOnFrom, IsRunsEnd, IsStateOf, second_text}
+use Rattle.segments.specs.Segments.{AreTwoStates, ChecksPiece, EndsWith, IsRunsEnd, IsStateOf, second_text}
 use Rattle.segments.specs.declared.answers.StateFault.{StateFault}
 use Rattle.segments.specs.declared.answers.SegmentFault.{SegmentFault}
-use Rattle.segments.specs.declared.answers.SegmentFault.TheVariants.{TooFar}
 use Rattle.stage_commands.specs.Checked.{EndShows, run_end}
-use Rattle.stage_commands.specs.States.{ReadsAs, along, between_states, end_behind, end_from, piece_answer, piece_of, reached_by, state_after, state_said, unless_other}
+use Rattle.stage_commands.specs.States.{ReadsAs, between_states, end_behind, end_from, piece_answer, piece_of, reached_by, state_after, state_said, unless_other}
 use Rattle.stage_commands.proofs.Reading.{an_end, no_end, no_state, reads}
 use Rattle.stage_commands.proofs.StatesRead.{IsRead, is_read_valid, no_difference, one_text}
 

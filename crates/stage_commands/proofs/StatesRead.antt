@@ -1,5 +1,5 @@
 -- A state that bytes say is valid, and no other one has its text.
-use Rattle.std.proofs.Common.{◌≡◌, ℕ, suc, ◌+◌, ◌*◌, ◌<◌, ◌^◌, ◌≤◌, ◌==◌, Bool, true, false, cond, inl, inr, Option, None, Some, Result, Ok, List, [], ◌∷◌, ◌++◌, length, refl, sym, ap, ◌∙◌, subst, arith}
+use Rattle.std.proofs.Common.{◌≡◌, ℕ, suc, ◌*◌, ◌<◌, ◌^◌, ◌==◌, Bool, true, false, cond, inl, inr, Option, None, Some, Result, Ok, List, [], ◌∷◌, ◌++◌, length, refl, sym, ap, ◌∙◌, subst, arith}
 use Rattle.std.specs.Prelude.{All}
 use Rattle.std.specs.FinMap as finite
 use Rattle.std.specs.List.{flat_map}
@@ -18,13 +18,13 @@ use Rattle.save_text.specs.ByteFields.Spelling.{Alike, list_text, number_text}
 use Rattle.save_text.specs.declared.byte_fields.form.TextForm.{TextForm}
 use Rattle.save_text.specs.declared.byte_fields.form.TextForm.TheVariants.{First, Second}
 use Rattle.save_text.specs.StateText.StateText.{PageText, StateText, after_page, parsed_state, state_magic}
-use Rattle.save_text.specs.StateText.Spelled.{IsStateText, IsTextOfState, body_text, heap_text, page_text, reservation_text, run_text, text_of_state, u64s}
+use Rattle.save_text.specs.StateText.Spelled.{IsStateText, IsTextOfState, body_text, heap_text, page_text, reservation_text, run_text, u64s}
 use Rattle.save_text.proofs.ByteFieldsLemmas.Spells as spells
 use Rattle.save_text.proofs.StateTextLemmas.Texts.{formed_again, spelled}
-use Rattle.checkpoints.specs.Checkpoint.{IsInRange, IsJoined, guest_of, lists_in, mapped_of, memory_of, state_of}
+use Rattle.checkpoints.specs.Checkpoint.{IsInRange, IsJoined, guest_of, lists_in, mapped_of, state_of}
 use Rattle.checkpoints.specs.MemoryParts.Canonical.{AreShown, with_pages}
 use Rattle.checkpoints.proofs.Memories.{placed, shown}
-use Rattle.checkpoints.proofs.SameText.{no_memory, ordered, same_text, whole_runs}
+use Rattle.checkpoints.proofs.SameText.{no_memory, ordered, whole_runs}
 use Rattle.checkpoints.proofs.States.{is_text, same_guest}
 use Rattle.guest_run.specs.State.{GuestState}
 use Rattle.guest_run.specs.Valid.{IsValid}

@@ -44,7 +44,8 @@ pub fn ends_are_told()
     ensures shown { (text : List ℕ) (limit : ℕ) → EndShows text limit (end_behind text limit) }
 {}
 
-/// `segment` over files of bytes comes to 0 exactly where the two names hold a piece, and says of how many steps it is.
+/// `segment` over files of bytes comes to 0 only where the two names hold a piece, and always where they do and are words of two files, and says of
+/// how many steps it is.
 pub fn segments_are_told()
     ensures shown { (from to : List ℕ) (files : NamedFiles) → ((name content : List ℕ) → map.get files name ≡ Some content → All (λ byte. byte < 256) content)
         → (segment_over from to files).status ≡ Yes
