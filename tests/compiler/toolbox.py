@@ -31,9 +31,9 @@ def must(words, folder=None):
 
 
 class Box:
-    """A folder with cc, the headers, and gcc's objects of the small C library of examples/tinycc."""
+    """A folder with cc, the headers, and gcc's objects of the small C library of examples/tinycc. `cc` are the words that run another cc."""
 
-    def __init__(self, folder):
+    def __init__(self, folder, cc=()):
         self.folder = pathlib.Path(folder)
         self.include = self.folder / "include"
         self.include.mkdir()
@@ -41,8 +41,10 @@ class Box:
             shutil.copy(HERE / "include" / name, self.include)
         for name in HEADERS:
             shutil.copy(TINYCC / "library.h", self.include / f"{name}.h")
-        self.cc = self.folder / "cc"
-        must(["gcc", *HOST_WORDS, "-o", self.cc, COMPILER / "cc.c", COMPILER / "start.c"])
+        self.cc = list(cc)
+        if not self.cc:
+            self.cc = [self.folder / "cc"]
+            must(["gcc", *HOST_WORDS, "-o", self.cc[0], COMPILER / "cc.c", COMPILER / "start.c"])
         text = "\n".join(line.split("#")[0].split(";")[0] for line in (TINYCC / "start.hex0").read_text().splitlines())
         (self.folder / "start.o").write_bytes(bytes.fromhex("".join(text.split())))
         self.objects = [self.folder / "start.o"]
@@ -56,10 +58,7 @@ class Box:
                     "-lgcc"])
 
     def by_cc(self, sources, out, words=()):
-        return run([*self.cc_words(), *words, "-I", self.include, "-o", out, *sources, TINYCC / "library.c", TINYCC / "system.c"])
-
-    def cc_words(self):
-        return [self.cc]
+        return run([*self.cc, *words, "-I", self.include, "-o", out, *sources, TINYCC / "library.c", TINYCC / "system.c"])
 
     def same(self, sources, stem):
         """Compiles sources by both, and runs what they made. Gives '' where both leave the same, else what is wrong."""
