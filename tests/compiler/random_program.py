@@ -325,5 +325,21 @@ class Program:
         return "\n".join(self.lines) + "\n"
 
 
+def together(numbers):
+    """The programs of several numbers as one, which runs one after the other."""
+    texts = ["#include <stdio.h>"]
+    fixed = ["box", "boxes", "pointer", "grid", "digest", "add", "RED", "GREEN", "BLUE", "main"]
+    for number in numbers:
+        program = Program(number)
+        program.counter = number * 10000
+        texts += [f"#define {name} {name}_{number}" for name in fixed]
+        texts.append(program.text())
+        texts += [f"#undef {name}" for name in fixed]
+    texts.append("int main(void) {")
+    texts += [f'    printf("program {number}\\n");\n    printf("ends with %d\\n", main_{number}());' for number in numbers]
+    texts.append("    return 0;\n}\n")
+    return "\n".join(texts)
+
+
 if __name__ == "__main__":
     sys.stdout.write(Program(int(sys.argv[1])).text())
