@@ -15,6 +15,7 @@ pub mod TwoPieces
 pub mod Cutting
 pub mod StatesRead
 pub mod PiecesShown
+pub mod FirstShown
 pub mod CheckedRun
 pub mod OutputLeft
 pub mod CutEnding

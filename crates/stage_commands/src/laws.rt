@@ -6,19 +6,23 @@ ghost use Rattle.ddc_base.specs.ByteLists.{AreBytes};
 ghost use Rattle.ddc_base.specs.Outside.{NamedFiles};
 ghost use Rattle.command_plan.specs.Words.{are_two_files, as_steps};
 ghost use Rattle.command_plan.specs.declared.status.Status.TheVariants.{TooManySegments, Yes};
-ghost use Rattle.command_plan.specs.Plan.{outcome};
+ghost use Rattle.command_plan.specs.Plan.{Plan, outcome};
 ghost use Rattle.stage_commands.specs.Checked.{AreChecked, EndShows, HoldPiece, IsRunTold, piece_told_yes};
 ghost use Rattle.stage_commands.specs.CutEnds.{SaysSame, cut_end_from};
 ghost use Rattle.stage_commands.specs.Cutting.{CutStart, IsRightCut, cut_over, ends_over, segment_over};
+ghost use Rattle.stage_commands.specs.Ends.{needs_first};
 ghost use Rattle.stage_commands.specs.Left.{are_left_words};
 ghost use Rattle.stage_commands.specs.LeftMade.{LeftRun, artefact_saved, left_over, output_word};
 ghost use Rattle.stage_commands.specs.Names.{are_stage_words};
 ghost use Rattle.guest_run.specs.Run.{End, after, first_end};
+ghost use Rattle.guest_run.specs.Setting.{Setting};
+ghost use Rattle.guest_run.specs.Start.{start_of};
 ghost use Rattle.guest_run.specs.State.{GuestState};
 ghost use Rattle.guest_run.specs.Valid.{IsValid};
 ghost use Rattle.wheeler.specs.Stages.{stage_result};
 ghost use Rattle.wheeler.specs.declared.answer.Finished.{Finished};
-ghost use Rattle.segments.specs.Segments.{ChecksPiece, second_text};
+ghost use Rattle.recipe.specs.declared.parts.Stage.{Stage};
+ghost use Rattle.segments.specs.Segments.{BeginsWith, ChecksPiece, second_text};
 ghost use Rattle.segments.specs.declared.answers.SegmentFault.{SegmentFault};
 ghost use Rattle.segments.specs.declared.answers.StateFault.{StateFault};
 ghost use Rattle.stage_commands.specs.States.{ReadsAs, end_behind, piece_answer, piece_of, state_said};
@@ -36,6 +40,14 @@ pub fn pieces_are_told()
 /// What is printed of two texts of bytes is so: it is what the check of a piece may answer of them.
 pub fn pieces_are_shown()
     ensures { (from to : List ℕ) → AreBytes from → AreBytes to → ChecksPiece from to (piece_answer (piece_of from to)) }
+{}
+
+/// What is said of a first text is so: `ends` goes on to the last one exactly where the bytes say the state in which the program starts.
+pub fn firsts_are_told()
+    ensures told { (stage : Stage) (program : List ℕ) (setting : Setting) (text : List ℕ) (next : Plan) → BeginsWith program setting text
+        → needs_first stage (start_of program setting) (state_said text) next ≡ next }
+    ensures shown { (stage : Stage) (program : List ℕ) (setting : Setting) (text : List ℕ) (begun : GuestState) → start_of program setting ≡ Ok begun → IsValid begun → AreBytes text
+        → ((next : Plan) → needs_first stage (start_of program setting) (state_said text) next ≡ next) → BeginsWith program setting text }
 {}
 
 /// What is said of the run behind a last text is so, and nothing else that is so is said.
