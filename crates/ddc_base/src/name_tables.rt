@@ -29,7 +29,13 @@ impl NamesDigest {
     pub fn add(&mut self, name: &[u8])
         ensures { (message : List ℕ) → Holds256 self.old.taken message → Holds256 self.new.taken (message ++ framed name.now) }
     {
-        self.taken.update(&name.len().to_le_bytes());
+        let length = name.len();
+        if length < 255 {
+            self.taken.update(&[length as u8]);
+        } else {
+            self.taken.update(&[255]);
+            self.taken.update(&length.to_le_bytes());
+        }
         self.taken.update(name);
     }
 
