@@ -150,6 +150,11 @@ impl<'s> Items<'s> {
         self.codes.len()
     }
 
+    /// The items that are no bytes, in their order, for whoever looks for labels to find them quicker. No clause says which these are.
+    pub(crate) fn others(&self) -> &[Item<'s>] {
+        self.others.as_slice()
+    }
+
     /// The item at an index from 0, or `None` past the end.
     pub fn get(&self, index: usize) -> Option<Item<'s>>
         ensures { result ≡ slice_get self.now index }

@@ -49,11 +49,11 @@ fn table_for<'s>(alloc: Global, items: &Items<'s>) -> Result<LabelTable<'s>, Out
     ensures { IfOk result IsEmpty }
 {
     let mut names = NamesDigest::new();
-    let mut count = 0;
-    for index in 0..items.len() {
-        if let Item::Label(name) = item_at(items, index) {
+    let mut count = 0_usize;
+    for item in items.others() {
+        if let Item::Label(name) = item {
             names.add(name.bytes());
-            count += 1;
+            count = count.saturating_add(1);
         }
     }
     // A digest of no names would be work for nothing.
