@@ -1,5 +1,5 @@
 -- What `verify` comes to over files that hold what it judges.
-use Rattle.std.proofs.Common.{◌≡◌, ◌↔◌, ℕ, Bool, true, false, cond, Option, Some, None, Ok, List, refl, sym, ap, ◌∙◌, subst}
+use Rattle.std.proofs.Common.{◌≡◌, ◌↔◌, ℕ, Bool, true, false, cond, Option, Some, None, List, refl, sym, ap, ◌∙◌, subst}
 use Rattle.ddc_base.specs.Outside.{NamedFiles}
 use Rattle.recipe.specs.declared.contents.Said.{Said}
 use Rattle.report.specs.declared.types.Report.{Report}

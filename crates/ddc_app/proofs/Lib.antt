@@ -7,6 +7,7 @@ pub mod Judging
 pub mod Accepting
 pub mod Verifying
 pub mod Chaining
+pub mod Joining
 pub mod CountWords
 pub mod Beginnings
 pub mod Pieces

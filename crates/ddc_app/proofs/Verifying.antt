@@ -38,17 +38,17 @@ use Rattle.ddc_app.proofs.Walks.{IsRefusal, both_need, both_need_apart, both_nee
 
 -- ---- a replay that comes to a comparison
 
-record Replayed (recipe report : List ℕ) (files : NamedFiles) (answer : Outcome) : Type 0 where
-  said : Said
-  inputs : List (List ℕ)
-  holds : Holds recipe said inputs files
-  apart : is_input said report ≡ false
-  text : List ℕ
-  text_held : loaded files report 1_073_741_824 ≡ Bytes text
-  made : Report
-  text_reads : report_of text ≡ Ok made
-  none : first_fault said inputs made ≡ None
-  leads : answer ≡ outcome (judged_report said made.compare None) files
+pub record Replayed (recipe report : List ℕ) (files : NamedFiles) (answer : Outcome) : Type 0 where
+  pub said : Said
+  pub inputs : List (List ℕ)
+  pub holds : Holds recipe said inputs files
+  pub apart : is_input said report ≡ false
+  pub text : List ℕ
+  pub text_held : loaded files report 1_073_741_824 ≡ Bytes text
+  pub made : Report
+  pub text_reads : report_of text ≡ Ok made
+  pub none : first_fault said inputs made ≡ None
+  pub leads : answer ≡ outcome (judged_report said made.compare None) files
 
 module _ (recipe report : List ℕ) (files : NamedFiles) where
   abbrev Goes : Outcome → Outcome → Type 0
@@ -90,7 +90,7 @@ module _ (recipe report : List ℕ) (files : NamedFiles) where
       both_need_inputs Goes files refused said (last made) (last made) (λ inputs inputs_held.
       by_fault bytes said held reads apart text text_held made text_reads inputs inputs_held (first_fault said inputs made) refl))))
 
-  replayed : (two : Bool) → IsTrue (is_compared (outcome (cond two (verify_files recipe report) usage) files).status)
+  pub replayed : (two : Bool) → IsTrue (is_compared (outcome (cond two (verify_files recipe report) usage) files).status)
       → Replayed recipe report files (outcome (cond two (verify_files recipe report) usage) files)
   unfolding verify_files
   replayed false compared = absurd cc

@@ -8,4 +8,5 @@ pub mod Differences
 pub mod Verified
 pub mod Judged
 pub mod Chained
+pub mod ChainJudged
 pub mod Scripted

@@ -3,6 +3,7 @@
 //! Where a law asks that what a command loads is bytes (`LoadsBytes` of its plan), a call of `run` with the command's words says so: its clause `calls`.
 
 ghost use Rattle.ddc_app.specs.Accepting.{audit, is_compared, verify};
+ghost use Rattle.ddc_app.specs.ChainJudged.{AllVerified};
 ghost use Rattle.ddc_app.specs.Chained.{Chained, chain};
 ghost use Rattle.ddc_app.specs.Commands.{plan_of};
 ghost use Rattle.ddc_app.specs.Differences.{AreDeltaWords, DeltaPieces, Differences, IsSavedBeside, LeavesAllBut, delta_resume, delta_start, in_differences};
@@ -28,6 +29,7 @@ ghost use Rattle.tool_commands.specs.ScriptTexts.{commands_true_line};
 ghost use Rattle.report.specs.Marks.{mark_of};
 ghost use Rattle.verifier.specs.Faults.{first_fault};
 ghost use Rattle.verifier.specs.declared.part.Part.{Part};
+ghost use Rattle.verify_commands.specs.ChainTexts.{chain_text};
 ghost use Rattle.wheeler.specs.Bench.{all_equal};
 
 use audit_chain::laws::composed;
@@ -77,6 +79,13 @@ pub fn chained<M: Meaning>()
 {
     composed::<M>();
 }
+
+/// `chain` by `verify` over the same files: it comes to 0 exactly where LIST reads and has a line, the inputs of all lines are held within what is left
+/// for them, and `verify` comes to 0 on each line. Its text is then that of these audits.
+pub fn chains_verified()
+    ensures yes { (list : List ℕ) (files : NamedFiles) → ((chain list files).status ≡ Yes) ↔ AllVerified list files }
+    ensures text { (list : List ℕ) (files : NamedFiles) (all : AllVerified list files) → (chain list files).text ≡ chain_text all.links }
+{}
 
 /// A piece of an audit: `part` by some steps over files pauses behind as many and leaves the save of that position, or it comes to the same
 /// as `audit`.

@@ -1,0 +1,45 @@
+-- Over which files `chain LIST` comes to a yes, by what `verify` comes to over the same files. docs/reference/chain.md says the same for people.
+use Rattle.std.specs.Prelude.{◌≡◌, ◌≢◌, ℕ, IsTrue, All, Ok, List, [], ◌∷◌}
+use Rattle.ddc_base.specs.declared.outside.Loaded.TheVariants.{Bytes}
+use Rattle.ddc_base.specs.Outside.{NamedFiles, loaded}
+use Rattle.recipe.specs.Reading.{recipe_of}
+use Rattle.audit_chain.specs.declared.link.Link.{Link}
+use Rattle.command_plan.specs.declared.status.Status.TheVariants.{Yes}
+use Rattle.command_plan.specs.Lists.{list_of}
+use Rattle.command_plan.specs.Words.{is_file_word}
+use Rattle.recipe_plan.specs.Recipes.{paths}
+use Rattle.verify_commands.specs.declared.pair.Pair.{Pair}
+use Rattle.verify_commands.specs.Chain.{pair_of, room_behind}
+use Rattle.ddc_app.specs.Accepting.{verify}
+use Rattle.ddc_app.specs.Holding.{AreHeld}
+
+-- `verify` says yes of the recipe and the report of a line
+abbrev pub SaysYes : NamedFiles → Pair → Type 0
+SaysYes files pair = (verify pair.recipe pair.report files).status ≡ Yes
+
+-- the files hold the recipe of a line, which reads, and its inputs, each of at most 268,435,456 bytes and all of at most `room` together
+pub record HoldsInputs (room : ℕ) (files : NamedFiles) (pair : Pair) (link : Link) : Type 0 where
+  pub recipe_bytes : List ℕ
+  pub recipe_held : loaded files pair.recipe 1_048_576 ≡ Bytes recipe_bytes
+  pub recipe_reads : recipe_of recipe_bytes ≡ Ok link.recipe
+  pub inputs_held : AreHeld 268_435_456 room files (paths link.recipe) link.inputs
+
+-- the same of each line, within what those before it leave
+abbrev pub AllHoldInputs : ℕ → NamedFiles → List Pair → List Link → Type 0
+AllHoldInputs room files [] [] = Unit {0}
+AllHoldInputs room files (pair ∷ pairs) (link ∷ links) =
+    HoldsInputs room files pair link × AllHoldInputs (room_behind room link.inputs) files pairs links
+AllHoldInputs room files _ _ = ⊥
+
+-- a word for a list; the files hold it, it reads and has a line; they hold the inputs of all lines, of at most 1,073,741,824 bytes together; and
+-- `verify` says yes of each line
+pub record AllVerified (list : List ℕ) (files : NamedFiles) : Type 0 where
+  pub named : IsTrue (is_file_word list)
+  pub list_bytes : List ℕ
+  pub list_held : loaded files list 1_048_576 ≡ Bytes list_bytes
+  pub lines : List Pair
+  pub list_reads : list_of pair_of 64 list_bytes ≡ Ok lines
+  pub some : lines ≢ []
+  pub links : List Link
+  pub inputs_held : AllHoldInputs 1_073_741_824 files lines links
+  pub verified : All (SaysYes files) lines
