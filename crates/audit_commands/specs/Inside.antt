@@ -2,3 +2,4 @@
 pub mod Keeping
 pub mod Refusing
 pub mod Resuming
+pub mod Words

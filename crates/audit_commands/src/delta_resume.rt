@@ -1,8 +1,7 @@
 //! `delta-resume RECIPE BASE PATCH REPORT STEPS`: another piece of an audit, from where a save and what differs from it say that the audit stands;
 //! what differs from the save then is kept.
 
-ghost use Rattle.std.specs.Prelude.{◌≤◌, IfOk, map};
-ghost use Rattle.ddc_base.specs.Outside.{IsFileName};
+ghost use Rattle.std.specs.Prelude.{IfOk, map};
 ghost use Rattle.recipe.specs.Kept.{IsRecipe};
 ghost use Rattle.wheeler.specs.Valid.{IsInputs};
 ghost use Rattle.command_plan.specs.declared.status.Status.TheVariants.{SaveRefused};
@@ -11,74 +10,41 @@ ghost use Rattle.command_plan.specs.Plan.{answers, needs};
 ghost use Rattle.command_plan.specs.Steps.{Says};
 ghost use Rattle.recipe_plan.specs.Recipes.{needs_inputs};
 ghost use Rattle.audit_run.specs.Delta.Audits.{IsResumedBeside, ResumesAuditBeside};
-ghost use Rattle.audit_commands.specs.Delta.{delta_resume_files, delta_resume_plan, delta_words, resumes_beside};
+ghost use Rattle.audit_commands.specs.Delta.{delta_resume_files, delta_resume_plan, resumes_beside};
 ghost use Rattle.audit_commands.specs.Inside.Refusing.{RefusesDelta};
 ghost use Rattle.audit_commands.specs.PauseTexts.{delta_refused_line};
 
 use crate::fetching::{SAVE_LIMIT, fetch_beside, fetch_save};
 use crate::going::{Kept, go_on};
 use crate::pause_texts;
-use crate::words::are_four_files;
+use crate::words::{BesideWords, Piece};
 use audit_run::{Audit, DeltaRefusal};
-use command_plan::words::steps_of;
 use command_plan::{Answer, Status, Stop, fetch, usage};
 use ddc_base::{Bytes, Shelf};
 use recipe::{Inputs, Recipe};
 use std::alloc::Global;
 
 /// Performs the command on the words after its name.
-#[tactic(auto, using(command_plan::proofs::Performing::performing))]
 pub fn perform<S: Shelf>(alloc: Global, words: &[&str], shelf: &mut S) -> Result<Answer, Stop>
     ensures { Performs (delta_resume_plan (map (λ w. w.now) words.now)) (S.state shelf.old) (S.state shelf.new) result }
 {
-    match words {
-        [recipe, base, patch, report, steps] => {
-            on_words(alloc, shelf, recipe, base, patch, report, steps)
-        }
-        _ => usage(alloc),
-    }
-}
-
-/// The command on five words.
-#[tactic(auto, using(command_plan::proofs::Performing::performing))]
-fn on_words<S: Shelf>(
-    alloc: Global,
-    shelf: &mut S,
-    recipe: &str,
-    base: &str,
-    patch: &str,
-    report: &str,
-    steps: &str,
-) -> Result<Answer, Stop>
-    ensures { Performs (delta_words delta_resume_files recipe.now base.now patch.now report.now steps.now) (S.state shelf.old) (S.state shelf.new) result }
-{
-    match steps_of(steps) {
-        Some(steps) if are_four_files(recipe, base, patch, report) => {
-            delta_resume(alloc, shelf, recipe, base, patch, report, steps)
-        }
-        _ => usage(alloc),
-    }
+    let Some(words) = BesideWords::read(words) else {
+        return usage(alloc);
+    };
+    delta_resume(alloc, shelf, &words)
 }
 
 /// The command on four files and a number of steps.
 fn delta_resume<S: Shelf>(
     alloc: Global,
     shelf: &mut S,
-    recipe: &str,
-    base: &str,
-    patch: &str,
-    report: &str,
-    steps: u64,
+    words: &BesideWords<'_>,
 ) -> Result<Answer, Stop>
-    requires some { 1 ≤ steps }
-    requires recipe { IsFileName recipe.now }
-    requires base { IsFileName base.now }
-    requires patch { IsFileName patch.now }
-    requires report { IsFileName report.now }
-    ensures { Performs (delta_resume_files recipe.now base.now patch.now report.now steps) (S.state shelf.old) (S.state shelf.new) result }
+    ensures { Performs (delta_resume_files words.now.recipe words.now.base words.now.piece.save words.now.piece.report words.now.piece.steps)
+        (S.state shelf.old) (S.state shelf.new) result }
 {
-    let recipe = fetch_beside(alloc, shelf, recipe, report, base, patch)?;
-    load(alloc, shelf, recipe, base, patch, report, steps)
+    let recipe = fetch_beside(alloc, shelf, words)?;
+    load(alloc, shelf, recipe, words)
 }
 
 /// The command on a recipe.
@@ -86,61 +52,39 @@ fn load<S: Shelf>(
     alloc: Global,
     shelf: &mut S,
     recipe: Recipe,
-    base: &str,
-    patch: &str,
-    report: &str,
-    steps: u64,
+    words: &BesideWords<'_>,
 ) -> Result<Answer, Stop>
-    requires some { 1 ≤ steps }
-    requires base { IsFileName base.now }
-    requires patch { IsFileName patch.now }
-    requires report { IsFileName report.now }
-    ensures { Performs (needs base.now 4_294_967_296 (λ text. needs patch.now 4_294_967_296 (λ delta. needs_inputs recipe (λ inputs.
-        resumes_beside recipe inputs text delta patch.now report.now steps)))) (S.state shelf.old) (S.state shelf.new) result }
+    ensures { Performs (needs words.now.base 4_294_967_296 (λ text. needs words.now.piece.save 4_294_967_296 (λ delta. needs_inputs recipe (λ inputs.
+        resumes_beside recipe inputs text delta words.now.piece.save words.now.piece.report words.now.piece.steps)))) (S.state shelf.old) (S.state shelf.new) result }
 {
-    let save = fetch(alloc, shelf, base, SAVE_LIMIT)?;
-    let (delta, inputs) = fetch_save(alloc, shelf, &recipe, patch)?;
+    let save = fetch(alloc, shelf, words.base.text(), SAVE_LIMIT)?;
+    let (delta, inputs) = fetch_save(alloc, shelf, &recipe, &words.piece.save)?;
     go_from(
         alloc,
+        shelf,
         recipe,
         inputs,
         save.as_slice(),
         delta,
-        steps,
-        patch,
-        report,
-        shelf,
+        &words.piece,
     )
 }
 
 /// Goes on from where a save and a delta say that the audit stands.
 fn go_from<S: Shelf>(
     alloc: Global,
+    shelf: &mut S,
     recipe: Recipe,
     inputs: Inputs,
     save: &[u8],
     delta: Bytes,
-    steps: u64,
-    patch: &str,
-    report: &str,
-    shelf: &mut S,
+    piece: &Piece<'_>,
 ) -> Result<Answer, Stop>
     requires given { IsInputs recipe inputs }
-    requires some { 1 ≤ steps }
-    requires patch { IsFileName patch.now }
-    requires report { IsFileName report.now }
-    ensures { Performs (resumes_beside recipe inputs save.now delta patch.now report.now steps) (S.state shelf.old) (S.state shelf.new) result }
+    ensures { Performs (resumes_beside recipe inputs save.now delta piece.now.save piece.now.report piece.now.steps) (S.state shelf.old) (S.state shelf.new) result }
 {
     match read(alloc, recipe, inputs, save, delta) {
-        Ok(audit) => go_on(
-            alloc,
-            audit,
-            steps,
-            Kept::Beside(save),
-            patch,
-            report,
-            shelf,
-        ),
+        Ok(audit) => go_on(alloc, shelf, audit, Kept::Beside(save), piece),
         Err(refusal) => refuse(alloc, refusal),
     }
 }

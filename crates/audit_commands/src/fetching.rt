@@ -1,13 +1,14 @@
 //! What the commands of an audit in pieces begin with: the recipe, files that are to be none of its inputs, a save and the inputs.
 
 ghost use Rattle.std.specs.Prelude.{ℕ, IfOk, List};
-ghost use Rattle.ddc_base.specs.Outside.{IsFileName, ShelfState};
+ghost use Rattle.ddc_base.specs.Outside.{ShelfState};
 ghost use Rattle.wheeler.specs.Valid.{IsInputs};
 ghost use Rattle.command_plan.specs.Plan.{Plan, needs};
 ghost use Rattle.command_plan.specs.Steps.{Obtains};
 ghost use Rattle.recipe_plan.specs.Recipes.{needs_apart, needs_inputs, needs_recipe};
 
-use command_plan::{Stop, fetch};
+use crate::words::BesideWords;
+use command_plan::{FileName, Stop, fetch};
 use ddc_base::{Bytes, Shelf};
 use recipe::{Inputs, Recipe};
 use recipe_plan::{apart, fetch_inputs, fetch_recipe};
@@ -20,42 +21,49 @@ pub(crate) const SAVE_LIMIT: u64 = 4_294_967_296;
 pub(crate) fn fetch_apart<S: Shelf>(
     alloc: Global,
     shelf: &mut S,
-    recipe: &str,
-    report: &str,
-    save: &str,
+    recipe: &FileName<'_>,
+    report: &FileName<'_>,
+    save: &FileName<'_>,
 ) -> Result<Recipe, Stop>
-    requires { IsFileName recipe.now }
     ensures { Obtains (λ next. needs_recipe recipe.now (λ said. needs_apart said report.now (λ _. needs_apart said save.now (λ _. next said))))
         (S.state shelf.old) (S.state shelf.new) result }
 {
-    let recipe = fetch_recipe(alloc, shelf, recipe)?;
+    let recipe = fetch_recipe(alloc, shelf, recipe.text())?;
     both_apart(alloc, &recipe, report, save)?;
     Ok(recipe)
 }
 
 /// Neither of two files is an input.
-fn both_apart(alloc: Global, recipe: &Recipe, report: &str, save: &str) -> Result<(), Stop>
+fn both_apart(
+    alloc: Global,
+    recipe: &Recipe,
+    report: &FileName<'_>,
+    save: &FileName<'_>,
+) -> Result<(), Stop>
     ensures { (shelf : ShelfState) → Obtains (λ next. needs_apart recipe.now report.now (λ _. needs_apart recipe.now save.now next)) shelf shelf result }
 {
-    apart(alloc, recipe, report)?;
-    apart(alloc, recipe, save)
+    apart(alloc, recipe, report.text())?;
+    apart(alloc, recipe, save.text())
 }
 
 /// The recipe, with a report, a base and a patch that are none of its inputs.
 pub(crate) fn fetch_beside<S: Shelf>(
     alloc: Global,
     shelf: &mut S,
-    recipe: &str,
-    report: &str,
-    base: &str,
-    patch: &str,
+    words: &BesideWords<'_>,
 ) -> Result<Recipe, Stop>
-    requires { IsFileName recipe.now }
-    ensures { Obtains (λ next. needs_recipe recipe.now (λ said. needs_apart said report.now (λ _. needs_apart said base.now (λ _. needs_apart said patch.now (λ _. next said)))))
+    ensures { Obtains (λ next. needs_recipe words.now.recipe (λ said. needs_apart said words.now.piece.report (λ _. needs_apart said words.now.base (λ _.
+        needs_apart said words.now.piece.save (λ _. next said)))))
         (S.state shelf.old) (S.state shelf.new) result }
 {
-    let recipe = fetch_apart(alloc, shelf, recipe, report, base)?;
-    apart(alloc, &recipe, patch)?;
+    let recipe = fetch_apart(
+        alloc,
+        shelf,
+        &words.recipe,
+        &words.piece.report,
+        &words.base,
+    )?;
+    apart(alloc, &recipe, words.piece.save.text())?;
     Ok(recipe)
 }
 
@@ -64,14 +72,13 @@ pub(crate) fn fetch_save<S: Shelf>(
     alloc: Global,
     shelf: &mut S,
     recipe: &Recipe,
-    save: &str,
+    save: &FileName<'_>,
 ) -> Result<(Bytes, Inputs), Stop>
-    requires { IsFileName save.now }
     ensures obtained { Obtains (λ (next : List ℕ × List (List ℕ) → Plan). needs save.now 4_294_967_296 (λ text. needs_inputs recipe.now (λ inputs. next (text, inputs))))
         (S.state shelf.old) (S.state shelf.new) result }
     ensures given { IfOk result (λ found. IsInputs recipe.now found.1) }
 {
-    let text = fetch(alloc, shelf, save, SAVE_LIMIT)?;
+    let text = fetch(alloc, shelf, save.text(), SAVE_LIMIT)?;
     let inputs = fetch_inputs(alloc, shelf, recipe)?;
     Ok((text, inputs))
 }

@@ -1,7 +1,6 @@
 //! An audit goes on, and where it came to is told.
 
-ghost use Rattle.std.specs.Prelude.{◌≡◌, ◌≤◌, ℕ, IfOk, List, Some};
-ghost use Rattle.ddc_base.specs.Outside.{IsFileName};
+ghost use Rattle.std.specs.Prelude.{◌≡◌, ℕ, IfOk, List, Some};
 ghost use Rattle.wheeler.specs.Positions.{Position, Standing, On, forward_from};
 ghost use Rattle.audit_run.specs.Saved.{IsOn};
 ghost use Rattle.audit_run.specs.Seen.{standing};
@@ -11,8 +10,9 @@ ghost use Rattle.audit_commands.specs.Pause.{came_to, paused};
 
 use crate::audit::tell;
 use crate::pause_texts;
+use crate::words::Piece;
 use audit_run::Audit;
-use command_plan::{Answer, Status, Stop, keep};
+use command_plan::{Answer, FileName, Status, Stop, keep};
 use ddc_base::{Bytes, OutOfMemory, Shelf};
 use recipe_plan::stage_name;
 use std::alloc::Global;
@@ -26,61 +26,52 @@ pub(crate) enum Kept<'a> {
     Beside(&'a [u8]),
 }
 
-/// Goes on by at most so many steps, and then keeps where the audit stands, under a name, or its report.
+/// Goes on by a piece, and then keeps where the audit stands, or its report.
 pub(crate) fn go_on<S: Shelf>(
     alloc: Global,
-    audit: Audit,
-    steps: u64,
-    kept: Kept<'_>,
-    name: &str,
-    report: &str,
     shelf: &mut S,
+    audit: Audit,
+    kept: Kept<'_>,
+    piece: &Piece<'_>,
 ) -> Result<Answer, Stop>
-    requires some { 1 ≤ steps }
-    requires keeps { (text : Position → List ℕ) × Keeps audit.recipe audit.inputs kept text }
-    requires name { IsFileName name.now }
-    requires report { IsFileName report.now }
+    requires { (text : Position → List ℕ) × Keeps audit.recipe audit.inputs kept text }
     ensures { (text : Position → List ℕ) → Keeps audit.recipe audit.inputs kept.entry text
-        → Performs (came_to audit.recipe text name.now report.now (forward_from audit.recipe audit.inputs (standing audit) steps))
+        → Performs (came_to audit.recipe text piece.now.save piece.now.report (forward_from audit.recipe audit.inputs (standing audit) piece.now.steps))
         (S.state shelf.old) (S.state shelf.new) result }
 {
-    let audit = audit.advanced(steps)?;
-    settle(alloc, &audit, kept, name, report, shelf)
+    let audit = audit.advanced(piece.steps.count())?;
+    settle(alloc, shelf, &audit, kept, piece)
 }
 
 /// Keeps where an audit stands that is not over, or tells one that is over.
 fn settle<S: Shelf>(
     alloc: Global,
+    shelf: &mut S,
     audit: &Audit,
     kept: Kept<'_>,
-    name: &str,
-    report: &str,
-    shelf: &mut S,
+    piece: &Piece<'_>,
 ) -> Result<Answer, Stop>
     requires stands { (stands : Standing) × (audit.now.stands ≡ Some stands) }
     requires keeps { (text : Position → List ℕ) × Keeps audit.now.recipe audit.now.inputs kept text }
-    requires name { IsFileName name.now }
-    requires report { IsFileName report.now }
     ensures { (stands : Standing) (text : Position → List ℕ) → audit.now.stands ≡ Some stands → Keeps audit.now.recipe audit.now.inputs kept.entry text
-        → Performs (came_to audit.now.recipe text name.now report.now stands) (S.state shelf.old) (S.state shelf.new) result }
+        → Performs (came_to audit.now.recipe text piece.now.save piece.now.report stands) (S.state shelf.old) (S.state shelf.new) result }
 {
     match audit.answer() {
-        Some(answer) => tell(alloc, audit.recipe(), answer, report, shelf),
-        None => keep_place(alloc, audit, kept, name, shelf),
+        Some(answer) => tell(alloc, shelf, audit.recipe(), answer, &piece.report),
+        None => keep_place(alloc, shelf, audit, kept, &piece.save),
     }
 }
 
 /// Keeps where an audit stands, and says the stage and its steps.
 fn keep_place<S: Shelf>(
     alloc: Global,
+    shelf: &mut S,
     audit: &Audit,
     kept: Kept<'_>,
-    name: &str,
-    shelf: &mut S,
+    name: &FileName<'_>,
 ) -> Result<Answer, Stop>
     requires on { IsOn audit.now.stands }
     requires keeps { (text : Position → List ℕ) × Keeps audit.now.recipe audit.now.inputs kept text }
-    requires name { IsFileName name.now }
     ensures { (p : Position) (text : Position → List ℕ) → audit.now.stands ≡ Some (On p) → Keeps audit.now.recipe audit.now.inputs kept.entry text
         → Performs (paused audit.now.recipe text name.now p) (S.state shelf.old) (S.state shelf.new) result }
 {
@@ -91,7 +82,7 @@ fn keep_place<S: Shelf>(
         status: Status::Paused,
         text: line,
     };
-    keep(alloc, shelf, name, text.as_slice(), answer)
+    keep(alloc, shelf, name.text(), text.as_slice(), answer)
 }
 
 /// What is kept of where an audit stands.

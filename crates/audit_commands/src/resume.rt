@@ -1,101 +1,53 @@
 //! `resume RECIPE SAVE REPORT STEPS`: another piece of an audit, from where a save says that it stands.
 
-ghost use Rattle.std.specs.Prelude.{◌≤◌, if◌then◌else◌, map};
-ghost use Rattle.ddc_base.specs.Outside.{IsFileName, ShelfState};
+ghost use Rattle.std.specs.Prelude.{map};
+ghost use Rattle.ddc_base.specs.Outside.{ShelfState};
 ghost use Rattle.wheeler.specs.Valid.{IsInputs};
 ghost use Rattle.audit_run.specs.Saved.{ResumesAudit, standing_at};
 ghost use Rattle.command_plan.specs.declared.status.Status.TheVariants.{SaveRefused};
 ghost use Rattle.command_plan.specs.Performs.{Performs};
 ghost use Rattle.command_plan.specs.Plan.{answers};
 ghost use Rattle.command_plan.specs.Steps.{Obtains, Says};
-ghost use Rattle.command_plan.specs.Words.{are_three_files, as_steps, or_usage, usage};
 ghost use Rattle.audit_commands.specs.Inside.Refusing.{Refuses};
-ghost use Rattle.audit_commands.specs.Inside.Resuming.{resumes_whole};
 ghost use Rattle.audit_commands.specs.Pause.{needs_position, resume_files, resume_plan};
 ghost use Rattle.audit_commands.specs.PauseTexts.{save_refused_line};
 
 use crate::fetching::{fetch_apart, fetch_save};
 use crate::going::{Kept, go_on};
 use crate::pause_texts;
+use crate::words::PieceWords;
 use audit_run::Audit;
 use audit_run::save::SaveRefusal;
-use command_plan::words::{are_three_files, steps_of};
 use command_plan::{Answer, Status, Stop, usage};
 use ddc_base::{Bytes, Shelf};
 use recipe::{Inputs, Recipe};
 use std::alloc::Global;
 
 /// Performs the command on the words after its name.
-#[tactic(auto, using(command_plan::proofs::Performing::performing))]
 pub fn perform<S: Shelf>(alloc: Global, words: &[&str], shelf: &mut S) -> Result<Answer, Stop>
     ensures { Performs (resume_plan (map (λ w. w.now) words.now)) (S.state shelf.old) (S.state shelf.new) result }
 {
-    match words {
-        [recipe, save, report, steps] => on_words(alloc, shelf, recipe, save, report, steps),
-        _ => usage(alloc),
-    }
-}
-
-/// The command on four words.
-#[tactic(auto, using(command_plan::proofs::Performing::performing))]
-fn on_words<S: Shelf>(
-    alloc: Global,
-    shelf: &mut S,
-    recipe: &str,
-    save: &str,
-    report: &str,
-    steps: &str,
-) -> Result<Answer, Stop>
-    ensures { Performs (or_usage (as_steps steps.now) (λ count. if are_three_files recipe.now save.now report.now then resume_files recipe.now save.now report.now count else usage))
-        (S.state shelf.old) (S.state shelf.new) result }
-{
-    match steps_of(steps) {
-        Some(steps) if are_three_files(recipe, save, report) => {
-            resume(alloc, shelf, recipe, save, report, steps)
-        }
-        _ => usage(alloc),
-    }
+    let Some(words) = PieceWords::read(words) else {
+        return usage(alloc);
+    };
+    resume(alloc, shelf, &words)
 }
 
 /// The command on three files and a number of steps.
-fn resume<S: Shelf>(
-    alloc: Global,
-    shelf: &mut S,
-    recipe: &str,
-    save: &str,
-    report: &str,
-    steps: u64,
-) -> Result<Answer, Stop>
-    requires some { 1 ≤ steps }
-    requires recipe { IsFileName recipe.now }
-    requires save { IsFileName save.now }
-    requires report { IsFileName report.now }
-    ensures { Performs (resume_files recipe.now save.now report.now steps) (S.state shelf.old) (S.state shelf.new) result }
+fn resume<S: Shelf>(alloc: Global, shelf: &mut S, words: &PieceWords<'_>) -> Result<Answer, Stop>
+    ensures { Performs (resume_files words.now.recipe words.now.piece.save words.now.piece.report words.now.piece.steps)
+        (S.state shelf.old) (S.state shelf.new) result }
 {
-    let recipe = fetch_apart(alloc, shelf, recipe, report, save)?;
-    let (text, inputs) = fetch_save(alloc, shelf, &recipe, save)?;
-    go_from(alloc, recipe, inputs, text, steps, save, report, shelf)
-}
-
-/// Goes on from where a save says that the audit stands.
-fn go_from<S: Shelf>(
-    alloc: Global,
-    recipe: Recipe,
-    inputs: Inputs,
-    text: Bytes,
-    steps: u64,
-    save: &str,
-    report: &str,
-    shelf: &mut S,
-) -> Result<Answer, Stop>
-    requires given { IsInputs recipe inputs }
-    requires some { 1 ≤ steps }
-    requires save { IsFileName save.now }
-    requires report { IsFileName report.now }
-    ensures { Performs (resumes_whole recipe inputs text save.now report.now steps) (S.state shelf.old) (S.state shelf.new) result }
-{
+    let recipe = fetch_apart(
+        alloc,
+        shelf,
+        &words.recipe,
+        &words.piece.report,
+        &words.piece.save,
+    )?;
+    let (text, inputs) = fetch_save(alloc, shelf, &recipe, &words.piece.save)?;
     let audit = audit_at(alloc, recipe, inputs, text)?;
-    go_on(alloc, audit, steps, Kept::Whole, save, report, shelf)
+    go_on(alloc, shelf, audit, Kept::Whole, &words.piece)
 }
 
 /// The audit that stands where a save says, or what ends the command.

@@ -1,21 +1,110 @@
-//! The words of the commands of an audit in pieces.
+//! The words of the commands of an audit, each set of them as one value.
 
-ghost use Rattle.std.specs.Prelude.{◌≡◌, IsTrue};
-ghost use Rattle.ddc_base.specs.Outside.{IsFileName};
-ghost use Rattle.audit_commands.specs.Delta.{are_four_files};
+ghost use Rattle.std.specs.Prelude.{◌≡◌, map};
+ghost use Rattle.audit_commands.specs.Inside.Words.{as_four_files, beside_words, report_words, whole_words};
 
-use command_plan::words::{are_three_files, are_two_files};
+use command_plan::words::are_two_files;
+use command_plan::{FileName, Steps, three_files, two_files};
 
-/// Whether four words can name four files.
-#[tactic(auto, unfolding(crate::specs::Delta::are_four_files))]
-pub(crate) fn are_four_files(recipe: &str, base: &str, patch: &str, report: &str) -> bool
-    ensures value { result ≡ are_four_files recipe.now base.now patch.now report.now }
-    ensures recipe { IsTrue result → IsFileName recipe.now }
-    ensures base { IsTrue result → IsFileName base.now }
-    ensures patch { IsTrue result → IsFileName patch.now }
-    ensures report { IsTrue result → IsFileName report.now }
+/// A recipe, and the report of its audit.
+#[derive(Drop)]
+pub(crate) struct ReportWords<'w> {
+    pub recipe: FileName<'w>,
+    pub report: FileName<'w>,
+}
+
+impl<'w> ReportWords<'w> {
+    /// The words `RECIPE REPORT`, and `None` for every other.
+    pub(crate) fn read(words: &[&'w str]) -> Option<ReportWords<'w>>
+        ensures { result ≡ report_words (map (λ w. w.now) words.now) }
+    {
+        let [recipe, report] = words else {
+            return None;
+        };
+        let (recipe, report) = two_files(recipe, report)?;
+        Some(ReportWords { recipe, report })
+    }
+}
+
+/// How an audit goes on: by at most so many steps, and then under one name what is kept of it is set, or its report under the other.
+#[derive(Drop)]
+pub(crate) struct Piece<'w> {
+    pub save: FileName<'w>,
+    pub report: FileName<'w>,
+    pub steps: Steps,
+}
+
+/// A recipe, and a piece of its audit.
+#[derive(Drop)]
+pub(crate) struct PieceWords<'w> {
+    pub recipe: FileName<'w>,
+    pub piece: Piece<'w>,
+}
+
+impl<'w> PieceWords<'w> {
+    /// The words `RECIPE SAVE REPORT STEPS`, and `None` for every other.
+    pub(crate) fn read(words: &[&'w str]) -> Option<PieceWords<'w>>
+        ensures { result ≡ whole_words (map (λ w. w.now) words.now) }
+    {
+        let [recipe, save, report, steps] = words else {
+            return None;
+        };
+        let (recipe, save, report) = three_files(recipe, save, report)?;
+        let steps = Steps::read(steps)?;
+        let piece = Piece {
+            save,
+            report,
+            steps,
+        };
+        Some(PieceWords { recipe, piece })
+    }
+}
+
+/// A recipe, the base beside which is kept what differs, and a piece of the audit, of which that is kept.
+#[derive(Drop)]
+pub(crate) struct BesideWords<'w> {
+    pub recipe: FileName<'w>,
+    pub base: FileName<'w>,
+    pub piece: Piece<'w>,
+}
+
+impl<'w> BesideWords<'w> {
+    /// The words `RECIPE BASE PATCH REPORT STEPS`, and `None` for every other.
+    pub(crate) fn read(words: &[&'w str]) -> Option<BesideWords<'w>>
+        ensures { result ≡ beside_words (map (λ w. w.now) words.now) }
+    {
+        let [recipe, base, patch, report, steps] = words else {
+            return None;
+        };
+        let (recipe, base, save, report) = four_files(recipe, base, patch, report)?;
+        let steps = Steps::read(steps)?;
+        let piece = Piece {
+            save,
+            report,
+            steps,
+        };
+        Some(BesideWords {
+            recipe,
+            base,
+            piece,
+        })
+    }
+}
+
+/// The names that four words are, if they can name four files.
+fn four_files<'w>(
+    recipe: &'w str,
+    base: &'w str,
+    patch: &'w str,
+    report: &'w str,
+) -> Option<(FileName<'w>, FileName<'w>, FileName<'w>, FileName<'w>)>
+    ensures { result ≡ as_four_files recipe.now base.now patch.now report.now }
 {
-    are_three_files(recipe, base, report)
-        && are_three_files(recipe, patch, report)
-        && are_two_files(base, patch)
+    let (said, whole, made) = three_files(recipe, base, report)?;
+    let (_, kept, _) = three_files(recipe, patch, report)?;
+    if are_two_files(base, patch) {
+        Some((said, whole, kept, made))
+    } else {
+        None
+    }
 }

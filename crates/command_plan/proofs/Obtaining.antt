@@ -1,5 +1,5 @@
 -- Steps of a command in a row. What each of them does is `Obtains`, with a shelf or without.
-use Rattle.std.proofs.Common.{◌≡◌, ℕ, Result, Ok, Err, List, refl, sym, ap, subst, ◌∙◌}
+use Rattle.std.proofs.Common.{◌≡◌, ℕ, Option, Result, Ok, Err, List, refl, sym, ap, subst, ◌∙◌}
 use Rattle.std.specs.Prelude.{IsErrAnd}
 use Rattle.ddc_base.specs.declared.outside.PutFail.{PutFail}
 use Rattle.ddc_base.specs.Outside.{ShelfState, SinkState}
@@ -11,6 +11,7 @@ use Rattle.command_plan.specs.declared.stop.Stop.{Stop}
 use Rattle.command_plan.specs.declared.stop.Stop.TheVariants as stop
 use Rattle.command_plan.specs.Plan.{Plan, answers, talks, needs, unless_refused}
 use Rattle.command_plan.specs.Performs.{PerformsTalk, Performs}
+use Rattle.command_plan.specs.Words.{or_usage}
 use Rattle.command_plan.specs.Steps.{EndsAs, Fetches, Obtains, talking}
 use Rattle.command_plan.proofs.Performing.{ends_answered, ends_at_fetch, leads_after_fetch, led_to, spoken, wants_memory}
 
@@ -30,6 +31,13 @@ ends_with {result = Ok answer} handed p = absurd handed
 ends_with {plan} {old} {new} {result = Err given} handed p = subst (λ e. Performs plan old new (Err e)) (sym handed) p
 
 pub ruleset obtaining = (goes_on_with, ends_before)
+
+-- ---- a command on words that were read, or on words that say nothing
+
+pub on_words : {A : Type 0} {plan : Plan} {read found : Option A} {old new : ShelfState} {result : Result Answer Stop} (next : A → Plan)
+    → plan ≡ or_usage read next → found ≡ read → Performs (or_usage found next) old new result → Performs plan old new result
+on_words {old = old} {new = new} {result = result} next is same p =
+    subst (λ q. Performs q old new result) (ap (λ o. or_usage o next) same ∙ sym is) p
 
 -- ---- the same of a command that may hold a talk
 

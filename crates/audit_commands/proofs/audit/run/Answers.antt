@@ -1,11 +1,6 @@
-use Rattle.command_plan.proofs.Obtaining.{ends_before, ends_with, goes_on_with}
+use Rattle.command_plan.proofs.Obtaining.{ends_with}
+use Rattle.command_plan.proofs.Performing.{wants_memory}
 use Rattle.audit_commands.proofs.audit.run.Goals as goal
 
-pub returns-in_err-apart : goal.returns-in_err-apart
-returns-in_err-apart g c = ends_with c.from_residual.ensures.1 (ends_before (c.in_err-apart.ensures _))
-
-pub returns-in_err-inputs : goal.returns-in_err-inputs
-returns-in_err-inputs g c = ends_with c.from_residual-in_err-inputs.ensures.1 (goes_on_with (c.in_ok-apart.ensures _) (ends_before c.in_err-inputs.ensures.obtained))
-
-pub returns : goal.returns
-returns g c = goes_on_with (c.in_ok-apart.ensures _) (goes_on_with c.in_ok-inputs.ensures.obtained c.run_whole.ensures)
+pub returns-in_err-answer : goal.returns-in_err-answer
+returns-in_err-answer g c = ends_with c.from_residual.ensures.1 (wants_memory _ _)

@@ -12,11 +12,11 @@ unfolding delta_start_files
 returns-in_err-save g c =
     ends_with c.from_residual-in_err-save.ensures.1
     (goes_on_with c.in_ok-recipe.ensures
-    (ends_before {next = λ (found : List ℕ × List (List ℕ)). starts_beside c.in_ok-recipe.recipe found.1 found.0 c.args.patch.now c.args.report.now c.args.steps} c.in_err-save.ensures.obtained))
+    (ends_before {next = λ (found : List ℕ × List (List ℕ)). starts_beside c.in_ok-recipe.recipe found.1 found.0 c.args.words.now.piece.save c.args.words.now.piece.report c.args.words.now.piece.steps} c.in_err-save.ensures.obtained))
 
 pub returns : goal.returns
 unfolding delta_start_files
 returns g c =
     goes_on_with c.in_ok-recipe.ensures
-    (goes_on_with {next = λ (found : List ℕ × List (List ℕ)). starts_beside c.in_ok-recipe.recipe found.1 found.0 c.args.patch.now c.args.report.now c.args.steps} c.in_ok-save.ensures.obtained
+    (goes_on_with {next = λ (found : List ℕ × List (List ℕ)). starts_beside c.in_ok-recipe.recipe found.1 found.0 c.args.words.now.piece.save c.args.words.now.piece.report c.args.words.now.piece.steps} c.in_ok-save.ensures.obtained
     (rw c.as_slice.ensures at c.go_from.ensures))

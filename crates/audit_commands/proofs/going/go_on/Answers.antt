@@ -9,10 +9,10 @@ use Rattle.audit_commands.proofs.going.go_on.Goals as goal
 pub settle-requires-clause-stands : goal.settle-requires-clause-stands
 settle-requires-clause-stands g c =
     let old = c.args.audit in
-    (forward_from old.recipe old.inputs (standing old) c.args.steps, ap (λ (a : AuditState). a.stands) c.in_ok-audit.ensures)
+    (forward_from old.recipe old.inputs (standing old) c.count.result, ap (λ (a : AuditState). a.stands) c.in_ok-audit.ensures)
 
 pub settle-requires-clause-keeps : goal.settle-requires-clause-keeps
-settle-requires-clause-keeps g c = rw c.in_ok-audit.ensures c.requires.keeps
+settle-requires-clause-keeps g c = rw c.in_ok-audit.ensures c.requires
 
 pub returns-in_err-audit : goal.returns-in_err-audit
 returns-in_err-audit g c = λ text keeps.
@@ -23,6 +23,6 @@ pub returns : goal.returns
 returns g c = λ text keeps.
     let old = c.args.audit in
     let new = c.in_ok-audit.audit in
-    let there = forward_from old.recipe old.inputs (standing old) c.args.steps in
+    let there = forward_from old.recipe old.inputs (standing old) c.count.result in
     let kept : Keeps new.recipe new.inputs c.args.kept text = rw c.in_ok-audit.ensures keeps in
-    rw c.in_ok-audit.ensures at (c.settle.ensures there text (ap (λ (a : AuditState). a.stands) c.in_ok-audit.ensures) kept)
+    rw (c.in_ok-audit.ensures, c.count.ensures.value) at (c.settle.ensures there text (ap (λ (a : AuditState). a.stands) c.in_ok-audit.ensures) kept)

@@ -3,11 +3,11 @@ use Rattle.audit_commands.proofs.going.settle.Goals as goal
 
 pub returns-in-Some : goal.returns-in-Some
 returns-in-Some g c = λ stands text is keeps.
-    ends c.args.audit.now.stands _ text c.args.name.now c.args.report.now _ _ _ stands c.in-Some.answer.now is c.in-Some.ensures.answer (rw c.recipe.ensures at c.tell.ensures)
+    ends c.args.audit.now.stands _ text c.args.piece.now.save c.args.piece.now.report _ _ _ stands c.in-Some.answer.now is c.in-Some.ensures.answer (rw c.recipe.ensures at c.tell.ensures)
 
 pub returns-in-None : goal.returns-in-None
 returns-in-None g c = λ stands text is keeps.
-    pauses c.args.audit.now.stands _ text c.args.name.now c.args.report.now _ _ _ stands is c.in-None.ensures.answer (λ p on. c.keep_place.ensures p text on keeps)
+    pauses c.args.audit.now.stands _ text c.args.piece.now.save c.args.piece.now.report _ _ _ stands is c.in-None.ensures.answer (λ p on. c.keep_place.ensures p text on keeps)
 
 pub keep_place-requires-clause-on : goal.keep_place-requires-clause-on
 keep_place-requires-clause-on g c = is_on c.args.audit.now.stands c.requires.stands.0 c.requires.stands.1 c.in-None.ensures.answer

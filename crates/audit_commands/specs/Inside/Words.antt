@@ -1,0 +1,38 @@
+-- The words of the commands of an audit, each set of them as one value.
+use Rattle.std.specs.Prelude.{ℕ, Option, None, Some, List, [], ◌∷◌, if◌then◌else◌}
+use Rattle.command_plan.specs.Words.{as_steps, as_three_files, as_two_files}
+use Rattle.audit_commands.specs.declared.words.ReportWords.{ReportWords}
+use Rattle.audit_commands.specs.declared.words.PieceWords.{PieceWords}
+use Rattle.audit_commands.specs.declared.words.BesideWords.{BesideWords}
+use Rattle.audit_commands.specs.Delta.{are_four_files}
+
+-- the words `RECIPE REPORT`
+abbrev pub report_of : Option (List ℕ × List ℕ) → Option ReportWords
+report_of None = None
+report_of (Some files) = Some (record { recipe = files.0; report = files.1 })
+
+abbrev pub report_words : List (List ℕ) → Option ReportWords
+report_words (recipe ∷ report ∷ []) = report_of (as_two_files recipe report)
+report_words _ = None
+
+-- the words `RECIPE SAVE REPORT STEPS`
+abbrev pub whole_of : Option (List ℕ × List ℕ × List ℕ) → Option ℕ → Option PieceWords
+whole_of (Some files) (Some steps) = Some (record { recipe = files.0; piece = record { save = files.1; report = files.2; steps = steps } })
+whole_of _ _ = None
+
+abbrev pub whole_words : List (List ℕ) → Option PieceWords
+whole_words (recipe ∷ save ∷ report ∷ steps ∷ []) = whole_of (as_three_files recipe save report) (as_steps steps)
+whole_words _ = None
+
+-- the words `RECIPE BASE PATCH REPORT STEPS`
+abbrev pub as_four_files : List ℕ → List ℕ → List ℕ → List ℕ → Option (List ℕ × List ℕ × List ℕ × List ℕ)
+as_four_files recipe base patch report = if are_four_files recipe base patch report then Some (recipe, base, patch, report) else None
+
+abbrev pub beside_of : Option (List ℕ × List ℕ × List ℕ × List ℕ) → Option ℕ → Option BesideWords
+beside_of (Some files) (Some steps) =
+    Some (record { recipe = files.0; base = files.1; piece = record { save = files.2; report = files.3; steps = steps } })
+beside_of _ _ = None
+
+abbrev pub beside_words : List (List ℕ) → Option BesideWords
+beside_words (recipe ∷ base ∷ patch ∷ report ∷ steps ∷ []) = beside_of (as_four_files recipe base patch report) (as_steps steps)
+beside_words _ = None

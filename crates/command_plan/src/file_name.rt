@@ -1,0 +1,114 @@
+//! Words with a type: the name of a file, names of files that are not one, and a number of steps.
+
+ghost use Rattle.std.specs.Prelude.{◌≡◌, ◌≤◌, ◌^◌, IsTrue};
+ghost use Rattle.ddc_base.specs.Outside.{IsFileName};
+ghost use Rattle.command_plan.specs.Words.{as_file_name, as_steps, as_three_files, as_two_files, is_file_word};
+
+use crate::words::{are_three_files, are_two_files, is_file_word, steps_of};
+use std::marker::Model;
+
+/// A word that can name a file: 1 to 255 bytes, none of them zero. Contracts see these bytes.
+#[derive(Drop)]
+pub struct FileName<'w> {
+    text: &'w str,
+}
+
+impl<'w> Model for FileName<'w> {
+    ghost use Rattle.std.specs.Prelude.{List, ℕ, IsTrue};
+    ghost use Rattle.command_plan.specs.Words.{is_file_word};
+
+    ghost Value = { List ℕ };
+
+    ghost view = { λ name. name.text.now };
+
+    ghost invariant = { λ name. IsTrue (is_file_word name.text.now) };
+}
+
+impl<'w> FileName<'w> {
+    /// The name that a word is, and `None` for every other word.
+    pub fn read(word: &'w str) -> Option<FileName<'w>>
+        ensures { result ≡ as_file_name word.now }
+    {
+        if is_file_word(word) {
+            Some(FileName { text: word })
+        } else {
+            None
+        }
+    }
+
+    /// The word, by which a shelf loads and saves.
+    pub fn text(&self) -> &'w str
+        ensures value { result.now ≡ self.now }
+        ensures word { IsTrue (is_file_word self.now) }
+        ensures name { IsFileName self.now }
+    {
+        self.text
+    }
+}
+
+/// The names that two words are, if they can name two files that are not one.
+pub fn two_files<'w>(first: &'w str, second: &'w str) -> Option<(FileName<'w>, FileName<'w>)>
+    ensures { result ≡ as_two_files first.now second.now }
+{
+    if are_two_files(first, second) {
+        Some((FileName { text: first }, FileName { text: second }))
+    } else {
+        None
+    }
+}
+
+/// The names that three words are, if they can name three files.
+pub fn three_files<'w>(
+    first: &'w str,
+    second: &'w str,
+    third: &'w str,
+) -> Option<(FileName<'w>, FileName<'w>, FileName<'w>)>
+    ensures { result ≡ as_three_files first.now second.now third.now }
+{
+    if are_three_files(first, second, third) {
+        Some((
+            FileName { text: first },
+            FileName { text: second },
+            FileName { text: third },
+        ))
+    } else {
+        None
+    }
+}
+
+/// A number of steps, from 1 to 2^48, which contracts see as this number.
+#[derive(Clone, Copy)]
+pub struct Steps {
+    count: u64,
+}
+
+impl Model for Steps {
+    ghost use Rattle.std.specs.Prelude.{ℕ, ◌≤◌, ◌^◌};
+
+    ghost Value = { ℕ };
+
+    ghost view = { λ steps. steps.count };
+
+    ghost invariant = { λ steps. (1 ≤ steps.count) × (steps.count ≤ 2 ^ 48) };
+
+    ghost inverse = { λ count. record { count = count } };
+}
+
+impl Steps {
+    /// The number of steps that a word is, and `None` for every other word.
+    pub fn read(word: &str) -> Option<Steps>
+        ensures { result ≡ as_steps word.now }
+    {
+        let count = steps_of(word)?;
+        Some(Steps { count })
+    }
+
+    /// The number.
+    pub fn count(self) -> u64
+        ensures value { result ≡ self }
+        ensures some { 1 ≤ self }
+        ensures most { self ≤ 2 ^ 48 }
+    {
+        self.count
+    }
+}
